@@ -1,0 +1,14 @@
+pub mod Contents
+pub mod Entries
+pub mod Fronts
+pub mod Grammar
+pub mod Integers
+pub mod Lengths
+pub mod Octets
+pub mod Parts
+pub mod Placed
+pub mod Results
+pub mod Spelling
+pub mod Unique
+pub mod Utf8
+pub mod Written

@@ -1,0 +1,8 @@
+use Rattle.rec_container.proofs.Spelling.{front-push, front-ending}
+use Rattle.rec_container.proofs.laws.one_spelling.Goals as goal
+
+pub returns-clause-push : goal.returns-clause-push
+returns-clause-push c = front-push
+
+pub returns-clause-end : goal.returns-clause-end
+returns-clause-end c = front-ending

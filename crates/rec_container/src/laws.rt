@@ -1,0 +1,40 @@
+//! Laws of the container's grammar. The functions do nothing: their contracts are what they are for.
+ghost use Rattle.std.specs.Prelude.{◌≡◌, ◌<◌, ◌≤◌, [], ◌∷◌, ◌++◌, length, map, slice_get, List, ℕ, Some};
+ghost use Rattle.rec_container.specs.Container.{Entry, addition, content_bytes, ending, front, spell, AreFrom, IsContainer, StandsAt, place_from};
+ghost use Rattle.rec_container.specs.Reading.{IsFault};
+ghost use Rattle.rec_container.specs.declared.errors.ContainerError.{ContainerError};
+
+/// Bytes spell at most one list of entries.
+pub fn one_reading()
+    ensures { (bytes : List ℕ) (es fs : List Entry) → IsContainer bytes es → IsContainer bytes fs → es ≡ fs }
+{}
+
+/// No container begins a longer one: its end is known without what follows.
+pub fn no_front()
+    ensures { (bytes more : List ℕ) (es fs : List Entry) → IsContainer bytes es → IsContainer (bytes ++ more) fs → more ≡ [] }
+{}
+
+/// Bytes that spell entries have no fault, and others have one first fault at most.
+pub fn one_fault()
+    ensures spelled { (bytes : List ℕ) (es : List Entry) (e : ContainerError) → IsContainer bytes es → IsFault bytes e → ⊥ }
+    ensures others { (bytes : List ℕ) (e f : ContainerError) → IsFault bytes e → IsFault bytes f → e ≡ f }
+{}
+
+/// What the calls of a writer write, one behind the other, is the spelling of its entries.
+pub fn one_spelling()
+    ensures push { (es : List Entry) (e : Entry) → front (es ++ e ∷ []) ≡ front es ++ addition es e }
+    ensures end { (es : List Entry) → front es ++ ending es ≡ spell es }
+    ensures whole { (es : List Entry) → AreFrom [] es → IsContainer (spell es) es }
+{}
+
+/// The content of each entry stands in the spelling at its place.
+pub fn placed_contents()
+    ensures { (es : List Entry) (i : ℕ) (content : List ℕ) → slice_get (map (λ e. e.content) es) i ≡ Some content → StandsAt (spell es) (place_from 8 es i) content }
+{}
+
+/// No number about a container is above its length.
+pub fn within_length()
+    ensures more { (es fs : List Entry) → length (spell es) ≤ length (spell (es ++ fs)) }
+    ensures contents { (es : List Entry) → content_bytes es < length (spell es) }
+    ensures entries { (es : List Entry) → length es < length (spell es) }
+{}

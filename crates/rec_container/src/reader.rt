@@ -1,0 +1,123 @@
+//! The reader of containers.
+ghost use Rattle.std.specs.Prelude.{◌≡◌, ◌<◌, [], length, MatchResult, IfOk, IfErr, IsTrue, ◌↔◌, ◌⊎◌, slice_get, map, List, ℕ, Some};
+ghost use Rattle.std.specs.Option.{option_map};
+ghost use Rattle.rec_container.specs.Container.{Entry, content_of, spell, place_from, IsContainer, StandsAt};
+ghost use Rattle.rec_container.specs.Reading.{IsFault};
+ghost use Rattle.rec_container.specs.declared.errors.ContainerError.TheVariants.{OutOfMemory};
+ghost use Rattle.rec_container.specs.Placed.{placed_entries};
+
+use crate::errors::ContainerError;
+use crate::steps::{PlacedEntry, read_step};
+use std::alloc::Global;
+use std::marker::Model;
+
+/// The entries of a container, in its order. Names and contents are windows of the bytes that were
+/// parsed.
+#[derive(Drop)]
+pub struct Container<'a> {
+    entries: Vec<PlacedEntry<'a>>,
+}
+
+impl<'a> Model for Container<'a> {
+    ghost use Rattle.std.specs.Prelude.{List};
+    ghost use Rattle.rec_container.specs.Container.{Entry};
+    ghost use Rattle.rec_container.specs.Placed.{placed_entries, PlacedFrom};
+
+    ghost Value = { List Entry };
+
+    ghost view = { λ c. placed_entries c.entries.items };
+
+    ghost invariant = { λ c. PlacedFrom 8 c.entries.items };
+}
+
+impl<'a> Container<'a> {
+    /// Reads the bytes of a container, or answers the first fault from the left.
+    pub fn parse(alloc: Global, bytes: &'a [u8]) -> Result<Container<'a>, ContainerError>
+        // What is read is spelled so.
+        ensures found { IfOk result (IsContainer bytes.now) }
+        // What is spelled so is read, unless memory runs out.
+        ensures only { (es : List Entry) → IsContainer bytes.now es → MatchResult result (λ c. c ≡ es) (λ e. e ≡ OutOfMemory) }
+        // Which fault it is.
+        ensures fault { IfErr result (λ e. (e ≡ OutOfMemory) ⊎ IsFault bytes.now e) }
+    {
+        read(alloc, bytes)
+    }
+
+    /// How many entries there are.
+    pub fn len(&self) -> usize
+        ensures { result ≡ length self.now }
+    {
+        self.entries.len()
+    }
+
+    /// Whether there is no entry.
+    pub fn is_empty(&self) -> bool
+        ensures { IsTrue result ↔ (self.now ≡ []) }
+    {
+        self.entries.is_empty()
+    }
+
+    /// The content under a name.
+    pub fn get(&self, name: &str) -> Option<&'a [u8]>
+        ensures { option_map (λ c. c.now) result ≡ content_of self.now name.now }
+    {
+        find(&self.entries, name)
+    }
+
+    /// The name of an entry.
+    pub fn name(&self, i: usize) -> &'a str
+        requires { i < length self.now }
+        ensures { slice_get (map (λ e. e.name) self.now) i ≡ Some result.now }
+    {
+        self.entries[i].name
+    }
+
+    /// Where the content of an entry begins in the bytes that were parsed.
+    pub fn place(&self, i: usize) -> usize
+        requires { i < length self.now }
+        ensures place { result ≡ place_from 8 self.now i }
+
+        // There the parsed bytes, which spell the entries, have the content.
+        ensures stands { (content : List ℕ) → slice_get (map (λ e. e.content) self.now) i ≡ Some content → StandsAt (spell self.now) result content }
+    {
+        self.entries[i].place
+    }
+
+    /// The content of an entry.
+    pub fn bytes(&self, i: usize) -> &'a [u8]
+        requires { i < length self.now }
+        ensures { slice_get (map (λ e. e.content) self.now) i ≡ Some result.now }
+    {
+        self.entries[i].content
+    }
+}
+
+/// Reads entries up to the end mark.
+fn read<'a>(alloc: Global, bytes: &'a [u8]) -> Result<Container<'a>, ContainerError>
+    ensures found { IfOk result (IsContainer bytes.now) }
+    ensures fault { IfErr result (λ e. (e ≡ OutOfMemory) ⊎ IsFault bytes.now e) }
+{
+    let Some(mut rest) = bytes.strip_prefix(b"nxtcont1".as_slice()) else {
+        return Err(ContainerError::BadMagic);
+    };
+    let mut at = 8;
+    let mut entries = Vec::new(alloc);
+    while let Some((held, after)) = read_step(rest, at, &entries)? {
+        at = held.place + held.content.len();
+        entries.push(held)?;
+        rest = after;
+    }
+    Ok(Container { entries })
+}
+
+/// The content of the entry of a name.
+fn find<'a>(entries: &[PlacedEntry<'a>], name: &str) -> Option<&'a [u8]>
+    ensures { option_map (λ c. c.now) result ≡ content_of (placed_entries entries.now) name.now }
+{
+    for held in entries {
+        if name == held.name {
+            return Some(held.content);
+        }
+    }
+    None
+}

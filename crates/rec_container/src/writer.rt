@@ -1,0 +1,247 @@
+//! The writer of containers.
+ghost use Rattle.std.specs.Prelude.{List, ℕ, ◌≡◌, ◌<◌, [], ◌∷◌, ◌++◌, if◌then◌else◌, false, true, IfSome, IfOk, IfErr, OnOk, OnErr, None, Some, length, ◌+◌, ◌^◌, ◌≤◌};
+ghost use Rattle.std.specs.Option.{SomeIff};
+ghost use Rattle.std.specs.Io.KnownBytes.{Appends};
+ghost use Rattle.std.specs.declared.option.Option.{Option};
+ghost use Rattle.rec_container.specs.Causes.{HasCause, Rose};
+ghost use Rattle.rec_container.specs.Taking.{TookPart};
+ghost use Rattle.rec_container.specs.Container.{entry_head, addition, ending, magic, content_of, front, spell, AreFrom};
+ghost use Rattle.rec_container.specs.Writing.{named, refusal, Accepts, Adds, Refuses, RefusesLate, HasSizesOf, Unfinished, entries_of};
+
+use crate::errors::{ContainerSizes, ContainerWriteError};
+use crate::streams::{Sink, SinkFailed, write_all};
+use indexmap::IndexMap;
+use std::alloc::{AllocError, Global};
+use std::marker::Model;
+
+/// Writes a container to a sink, entry by entry.
+///
+/// It keeps a copy of the entries, to tell a name that is added again.
+#[derive(Drop)]
+pub struct ContainerWriter<K: Sink> {
+    alloc: Global,
+    sink: K,
+    entries: IndexMap<String, Vec<u8>>,
+    compressed: u64,
+    uncompressed: u64,
+    failed: bool,
+}
+
+/// How the writing ended, and the sink.
+#[derive(Drop)]
+pub struct ContainerEnd<K> {
+    /// The sizes of the whole container, or why the end mark is missing.
+    pub result: Result<ContainerSizes, ContainerWriteError>,
+    /// The sink that the writer was made with.
+    pub sink: K,
+}
+
+impl<K: Sink> Model for ContainerWriter<K> {
+    ghost use Rattle.rec_container.specs.Writing.{Writing, entries_of, IsSound};
+
+    ghost Value = { Writing K };
+
+    ghost view = { λ w. record { entries = entries_of w.entries.entries; sink = w.sink; failed = w.failed } };
+
+    ghost invariant = { λ w. IsSound (entries_of w.entries.entries) w.compressed w.uncompressed };
+}
+
+/// What goes before an entry's content. The magic goes before the first entry.
+#[tactic(auto, unfolding(crate::specs::Container::magic, crate::specs::Container::entry_head))]
+fn head(alloc: Global, is_first: bool, name: &str, content: usize) -> Result<Vec<u8>, AllocError>
+    requires { length name.now < 65536 }
+    ensures { IfOk result (λ v. v.items ≡ (if is_first then magic else []) ++ entry_head name.now content) }
+{
+    let mut head = Vec::new(alloc);
+    if is_first {
+        head.extend_from_slice(b"nxtcont1")?;
+    }
+    head.push(1)?;
+    head.extend_from_slice(&(name.len() as u16).to_be_bytes())?;
+    head.extend_from_slice(name.as_bytes())?;
+    head.extend_from_slice(&(content as u64).to_be_bytes())?;
+    Ok(head)
+}
+
+/// Writes one piece behind the other.
+fn write_two<K: Sink>(sink: &mut K, first: &[u8], second: &[u8]) -> Result<(), SinkFailed>
+    ensures ok { OnOk result (Appends (K.taken sink.old) (K.taken sink.new) (first.now ++ second.now)) }
+    ensures fault { OnErr result (TookPart (K.taken sink.old) (K.taken sink.new) (first.now ++ second.now)) }
+    ensures cause { HasCause (K.faults sink.old) (K.faults sink.new) result }
+{
+    write_all(sink, first)?;
+    write_all(sink, second)?;
+    Ok(())
+}
+
+impl<K: Sink> ContainerWriter<K> {
+    /// A writer without entries. Nothing is written yet.
+    pub fn new(alloc: Global, sink: K) -> ContainerWriter<K>
+        ensures entries { result.entries ≡ [] }
+        ensures sink { result.sink ≡ sink }
+        ensures failed { result.failed ≡ false }
+    {
+        ContainerWriter {
+            alloc,
+            sink,
+            entries: IndexMap::new(alloc),
+            compressed: 9,
+            uncompressed: 0,
+            failed: false,
+        }
+    }
+
+    /// Whether the sink has failed.
+    pub fn is_failed(&self) -> bool
+        ensures { result ≡ self.now.failed }
+    {
+        self.failed
+    }
+
+    /// Adds an entry. A name that is there with equal bytes changes nothing.
+    ///
+    /// The magic goes before the first entry. After `SinkFault` the writer is failed; any other
+    /// refusal leaves it and the sink as they were.
+    pub fn add(&mut self, name: &str, bytes: &[u8]) -> Result<(), ContainerWriteError>
+        ensures accepted { OnOk result (refusal self.old.failed self.old.entries name.now bytes.now ≡ None) }
+        ensures added { OnOk result (Adds K.taken K.faults self.old self.new name.now bytes.now) }
+        ensures refused { IfErr result (Refuses K.taken K.faults self.old self.new name.now bytes.now) }
+        ensures later { K.faults self.old.sink ≤ K.faults self.new.sink }
+
+        // Names are distinct, and each entry has a spelling.
+        ensures entries { AreFrom [] self.new.entries }
+
+        // What the sink took since any time before goes on as the front of the entries.
+        ensures front { (start : Option (List ℕ)) → Appends start (K.taken self.old.sink) (front self.old.entries) →
+            OnOk result (Appends start (K.taken self.new.sink) (front self.new.entries)) }
+    {
+        let judged = judge(self.failed, &self.entries, self.compressed, name, bytes);
+        match judged {
+            Err(e) => Err(e),
+            Ok(None) => Ok(()),
+            Ok(Some(compressed)) => self.put(name, bytes, compressed),
+        }
+    }
+
+    /// Adds an entry that was judged.
+    fn put(&mut self, name: &str, bytes: &[u8], compressed: u64) -> Result<(), ContainerWriteError>
+        requires sound { self.old.failed ≡ false }
+        requires some { 0 < length name.now }
+        requires length { length name.now < 65536 }
+        requires absent { content_of self.old.entries name.now ≡ None }
+        requires size { compressed ≡ length (spell (self.old.entries ++ named name.now bytes.now ∷ [])) }
+        ensures entries { OnOk result (self.new.entries ≡ self.old.entries ++ named name.now bytes.now ∷ []) }
+        ensures sound { OnOk result (self.new.failed ≡ false) }
+        ensures taken { OnOk result (Appends (K.taken self.old.sink) (K.taken self.new.sink) (addition self.old.entries (named name.now bytes.now))) }
+        ensures late { IfErr result (RefusesLate K.taken K.faults self.old self.new name.now bytes.now) }
+        ensures later { K.faults self.old.sink ≤ K.faults self.new.sink }
+        ensures spelled { AreFrom [] self.new.entries }
+    {
+        let key = String::from_str(self.alloc, name)?;
+        let content = Vec::from_slice(self.alloc, bytes)?;
+        self.entries.reserve(1)?;
+        let head = head(self.alloc, self.entries.is_empty(), name, bytes.len())?;
+        if write_two(&mut self.sink, &head, bytes).is_err() {
+            self.failed = true;
+            return Err(ContainerWriteError::SinkFault);
+        }
+        self.uncompressed += bytes.len() as u64;
+        self.compressed = compressed;
+        let _ = self.entries.insert(key, content).unwrap();
+        Ok(())
+    }
+
+    /// Writes the end mark, behind the magic where there is no entry, and hands the sink back.
+    pub fn finish(self) -> ContainerEnd<K>
+        ensures ok { IfOk result.result (λ sizes. (self.failed ≡ false) × HasSizesOf self.entries sizes
+            × Appends (K.taken self.sink) (K.taken result.sink) (ending self.entries)) }
+        ensures refused { IfErr result.result (Unfinished K.taken K.faults self result.sink) }
+        ensures later { K.faults self.sink ≤ K.faults result.sink }
+        ensures entries { AreFrom [] self.entries }
+
+        // What the sink took since any time before, if it is the front of the entries, is now their spelling.
+        ensures whole { (start : Option (List ℕ)) → Appends start (K.taken self.sink) (front self.entries) →
+            OnOk result.result (Appends start (K.taken result.sink) (spell self.entries)) }
+    {
+        let ContainerWriter {
+            alloc: _,
+            mut sink,
+            entries,
+            compressed,
+            uncompressed,
+            failed,
+        } = self;
+        if failed {
+            return ContainerEnd {
+                result: Err(ContainerWriteError::Failed),
+                sink,
+            };
+        }
+        let count = entries.len() as u64;
+        match write_all(&mut sink, end_of(count == 0)) {
+            Err(_) => ContainerEnd {
+                result: Err(ContainerWriteError::SinkFault),
+                sink,
+            },
+            Ok(()) => ContainerEnd {
+                result: Ok(ContainerSizes {
+                    compressed,
+                    uncompressed,
+                    entries: count,
+                }),
+                sink,
+            },
+        }
+    }
+}
+
+/// The end mark, behind the magic where there is no entry.
+#[tactic(auto, unfolding(crate::specs::Container::magic))]
+fn end_of(is_empty: bool) -> &'static [u8]
+    ensures { result.now ≡ (if is_empty then magic ++ 0 ∷ [] else 0 ∷ []) }
+{
+    if is_empty { b"nxtcont1\0" } else { &[0] }
+}
+
+/// Why an entry is refused, or none where it is there, or the container's length with it.
+fn judge(
+    failed: bool,
+    entries: &IndexMap<String, Vec<u8>>,
+    compressed: u64,
+    name: &str,
+    bytes: &[u8],
+) -> Result<Option<u64>, ContainerWriteError>
+    requires { compressed ≡ length (spell (entries_of entries.now.entries)) }
+    ensures refused { IfErr result (λ e. refusal failed (entries_of entries.now.entries) name.now bytes.now ≡ Some e) }
+    ensures accepted { IfOk result (Accepts failed (entries_of entries.now.entries) name.now bytes.now) }
+{
+    if failed {
+        return Err(ContainerWriteError::Failed);
+    }
+    if name.is_empty() || name.len() > 65535 {
+        return Err(ContainerWriteError::BadName);
+    }
+    match entries.get(name) {
+        None => match grown(compressed, name.len(), bytes.len()) {
+            None => Err(ContainerWriteError::CountOutOfRange),
+            Some(size) => Ok(Some(size)),
+        },
+        Some(held) => {
+            if held.as_slice() == bytes {
+                Ok(None)
+            } else {
+                Err(ContainerWriteError::NameCollision)
+            }
+        }
+    }
+}
+
+/// The container's length after one more entry, where it is a u64.
+fn grown(compressed: u64, name: usize, content: usize) -> Option<u64>
+    requires { name < 65536 }
+    ensures { SomeIff result (compressed + (11 + name + content) < 2 ^ 64) (compressed + (11 + name + content)) }
+{
+    compressed
+        .checked_add(11 + name as u64)?
+        .checked_add(content as u64)
+}
