@@ -1,0 +1,195 @@
+// Names and numbers that identify.
+ghost use Rattle.std.specs.Prelude.{◌≡◌, ℕ, List, IfOk, IsTrue, string_bytes};
+ghost use Rattle.std.specs.Str.{is_utf8};
+
+use crate::{Text, TryClone};
+use std::alloc::{AllocError, Global};
+use std::fmt;
+use std::marker::Model;
+use uuid::Uuid;
+
+/// The name of a test binary. Any text is one.
+#[derive(PartialEq, Eq, Drop, Debug)]
+pub struct RustBinaryId {
+    text: Text,
+}
+
+impl Model for RustBinaryId {
+    ghost Value = { List ℕ };
+
+    ghost view = { λ id. id.text };
+
+    ghost inverse = { λ text. record { text = text } };
+}
+
+impl RustBinaryId {
+    /// The binary of this name.
+    pub fn new(text: String) -> RustBinaryId
+        ensures { result ≡ string_bytes text }
+    {
+        RustBinaryId {
+            text: Text::new(text),
+        }
+    }
+
+    /// The name.
+    pub fn as_str(&self) -> &str
+        ensures value { result.now ≡ self.now }
+        ensures utf8 { IsTrue (is_utf8 self.now) }
+    {
+        self.text.as_str()
+    }
+
+    /// The string that holds the name.
+    pub fn into_string(self) -> String
+        ensures { string_bytes result ≡ self }
+    {
+        self.text.into_string()
+    }
+}
+
+impl TryClone for RustBinaryId {
+    fn try_clone(&self, alloc: Global) -> Result<RustBinaryId, AllocError> {
+        Ok(RustBinaryId {
+            text: self.text.try_clone(alloc)?,
+        })
+    }
+}
+
+/// The name of a test within its binary. Any text is one.
+#[derive(PartialEq, Eq, Drop, Debug)]
+pub struct TestCaseName {
+    text: Text,
+}
+
+impl Model for TestCaseName {
+    ghost Value = { List ℕ };
+
+    ghost view = { λ name. name.text };
+
+    ghost inverse = { λ text. record { text = text } };
+}
+
+impl TestCaseName {
+    /// The test of this name.
+    pub fn new(text: String) -> TestCaseName
+        ensures { result ≡ string_bytes text }
+    {
+        TestCaseName {
+            text: Text::new(text),
+        }
+    }
+
+    /// The name.
+    pub fn as_str(&self) -> &str
+        ensures value { result.now ≡ self.now }
+        ensures utf8 { IsTrue (is_utf8 self.now) }
+    {
+        self.text.as_str()
+    }
+
+    /// The string that holds the name.
+    pub fn into_string(self) -> String
+        ensures { string_bytes result ≡ self }
+    {
+        self.text.into_string()
+    }
+}
+
+impl TryClone for TestCaseName {
+    fn try_clone(&self, alloc: Global) -> Result<TestCaseName, AllocError> {
+        Ok(TestCaseName {
+            text: self.text.try_clone(alloc)?,
+        })
+    }
+}
+
+/// The name of a setup script. Any text is one.
+#[derive(PartialEq, Eq, Drop, Debug)]
+pub struct ScriptId {
+    text: Text,
+}
+
+impl Model for ScriptId {
+    ghost Value = { List ℕ };
+
+    ghost view = { λ id. id.text };
+
+    ghost inverse = { λ text. record { text = text } };
+}
+
+impl ScriptId {
+    /// The script of this name.
+    pub fn new(text: String) -> ScriptId
+        ensures { result ≡ string_bytes text }
+    {
+        ScriptId {
+            text: Text::new(text),
+        }
+    }
+
+    /// The name.
+    pub fn as_str(&self) -> &str
+        ensures value { result.now ≡ self.now }
+        ensures utf8 { IsTrue (is_utf8 self.now) }
+    {
+        self.text.as_str()
+    }
+
+    /// The string that holds the name.
+    pub fn into_string(self) -> String
+        ensures { string_bytes result ≡ self }
+    {
+        self.text.into_string()
+    }
+}
+
+impl TryClone for ScriptId {
+    fn try_clone(&self, alloc: Global) -> Result<ScriptId, AllocError> {
+        Ok(ScriptId {
+            text: self.text.try_clone(alloc)?,
+        })
+    }
+}
+
+/// The number of a run. Contracts see its sixteen bytes.
+#[derive(Clone, Copy, PartialEq, Eq, Drop, Debug)]
+pub struct ReportUuid {
+    uuid: Uuid,
+}
+
+impl Model for ReportUuid {
+    ghost Value = { List ℕ };
+
+    ghost view = { λ id. id.uuid };
+
+    ghost inverse = { λ uuid. record { uuid = uuid } };
+}
+
+impl ReportUuid {
+    /// The run of this number.
+    pub fn new(uuid: Uuid) -> ReportUuid
+        ensures { result ≡ uuid }
+    {
+        ReportUuid { uuid }
+    }
+
+    /// The number itself.
+    pub fn uuid(&self) -> Uuid
+        ensures { result ≡ self.now }
+    {
+        self.uuid
+    }
+}
+
+/// Hyphenated, in lower case.
+impl fmt::Display for ReportUuid {
+    ghost use Rattle.std.specs.Prelude.{Some};
+    ghost use Rattle.uuid.specs.Text.{lower, hyphenated_text};
+
+    ghost output = { λ id. Some (hyphenated_text lower id) };
+
+    fn fmt<W: fmt::Write>(&self, f: &mut fmt::Formatter<W>) -> fmt::Result {
+        fmt::Display::fmt(&self.uuid, f)
+    }
+}

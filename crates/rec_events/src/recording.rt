@@ -1,0 +1,32 @@
+// What a recording says of the whole run.
+ghost use Rattle.std.specs.Prelude.{◌≡◌, []};
+
+use crate::{Items, TestCaseName, TextMap, TryClone};
+use std::alloc::{AllocError, Global};
+
+/// What a run does with its tests.
+#[derive(Clone, Copy, PartialEq, Eq, Debug, Drop)]
+pub enum NextestRunMode {
+    Test,
+    Benchmark,
+}
+
+/// The tests of each binary, by the binary's name.
+#[derive(Drop, Debug)]
+pub struct TestListSummary {
+    pub suites: TextMap<Items<TestCaseName>>,
+}
+
+impl TryClone for TestListSummary {
+    fn try_clone(&self, alloc: Global) -> Result<TestListSummary, AllocError> {
+        Ok(TestListSummary {
+            suites: self.suites.try_clone(alloc)?,
+        })
+    }
+}
+
+/// What a replay has to know of how the run was made.
+#[derive(Clone, Copy, PartialEq, Eq, Debug, Drop)]
+pub struct RecordOpts {
+    pub run_mode: NextestRunMode,
+}

@@ -1,0 +1,114 @@
+use crate::{
+    Duration, Items, NamedTargets, NonZeroCount, ReportUuid, RustBinaryId, ScriptId, Stamp,
+    TargetSelection, TestCaseName, TestNames, Text, TextMap, TryClone, Version, VersionError,
+};
+use std::alloc::Global;
+use std::test::Fail;
+use uuid::Uuid;
+
+// The pairs of a map, made of these keys and values in turn.
+fn shown_map(alloc: Global, pairs: &[(&str, &str)]) -> Result<String, Fail> {
+    let mut map = TextMap::empty(alloc);
+    for (key, value) in pairs {
+        map.insert(Text::from_str(alloc, key)?, Text::from_str(alloc, value)?)?;
+    }
+    let mut shown = String::new(alloc);
+    for (key, value) in map.try_clone(alloc)?.as_map() {
+        shown.push_str(key.as_str())?;
+        shown.push_str("=")?;
+        shown.push_str(value.as_str())?;
+        shown.push_str(";")?;
+    }
+    Ok(shown)
+}
+
+// The names of a set, made of these names in turn.
+fn shown_names(alloc: Global, names: &[&str]) -> Result<String, Fail> {
+    let mut set = TestNames::empty(alloc);
+    for name in names {
+        set.insert(TestCaseName::new(String::from_str(alloc, name)?))?;
+    }
+    let mut shown = String::new(alloc);
+    for name in set.as_set() {
+        shown.push_str(name.as_str())?;
+        shown.push_str(";")?;
+    }
+    Ok(shown)
+}
+
+#[test]
+fn maps_and_sets(rt: HostRuntime) -> Result<(), Fail> {
+    let alloc = rt.alloc();
+    let shown = shown_map(alloc, &[("b", "1"), ("", "2"), ("a", "3"), ("b", "4")])?;
+    assert!(rt; shown.as_str() == "=2;a=3;b=4;", "{shown}");
+    let shown = shown_names(alloc, &["b", "a", "é", "b", "z"])?;
+    assert!(rt; shown.as_str() == "a;b;z;é;", "{shown}");
+    Ok(())
+}
+
+#[test]
+fn texts_and_lists(rt: HostRuntime) -> Result<(), Fail> {
+    let alloc = rt.alloc();
+    let text = Text::from_str(alloc, "é")?;
+    assert!(rt; text.as_str() == "é");
+    assert!(rt; text.try_clone(alloc)? == Text::new(String::from_str(alloc, "é")?));
+    let mut texts = Vec::new(alloc);
+    texts.push(text)?;
+    let items = Items::new(texts);
+    assert!(rt; items.try_clone(alloc)? == items);
+    assert!(rt; items != Items::empty(alloc));
+    Ok(())
+}
+
+#[test]
+fn names(rt: HostRuntime) -> Result<(), Fail> {
+    let alloc = rt.alloc();
+    let binary = RustBinaryId::new(String::from_str(alloc, "alpha::a")?);
+    assert!(rt; binary.try_clone(alloc)?.as_str() == "alpha::a");
+    let script = ScriptId::new(String::from_str(alloc, "")?);
+    assert!(rt; script.try_clone(alloc)?.into_string().as_str() == "");
+    let id = ReportUuid::new(Uuid::parse_str("550E8400-E29B-41D4-A716-446655440000")?);
+    assert!(rt; id.to_string(alloc)?.as_str() == "550e8400-e29b-41d4-a716-446655440000");
+    Ok(())
+}
+
+#[test]
+fn versions(rt: HostRuntime) -> Result<(), Fail> {
+    let alloc = rt.alloc();
+    for text in ["0.9.111", "1.0.0-rc.1+build.01"] {
+        let version = Version::parse(alloc, text)?.try_clone(alloc)?;
+        assert!(rt; version.to_string(alloc)?.as_str() == text);
+    }
+    for text in ["", "1.0", "01.0.0", "1.0.0 ", "18446744073709551616.0.0"] {
+        let refused = matches!(Version::parse(alloc, text), Err(VersionError::NotAVersion));
+        assert!(rt; refused, "{text}");
+    }
+    Ok(())
+}
+
+#[test]
+fn times_and_counts(rt: HostRuntime) {
+    for (secs, nanos, want) in [
+        (-1, 999999999, Some(-1)),
+        (0, 1000000000, None),
+        (9223372036854, 775807999, Some(9223372036854775807)),
+        (9223372036854, 775808000, None),
+        (-9223372036855, 224192000, Some(-9223372036854775808)),
+        (-9223372036855, 224191999, None),
+    ] {
+        let stamp = Stamp::new(secs, nanos, 0);
+        assert_eq!(rt; stamp.and_then(|stamp| stamp.microseconds()), want);
+    }
+    assert!(rt; Duration::new(0, 1000000000).is_none());
+    assert!(rt; NonZeroCount::new(0).is_none());
+}
+
+#[test]
+fn selections(rt: HostRuntime) -> Result<(), Fail> {
+    let alloc = rt.alloc();
+    let targets = TargetSelection::none(alloc);
+    assert!(rt; targets.try_clone(alloc)? == targets);
+    assert!(rt; targets.bins == NamedTargets::none(alloc));
+    assert!(rt; TestNames::empty(alloc) == TestNames::empty(alloc));
+    Ok(())
+}

@@ -1,0 +1,78 @@
+// A text, seen as its bytes.
+ghost use Rattle.std.specs.Prelude.{◌≡◌, ◌==◌, ℕ, List, string_bytes, IfOk, IsTrue};
+ghost use Rattle.std.specs.Str.{is_utf8};
+ghost use Rattle.std.specs.Cmp.Lexicographic.{pointwise};
+ghost use Rattle.std.specs.Cmp.Rules.{comparing};
+ghost use Rattle.std.proofs.Common.{rules};
+
+use crate::TryClone;
+use std::alloc::{AllocError, Global};
+use std::marker::Model;
+
+/// A text. Contracts see its bytes, which are UTF-8.
+#[derive(Drop, Debug)]
+pub struct Text {
+    inner: String,
+}
+
+impl Model for Text {
+    ghost Value = { List ℕ };
+
+    ghost view = { λ t. string_bytes t.inner };
+}
+
+impl Text {
+    /// The text of a string.
+    pub fn new(inner: String) -> Text
+        ensures { result ≡ string_bytes inner }
+    {
+        Text { inner }
+    }
+
+    /// A copy of `text`.
+    pub fn from_str(alloc: Global, text: &str) -> Result<Text, AllocError>
+        ensures value { IfOk result (λ t. t ≡ text.now) }
+        ensures utf8 { IfOk result (λ t. IsTrue (is_utf8 t)) }
+    {
+        let text = Text {
+            inner: String::from_str(alloc, text)?,
+        };
+        let _utf8 = text.as_str();
+        Ok(text)
+    }
+
+    /// The string that holds the text.
+    pub fn into_string(self) -> String
+        ensures { string_bytes result ≡ self }
+    {
+        self.inner
+    }
+
+    /// The text itself.
+    pub fn as_str(&self) -> &str
+        ensures value { result.now ≡ self.now }
+        ensures utf8 { IsTrue (is_utf8 self.now) }
+    {
+        self.inner.as_str()
+    }
+}
+
+impl TryClone for Text {
+    fn try_clone(&self, alloc: Global) -> Result<Text, AllocError> {
+        Text::from_str(alloc, self.as_str())
+    }
+}
+
+impl PartialEq for Text {
+    ghost eq = { pointwise ◌==◌ };
+
+    ghost laws = { Prim.search (comparing, rules) };
+
+    fn eq(&self, other: &Text) -> bool {
+        self.inner.as_str() == other.inner.as_str()
+    }
+}
+
+impl Eq for Text {
+    ghost laws = { Prim.search (comparing, rules) };
+}

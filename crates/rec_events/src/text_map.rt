@@ -1,0 +1,75 @@
+// A map from texts, seen as its pairs.
+ghost use Rattle.std.specs.Prelude.{◌≡◌, ℕ, List, [], OnOk, OnErr};
+ghost use Rattle.rec_events.specs.Pairs.{pairs, put_pair, keys, KeysRise};
+ghost use Rattle.rec_events.specs.Names.{AreTexts};
+
+use crate::{Text, TryClone};
+use std::alloc::{AllocError, Global};
+use std::collections::BTreeMap;
+use std::marker::Model;
+
+/// A map from texts to values. Contracts see its pairs in the order of their keys' bytes.
+#[derive(Drop, Debug)]
+pub struct TextMap<V> {
+    inner: BTreeMap<String, V>,
+}
+
+impl<V> Model for TextMap<V> {
+    ghost use Rattle.std.specs.Prelude.{List, ℕ};
+    ghost use Rattle.rec_events.specs.Pairs.{pairs};
+
+    ghost Value = { List (List ℕ × V) };
+
+    ghost view = { λ m. pairs m.inner.entries };
+}
+
+impl<V> TextMap<V> {
+    /// The pairs of a map.
+    pub fn new(inner: BTreeMap<String, V>) -> TextMap<V>
+        ensures { result ≡ pairs inner.entries }
+    {
+        TextMap { inner }
+    }
+
+    /// No pairs.
+    pub fn empty(alloc: Global) -> TextMap<V>
+        ensures { result ≡ [] }
+    {
+        TextMap {
+            inner: BTreeMap::new(alloc),
+        }
+    }
+
+    /// Puts `value` at `key`, in the place of what was there. Without memory the map stays.
+    pub fn insert(&mut self, key: Text, value: V) -> Result<(), AllocError>
+    where
+        V: Drop,
+        ensures put { OnOk result (self.new ≡ put_pair key value self.old) }
+        ensures unchanged { OnErr result (self.new ≡ self.old) }
+    {
+        drop(self.inner.insert(key.into_string(), value)?);
+        Ok(())
+    }
+
+    /// The map itself.
+    pub fn as_map(&self) -> &BTreeMap<String, V>
+        ensures pairs { pairs result.now.entries ≡ self.now }
+        ensures rise { KeysRise self.now }
+        ensures texts { AreTexts (keys self.now) }
+    {
+        let _ordered = self.inner.len();
+        &self.inner
+    }
+}
+
+impl<V: TryClone + Drop> TryClone for TextMap<V> {
+    #[tactic(auto, using(crate::specs::PairLaws::put_next))]
+    fn try_clone(&self, alloc: Global) -> Result<TextMap<V>, AllocError> {
+        let mut copy = TextMap::empty(alloc);
+        for (key, value) in self.as_map() {
+            let key = Text::from_str(alloc, key.as_str())?;
+            copy.insert(key, value.try_clone(alloc)?)?;
+        }
+        Ok(copy)
+    }
+}
