@@ -1,0 +1,5 @@
+use Rattle.std.proofs.lemmas.Str.{is_utf8-from_IsUtf8, IsUtf8-string_bytes}
+use Rattle.rec_forms.proofs.text_form.write_text.Goals as goal
+
+pub returns-clause-utf8 : goal.returns-clause-utf8
+returns-clause-utf8 g c = rw c.into_bytes.ensures.value (is_utf8-from_IsUtf8 _ (IsUtf8-string_bytes c.in_ok-text.text))

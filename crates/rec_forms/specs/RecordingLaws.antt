@@ -1,0 +1,38 @@
+-- What a recording says of the whole run reads back, and is writable.
+use Rattle.std.specs.Prelude.{◌≡◌, Some, refl}
+use Rattle.serde_json.specs.Data.{string}
+use Rattle.rec_events.specs.Names.{IsText, AreTexts}
+use Rattle.rec_events.specs.declared.recording.NextestRunMode.{NextestRunMode}
+use Rattle.rec_events.specs.declared.recording.NextestRunMode.TheVariants.{Test, Benchmark}
+use Rattle.rec_events.specs.declared.recording.TestListSummary.{TestListSummary}
+use Rattle.rec_events.specs.declared.recording.RecordOpts.{RecordOpts}
+use Rattle.rec_forms.specs.Shape.{text_of}
+use Rattle.rec_forms.specs.Lists.{list_value, list_form}
+use Rattle.rec_forms.specs.Recording.{run_mode_name, run_mode_value, run_mode_form, record_opts_value, record_opts_form, test_list_value, test_list_form, IsTestList}
+use Rattle.rec_forms.specs.Members.{get_member-members_of}
+use Rattle.rec_forms.specs.NumberLaws.{text_back}
+use Rattle.rec_forms.specs.ListLaws.{list_back}
+use Rattle.rec_forms.specs.MapLaws.{map_back, map_writable}
+use Rattle.rec_forms.specs.Writable.{IsWritable, struct_writable, string_writable, list_writable}
+
+pub run_mode_back : (m : NextestRunMode) → run_mode_form (run_mode_value m) ≡ Some m
+unfolding run_mode_form
+run_mode_back Test = refl
+run_mode_back Benchmark = refl
+
+pub run_mode_writable : (m : NextestRunMode) → IsWritable 0 (run_mode_value m)
+run_mode_writable m = string_writable (run_mode_name m)
+
+pub record_opts_back : (o : RecordOpts) → record_opts_form (record_opts_value o) ≡ Some o
+unfolding record_opts_form
+record_opts_back o = simp (get_member-members_of, run_mode_back o.run_mode)
+
+pub record_opts_writable : (o : RecordOpts) → IsWritable 1 (record_opts_value o)
+record_opts_writable o = struct_writable _ (string_writable (run_mode_name o.run_mode), tt)
+
+pub test_list_back : (t : TestListSummary) → IsTestList t → test_list_form (test_list_value t) ≡ Some t
+unfolding test_list_form
+test_list_back t h = simp (get_member-members_of, map_back AreTexts (list_value string) (list_form text_of) (list_back IsText string text_of text_back) _ h.suites)
+
+pub test_list_writable : (t : TestListSummary) → IsWritable 3 (test_list_value t)
+test_list_writable t = struct_writable _ (map_writable (list_value string) (list_writable string string_writable) t.suites, tt)

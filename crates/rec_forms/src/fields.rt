@@ -1,0 +1,116 @@
+// The members of an object, one at a time.
+ghost use Rattle.std.specs.Prelude.{◌≡◌, OnOk, Some, option_map, IfSome, IfOk};
+ghost use Rattle.serde_json.specs.Find.{get_member};
+ghost use Rattle.serde_json.specs.View.{view, members_view};
+ghost use Rattle.rec_forms.specs.Gives.{Gives};
+ghost use Rattle.rec_forms.specs.Shape.{with_member, required, maybe, defaulted, only_of, tagged as with_tag};
+
+use crate::{Form, FromValueError};
+use serde_json::{Map, Value};
+use std::alloc::{AllocError, Global};
+
+/// The members of a JSON object.
+pub type Object = Map<String, Value>;
+
+/// Writes a field.
+pub fn put_field<T: Form>(
+    alloc: Global,
+    object: &mut Object,
+    key: &str,
+    item: &T,
+) -> Result<(), AllocError>
+    ensures written { OnOk result (members_view object.new.entries
+        ≡ with_member key.now (Some (T.value_of item.now)) (members_view object.old.entries)) }
+    ensures known { OnOk result (T.well_formed item.now) }
+{
+    let value = item.to_value(alloc)?;
+    serde_json::put(object, alloc, key, value)
+}
+
+/// Writes a field that is left out where there is none.
+pub fn put_optional<T: Form>(
+    alloc: Global,
+    object: &mut Object,
+    key: &str,
+    item: &Option<T>,
+) -> Result<(), AllocError>
+    ensures written { OnOk result (members_view object.new.entries
+        ≡ with_member key.now (option_map T.value_of item.now) (members_view object.old.entries)) }
+    ensures known { OnOk result (IfSome item.now T.well_formed) }
+{
+    match item {
+        Some(item) => put_field(alloc, object, key, item),
+        None => Ok(()),
+    }
+}
+
+/// Reads a field that has to be there.
+pub fn required_field<T: Form>(
+    alloc: Global,
+    object: &Object,
+    key: &str,
+) -> Result<T, FromValueError>
+    ensures { Gives result (required T.form_of key.now (members_view object.now.entries)) }
+{
+    match member(object, key) {
+        Some(value) => T::from_value(alloc, value),
+        None => Err(FromValueError::NotAValue),
+    }
+}
+
+/// Reads a field that may be missing or `null`.
+pub fn optional_field<T: Form>(
+    alloc: Global,
+    object: &Object,
+    key: &str,
+) -> Result<Option<T>, FromValueError>
+    ensures { Gives result (maybe T.form_of key.now (members_view object.now.entries)) }
+{
+    match member(object, key) {
+        None => Ok(None),
+        Some(Value::Null) => Ok(None),
+        Some(value) => Ok(Some(T::from_value(alloc, value)?)),
+    }
+}
+
+/// The value at a key.
+pub fn member<'v>(object: &'v Object, key: &str) -> Option<&'v Value>
+    ensures { option_map (λ v. view v.now) result ≡ get_member key.now (members_view object.now.entries) }
+{
+    object.get(key)
+}
+
+/// Reads a field that is `missing` where its member is missing.
+pub fn defaulted_field<T: Form + Drop>(
+    alloc: Global,
+    object: &Object,
+    key: &str,
+    missing: T,
+) -> Result<T, FromValueError>
+    ensures { Gives result (defaulted missing T.form_of key.now (members_view object.now.entries)) }
+{
+    match member(object, key) {
+        None => Ok(missing),
+        Some(value) => T::from_value(alloc, value),
+    }
+}
+
+/// The member of an object that has exactly one.
+pub fn only_member(object: &Object) -> Option<(&str, &Value)>
+    ensures { option_map (λ m. (m.0.now, view m.1.now)) result ≡ only_of (members_view object.now.entries) }
+{
+    if object.len() != 1 {
+        return None;
+    }
+    let (key, value) = object.first_key_value()?;
+    Some((key.as_str(), value))
+}
+
+/// The object with `content` at `tag`, as a variant with fields is written.
+pub fn tagged(alloc: Global, tag: &str, content: Value) -> Result<Value, AllocError>
+    ensures { IfOk result (λ v. view v ≡ with_tag tag.now (view content)) }
+{
+    let mut object = Map::new(alloc);
+    serde_json::put(&mut object, alloc, tag, content)?;
+    Ok(Value::from(object))
+}

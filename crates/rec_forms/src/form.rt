@@ -1,0 +1,40 @@
+// What is written and read as a JSON value.
+ghost use Rattle.std.specs.Prelude.{◌≡◌, ℕ, Option, Some, IfOk};
+ghost use Rattle.serde_json.specs.Data.{Data};
+ghost use Rattle.serde_json.specs.View.{view};
+ghost use Rattle.rec_forms.specs.Gives.{Gives};
+ghost use Rattle.rec_forms.specs.Writable.{IsWritable};
+
+use crate::FromValueError;
+use serde_json::Value;
+use std::alloc::{AllocError, Global};
+
+/// A type whose items are written as JSON values, and read from them.
+pub trait Form: Sized {
+    // What holds of each item that a program has: its numbers are in range, its texts are UTF-8.
+    ghost well_formed: { Self → Type 0 };
+
+    // The value that an item is written as.
+    ghost value_of: { Self → Data };
+
+    // The item for which a value stands, if any.
+    ghost form_of: { Data → Option Self };
+
+    // How deep the arrays and objects of a written value nest at most.
+    ghost levels: { ℕ };
+
+    /// The value of the item.
+    fn to_value(&self, alloc: Global) -> Result<Value, AllocError>
+        ensures written { IfOk result (λ v. view v ≡ value_of self.now) }
+        ensures known { IfOk result (λ _. well_formed self.now) };
+
+    /// The item for which `value` stands; `NotAValue` exactly where it stands for none.
+    fn from_value(alloc: Global, value: &Value) -> Result<Self, FromValueError>
+        ensures read { Gives result (form_of (view value.now)) };
+
+    // What was written is read back.
+    ghost reads_back: { (x : Self) → well_formed x → form_of (value_of x) ≡ Some x };
+
+    // What is written is no null, has no float, and nests no deeper than `levels`.
+    ghost writable: { (x : Self) → IsWritable levels (value_of x) };
+}

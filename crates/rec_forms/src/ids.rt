@@ -1,0 +1,175 @@
+// Names and numbers that identify.
+ghost use Rattle.std.specs.Prelude.{◌≡◌};
+ghost use Rattle.uuid.specs.Text.{parsed};
+
+use crate::{Form, FromValueError};
+use rec_events::{ReportUuid, RustBinaryId, ScriptId, TestCaseName, Text, Version, VersionError};
+use serde_json::Value;
+use std::alloc::{AllocError, Global};
+use uuid::Uuid;
+
+impl Form for RustBinaryId {
+    ghost use Rattle.serde_json.specs.Data.{string};
+    ghost use Rattle.rec_events.specs.Names.{IsText};
+    ghost use Rattle.rec_forms.specs.Shape.{text_of};
+    ghost use Rattle.rec_forms.specs.NumberLaws.{text_back};
+    ghost use Rattle.rec_forms.specs.Writable.{string_writable};
+
+    ghost well_formed = { IsText };
+
+    ghost value_of = { string };
+
+    ghost form_of = { text_of };
+
+    ghost levels = { 0 };
+
+    ghost reads_back = { text_back };
+
+    ghost writable = { λ s. string_writable s };
+
+    fn to_value(&self, alloc: Global) -> Result<Value, AllocError> {
+        Value::try_from_str(alloc, self.as_str())
+    }
+
+    fn from_value(alloc: Global, value: &Value) -> Result<RustBinaryId, FromValueError> {
+        let text = Text::from_value(alloc, value)?;
+        Ok(RustBinaryId::new(text.into_string()))
+    }
+}
+
+impl Form for TestCaseName {
+    ghost use Rattle.serde_json.specs.Data.{string};
+    ghost use Rattle.rec_events.specs.Names.{IsText};
+    ghost use Rattle.rec_forms.specs.Shape.{text_of};
+    ghost use Rattle.rec_forms.specs.NumberLaws.{text_back};
+    ghost use Rattle.rec_forms.specs.Writable.{string_writable};
+
+    ghost well_formed = { IsText };
+
+    ghost value_of = { string };
+
+    ghost form_of = { text_of };
+
+    ghost levels = { 0 };
+
+    ghost reads_back = { text_back };
+
+    ghost writable = { λ s. string_writable s };
+
+    fn to_value(&self, alloc: Global) -> Result<Value, AllocError> {
+        Value::try_from_str(alloc, self.as_str())
+    }
+
+    fn from_value(alloc: Global, value: &Value) -> Result<TestCaseName, FromValueError> {
+        let text = Text::from_value(alloc, value)?;
+        Ok(TestCaseName::new(text.into_string()))
+    }
+}
+
+impl Form for ScriptId {
+    ghost use Rattle.serde_json.specs.Data.{string};
+    ghost use Rattle.rec_events.specs.Names.{IsText};
+    ghost use Rattle.rec_forms.specs.Shape.{text_of};
+    ghost use Rattle.rec_forms.specs.NumberLaws.{text_back};
+    ghost use Rattle.rec_forms.specs.Writable.{string_writable};
+
+    ghost well_formed = { IsText };
+
+    ghost value_of = { string };
+
+    ghost form_of = { text_of };
+
+    ghost levels = { 0 };
+
+    ghost reads_back = { text_back };
+
+    ghost writable = { λ s. string_writable s };
+
+    fn to_value(&self, alloc: Global) -> Result<Value, AllocError> {
+        Value::try_from_str(alloc, self.as_str())
+    }
+
+    fn from_value(alloc: Global, value: &Value) -> Result<ScriptId, FromValueError> {
+        let text = Text::from_value(alloc, value)?;
+        Ok(ScriptId::new(text.into_string()))
+    }
+}
+
+// The number that a text is, in any of its forms.
+fn read_uuid(text: &str) -> Option<Uuid>
+    ensures { result ≡ parsed text.now }
+{
+    match Uuid::parse_str(text) {
+        Ok(uuid) => Some(uuid),
+        Err(_) => None,
+    }
+}
+
+impl Form for ReportUuid {
+    ghost use Rattle.std.specs.Prelude.{List, ℕ};
+    ghost use Rattle.uuid.specs.Text.{lower, hyphenated_text};
+    ghost use Rattle.rec_forms.specs.Ids.{uuid_value, uuid_form, IsUuid};
+    ghost use Rattle.rec_forms.specs.IdLaws.{uuid_back};
+    ghost use Rattle.rec_forms.specs.Writable.{string_writable};
+
+    ghost well_formed = { IsUuid };
+
+    ghost value_of = { uuid_value };
+
+    ghost form_of = { uuid_form };
+
+    ghost levels = { 0 };
+
+    ghost reads_back = { uuid_back };
+
+    ghost writable = { λ u. string_writable (hyphenated_text lower u) };
+
+    fn to_value(&self, alloc: Global) -> Result<Value, AllocError> {
+        let mut buffer = Uuid::encode_buffer();
+        let text = self.uuid().hyphenated().encode_lower(&mut buffer);
+        Value::try_from_str(alloc, text)
+    }
+
+    #[tactic(auto, unfolding(crate::specs::Ids::uuid_form))]
+    fn from_value(_alloc: Global, value: &Value) -> Result<ReportUuid, FromValueError> {
+        match value.as_str().and_then(read_uuid) {
+            Some(uuid) => Ok(ReportUuid::new(uuid)),
+            None => Err(FromValueError::NotAValue),
+        }
+    }
+}
+
+impl Form for Version {
+    ghost use Rattle.semver.specs.Identifiers.{parts_text};
+    ghost use Rattle.rec_events.specs.Versions.{IsVersion};
+    ghost use Rattle.rec_forms.specs.Ids.{version_value, version_form};
+    ghost use Rattle.rec_forms.specs.IdLaws.{version_back};
+    ghost use Rattle.rec_forms.specs.Writable.{string_writable};
+
+    ghost well_formed = { IsVersion };
+
+    ghost value_of = { version_value };
+
+    ghost form_of = { version_form };
+
+    ghost levels = { 0 };
+
+    ghost reads_back = { version_back };
+
+    ghost writable = { λ p. string_writable (parts_text p) };
+
+    fn to_value(&self, alloc: Global) -> Result<Value, AllocError> {
+        let text = self.to_text(alloc)?;
+        Ok(Value::from(text.into_string()))
+    }
+
+    #[tactic(auto, unfolding(crate::specs::Ids::version_form))]
+    fn from_value(alloc: Global, value: &Value) -> Result<Version, FromValueError> {
+        let text = value.as_str().ok_or(FromValueError::NotAValue)?;
+        match Version::parse(alloc, text) {
+            Ok(version) => Ok(version),
+            Err(VersionError::OutOfMemory) => Err(FromValueError::OutOfMemory),
+            Err(VersionError::NotAVersion) => Err(FromValueError::NotAValue),
+        }
+    }
+}

@@ -1,0 +1,47 @@
+// Maps from texts.
+ghost use Rattle.std.specs.Prelude.{◌≡◌, suc};
+
+use crate::fields::put_field;
+use crate::{Form, FromValueError};
+use rec_events::{Text, TextMap};
+use serde_json::{Map, Value};
+use std::alloc::{AllocError, Global};
+
+impl<V: Form + Drop> Form for TextMap<V> {
+    ghost use Rattle.std.specs.Prelude.{suc};
+    ghost use Rattle.rec_forms.specs.Maps.{map_value, map_form, IsMap};
+    ghost use Rattle.rec_forms.specs.MapLaws.{map_back, map_writable};
+
+    ghost well_formed = { IsMap V.well_formed };
+
+    ghost value_of = { map_value V.value_of };
+
+    ghost form_of = { map_form V.form_of };
+
+    ghost levels = { suc V.levels };
+
+    ghost reads_back = { map_back V.well_formed V.value_of V.form_of V.reads_back };
+
+    ghost writable = { map_writable V.value_of V.writable };
+
+    #[tactic(auto, unfolding(crate::specs::Shape::members_of))]
+    fn to_value(&self, alloc: Global) -> Result<Value, AllocError> {
+        let mut object = Map::new(alloc);
+        for (key, item) in self.as_map() {
+            put_field(alloc, &mut object, key.as_str(), item)?;
+        }
+        Ok(Value::from(object))
+    }
+
+    fn from_value(alloc: Global, value: &Value) -> Result<TextMap<V>, FromValueError> {
+        let Value::Object(object) = value else {
+            return Err(FromValueError::NotAValue);
+        };
+        let mut map = TextMap::empty(alloc);
+        for (key, value) in object {
+            let item = V::from_value(alloc, value)?;
+            map.insert(Text::from_str(alloc, key.as_str())?, item)?;
+        }
+        Ok(map)
+    }
+}

@@ -1,0 +1,216 @@
+// Numbers and truth values.
+ghost use Rattle.std.specs.Prelude.{◌≡◌, ◌^◌, ◌<◌, ℕ, FitsSigned};
+ghost use Rattle.std.specs.Int.{w32, w64};
+
+use crate::{Form, FromValueError};
+use rec_events::NonZeroCount;
+use serde_json::Value;
+use std::alloc::{AllocError, Global};
+
+impl Form for u32 {
+    ghost use Rattle.rec_forms.specs.Shape.{natural};
+    ghost use Rattle.rec_forms.specs.Writable.{natural_writable};
+    ghost use Rattle.rec_forms.specs.Numbers.{u32_form};
+    ghost use Rattle.rec_forms.specs.NumberLaws.{u32_back};
+
+    ghost well_formed = { λ n. n < 2 ^ 32 };
+
+    ghost value_of = { natural };
+
+    ghost form_of = { u32_form };
+
+    ghost levels = { 0 };
+
+    ghost reads_back = { u32_back };
+
+    ghost writable = { λ n. natural_writable n };
+
+    fn to_value(&self, _alloc: Global) -> Result<Value, AllocError> {
+        Ok(Value::from(*self))
+    }
+
+    fn from_value(_alloc: Global, value: &Value) -> Result<u32, FromValueError> {
+        match value.as_u64() {
+            Some(n) if n < 1 << 32 => Ok(n as u32),
+            _ => Err(FromValueError::NotAValue),
+        }
+    }
+}
+
+impl Form for u64 {
+    ghost use Rattle.rec_forms.specs.Shape.{natural};
+    ghost use Rattle.rec_forms.specs.Writable.{natural_writable};
+    ghost use Rattle.rec_forms.specs.Numbers.{u64_form};
+    ghost use Rattle.rec_forms.specs.NumberLaws.{u64_back};
+
+    ghost well_formed = { λ n. n < 2 ^ 64 };
+
+    ghost value_of = { natural };
+
+    ghost form_of = { u64_form };
+
+    ghost levels = { 0 };
+
+    ghost reads_back = { u64_back };
+
+    ghost writable = { λ n. natural_writable n };
+
+    fn to_value(&self, _alloc: Global) -> Result<Value, AllocError> {
+        Ok(Value::from(*self))
+    }
+
+    fn from_value(_alloc: Global, value: &Value) -> Result<u64, FromValueError> {
+        match value.as_u64() {
+            Some(n) => Ok(n),
+            None => Err(FromValueError::NotAValue),
+        }
+    }
+}
+
+impl Form for usize {
+    ghost use Rattle.rec_forms.specs.Shape.{natural};
+    ghost use Rattle.rec_forms.specs.Writable.{natural_writable};
+    ghost use Rattle.rec_forms.specs.Numbers.{u64_form};
+    ghost use Rattle.rec_forms.specs.NumberLaws.{u64_back};
+
+    ghost well_formed = { λ n. n < 2 ^ 64 };
+
+    ghost value_of = { natural };
+
+    ghost form_of = { u64_form };
+
+    ghost levels = { 0 };
+
+    ghost reads_back = { u64_back };
+
+    ghost writable = { λ n. natural_writable n };
+
+    fn to_value(&self, _alloc: Global) -> Result<Value, AllocError> {
+        Ok(Value::from(*self))
+    }
+
+    fn from_value(_alloc: Global, value: &Value) -> Result<usize, FromValueError> {
+        match value.as_u64() {
+            Some(n) => Ok(n as usize),
+            None => Err(FromValueError::NotAValue),
+        }
+    }
+}
+
+impl Form for i64 {
+    ghost use Rattle.rec_forms.specs.Shape.{integer};
+    ghost use Rattle.rec_forms.specs.Writable.{integer_writable};
+    ghost use Rattle.rec_forms.specs.Numbers.{i64_form};
+    ghost use Rattle.rec_forms.specs.NumberLaws.{i64_back};
+
+    ghost well_formed = { FitsSigned w64 };
+
+    ghost value_of = { integer };
+
+    ghost form_of = { i64_form };
+
+    ghost levels = { 0 };
+
+    ghost reads_back = { i64_back };
+
+    ghost writable = { λ z. integer_writable z };
+
+    fn to_value(&self, _alloc: Global) -> Result<Value, AllocError> {
+        Ok(Value::from(*self))
+    }
+
+    fn from_value(_alloc: Global, value: &Value) -> Result<i64, FromValueError> {
+        match value.as_i64() {
+            Some(n) => Ok(n),
+            None => Err(FromValueError::NotAValue),
+        }
+    }
+}
+
+impl Form for i32 {
+    ghost use Rattle.rec_forms.specs.Shape.{integer};
+    ghost use Rattle.rec_forms.specs.Writable.{integer_writable};
+    ghost use Rattle.rec_forms.specs.Numbers.{i32_form};
+    ghost use Rattle.rec_forms.specs.NumberLaws.{i32_back};
+
+    ghost well_formed = { FitsSigned w32 };
+
+    ghost value_of = { integer };
+
+    ghost form_of = { i32_form };
+
+    ghost levels = { 0 };
+
+    ghost reads_back = { i32_back };
+
+    ghost writable = { λ z. integer_writable z };
+
+    fn to_value(&self, _alloc: Global) -> Result<Value, AllocError> {
+        Ok(Value::from(*self))
+    }
+
+    fn from_value(_alloc: Global, value: &Value) -> Result<i32, FromValueError> {
+        match value.as_i64() {
+            Some(n) if -0x8000_0000 <= n && n <= 0x7fff_ffff => Ok(n as i32),
+            _ => Err(FromValueError::NotAValue),
+        }
+    }
+}
+
+impl Form for bool {
+    ghost use Rattle.std.specs.Prelude.{Bool, Some, refl};
+    ghost use Rattle.serde_json.specs.Data.{boolean};
+    ghost use Rattle.serde_json.specs.Find.{as_bool};
+    ghost use Rattle.rec_forms.specs.Writable.{boolean_writable};
+
+    ghost well_formed = { λ _. Unit {0} };
+
+    ghost value_of = { boolean };
+
+    ghost form_of = { as_bool };
+
+    ghost levels = { 0 };
+
+    ghost reads_back = { λ x _. refl };
+
+    ghost writable = { λ b. boolean_writable b };
+
+    fn to_value(&self, _alloc: Global) -> Result<Value, AllocError> {
+        Ok(Value::from(*self))
+    }
+
+    fn from_value(_alloc: Global, value: &Value) -> Result<bool, FromValueError> {
+        match value.as_bool() {
+            Some(b) => Ok(b),
+            None => Err(FromValueError::NotAValue),
+        }
+    }
+}
+
+impl Form for NonZeroCount {
+    ghost use Rattle.rec_forms.specs.Shape.{natural};
+    ghost use Rattle.rec_forms.specs.Numbers.{count_form, IsCount};
+    ghost use Rattle.rec_forms.specs.NumberLaws.{count_back};
+    ghost use Rattle.rec_forms.specs.Writable.{natural_writable};
+
+    ghost well_formed = { IsCount };
+
+    ghost value_of = { natural };
+
+    ghost form_of = { count_form };
+
+    ghost levels = { 0 };
+
+    ghost reads_back = { count_back };
+
+    ghost writable = { λ n. natural_writable n };
+
+    fn to_value(&self, alloc: Global) -> Result<Value, AllocError> {
+        self.get().to_value(alloc)
+    }
+
+    fn from_value(alloc: Global, value: &Value) -> Result<NonZeroCount, FromValueError> {
+        let count = u32::from_value(alloc, value)?;
+        NonZeroCount::new(count).ok_or(FromValueError::NotAValue)
+    }
+}

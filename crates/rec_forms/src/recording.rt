@@ -1,0 +1,108 @@
+// What a recording says of the whole run.
+use crate::fields::{put_field, required_field};
+use crate::{Form, FromValueError};
+use rec_events::{NextestRunMode, RecordOpts, TestListSummary};
+use serde_json::{Map, Value};
+use std::alloc::{AllocError, Global};
+
+impl Form for NextestRunMode {
+    ghost use Rattle.rec_forms.specs.Recording.{run_mode_value, run_mode_form};
+    ghost use Rattle.rec_forms.specs.RecordingLaws.{run_mode_back, run_mode_writable};
+
+    ghost well_formed = { λ _. Unit {0} };
+
+    ghost value_of = { run_mode_value };
+
+    ghost form_of = { run_mode_form };
+
+    ghost levels = { 0 };
+
+    ghost reads_back = { λ m _. run_mode_back m };
+
+    ghost writable = { run_mode_writable };
+
+    fn to_value(&self, alloc: Global) -> Result<Value, AllocError> {
+        let name = match self {
+            NextestRunMode::Test => "test",
+            NextestRunMode::Benchmark => "benchmark",
+        };
+        Value::try_from_str(alloc, name)
+    }
+
+    #[tactic(auto, unfolding(crate::specs::Recording::run_mode_form))]
+    fn from_value(_alloc: Global, value: &Value) -> Result<NextestRunMode, FromValueError> {
+        match value.as_str() {
+            Some("test") => Ok(NextestRunMode::Test),
+            Some("benchmark") => Ok(NextestRunMode::Benchmark),
+            _ => Err(FromValueError::NotAValue),
+        }
+    }
+}
+
+impl Form for RecordOpts {
+    ghost use Rattle.rec_forms.specs.Recording.{record_opts_value, record_opts_form};
+    ghost use Rattle.rec_forms.specs.RecordingLaws.{record_opts_back, record_opts_writable};
+
+    ghost well_formed = { λ _. Unit {0} };
+
+    ghost value_of = { record_opts_value };
+
+    ghost form_of = { record_opts_form };
+
+    ghost levels = { 1 };
+
+    ghost reads_back = { λ x _. record_opts_back x };
+
+    ghost writable = { record_opts_writable };
+
+    #[tactic(auto, unfolding(crate::specs::Shape::members_of))]
+    fn to_value(&self, alloc: Global) -> Result<Value, AllocError> {
+        let mut object = Map::new(alloc);
+        put_field(alloc, &mut object, "run-mode", &self.run_mode)?;
+        Ok(Value::from(object))
+    }
+
+    #[tactic(auto, unfolding(crate::specs::Recording::record_opts_form))]
+    fn from_value(alloc: Global, value: &Value) -> Result<RecordOpts, FromValueError> {
+        let Value::Object(object) = value else {
+            return Err(FromValueError::NotAValue);
+        };
+        Ok(RecordOpts {
+            run_mode: required_field(alloc, object, "run-mode")?,
+        })
+    }
+}
+
+impl Form for TestListSummary {
+    ghost use Rattle.rec_forms.specs.Recording.{test_list_value, test_list_form, IsTestList};
+    ghost use Rattle.rec_forms.specs.RecordingLaws.{test_list_back, test_list_writable};
+
+    ghost well_formed = { IsTestList };
+
+    ghost value_of = { test_list_value };
+
+    ghost form_of = { test_list_form };
+
+    ghost levels = { 3 };
+
+    ghost reads_back = { test_list_back };
+
+    ghost writable = { test_list_writable };
+
+    #[tactic(auto, unfolding(crate::specs::Shape::members_of))]
+    fn to_value(&self, alloc: Global) -> Result<Value, AllocError> {
+        let mut object = Map::new(alloc);
+        put_field(alloc, &mut object, "suites", &self.suites)?;
+        Ok(Value::from(object))
+    }
+
+    #[tactic(auto, unfolding(crate::specs::Recording::test_list_form))]
+    fn from_value(alloc: Global, value: &Value) -> Result<TestListSummary, FromValueError> {
+        let Value::Object(object) = value else {
+            return Err(FromValueError::NotAValue);
+        };
+        Ok(TestListSummary {
+            suites: required_field(alloc, object, "suites")?,
+        })
+    }
+}

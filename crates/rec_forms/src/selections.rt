@@ -1,0 +1,207 @@
+// What of a workspace is built.
+use crate::fields::{defaulted_field, put_field};
+use crate::{Form, FromValueError};
+use rec_events::{
+    BuildScope, FeatureSelection, Items, NamedTargets, PackageSelection, TargetSelection,
+};
+use serde_json::{Map, Value};
+use std::alloc::{AllocError, Global};
+
+impl Form for NamedTargets {
+    ghost use Rattle.rec_forms.specs.Selections.{named_targets_value, named_targets_form, IsNamedTargets};
+    ghost use Rattle.rec_forms.specs.SelectionLaws.{named_targets_back, named_targets_writable};
+
+    ghost well_formed = { IsNamedTargets };
+
+    ghost value_of = { named_targets_value };
+
+    ghost form_of = { named_targets_form };
+
+    ghost levels = { 2 };
+
+    ghost reads_back = { named_targets_back };
+
+    ghost writable = { named_targets_writable };
+
+    #[tactic(auto, unfolding(crate::specs::Shape::members_of))]
+    fn to_value(&self, alloc: Global) -> Result<Value, AllocError> {
+        let mut object = Map::new(alloc);
+        put_field(alloc, &mut object, "names", &self.names)?;
+        put_field(alloc, &mut object, "all", &self.all)?;
+        Ok(Value::from(object))
+    }
+
+    #[tactic(auto, unfolding(crate::specs::Selections::named_targets_form))]
+    fn from_value(alloc: Global, value: &Value) -> Result<NamedTargets, FromValueError> {
+        let Value::Object(object) = value else {
+            return Err(FromValueError::NotAValue);
+        };
+        Ok(NamedTargets {
+            names: defaulted_field(alloc, object, "names", Items::empty(alloc))?,
+            all: defaulted_field(alloc, object, "all", false)?,
+        })
+    }
+}
+
+impl Form for PackageSelection {
+    ghost use Rattle.rec_forms.specs.Selections.{package_selection_value, package_selection_form, IsPackageSelection};
+    ghost use Rattle.rec_forms.specs.SelectionLaws.{package_selection_back, package_selection_writable};
+
+    ghost well_formed = { IsPackageSelection };
+
+    ghost value_of = { package_selection_value };
+
+    ghost form_of = { package_selection_form };
+
+    ghost levels = { 2 };
+
+    ghost reads_back = { package_selection_back };
+
+    ghost writable = { package_selection_writable };
+
+    #[tactic(auto, unfolding(crate::specs::Shape::members_of))]
+    fn to_value(&self, alloc: Global) -> Result<Value, AllocError> {
+        let mut object = Map::new(alloc);
+        put_field(alloc, &mut object, "specs", &self.specs)?;
+        put_field(alloc, &mut object, "workspace", &self.workspace)?;
+        put_field(alloc, &mut object, "exclude", &self.exclude)?;
+        Ok(Value::from(object))
+    }
+
+    #[tactic(auto, unfolding(crate::specs::Selections::package_selection_form))]
+    fn from_value(alloc: Global, value: &Value) -> Result<PackageSelection, FromValueError> {
+        let Value::Object(object) = value else {
+            return Err(FromValueError::NotAValue);
+        };
+        Ok(PackageSelection {
+            specs: defaulted_field(alloc, object, "specs", Items::empty(alloc))?,
+            workspace: defaulted_field(alloc, object, "workspace", false)?,
+            exclude: defaulted_field(alloc, object, "exclude", Items::empty(alloc))?,
+        })
+    }
+}
+
+impl Form for TargetSelection {
+    ghost use Rattle.rec_forms.specs.Selections.{target_selection_value, target_selection_form, IsTargetSelection};
+    ghost use Rattle.rec_forms.specs.SelectionLaws.{target_selection_back, target_selection_writable};
+
+    ghost well_formed = { IsTargetSelection };
+
+    ghost value_of = { target_selection_value };
+
+    ghost form_of = { target_selection_form };
+
+    ghost levels = { 3 };
+
+    ghost reads_back = { target_selection_back };
+
+    ghost writable = { target_selection_writable };
+
+    #[tactic(auto, unfolding(crate::specs::Shape::members_of))]
+    fn to_value(&self, alloc: Global) -> Result<Value, AllocError> {
+        let mut object = Map::new(alloc);
+        put_field(alloc, &mut object, "lib", &self.lib)?;
+        put_field(alloc, &mut object, "bins", &self.bins)?;
+        put_field(alloc, &mut object, "examples", &self.examples)?;
+        put_field(alloc, &mut object, "tests", &self.tests)?;
+        put_field(alloc, &mut object, "benches", &self.benches)?;
+        put_field(alloc, &mut object, "all-targets", &self.all_targets)?;
+        Ok(Value::from(object))
+    }
+
+    #[tactic(auto, unfolding(crate::specs::Selections::target_selection_form))]
+    fn from_value(alloc: Global, value: &Value) -> Result<TargetSelection, FromValueError> {
+        let Value::Object(object) = value else {
+            return Err(FromValueError::NotAValue);
+        };
+        Ok(TargetSelection {
+            lib: defaulted_field(alloc, object, "lib", false)?,
+            bins: defaulted_field(alloc, object, "bins", NamedTargets::none(alloc))?,
+            examples: defaulted_field(alloc, object, "examples", NamedTargets::none(alloc))?,
+            tests: defaulted_field(alloc, object, "tests", NamedTargets::none(alloc))?,
+            benches: defaulted_field(alloc, object, "benches", NamedTargets::none(alloc))?,
+            all_targets: defaulted_field(alloc, object, "all-targets", false)?,
+        })
+    }
+}
+
+impl Form for FeatureSelection {
+    ghost use Rattle.rec_forms.specs.Selections.{feature_selection_value, feature_selection_form, IsFeatureSelection};
+    ghost use Rattle.rec_forms.specs.SelectionLaws.{feature_selection_back, feature_selection_writable};
+
+    ghost well_formed = { IsFeatureSelection };
+
+    ghost value_of = { feature_selection_value };
+
+    ghost form_of = { feature_selection_form };
+
+    ghost levels = { 2 };
+
+    ghost reads_back = { feature_selection_back };
+
+    ghost writable = { feature_selection_writable };
+
+    #[tactic(auto, unfolding(crate::specs::Shape::members_of))]
+    fn to_value(&self, alloc: Global) -> Result<Value, AllocError> {
+        let mut object = Map::new(alloc);
+        put_field(alloc, &mut object, "features", &self.features)?;
+        put_field(alloc, &mut object, "all-features", &self.all_features)?;
+        put_field(
+            alloc,
+            &mut object,
+            "no-default-features",
+            &self.no_default_features,
+        )?;
+        Ok(Value::from(object))
+    }
+
+    #[tactic(auto, unfolding(crate::specs::Selections::feature_selection_form))]
+    fn from_value(alloc: Global, value: &Value) -> Result<FeatureSelection, FromValueError> {
+        let Value::Object(object) = value else {
+            return Err(FromValueError::NotAValue);
+        };
+        Ok(FeatureSelection {
+            features: defaulted_field(alloc, object, "features", Items::empty(alloc))?,
+            all_features: defaulted_field(alloc, object, "all-features", false)?,
+            no_default_features: defaulted_field(alloc, object, "no-default-features", false)?,
+        })
+    }
+}
+
+impl Form for BuildScope {
+    ghost use Rattle.rec_forms.specs.Selections.{build_scope_value, build_scope_form, IsBuildScope};
+    ghost use Rattle.rec_forms.specs.SelectionLaws.{build_scope_back, build_scope_writable};
+
+    ghost well_formed = { IsBuildScope };
+
+    ghost value_of = { build_scope_value };
+
+    ghost form_of = { build_scope_form };
+
+    ghost levels = { 4 };
+
+    ghost reads_back = { build_scope_back };
+
+    ghost writable = { build_scope_writable };
+
+    #[tactic(auto, unfolding(crate::specs::Shape::members_of))]
+    fn to_value(&self, alloc: Global) -> Result<Value, AllocError> {
+        let mut object = Map::new(alloc);
+        put_field(alloc, &mut object, "packages", &self.packages)?;
+        put_field(alloc, &mut object, "targets", &self.targets)?;
+        put_field(alloc, &mut object, "features", &self.features)?;
+        Ok(Value::from(object))
+    }
+
+    #[tactic(auto, unfolding(crate::specs::Selections::build_scope_form))]
+    fn from_value(alloc: Global, value: &Value) -> Result<BuildScope, FromValueError> {
+        let Value::Object(object) = value else {
+            return Err(FromValueError::NotAValue);
+        };
+        Ok(BuildScope {
+            packages: defaulted_field(alloc, object, "packages", PackageSelection::none(alloc))?,
+            targets: defaulted_field(alloc, object, "targets", TargetSelection::none(alloc))?,
+            features: defaulted_field(alloc, object, "features", FeatureSelection::none(alloc))?,
+        })
+    }
+}

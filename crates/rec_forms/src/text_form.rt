@@ -1,0 +1,49 @@
+// Items as the bytes of their JSON text.
+ghost use Rattle.std.specs.Prelude.{◌≡◌, ◌≤◌, Some, IfOk, IsTrue};
+ghost use Rattle.std.specs.Str.{is_utf8};
+ghost use Rattle.serde_json.specs.Read.{max_depth};
+ghost use Rattle.serde_json.specs.View.{view};
+ghost use Rattle.serde_json.specs.Written.{compact_text};
+ghost use Rattle.rec_forms.specs.Gives.{Gives, GivesBy};
+ghost use Rattle.rec_forms.specs.TextForm.{value_in, text_form, bytes_form};
+
+use crate::{Form, FromValueError};
+use serde_json::Value;
+use std::alloc::{AllocError, Global};
+
+/// Reads an item from its JSON text. `NotAValue` comes exactly where `bytes` are no UTF-8, are not
+/// the text of a JSON value, or are that of a value which stands for no item.
+pub fn read_text<T: Form>(alloc: Global, bytes: &[u8]) -> Result<T, FromValueError>
+    ensures { Gives result (bytes_form T.form_of bytes.now) }
+{
+    let value = read_value(alloc, bytes)?;
+    T::from_value(alloc, &value)
+}
+
+// The value that bytes are.
+fn read_value(alloc: Global, bytes: &[u8]) -> Result<Value, FromValueError>
+    ensures { GivesBy view result (value_in bytes.now) }
+{
+    match Value::from_slice(alloc, bytes) {
+        Ok(value) => Ok(value),
+        Err(error) => {
+            if error.is_memory() {
+                Err(FromValueError::OutOfMemory)
+            } else {
+                Err(FromValueError::NotAValue)
+            }
+        }
+    }
+}
+
+/// The compact JSON text of an item.
+pub fn write_text<T: Form>(alloc: Global, item: &T) -> Result<Vec<u8>, AllocError>
+    ensures text { IfOk result (λ b. b.items ≡ compact_text (T.value_of item.now)) }
+    ensures utf8 { IfOk result (λ b. IsTrue (is_utf8 b.items)) }
+    ensures known { IfOk result (λ _. T.well_formed item.now) }
+    ensures reads_back { T.levels ≤ max_depth → IfOk result (λ b. text_form T.form_of b.items ≡ Some item.now) }
+{
+    let value = item.to_value(alloc)?;
+    let text = value.to_string(alloc)?;
+    Ok(text.into_bytes())
+}

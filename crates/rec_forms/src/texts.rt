@@ -1,0 +1,37 @@
+// Texts.
+ghost use Rattle.serde_json.specs.Data.{string};
+ghost use Rattle.rec_forms.specs.Shape.{text_of};
+
+use crate::{Form, FromValueError};
+use rec_events::Text;
+use serde_json::Value;
+use std::alloc::{AllocError, Global};
+
+impl Form for Text {
+    ghost use Rattle.rec_events.specs.Names.{IsText};
+    ghost use Rattle.rec_forms.specs.NumberLaws.{text_back};
+    ghost use Rattle.rec_forms.specs.Writable.{string_writable};
+
+    ghost well_formed = { IsText };
+
+    ghost value_of = { string };
+
+    ghost form_of = { text_of };
+
+    ghost levels = { 0 };
+
+    ghost reads_back = { text_back };
+
+    ghost writable = { λ s. string_writable s };
+
+    fn to_value(&self, alloc: Global) -> Result<Value, AllocError> {
+        Value::try_from_str(alloc, self.as_str())
+    }
+
+    fn from_value(alloc: Global, value: &Value) -> Result<Text, FromValueError> {
+        match value.as_str() {
+            Some(text) => Ok(Text::from_str(alloc, text)?),
+            None => Err(FromValueError::NotAValue),
+        }
+    }
+}
