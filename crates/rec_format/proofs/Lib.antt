@@ -1,0 +1,4 @@
+pub mod SuiteMaps
+pub mod LastItem
+pub mod PathPieces
+pub mod VersionNumbers

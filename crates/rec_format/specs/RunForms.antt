@@ -1,0 +1,82 @@
+-- The values and forms of a run's metadata and of a manifest.
+use Rattle.std.specs.Prelude.{[], ◌∷◌, ◌++◌, Option, Some, codes}
+use Rattle.serde_json.specs.Data.{Data}
+use Rattle.serde_json.specs.Find.{as_object}
+use Rattle.rec_forms.specs.Numbers.{u32_form}
+use Rattle.rec_forms.specs.Shape.{◌>>=◌, natural, field, struct, required, defaulted}
+use Rattle.rec_format.specs.declared.forms.parts.Identity.{Identity}
+use Rattle.rec_format.specs.declared.forms.parts.Invocation.{Invocation}
+use Rattle.rec_format.specs.declared.run.RecordedRun.{RecordedRun}
+use Rattle.rec_format.specs.declared.manifest.PortableManifest.{PortableManifest}
+use Rattle.rec_format.specs.PartForms.{identity_fields, identity_form, IsIdentity, invocation_fields, invocation_form, IsInvocation}
+use Rattle.rec_format.specs.SizeForms.{sizes_format_value, sizes_format_form, IsSizesFormat}
+use Rattle.rec_format.specs.StatusForms.{status_format_value, status_format_form, IsStatusFormat}
+use Rattle.rec_format.specs.VersionForms.{IsNumber, portable_version_value, portable_version_form, IsPortableVersion}
+
+abbrev pub run_identity : RecordedRun → Identity
+run_identity r = record {
+  run_id = r.run_id;
+  nextest_version = r.nextest_version;
+  started_at = r.started_at;
+  last_written_at = r.last_written_at;
+  duration = r.duration;
+}
+
+abbrev pub run_invocation : RecordedRun → Invocation
+run_invocation r = record { cli_args = r.cli_args; env_vars = r.env_vars; parent_run_id = r.parent_run_id }
+
+abbrev pub run_value : RecordedRun → Data
+run_value r = struct (
+    identity_fields (run_identity r)
+    ++ invocation_fields (run_invocation r)
+    ++ field (codes "store-format-version") (natural r.store_format_version)
+    ∷ field (codes "store-format-minor-version") (natural r.store_format_minor_version)
+    ∷ field (codes "sizes") (sizes_format_value r.sizes)
+    ∷ field (codes "status") (status_format_value r.status)
+    ∷ [])
+
+unfoldable pub run_form : Data → Option RecordedRun
+run_form d = do
+  ms ← as_object d
+  i ← identity_form ms
+  v ← invocation_form ms
+  major ← required u32_form (codes "store-format-version") ms
+  minor ← defaulted 0 u32_form (codes "store-format-minor-version") ms
+  sizes ← required sizes_format_form (codes "sizes") ms
+  status ← required status_format_form (codes "status") ms
+  Some (record {
+    run_id = i.run_id;
+    store_format_version = major;
+    store_format_minor_version = minor;
+    nextest_version = i.nextest_version;
+    started_at = i.started_at;
+    last_written_at = i.last_written_at;
+    duration = i.duration;
+    cli_args = v.cli_args;
+    env_vars = v.env_vars;
+    parent_run_id = v.parent_run_id;
+    sizes = sizes;
+    status = status;
+  })
+
+pub record IsRun (r : RecordedRun) : Type 0 where
+  pub identity : IsIdentity (run_identity r)
+  pub invocation : IsInvocation (run_invocation r)
+  pub store_format_version : IsNumber r.store_format_version
+  pub store_format_minor_version : IsNumber r.store_format_minor_version
+  pub sizes : IsSizesFormat r.sizes
+  pub status : IsStatusFormat r.status
+
+abbrev pub manifest_value : PortableManifest → Data
+manifest_value m = struct (field (codes "format-version") (portable_version_value m.format_version) ∷ field (codes "run") (run_value m.run) ∷ [])
+
+unfoldable pub manifest_form : Data → Option PortableManifest
+manifest_form d = do
+  ms ← as_object d
+  format_version ← required portable_version_form (codes "format-version") ms
+  run ← required run_form (codes "run") ms
+  Some (record { format_version = format_version; run = run })
+
+pub record IsManifest (m : PortableManifest) : Type 0 where
+  pub format_version : IsPortableVersion m.format_version
+  pub run : IsRun m.run

@@ -1,0 +1,24 @@
+-- What was built reads back, and is writable.
+use Rattle.std.specs.Prelude.{◌≡◌, Some, refl}
+use Rattle.rec_forms.specs.Members.{get_member-members_of}
+use Rattle.rec_forms.specs.SelectionLaws.{build_scope_back, build_scope_writable}
+use Rattle.rec_forms.specs.Writable.{IsWritable, struct_writable, string_writable}
+use Rattle.rec_format.specs.declared.scope.BuildKind.{BuildKind}
+use Rattle.rec_format.specs.declared.scope.BuildKind.TheVariants.{Cargo, Reused}
+use Rattle.rec_format.specs.declared.scope.RecordedBuildScope.{RecordedBuildScope}
+use Rattle.rec_format.specs.ScopeForms.{build_kind_name, build_kind_value, build_kind_form, recorded_scope_value, recorded_scope_form, IsRecordedScope}
+
+pub build_kind_back : (k : BuildKind) → build_kind_form (build_kind_value k) ≡ Some k
+unfolding build_kind_form
+build_kind_back Cargo = refl
+build_kind_back Reused = refl
+
+pub build_kind_writable : (k : BuildKind) → IsWritable 0 (build_kind_value k)
+build_kind_writable k = string_writable (build_kind_name k)
+
+pub recorded_scope_back : (s : RecordedBuildScope) → IsRecordedScope s → recorded_scope_form (recorded_scope_value s) ≡ Some s
+unfolding recorded_scope_form
+recorded_scope_back s h = simp (get_member-members_of, build_kind_back s.build_kind, build_scope_back _ h.scope)
+
+pub recorded_scope_writable : (s : RecordedBuildScope) → IsWritable 5 (recorded_scope_value s)
+recorded_scope_writable s = struct_writable _ (string_writable (build_kind_name s.build_kind), (build_scope_writable s.scope, tt))

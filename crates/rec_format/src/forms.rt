@@ -1,0 +1,11 @@
+// The JSON forms of the types of this crate.
+mod head;
+mod manifest;
+mod parts;
+mod rerun;
+mod run;
+mod scope;
+mod sizes;
+mod status;
+mod suites;
+mod versions;

@@ -1,0 +1,87 @@
+// The metadata of a run.
+use super::parts::{Identity, Invocation};
+use crate::{RecordedRun, StoreFormatMinorVersion};
+use rec_forms::{Form, FromValueError, defaulted_field, put_field, required_field};
+use serde_json::{Map, Value};
+use std::alloc::{AllocError, Global};
+
+impl Form for RecordedRun {
+    ghost use Rattle.rec_format.specs.RunForms.{run_value, run_form, IsRun};
+    ghost use Rattle.rec_format.specs.RunFormLaws.{run_back, run_writable};
+
+    ghost well_formed = { IsRun };
+
+    ghost value_of = { run_value };
+
+    ghost form_of = { run_form };
+
+    ghost levels = { 3 };
+
+    ghost reads_back = { run_back };
+
+    ghost writable = { run_writable };
+
+    #[tactic(auto, unfolding(rec_forms::specs::Shape::members_of))]
+    fn to_value(&self, alloc: Global) -> Result<Value, AllocError> {
+        let mut object = Map::new(alloc);
+        Identity::put(
+            alloc,
+            &mut object,
+            &self.run_id,
+            &self.nextest_version,
+            &self.started_at,
+            &self.last_written_at,
+            &self.duration,
+        )?;
+        Invocation::put(
+            alloc,
+            &mut object,
+            &self.cli_args,
+            &self.env_vars,
+            &self.parent_run_id,
+        )?;
+        put_field(
+            alloc,
+            &mut object,
+            "store-format-version",
+            &self.store_format_version,
+        )?;
+        put_field(
+            alloc,
+            &mut object,
+            "store-format-minor-version",
+            &self.store_format_minor_version,
+        )?;
+        put_field(alloc, &mut object, "sizes", &self.sizes)?;
+        put_field(alloc, &mut object, "status", &self.status)?;
+        Ok(Value::from(object))
+    }
+
+    #[tactic(auto, unfolding(crate::specs::RunForms::run_form))]
+    fn from_value(alloc: Global, value: &Value) -> Result<RecordedRun, FromValueError> {
+        let Value::Object(object) = value else {
+            return Err(FromValueError::NotAValue);
+        };
+        let identity = Identity::read(alloc, object)?;
+        let invocation = Invocation::read(alloc, object)?;
+        Ok(RecordedRun {
+            run_id: identity.run_id,
+            store_format_version: required_field(alloc, object, "store-format-version")?,
+            store_format_minor_version: defaulted_field(
+                alloc,
+                object,
+                "store-format-minor-version",
+                StoreFormatMinorVersion::new(0),
+            )?,
+            nextest_version: identity.nextest_version,
+            started_at: identity.started_at,
+            last_written_at: identity.last_written_at,
+            duration: identity.duration,
+            cli_args: invocation.cli_args,
+            env_vars: invocation.env_vars,
+            parent_run_id: invocation.parent_run_id,
+            sizes: required_field(alloc, object, "sizes")?,
+            status: required_field(alloc, object, "status")?,
+        })
+    }
+}

@@ -1,0 +1,75 @@
+// What was built.
+use crate::{BuildKind, RecordedBuildScope};
+use rec_forms::{Form, FromValueError, put_field, required_field};
+use serde_json::{Map, Value};
+use std::alloc::{AllocError, Global};
+
+impl Form for BuildKind {
+    ghost use Rattle.rec_format.specs.ScopeForms.{build_kind_value, build_kind_form};
+    ghost use Rattle.rec_format.specs.ScopeFormLaws.{build_kind_back, build_kind_writable};
+
+    ghost well_formed = { λ _. Unit {0} };
+
+    ghost value_of = { build_kind_value };
+
+    ghost form_of = { build_kind_form };
+
+    ghost levels = { 0 };
+
+    ghost reads_back = { λ x _. build_kind_back x };
+
+    ghost writable = { build_kind_writable };
+
+    fn to_value(&self, alloc: Global) -> Result<Value, AllocError> {
+        let name = match self {
+            BuildKind::Cargo => "cargo",
+            BuildKind::Reused => "reused",
+        };
+        Value::try_from_str(alloc, name)
+    }
+
+    #[tactic(auto, unfolding(crate::specs::ScopeForms::build_kind_form))]
+    fn from_value(_alloc: Global, value: &Value) -> Result<BuildKind, FromValueError> {
+        match value.as_str() {
+            Some("cargo") => Ok(BuildKind::Cargo),
+            Some("reused") => Ok(BuildKind::Reused),
+            _ => Err(FromValueError::NotAValue),
+        }
+    }
+}
+
+impl Form for RecordedBuildScope {
+    ghost use Rattle.rec_format.specs.ScopeForms.{recorded_scope_value, recorded_scope_form, IsRecordedScope};
+    ghost use Rattle.rec_format.specs.ScopeFormLaws.{recorded_scope_back, recorded_scope_writable};
+
+    ghost well_formed = { IsRecordedScope };
+
+    ghost value_of = { recorded_scope_value };
+
+    ghost form_of = { recorded_scope_form };
+
+    ghost levels = { 5 };
+
+    ghost reads_back = { recorded_scope_back };
+
+    ghost writable = { recorded_scope_writable };
+
+    #[tactic(auto, unfolding(rec_forms::specs::Shape::members_of))]
+    fn to_value(&self, alloc: Global) -> Result<Value, AllocError> {
+        let mut object = Map::new(alloc);
+        put_field(alloc, &mut object, "build-kind", &self.build_kind)?;
+        put_field(alloc, &mut object, "scope", &self.scope)?;
+        Ok(Value::from(object))
+    }
+
+    #[tactic(auto, unfolding(crate::specs::ScopeForms::recorded_scope_form))]
+    fn from_value(alloc: Global, value: &Value) -> Result<RecordedBuildScope, FromValueError> {
+        let Value::Object(object) = value else {
+            return Err(FromValueError::NotAValue);
+        };
+        Ok(RecordedBuildScope {
+            build_kind: required_field(alloc, object, "build-kind")?,
+            scope: required_field(alloc, object, "scope")?,
+        })
+    }
+}

@@ -1,0 +1,129 @@
+// Sizes, which are written as their formats.
+use crate::{ComponentSizes, ComponentSizesFormat, RecordedSizes, RecordedSizesFormat};
+use rec_forms::{Form, FromValueError, defaulted_field, put_field, required_field};
+use serde_json::{Map, Value};
+use std::alloc::{AllocError, Global};
+
+impl Form for ComponentSizesFormat {
+    ghost use Rattle.rec_format.specs.SizeForms.{component_format_value, component_format_form, IsComponentFormat};
+    ghost use Rattle.rec_format.specs.SizeFormLaws.{component_format_back, component_format_writable};
+
+    ghost well_formed = { IsComponentFormat };
+
+    ghost value_of = { component_format_value };
+
+    ghost form_of = { component_format_form };
+
+    ghost levels = { 1 };
+
+    ghost reads_back = { component_format_back };
+
+    ghost writable = { component_format_writable };
+
+    #[tactic(auto, unfolding(rec_forms::specs::Shape::members_of))]
+    fn to_value(&self, alloc: Global) -> Result<Value, AllocError> {
+        let mut object = Map::new(alloc);
+        put_field(alloc, &mut object, "compressed", &self.compressed)?;
+        put_field(alloc, &mut object, "uncompressed", &self.uncompressed)?;
+        put_field(alloc, &mut object, "entries", &self.entries)?;
+        Ok(Value::from(object))
+    }
+
+    #[tactic(auto, unfolding(crate::specs::SizeForms::component_format_form))]
+    fn from_value(alloc: Global, value: &Value) -> Result<ComponentSizesFormat, FromValueError> {
+        let Value::Object(object) = value else {
+            return Err(FromValueError::NotAValue);
+        };
+        Ok(ComponentSizesFormat {
+            compressed: required_field(alloc, object, "compressed")?,
+            uncompressed: required_field(alloc, object, "uncompressed")?,
+            entries: defaulted_field(alloc, object, "entries", 0)?,
+        })
+    }
+}
+
+impl Form for RecordedSizesFormat {
+    ghost use Rattle.rec_format.specs.SizeForms.{sizes_format_value, sizes_format_form, IsSizesFormat};
+    ghost use Rattle.rec_format.specs.SizeFormLaws.{sizes_format_back, sizes_format_writable};
+
+    ghost well_formed = { IsSizesFormat };
+
+    ghost value_of = { sizes_format_value };
+
+    ghost form_of = { sizes_format_form };
+
+    ghost levels = { 2 };
+
+    ghost reads_back = { sizes_format_back };
+
+    ghost writable = { sizes_format_writable };
+
+    #[tactic(auto, unfolding(rec_forms::specs::Shape::members_of))]
+    fn to_value(&self, alloc: Global) -> Result<Value, AllocError> {
+        let mut object = Map::new(alloc);
+        put_field(alloc, &mut object, "log", &self.log)?;
+        put_field(alloc, &mut object, "store", &self.store)?;
+        Ok(Value::from(object))
+    }
+
+    #[tactic(auto, unfolding(crate::specs::SizeForms::sizes_format_form))]
+    fn from_value(alloc: Global, value: &Value) -> Result<RecordedSizesFormat, FromValueError> {
+        let Value::Object(object) = value else {
+            return Err(FromValueError::NotAValue);
+        };
+        Ok(RecordedSizesFormat {
+            log: required_field(alloc, object, "log")?,
+            store: required_field(alloc, object, "store")?,
+        })
+    }
+}
+
+impl Form for ComponentSizes {
+    ghost use Rattle.rec_format.specs.SizeForms.{component_value, component_form, IsComponent};
+    ghost use Rattle.rec_format.specs.SizeFormLaws.{component_back, component_writable};
+
+    ghost well_formed = { IsComponent };
+
+    ghost value_of = { component_value };
+
+    ghost form_of = { component_form };
+
+    ghost levels = { 1 };
+
+    ghost reads_back = { component_back };
+
+    ghost writable = { component_writable };
+
+    fn to_value(&self, alloc: Global) -> Result<Value, AllocError> {
+        ComponentSizesFormat::from(*self).to_value(alloc)
+    }
+
+    fn from_value(alloc: Global, value: &Value) -> Result<ComponentSizes, FromValueError> {
+        Ok(ComponentSizesFormat::from_value(alloc, value)?.into())
+    }
+}
+
+impl Form for RecordedSizes {
+    ghost use Rattle.rec_format.specs.SizeForms.{sizes_value, sizes_form, AreSizes};
+    ghost use Rattle.rec_format.specs.SizeFormLaws.{sizes_back, sizes_writable};
+
+    ghost well_formed = { AreSizes };
+
+    ghost value_of = { sizes_value };
+
+    ghost form_of = { sizes_form };
+
+    ghost levels = { 2 };
+
+    ghost reads_back = { sizes_back };
+
+    ghost writable = { sizes_writable };
+
+    fn to_value(&self, alloc: Global) -> Result<Value, AllocError> {
+        RecordedSizesFormat::from(*self).to_value(alloc)
+    }
+
+    fn from_value(alloc: Global, value: &Value) -> Result<RecordedSizes, FromValueError> {
+        Ok(RecordedSizesFormat::from_value(alloc, value)?.into())
+    }
+}

@@ -1,0 +1,196 @@
+// Statuses: an object with the name of the status, and the statistics beside it.
+ghost use Rattle.std.specs.Prelude.{◌≡◌, [], ◌∷◌, IfOk, option_map, codes};
+ghost use Rattle.serde_json.specs.Data.{string, no_members};
+ghost use Rattle.serde_json.specs.Find.{as_str};
+ghost use Rattle.serde_json.specs.View.{view, members_view};
+ghost use Rattle.rec_forms.specs.Gives.{Gives};
+ghost use Rattle.rec_forms.specs.Shape.{field, required, with_members};
+ghost use Rattle.rec_format.specs.StatusForms.{bare_value, completed_value, completed_form, AreCompleted, stress_value, stress_form, AreStress, status_with};
+
+use crate::{
+    CompletedRunStats, RecordedRunStatus, RecordedRunStatusFormat, StressCompletedRunStats,
+};
+use rec_forms::{
+    Form, FromValueError, Object, member, optional_field, put_field, put_optional, required_field,
+};
+use serde_json::{Map, Value};
+use std::alloc::{AllocError, Global};
+
+// An object with the name of a status.
+fn named(alloc: Global, name: &str) -> Result<Object, AllocError>
+    ensures { IfOk result (λ object. members_view object.entries ≡ with_members no_members (field (codes "status") (string name.now) ∷ [])) }
+{
+    let mut object = Map::new(alloc);
+    serde_json::put(
+        &mut object,
+        alloc,
+        "status",
+        Value::try_from_str(alloc, name)?,
+    )?;
+    Ok(object)
+}
+
+// The name of the status that an object has.
+fn name_in(object: &Object) -> Option<&str>
+    ensures { option_map (λ name. name.now) result ≡ required as_str (codes "status") (members_view object.now.entries) }
+{
+    member(object, "status")?.as_str()
+}
+
+// A status alone.
+#[tactic(auto, unfolding(rec_forms::specs::Shape::members_of))]
+fn bare(alloc: Global, name: &str) -> Result<Value, AllocError>
+    ensures { IfOk result (λ v. view v ≡ bare_value name.now) }
+{
+    Ok(Value::from(named(alloc, name)?))
+}
+
+// A status with the statistics of a run beside it.
+#[tactic(auto, unfolding(rec_forms::specs::Shape::members_of))]
+fn completed(alloc: Global, name: &str, stats: &CompletedRunStats) -> Result<Value, AllocError>
+    ensures written { IfOk result (λ v. view v ≡ completed_value name.now stats.now) }
+    ensures known { IfOk result (λ _. AreCompleted stats.now) }
+{
+    let mut object = named(alloc, name)?;
+    put_field(
+        alloc,
+        &mut object,
+        "initial-run-count",
+        &stats.initial_run_count,
+    )?;
+    put_field(alloc, &mut object, "passed", &stats.passed)?;
+    put_field(alloc, &mut object, "failed", &stats.failed)?;
+    put_field(alloc, &mut object, "exit-code", &stats.exit_code)?;
+    Ok(Value::from(object))
+}
+
+// The statistics of a run in an object.
+#[tactic(auto, unfolding(crate::specs::StatusForms::completed_form))]
+fn completed_in(alloc: Global, object: &Object) -> Result<CompletedRunStats, FromValueError>
+    ensures { Gives result (completed_form (members_view object.now.entries)) }
+{
+    Ok(CompletedRunStats {
+        initial_run_count: required_field(alloc, object, "initial-run-count")?,
+        passed: required_field(alloc, object, "passed")?,
+        failed: required_field(alloc, object, "failed")?,
+        exit_code: required_field(alloc, object, "exit-code")?,
+    })
+}
+
+// A status with the statistics of a stress run beside it.
+#[tactic(auto, unfolding(rec_forms::specs::Shape::members_of))]
+fn stress(alloc: Global, name: &str, stats: &StressCompletedRunStats) -> Result<Value, AllocError>
+    ensures written { IfOk result (λ v. view v ≡ stress_value name.now stats.now) }
+    ensures known { IfOk result (λ _. AreStress stats.now) }
+{
+    let mut object = named(alloc, name)?;
+    put_optional(
+        alloc,
+        &mut object,
+        "initial-iteration-count",
+        &stats.initial_iteration_count,
+    )?;
+    put_field(alloc, &mut object, "success-count", &stats.success_count)?;
+    put_field(alloc, &mut object, "failed-count", &stats.failed_count)?;
+    put_field(alloc, &mut object, "exit-code", &stats.exit_code)?;
+    Ok(Value::from(object))
+}
+
+// The statistics of a stress run in an object.
+#[tactic(auto, unfolding(crate::specs::StatusForms::stress_form))]
+fn stress_in(alloc: Global, object: &Object) -> Result<StressCompletedRunStats, FromValueError>
+    ensures { Gives result (stress_form (members_view object.now.entries)) }
+{
+    Ok(StressCompletedRunStats {
+        initial_iteration_count: optional_field(alloc, object, "initial-iteration-count")?,
+        success_count: required_field(alloc, object, "success-count")?,
+        failed_count: required_field(alloc, object, "failed-count")?,
+        exit_code: required_field(alloc, object, "exit-code")?,
+    })
+}
+
+// The status of a name, with what an object has beside it.
+fn status_in(
+    alloc: Global,
+    name: &str,
+    object: &Object,
+) -> Result<RecordedRunStatus, FromValueError>
+    ensures { Gives result (status_with name.now (members_view object.now.entries)) }
+{
+    match name {
+        "incomplete" => Ok(RecordedRunStatus::Incomplete),
+        "completed" => Ok(RecordedRunStatus::Completed(completed_in(alloc, object)?)),
+        "cancelled" => Ok(RecordedRunStatus::Cancelled(completed_in(alloc, object)?)),
+        "stress-completed" => Ok(RecordedRunStatus::StressCompleted(stress_in(alloc, object)?)),
+        "stress-cancelled" => Ok(RecordedRunStatus::StressCancelled(stress_in(alloc, object)?)),
+        _ => Ok(RecordedRunStatus::Unknown),
+    }
+}
+
+impl Form for RecordedRunStatus {
+    ghost use Rattle.rec_format.specs.StatusForms.{status_value, status_form, IsStatus};
+    ghost use Rattle.rec_format.specs.StatusFormLaws.{status_back, status_writable};
+
+    ghost well_formed = { IsStatus };
+
+    ghost value_of = { status_value };
+
+    ghost form_of = { status_form };
+
+    ghost levels = { 1 };
+
+    ghost reads_back = { status_back };
+
+    ghost writable = { status_writable };
+
+    fn to_value(&self, alloc: Global) -> Result<Value, AllocError> {
+        match self {
+            RecordedRunStatus::Incomplete => bare(alloc, "incomplete"),
+            RecordedRunStatus::Completed(stats) => completed(alloc, "completed", stats),
+            RecordedRunStatus::Cancelled(stats) => completed(alloc, "cancelled", stats),
+            RecordedRunStatus::StressCompleted(stats) => stress(alloc, "stress-completed", stats),
+            RecordedRunStatus::StressCancelled(stats) => stress(alloc, "stress-cancelled", stats),
+            RecordedRunStatus::Unknown => bare(alloc, "unknown"),
+        }
+    }
+
+    #[tactic(auto, unfolding(crate::specs::StatusForms::status_form))]
+    fn from_value(alloc: Global, value: &Value) -> Result<RecordedRunStatus, FromValueError> {
+        let Value::Object(object) = value else {
+            return Err(FromValueError::NotAValue);
+        };
+        match name_in(object) {
+            Some(name) => status_in(alloc, name, object),
+            None => Err(FromValueError::NotAValue),
+        }
+    }
+}
+
+impl Form for RecordedRunStatusFormat {
+    ghost use Rattle.rec_format.specs.StatusForms.{status_format_value, status_format_form, IsStatusFormat};
+    ghost use Rattle.rec_format.specs.StatusFormLaws.{status_format_back, status_format_writable};
+
+    ghost well_formed = { IsStatusFormat };
+
+    ghost value_of = { status_format_value };
+
+    ghost form_of = { status_format_form };
+
+    ghost levels = { 1 };
+
+    ghost reads_back = { status_format_back };
+
+    ghost writable = { status_format_writable };
+
+    fn to_value(&self, alloc: Global) -> Result<Value, AllocError> {
+        RecordedRunStatus::from(*self).to_value(alloc)
+    }
+
+    fn from_value(alloc: Global, value: &Value) -> Result<RecordedRunStatusFormat, FromValueError> {
+        // A `?` here, or a `map`, is a form that gets no proof.
+        match RecordedRunStatus::from_value(alloc, value) {
+            Ok(status) => Ok(RecordedRunStatusFormat::from(status)),
+            Err(error) => Err(error),
+        }
+    }
+}

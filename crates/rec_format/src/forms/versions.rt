@@ -1,0 +1,165 @@
+// A version number is written as its number, and the bundle's version as an object of both.
+use crate::{
+    PortableRecordingFormatMajorVersion, PortableRecordingFormatMinorVersion,
+    PortableRecordingFormatVersion, StoreFormatMajorVersion, StoreFormatMinorVersion,
+};
+use rec_forms::{Form, FromValueError, put_field, required_field};
+use serde_json::{Map, Value};
+use std::alloc::{AllocError, Global};
+
+impl Form for StoreFormatMajorVersion {
+    ghost use Rattle.rec_forms.specs.Numbers.{u32_form};
+    ghost use Rattle.rec_forms.specs.NumberLaws.{u32_back};
+    ghost use Rattle.rec_forms.specs.Shape.{natural};
+    ghost use Rattle.rec_forms.specs.Writable.{natural_writable};
+    ghost use Rattle.rec_format.specs.VersionForms.{IsNumber};
+
+    ghost well_formed = { IsNumber };
+
+    ghost value_of = { natural };
+
+    ghost form_of = { u32_form };
+
+    ghost levels = { 0 };
+
+    ghost reads_back = { u32_back };
+
+    ghost writable = { λ n. natural_writable n };
+
+    fn to_value(&self, alloc: Global) -> Result<Value, AllocError> {
+        self.number().to_value(alloc)
+    }
+
+    fn from_value(alloc: Global, value: &Value) -> Result<StoreFormatMajorVersion, FromValueError> {
+        Ok(StoreFormatMajorVersion::new(u32::from_value(alloc, value)?))
+    }
+}
+
+impl Form for StoreFormatMinorVersion {
+    ghost use Rattle.rec_forms.specs.Numbers.{u32_form};
+    ghost use Rattle.rec_forms.specs.NumberLaws.{u32_back};
+    ghost use Rattle.rec_forms.specs.Shape.{natural};
+    ghost use Rattle.rec_forms.specs.Writable.{natural_writable};
+    ghost use Rattle.rec_format.specs.VersionForms.{IsNumber};
+
+    ghost well_formed = { IsNumber };
+
+    ghost value_of = { natural };
+
+    ghost form_of = { u32_form };
+
+    ghost levels = { 0 };
+
+    ghost reads_back = { u32_back };
+
+    ghost writable = { λ n. natural_writable n };
+
+    fn to_value(&self, alloc: Global) -> Result<Value, AllocError> {
+        self.number().to_value(alloc)
+    }
+
+    fn from_value(alloc: Global, value: &Value) -> Result<StoreFormatMinorVersion, FromValueError> {
+        Ok(StoreFormatMinorVersion::new(u32::from_value(alloc, value)?))
+    }
+}
+
+impl Form for PortableRecordingFormatMajorVersion {
+    ghost use Rattle.rec_forms.specs.Numbers.{u32_form};
+    ghost use Rattle.rec_forms.specs.NumberLaws.{u32_back};
+    ghost use Rattle.rec_forms.specs.Shape.{natural};
+    ghost use Rattle.rec_forms.specs.Writable.{natural_writable};
+    ghost use Rattle.rec_format.specs.VersionForms.{IsNumber};
+
+    ghost well_formed = { IsNumber };
+
+    ghost value_of = { natural };
+
+    ghost form_of = { u32_form };
+
+    ghost levels = { 0 };
+
+    ghost reads_back = { u32_back };
+
+    ghost writable = { λ n. natural_writable n };
+
+    fn to_value(&self, alloc: Global) -> Result<Value, AllocError> {
+        self.number().to_value(alloc)
+    }
+
+    fn from_value(
+        alloc: Global,
+        value: &Value,
+    ) -> Result<PortableRecordingFormatMajorVersion, FromValueError> {
+        Ok(PortableRecordingFormatMajorVersion::new(u32::from_value(alloc, value)?))
+    }
+}
+
+impl Form for PortableRecordingFormatMinorVersion {
+    ghost use Rattle.rec_forms.specs.Numbers.{u32_form};
+    ghost use Rattle.rec_forms.specs.NumberLaws.{u32_back};
+    ghost use Rattle.rec_forms.specs.Shape.{natural};
+    ghost use Rattle.rec_forms.specs.Writable.{natural_writable};
+    ghost use Rattle.rec_format.specs.VersionForms.{IsNumber};
+
+    ghost well_formed = { IsNumber };
+
+    ghost value_of = { natural };
+
+    ghost form_of = { u32_form };
+
+    ghost levels = { 0 };
+
+    ghost reads_back = { u32_back };
+
+    ghost writable = { λ n. natural_writable n };
+
+    fn to_value(&self, alloc: Global) -> Result<Value, AllocError> {
+        self.number().to_value(alloc)
+    }
+
+    fn from_value(
+        alloc: Global,
+        value: &Value,
+    ) -> Result<PortableRecordingFormatMinorVersion, FromValueError> {
+        Ok(PortableRecordingFormatMinorVersion::new(u32::from_value(alloc, value)?))
+    }
+}
+
+impl Form for PortableRecordingFormatVersion {
+    ghost use Rattle.rec_format.specs.VersionForms.{portable_version_value, portable_version_form, IsPortableVersion};
+    ghost use Rattle.rec_format.specs.VersionFormLaws.{portable_version_back, portable_version_writable};
+
+    ghost well_formed = { IsPortableVersion };
+
+    ghost value_of = { portable_version_value };
+
+    ghost form_of = { portable_version_form };
+
+    ghost levels = { 1 };
+
+    ghost reads_back = { portable_version_back };
+
+    ghost writable = { portable_version_writable };
+
+    #[tactic(auto, unfolding(rec_forms::specs::Shape::members_of))]
+    fn to_value(&self, alloc: Global) -> Result<Value, AllocError> {
+        let mut object = Map::new(alloc);
+        put_field(alloc, &mut object, "major", &self.major)?;
+        put_field(alloc, &mut object, "minor", &self.minor)?;
+        Ok(Value::from(object))
+    }
+
+    #[tactic(auto, unfolding(crate::specs::VersionForms::portable_version_form))]
+    fn from_value(
+        alloc: Global,
+        value: &Value,
+    ) -> Result<PortableRecordingFormatVersion, FromValueError> {
+        let Value::Object(object) = value else {
+            return Err(FromValueError::NotAValue);
+        };
+        Ok(PortableRecordingFormatVersion {
+            major: required_field(alloc, object, "major")?,
+            minor: required_field(alloc, object, "minor")?,
+        })
+    }
+}

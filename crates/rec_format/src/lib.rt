@@ -1,0 +1,44 @@
+#![tactic(auto)]
+
+//! What a recorded run is described by: format versions, path names, sizes, statuses, the head of a
+//! session, the metadata of a run and the manifest of a bundle, with their JSON forms.
+
+mod forms;
+mod head;
+mod incompatibility;
+mod manifest;
+mod paths;
+mod rerun;
+mod run;
+mod scope;
+mod sizes;
+mod status;
+mod suites;
+#[cfg(test)]
+mod tests;
+mod versions;
+
+pub use head::SessionHead;
+pub use incompatibility::{
+    PortableRecordingVersionIncompatibility, Release, StoreVersionIncompatibility,
+    TooOldRecordingGuidance,
+};
+pub use manifest::PortableManifest;
+pub use paths::{
+    BUILD_SCOPE_JSON_PATH, CARGO_METADATA_JSON_PATH, OutputDict, PORTABLE_MANIFEST_FILE_NAME,
+    RECORD_OPTS_JSON_PATH, RERUN_INFO_JSON_PATH, RUN_LOG_FILE_NAME, STORE_ZIP_FILE_NAME,
+    TEST_LIST_JSON_PATH, has_zip_extension,
+};
+pub use rerun::{RerunInfo, RerunRootInfo};
+pub use run::{RecordedRun, RecordedRunInfo};
+pub use scope::{BuildKind, RecordedBuildScope};
+pub use sizes::{ComponentSizes, ComponentSizesFormat, RecordedSizes, RecordedSizesFormat};
+pub use status::{
+    CompletedRunStats, RecordedRunStatus, RecordedRunStatusFormat, StressCompletedRunStats,
+};
+pub use suites::{RerunSuites, RerunTestSuiteInfo};
+pub use versions::{
+    PORTABLE_RECORDING_FORMAT_VERSION, PortableRecordingFormatMajorVersion,
+    PortableRecordingFormatMinorVersion, PortableRecordingFormatVersion, STORE_FORMAT_VERSION,
+    StoreFormatMajorVersion, StoreFormatMinorVersion, StoreFormatVersion, store_format_version_for,
+};

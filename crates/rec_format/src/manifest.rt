@@ -1,0 +1,45 @@
+// The manifest of a bundle.
+ghost use Rattle.std.specs.Prelude.{◌≡◌, IfOk};
+ghost use Rattle.rec_format.specs.Runs.{manifest_of, info_of, store_version_in};
+
+use crate::{
+    PORTABLE_RECORDING_FORMAT_VERSION, PortableRecordingFormatVersion, RecordedRun,
+    RecordedRunInfo, StoreFormatVersion,
+};
+use std::alloc::{AllocError, Global};
+
+/// The first entry of a bundle: the bundle's version, and the metadata of its run.
+#[derive(Drop)]
+pub struct PortableManifest {
+    pub format_version: PortableRecordingFormatVersion,
+    pub run: RecordedRun,
+}
+
+impl PortableManifest {
+    /// The manifest of a run, with the version of the bundles that are written.
+    pub fn new(alloc: Global, run: &RecordedRunInfo) -> Result<PortableManifest, AllocError>
+        ensures { IfOk result (λ manifest. manifest ≡ manifest_of run.now) }
+    {
+        Ok(PortableManifest {
+            format_version: PORTABLE_RECORDING_FORMAT_VERSION,
+            run: RecordedRun::from_info(alloc, run)?,
+        })
+    }
+
+    /// The metadata of the run.
+    pub fn run_info(&self, alloc: Global) -> Result<RecordedRunInfo, AllocError>
+        ensures { IfOk result (λ info. info ≡ info_of self.now.run) }
+    {
+        self.run.to_info(alloc)
+    }
+
+    /// The version of the run's store.
+    pub fn store_format_version(&self) -> StoreFormatVersion
+        ensures { result ≡ store_version_in self.now.run }
+    {
+        StoreFormatVersion::new(
+            self.run.store_format_version,
+            self.run.store_format_minor_version,
+        )
+    }
+}

@@ -1,0 +1,33 @@
+// What a rerun is a rerun of.
+ghost use Rattle.std.specs.Prelude.{◌≡◌};
+
+use crate::{RecordedBuildScope, RerunSuites};
+use rec_events::ReportUuid;
+
+/// The first run of a chain of reruns, and what was built for it.
+#[derive(Drop)]
+pub struct RerunRootInfo {
+    pub run_id: ReportUuid,
+    pub build_scope: RecordedBuildScope,
+}
+
+impl RerunRootInfo {
+    pub fn new(run_id: ReportUuid, build_scope: RecordedBuildScope) -> Self
+        ensures { result ≡ record { run_id = run_id; build_scope = build_scope } }
+    {
+        RerunRootInfo {
+            run_id,
+            build_scope,
+        }
+    }
+}
+
+/// What a rerun is a rerun of, and which tests had passed by then.
+#[derive(Drop)]
+pub struct RerunInfo {
+    /// The run just before this one.
+    pub parent_run_id: ReportUuid,
+    /// The first run of the chain.
+    pub root_info: RerunRootInfo,
+    pub test_suites: RerunSuites,
+}

@@ -1,0 +1,90 @@
+// The metadata of a recorded run, as it is used and as it stands in JSON.
+ghost use Rattle.std.specs.Prelude.{◌≡◌, IfOk};
+ghost use Rattle.rec_format.specs.Runs.{run_of, info_of};
+
+use crate::{
+    RecordedRunStatus, RecordedRunStatusFormat, RecordedSizes, RecordedSizesFormat,
+    StoreFormatMajorVersion, StoreFormatMinorVersion, StoreFormatVersion,
+};
+use rec_events::{Duration, Items, ReportUuid, Stamp, Text, TextMap, TryClone, Version};
+use std::alloc::{AllocError, Global};
+
+/// The metadata of a recorded run. It has no JSON form of its own: that is `RecordedRun`'s.
+#[derive(Drop)]
+pub struct RecordedRunInfo {
+    pub run_id: ReportUuid,
+    pub store_format_version: StoreFormatVersion,
+    pub nextest_version: Version,
+    pub started_at: Stamp,
+    pub last_written_at: Stamp,
+    pub duration: Option<Duration>,
+    pub cli_args: Items<Text>,
+    pub env_vars: TextMap<Text>,
+    /// The run of which this one is a rerun.
+    pub parent_run_id: Option<ReportUuid>,
+    pub sizes: RecordedSizes,
+    pub status: RecordedRunStatus,
+}
+
+/// The metadata of a recorded run as it stands in JSON.
+#[derive(Drop)]
+pub struct RecordedRun {
+    pub run_id: ReportUuid,
+    pub store_format_version: StoreFormatMajorVersion,
+    pub store_format_minor_version: StoreFormatMinorVersion,
+    pub nextest_version: Version,
+    pub started_at: Stamp,
+    pub last_written_at: Stamp,
+    pub duration: Option<Duration>,
+    pub cli_args: Items<Text>,
+    pub env_vars: TextMap<Text>,
+    /// The run of which this one is a rerun.
+    pub parent_run_id: Option<ReportUuid>,
+    pub sizes: RecordedSizesFormat,
+    pub status: RecordedRunStatusFormat,
+}
+
+impl RecordedRun {
+    /// The same metadata, field by field.
+    pub fn from_info(alloc: Global, info: &RecordedRunInfo) -> Result<RecordedRun, AllocError>
+        ensures { IfOk result (λ run. run ≡ run_of info.now) }
+    {
+        let status = RecordedRunStatusFormat::from(info.status);
+        Ok(RecordedRun {
+            run_id: info.run_id,
+            store_format_version: info.store_format_version.major,
+            store_format_minor_version: info.store_format_version.minor,
+            nextest_version: info.nextest_version.try_clone(alloc)?,
+            started_at: info.started_at,
+            last_written_at: info.last_written_at,
+            duration: info.duration,
+            cli_args: info.cli_args.try_clone(alloc)?,
+            env_vars: info.env_vars.try_clone(alloc)?,
+            parent_run_id: info.parent_run_id,
+            sizes: info.sizes.into(),
+            status,
+        })
+    }
+
+    /// The same metadata, field by field.
+    pub fn to_info(&self, alloc: Global) -> Result<RecordedRunInfo, AllocError>
+        ensures { IfOk result (λ info. info ≡ info_of self.now) }
+    {
+        Ok(RecordedRunInfo {
+            run_id: self.run_id,
+            store_format_version: StoreFormatVersion::new(
+                self.store_format_version,
+                self.store_format_minor_version,
+            ),
+            nextest_version: self.nextest_version.try_clone(alloc)?,
+            started_at: self.started_at,
+            last_written_at: self.last_written_at,
+            duration: self.duration,
+            cli_args: self.cli_args.try_clone(alloc)?,
+            env_vars: self.env_vars.try_clone(alloc)?,
+            parent_run_id: self.parent_run_id,
+            sizes: self.sizes.into(),
+            status: self.status.into(),
+        })
+    }
+}

@@ -1,0 +1,28 @@
+// What was built for a run.
+ghost use Rattle.std.specs.Prelude.{◌≡◌};
+
+use rec_events::BuildScope;
+
+/// Where the test binaries of a run came from.
+#[derive(Copy, Clone, PartialEq, Eq, Debug)]
+pub enum BuildKind {
+    /// Cargo built them.
+    Cargo,
+    /// They had been built before.
+    Reused,
+}
+
+/// What was built for a run, and by whom.
+#[derive(PartialEq, Eq, Debug, Drop)]
+pub struct RecordedBuildScope {
+    pub build_kind: BuildKind,
+    pub scope: BuildScope,
+}
+
+impl RecordedBuildScope {
+    pub fn new(build_kind: BuildKind, scope: BuildScope) -> Self
+        ensures { result ≡ record { build_kind = build_kind; scope = scope } }
+    {
+        RecordedBuildScope { build_kind, scope }
+    }
+}

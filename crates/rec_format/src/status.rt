@@ -1,0 +1,163 @@
+// How a recorded run ended.
+use rec_events::NonZeroCount;
+
+/// How a run of tests ended.
+#[derive(Copy, Clone, PartialEq, Eq, Debug)]
+pub struct CompletedRunStats {
+    pub initial_run_count: usize,
+    pub passed: usize,
+    pub failed: usize,
+    /// What the process ended with.
+    pub exit_code: i32,
+}
+
+/// How a stress run ended, which runs its tests again and again.
+#[derive(Copy, Clone, PartialEq, Eq, Debug)]
+pub struct StressCompletedRunStats {
+    /// How many rounds were asked for; `None` where no number was.
+    pub initial_iteration_count: Option<NonZeroCount>,
+    pub success_count: u32,
+    pub failed_count: u32,
+    /// What the process ended with.
+    pub exit_code: i32,
+}
+
+/// The status of a recorded run.
+#[derive(Copy, Clone, PartialEq, Eq, Debug)]
+pub enum RecordedRunStatus {
+    /// The run goes on, or it was cut off.
+    Incomplete,
+    Completed(CompletedRunStats),
+    Cancelled(CompletedRunStats),
+    StressCompleted(StressCompletedRunStats),
+    StressCancelled(StressCompletedRunStats),
+    /// A status that this version doesn't know.
+    Unknown,
+}
+
+/// `RecordedRunStatus` as it stands in JSON.
+#[derive(Copy, Clone, PartialEq, Eq, Debug)]
+pub enum RecordedRunStatusFormat {
+    Incomplete,
+    Unknown,
+    Completed {
+        initial_run_count: usize,
+        passed: usize,
+        failed: usize,
+        exit_code: i32,
+    },
+    Cancelled {
+        initial_run_count: usize,
+        passed: usize,
+        failed: usize,
+        exit_code: i32,
+    },
+    StressCompleted {
+        initial_iteration_count: Option<NonZeroCount>,
+        success_count: u32,
+        failed_count: u32,
+        exit_code: i32,
+    },
+    StressCancelled {
+        initial_iteration_count: Option<NonZeroCount>,
+        success_count: u32,
+        failed_count: u32,
+        exit_code: i32,
+    },
+}
+
+impl From<RecordedRunStatus> for RecordedRunStatusFormat {
+    ghost use Rattle.std.specs.Prelude.{◌≡◌};
+    ghost use Rattle.rec_format.specs.Status.{status_format};
+
+    ghost from_gives = { λ status format. format ≡ status_format status };
+
+    fn from(status: RecordedRunStatus) -> RecordedRunStatusFormat {
+        match status {
+            RecordedRunStatus::Incomplete => RecordedRunStatusFormat::Incomplete,
+            RecordedRunStatus::Unknown => RecordedRunStatusFormat::Unknown,
+            RecordedRunStatus::Completed(stats) => RecordedRunStatusFormat::Completed {
+                initial_run_count: stats.initial_run_count,
+                passed: stats.passed,
+                failed: stats.failed,
+                exit_code: stats.exit_code,
+            },
+            RecordedRunStatus::Cancelled(stats) => RecordedRunStatusFormat::Cancelled {
+                initial_run_count: stats.initial_run_count,
+                passed: stats.passed,
+                failed: stats.failed,
+                exit_code: stats.exit_code,
+            },
+            RecordedRunStatus::StressCompleted(stats) => RecordedRunStatusFormat::StressCompleted {
+                initial_iteration_count: stats.initial_iteration_count,
+                success_count: stats.success_count,
+                failed_count: stats.failed_count,
+                exit_code: stats.exit_code,
+            },
+            RecordedRunStatus::StressCancelled(stats) => RecordedRunStatusFormat::StressCancelled {
+                initial_iteration_count: stats.initial_iteration_count,
+                success_count: stats.success_count,
+                failed_count: stats.failed_count,
+                exit_code: stats.exit_code,
+            },
+        }
+    }
+}
+
+impl From<RecordedRunStatusFormat> for RecordedRunStatus {
+    ghost use Rattle.std.specs.Prelude.{◌≡◌};
+    ghost use Rattle.rec_format.specs.Status.{status_of};
+
+    ghost from_gives = { λ format status. status ≡ status_of format };
+
+    fn from(format: RecordedRunStatusFormat) -> RecordedRunStatus {
+        match format {
+            RecordedRunStatusFormat::Incomplete => RecordedRunStatus::Incomplete,
+            RecordedRunStatusFormat::Unknown => RecordedRunStatus::Unknown,
+            RecordedRunStatusFormat::Completed {
+                initial_run_count,
+                passed,
+                failed,
+                exit_code,
+            } => RecordedRunStatus::Completed(CompletedRunStats {
+                initial_run_count,
+                passed,
+                failed,
+                exit_code,
+            }),
+            RecordedRunStatusFormat::Cancelled {
+                initial_run_count,
+                passed,
+                failed,
+                exit_code,
+            } => RecordedRunStatus::Cancelled(CompletedRunStats {
+                initial_run_count,
+                passed,
+                failed,
+                exit_code,
+            }),
+            RecordedRunStatusFormat::StressCompleted {
+                initial_iteration_count,
+                success_count,
+                failed_count,
+                exit_code,
+            } => RecordedRunStatus::StressCompleted(StressCompletedRunStats {
+                initial_iteration_count,
+                success_count,
+                failed_count,
+                exit_code,
+            }),
+            RecordedRunStatusFormat::StressCancelled {
+                initial_iteration_count,
+                success_count,
+                failed_count,
+                exit_code,
+            } => RecordedRunStatus::StressCancelled(StressCompletedRunStats {
+                initial_iteration_count,
+                success_count,
+                failed_count,
+                exit_code,
+            }),
+        }
+    }
+}

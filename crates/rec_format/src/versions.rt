@@ -1,0 +1,354 @@
+// The versions of the two formats, and which recording is read by which program.
+ghost use Rattle.std.specs.Prelude.{◌≡◌, ◌≤◌, ◌↔◌, IsOk, option_map};
+ghost use Rattle.rec_format.specs.Versions.{store_readable, portable_readable, guidance, store_version_of, number_of};
+
+use crate::{
+    PortableRecordingVersionIncompatibility, Release, StoreVersionIncompatibility,
+    TooOldRecordingGuidance,
+};
+use std::fmt;
+use std::marker::Model;
+
+/// The major version of the store's format: a store of another one isn't read.
+#[derive(Copy, Clone, PartialEq, Eq, PartialOrd, Ord, Debug)]
+pub struct StoreFormatMajorVersion {
+    version: u32,
+}
+
+impl Model for StoreFormatMajorVersion {
+    ghost use Rattle.std.specs.Prelude.{ℕ};
+
+    ghost Value = { ℕ };
+
+    ghost view = { λ v. v.version };
+
+    ghost inverse = { λ n. record { version = n } };
+}
+
+impl StoreFormatMajorVersion {
+    pub const fn new(version: u32) -> Self
+        ensures { result ≡ version }
+    {
+        StoreFormatMajorVersion { version }
+    }
+
+    pub(crate) fn number(self) -> u32
+        ensures { result ≡ self }
+    {
+        self.version
+    }
+}
+
+impl fmt::Display for StoreFormatMajorVersion {
+    ghost use Rattle.std.specs.Prelude.{Some};
+    ghost use Rattle.std.specs.Fmt.{decimal};
+
+    ghost output = { λ v. Some (decimal v) };
+
+    fn fmt<W: fmt::Write>(&self, f: &mut fmt::Formatter<W>) -> fmt::Result {
+        let version = self.version;
+        write!(f, "{version}")
+    }
+}
+
+/// The minor version of the store's format: a store of an older one is still read.
+#[derive(Copy, Clone, PartialEq, Eq, PartialOrd, Ord, Default, Debug)]
+pub struct StoreFormatMinorVersion {
+    version: u32,
+}
+
+impl Model for StoreFormatMinorVersion {
+    ghost use Rattle.std.specs.Prelude.{ℕ};
+
+    ghost Value = { ℕ };
+
+    ghost view = { λ v. v.version };
+
+    ghost inverse = { λ n. record { version = n } };
+}
+
+impl StoreFormatMinorVersion {
+    pub const fn new(version: u32) -> Self
+        ensures { result ≡ version }
+    {
+        StoreFormatMinorVersion { version }
+    }
+
+    pub(crate) fn number(self) -> u32
+        ensures { result ≡ self }
+    {
+        self.version
+    }
+}
+
+impl fmt::Display for StoreFormatMinorVersion {
+    ghost use Rattle.std.specs.Prelude.{Some};
+    ghost use Rattle.std.specs.Fmt.{decimal};
+
+    ghost output = { λ v. Some (decimal v) };
+
+    fn fmt<W: fmt::Write>(&self, f: &mut fmt::Formatter<W>) -> fmt::Result {
+        let version = self.version;
+        write!(f, "{version}")
+    }
+}
+
+/// The major version of the bundle's format: a bundle of another one isn't read.
+#[derive(Copy, Clone, PartialEq, Eq, PartialOrd, Ord, Debug)]
+pub struct PortableRecordingFormatMajorVersion {
+    version: u32,
+}
+
+impl Model for PortableRecordingFormatMajorVersion {
+    ghost use Rattle.std.specs.Prelude.{ℕ};
+
+    ghost Value = { ℕ };
+
+    ghost view = { λ v. v.version };
+
+    ghost inverse = { λ n. record { version = n } };
+}
+
+impl PortableRecordingFormatMajorVersion {
+    pub const fn new(version: u32) -> Self
+        ensures { result ≡ version }
+    {
+        PortableRecordingFormatMajorVersion { version }
+    }
+
+    pub(crate) fn number(self) -> u32
+        ensures { result ≡ self }
+    {
+        self.version
+    }
+}
+
+impl fmt::Display for PortableRecordingFormatMajorVersion {
+    ghost use Rattle.std.specs.Prelude.{Some};
+    ghost use Rattle.std.specs.Fmt.{decimal};
+
+    ghost output = { λ v. Some (decimal v) };
+
+    fn fmt<W: fmt::Write>(&self, f: &mut fmt::Formatter<W>) -> fmt::Result {
+        let version = self.version;
+        write!(f, "{version}")
+    }
+}
+
+/// The minor version of the bundle's format: a bundle of an older one is still read.
+#[derive(Copy, Clone, PartialEq, Eq, PartialOrd, Ord, Default, Debug)]
+pub struct PortableRecordingFormatMinorVersion {
+    version: u32,
+}
+
+impl Model for PortableRecordingFormatMinorVersion {
+    ghost use Rattle.std.specs.Prelude.{ℕ};
+
+    ghost Value = { ℕ };
+
+    ghost view = { λ v. v.version };
+
+    ghost inverse = { λ n. record { version = n } };
+}
+
+impl PortableRecordingFormatMinorVersion {
+    pub const fn new(version: u32) -> Self
+        ensures { result ≡ version }
+    {
+        PortableRecordingFormatMinorVersion { version }
+    }
+
+    pub(crate) fn number(self) -> u32
+        ensures { result ≡ self }
+    {
+        self.version
+    }
+}
+
+impl fmt::Display for PortableRecordingFormatMinorVersion {
+    ghost use Rattle.std.specs.Prelude.{Some};
+    ghost use Rattle.std.specs.Fmt.{decimal};
+
+    ghost output = { λ v. Some (decimal v) };
+
+    fn fmt<W: fmt::Write>(&self, f: &mut fmt::Formatter<W>) -> fmt::Result {
+        let version = self.version;
+        write!(f, "{version}")
+    }
+}
+
+/// The version of the format that a store is written in.
+pub const STORE_FORMAT_VERSION: StoreFormatVersion = StoreFormatVersion {
+    major: StoreFormatMajorVersion { version: 3 },
+    minor: StoreFormatMinorVersion { version: 0 },
+};
+
+/// A version of the store's format, printed as `major.minor`. It has no JSON form: its two numbers
+/// stand apart in a run's metadata.
+#[derive(Copy, Clone, PartialEq, Eq, Debug)]
+pub struct StoreFormatVersion {
+    pub major: StoreFormatMajorVersion,
+    pub minor: StoreFormatMinorVersion,
+}
+
+impl StoreFormatVersion {
+    pub const fn new(major: StoreFormatMajorVersion, minor: StoreFormatMinorVersion) -> Self
+        ensures { result ≡ record { major = major; minor = minor } }
+    {
+        StoreFormatVersion { major, minor }
+    }
+
+    /// Whether a program that supports a version reads a store of this one: exactly where the
+    /// majors are equal and this minor isn't newer. The error says which of the two is in the way.
+    pub fn check_readable_by(self, supported: Self) -> Result<(), StoreVersionIncompatibility>
+        ensures answer { result ≡ store_readable self supported }
+        ensures readable { IsOk result ↔ ((self.major ≡ supported.major) × (self.minor ≤ supported.minor)) }
+    {
+        let (recording_major, supported_major) = (self.major, supported.major);
+        let (recording_minor, supported_minor) = (self.minor, supported.minor);
+        if recording_major < supported_major {
+            return Err(StoreVersionIncompatibility::RecordingTooOld {
+                recording_major,
+                supported_major,
+                guidance: recording_major.too_old_guidance(),
+            });
+        }
+        if recording_major > supported_major {
+            return Err(StoreVersionIncompatibility::RecordingTooNew {
+                recording_major,
+                supported_major,
+            });
+        }
+        if recording_minor > supported_minor {
+            return Err(StoreVersionIncompatibility::MinorTooNew {
+                recording_minor,
+                supported_minor,
+            });
+        }
+        Ok(())
+    }
+}
+
+impl fmt::Display for StoreFormatVersion {
+    ghost use Rattle.std.specs.Prelude.{Some};
+    ghost use Rattle.rec_format.specs.Versions.{version_text};
+
+    ghost output = { λ v. Some (version_text v.major v.minor) };
+
+    fn fmt<W: fmt::Write>(&self, f: &mut fmt::Formatter<W>) -> fmt::Result {
+        let (major, minor) = (self.major, self.minor);
+        write!(f, "{major}.{minor}")
+    }
+}
+
+/// The version of the format that a bundle is written in.
+pub const PORTABLE_RECORDING_FORMAT_VERSION: PortableRecordingFormatVersion =
+    PortableRecordingFormatVersion {
+        major: PortableRecordingFormatMajorVersion { version: 1 },
+        minor: PortableRecordingFormatMinorVersion { version: 1 },
+    };
+
+/// A version of the bundle's format, printed as `major.minor`.
+#[derive(Copy, Clone, PartialEq, Eq, Debug)]
+pub struct PortableRecordingFormatVersion {
+    pub major: PortableRecordingFormatMajorVersion,
+    pub minor: PortableRecordingFormatMinorVersion,
+}
+
+impl PortableRecordingFormatVersion {
+    pub const fn new(
+        major: PortableRecordingFormatMajorVersion,
+        minor: PortableRecordingFormatMinorVersion,
+    ) -> Self
+        ensures { result ≡ record { major = major; minor = minor } }
+    {
+        PortableRecordingFormatVersion { major, minor }
+    }
+
+    /// Whether a program that supports a version reads a bundle of this one: exactly where the
+    /// majors are equal and this minor isn't newer. The error says which of the two is in the way.
+    pub fn check_readable_by(
+        self,
+        supported: Self,
+    ) -> Result<(), PortableRecordingVersionIncompatibility>
+        ensures answer { result ≡ portable_readable self supported }
+        ensures readable { IsOk result ↔ ((self.major ≡ supported.major) × (self.minor ≤ supported.minor)) }
+    {
+        if self.major != supported.major {
+            return Err(PortableRecordingVersionIncompatibility::MajorMismatch {
+                recording_major: self.major,
+                supported_major: supported.major,
+            });
+        }
+        if self.minor > supported.minor {
+            return Err(PortableRecordingVersionIncompatibility::MinorTooNew {
+                recording_minor: self.minor,
+                supported_minor: supported.minor,
+            });
+        }
+        Ok(())
+    }
+}
+
+impl fmt::Display for PortableRecordingFormatVersion {
+    ghost use Rattle.std.specs.Prelude.{Some};
+    ghost use Rattle.rec_format.specs.Versions.{version_text};
+
+    ghost output = { λ v. Some (version_text v.major v.minor) };
+
+    fn fmt<W: fmt::Write>(&self, f: &mut fmt::Formatter<W>) -> fmt::Result {
+        let (major, minor) = (self.major, self.minor);
+        write!(f, "{major}.{minor}")
+    }
+}
+
+impl StoreFormatMajorVersion {
+    /// What to do with a recording of this major version where it is too old to be read.
+    pub fn too_old_guidance(self) -> TooOldRecordingGuidance
+        ensures { result ≡ guidance self }
+    {
+        match self.version {
+            1 => TooOldRecordingGuidance::Discard {
+                last_nextest_version: Release {
+                    major: 0,
+                    minor: 9,
+                    patch: 130,
+                },
+            },
+            2 => TooOldRecordingGuidance::Discard {
+                last_nextest_version: Release {
+                    major: 0,
+                    minor: 9,
+                    patch: 149,
+                },
+            },
+            _ => TooOldRecordingGuidance::Unknown,
+        }
+    }
+}
+
+/// The store version that a new recording gets: that of the text, or the supported one where none is
+/// given. A text is two numbers of one or more decimal digits that fit 32 bits, with a dot between
+/// them; for any other the answer is None.
+pub fn store_format_version_for(text: Option<&str>) -> Option<StoreFormatVersion>
+    ensures { result ≡ store_version_of (option_map (λ t. t.now) text.entry) }
+{
+    let Some(text) = text else {
+        return Some(STORE_FORMAT_VERSION);
+    };
+    let (major, minor) = text.split_once('.')?;
+    Some(StoreFormatVersion {
+        major: StoreFormatMajorVersion::new(version_number(major)?),
+        minor: StoreFormatMinorVersion::new(version_number(minor)?),
+    })
+}
+
+// A number of one or more decimal digits. Unlike `parse`, it refuses a sign.
+fn version_number(text: &str) -> Option<u32>
+    ensures { result ≡ number_of text.now }
+{
+    if text.starts_with('+') {
+        return None;
+    }
+    text.parse().ok()
+}
