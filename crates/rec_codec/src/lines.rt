@@ -1,0 +1,104 @@
+//! A text by its lines, without copying.
+ghost use Rattle.std.specs.Prelude.{◌≡◌, ◌==◌, ◌+◌, ◌≤◌, ◌<◌, ◌^◌, ◌∷◌, length, position};
+ghost use Rattle.std.specs.Option.{option_map};
+ghost use Rattle.rec_codec.specs.Lines.{lines, numbered, text_of};
+
+use std::marker::Model;
+use std::str;
+
+/// A line of a text, without its newline.
+#[derive(Clone, Copy)]
+pub struct Line<'a> {
+    /// The number of the line. The first of a text is usually 1.
+    pub number: u64,
+    pub bytes: &'a [u8],
+}
+
+impl<'a> Line<'a> {
+    /// The line as a text, without the Unicode white space at its ends. None where it isn't UTF-8.
+    pub fn text(&self) -> Option<&'a str>
+        ensures { option_map (λ text. text.now) result ≡ text_of self.now.bytes.now }
+    {
+        match str::from_utf8(self.bytes) {
+            Ok(text) => Some(text.trim()),
+            Err(_) => None,
+        }
+    }
+}
+
+/// Goes over the lines of a text. A line ends at LF, and what stands behind the last LF is a line
+/// where it isn't empty.
+#[derive(Drop)]
+pub struct Lines<'a> {
+    rest: &'a [u8],
+    // how many lines stand before the rest, by the number of the first
+    before: u64,
+}
+
+impl<'a> Model for Lines<'a> {
+    ghost use Rattle.std.specs.Prelude.{◌+◌, ◌<◌, ◌^◌, List, length};
+    ghost use Rattle.rec_codec.specs.Lines.{NumberedLine, lines, numbered};
+
+    ghost Value = { List NumberedLine };
+
+    ghost view = { λ l. numbered (l.before + 1) (lines l.rest.now) };
+
+    ghost invariant = { λ l. l.before + length l.rest.now < 2 ^ 64 };
+}
+
+impl<'a> Lines<'a> {
+    /// The lines of the text, the first of which has the number `first_line`.
+    pub fn new(text: &'a [u8], first_line: u64) -> Lines<'a>
+        requires positive { 1 ≤ first_line }
+        requires room { first_line + length text.now ≤ 2 ^ 64 }
+        ensures { result ≡ numbered first_line (lines text.now) }
+    {
+        Lines {
+            rest: text,
+            before: first_line - 1,
+        }
+    }
+}
+
+/// Where the first line ends, if it ends at LF.
+fn line_end(bytes: &[u8]) -> Option<usize>
+    ensures { result ≡ position (λ b. b == 10) bytes.now }
+{
+    bytes.iter().position(|b| *b == b'\n')
+}
+
+/// The first line of what isn't empty, and what stands behind it.
+fn split_line(bytes: &[u8]) -> (&[u8], &[u8])
+    requires { 0 < length bytes.now }
+    ensures lines { lines bytes.now ≡ result.0.now ∷ lines result.1.now }
+    ensures shorter { length result.1.now < length bytes.now }
+{
+    match line_end(bytes) {
+        Some(end) => (&bytes[..end], &bytes[end + 1..]),
+        None => (bytes, &bytes[bytes.len()..]),
+    }
+}
+
+impl<'a> Iterator for Lines<'a> {
+    ghost use Rattle.std.specs.Iterator.{YieldsFirstBy, item_count};
+    ghost use Rattle.rec_codec.specs.LineView.{line_view};
+
+    type Item = Line<'a>;
+
+    ghost next_gives = { YieldsFirstBy line_view (λ lines. lines) };
+
+    ghost remaining = { item_count (λ lines. lines) };
+
+    fn next(&mut self) -> Option<Line<'a>> {
+        if self.rest.is_empty() {
+            return None;
+        }
+        let (bytes, rest) = split_line(self.rest);
+        self.rest = rest;
+        self.before += 1;
+        Some(Line {
+            number: self.before,
+            bytes,
+        })
+    }
+}
