@@ -1,0 +1,4 @@
+pub mod Adding
+pub mod ReadLaws
+pub mod Refusals
+pub mod Storing

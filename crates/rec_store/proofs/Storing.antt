@@ -1,0 +1,31 @@
+-- What several calls of a recorder leave, one after the other.
+use Rattle.std.proofs.Common.{◌≡◌, ℕ, List, ◌++◌, false, Option, sym, ap, ◌∙◌, ◌⊎◌, inl, inr}
+use Rattle.rec_container.specs.Container.{Entry}
+use Rattle.rec_store.specs.declared.error.RunStoreError.{RunStoreError}
+use Rattle.rec_store.specs.declared.error.RunStoreError.TheVariants.{Failed}
+use Rattle.rec_store.specs.Recording.{Recording, has_failed, Stores, Unstored}
+use Rattle.rec_store.proofs.Adding.{AddsEach-append, AddsUpTo-front, AddsUpTo-behind, sound_after}
+
+module _ {S L N : Type 0} (taken : S → Option (List ℕ)) (faults : S → ℕ) where
+  kept_then : (a b c : Recording S L N) → b ≡ record a { store = b.store } → c ≡ record b { store = c.store } → c ≡ record a { store = c.store }
+  kept_then a b c p q = q ∙ ap (λ (r : Recording S L N). record r { store = c.store }) p
+
+  pub Stores-append : (a b c : Recording S L N) (es fs : List Entry) → Stores taken faults a b es → Stores taken faults b c fs → Stores taken faults a c (es ++ fs)
+  Stores-append a b c es fs p q = record {
+    added = AddsEach-append taken faults a.store b.store c.store es fs p.added q.added;
+    kept = kept_then a b c p.kept q.kept;
+  }
+
+  -- a recorder that stored entries has not failed
+  pub sound_stores : (a b : Recording S L N) (es : List Entry) → Stores taken faults a b es → has_failed a ≡ false → has_failed b ≡ false
+  sound_stores a b es p h = sound_after taken faults a.store b.store es p.added h
+
+  pub Unstored-front : (a b : Recording S L N) (es fs : List Entry) (e : RunStoreError) → Unstored taken faults a b es e → Unstored taken faults a b (es ++ fs) e
+  Unstored-front a b es fs e (inl h) = inl h
+  Unstored-front a b es fs e (inr h) = inr (h.0, h.1, AddsUpTo-front taken faults a.store b.store es fs e h.2)
+
+  pub Unstored-behind : (a b c : Recording S L N) (es fs : List Entry) (e : RunStoreError) → has_failed a ≡ false → Stores taken faults a b es → Unstored taken faults b c fs e
+      → Unstored taken faults a c (es ++ fs) e
+  Unstored-behind a b c es fs e h p (inl q) = absurd (let k = sym q.1 ∙ sound_stores a b es p h in cc)
+  Unstored-behind a b c es fs e h p (inr q) =
+      inr (h, kept_then a b c p.kept q.1, AddsUpTo-behind taken faults a.store b.store c.store es fs e p.added q.2)

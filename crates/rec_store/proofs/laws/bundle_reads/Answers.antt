@@ -1,0 +1,5 @@
+use Rattle.rec_store.proofs.ReadLaws.{bundle_reads_spec}
+use Rattle.rec_store.proofs.laws.bundle_reads.Goals as goal
+
+pub returns : goal.returns
+returns c = bundle_reads_spec

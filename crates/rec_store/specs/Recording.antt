@@ -1,0 +1,77 @@
+-- What a recorder is, as contracts see it, and what its calls do.
+use Rattle.std.specs.Prelude.{◌≡◌, ℕ, List, [], ◌∷◌, ◌++◌, Bool, true, false, Option, Some, None, is_some, if◌then◌else◌, ◌⊎◌}
+use Rattle.std.specs.Io.KnownBytes.{Appends}
+use Rattle.rec_container.specs.Causes.{Rose}
+use Rattle.rec_container.specs.Taking.{TookPart}
+use Rattle.rec_container.specs.Container.{Entry, ending, content_of}
+use Rattle.rec_container.specs.Writing.{Writing, Adds, RefusesLate, refusal}
+use Rattle.rec_container.specs.declared.errors.ContainerWriteError.TheVariants as writing
+use Rattle.rec_store.specs.declared.error.RunStoreError.{RunStoreError}
+use Rattle.rec_store.specs.declared.error.RunStoreError.TheVariants.{Failed, NotLoadedOutput, NameCollision, CountOutOfRange, StoreWrite, RunLogWrite, OutOfMemory}
+
+-- the store's writer; the log's sink, its length and its events; the namer and the limit of an output
+pub record Recording (S L N : Type 0) : Type 0 where
+  pub store : Writing S
+  pub log : L
+  pub log_bytes : ℕ
+  pub events : ℕ
+  pub namer : N
+  pub max_output : ℕ
+
+-- whether the store's sink has failed; nothing is written to the log yet
+abbrev pub has_failed : {S L N : Type 0} → Recording S L N → Bool
+has_failed r = r.store.failed
+
+-- the entries, with one more if its name is new
+abbrev pub with_entry : List Entry → Entry → List Entry
+with_entry es e = if is_some (content_of es e.name) then es else es ++ e ∷ []
+
+-- the same for several, one after the other
+abbrev pub with_entries : List Entry → List Entry → List Entry
+with_entries es [] = es
+with_entries es (f ∷ fs) = with_entries (with_entry es f) fs
+
+-- the refusal of other bytes under this path; its text may want memory
+abbrev pub IsCollisionAt : List ℕ → RunStoreError → Type 0
+IsCollisionAt path (NameCollision at) = at ≡ path
+IsCollisionAt path OutOfMemory = Unit {0}
+IsCollisionAt path Failed = ⊥
+IsCollisionAt path NotLoadedOutput = ⊥
+IsCollisionAt path CountOutOfRange = ⊥
+IsCollisionAt path StoreWrite = ⊥
+IsCollisionAt path RunLogWrite = ⊥
+
+module _ {S : Type 0} (taken : S → Option (List ℕ)) (faults : S → ℕ) where
+  -- each of the entries was added, in order
+  abbrev pub AddsEach : Writing S → Writing S → List Entry → Type 0
+  AddsEach old new [] = new ≡ old
+  AddsEach old new (e ∷ es) = (mid : Writing S) × Adds taken faults old mid e.name e.content × AddsEach mid new es
+
+  -- why an entry was not added, and what stands then
+  abbrev pub RefusesEntry : Writing S → Writing S → Entry → RunStoreError → Type 0
+  RefusesEntry old new e (NameCollision path) =
+      (path ≡ e.name) × (refusal old.failed old.entries e.name e.content ≡ Some writing.NameCollision) × (new ≡ old)
+  RefusesEntry old new e CountOutOfRange = (refusal old.failed old.entries e.name e.content ≡ Some writing.CountOutOfRange) × (new ≡ old)
+  RefusesEntry old new e StoreWrite =
+      (refusal old.failed old.entries e.name e.content ≡ None) × RefusesLate taken faults old new e.name e.content writing.SinkFault
+  RefusesEntry old new e OutOfMemory = new ≡ old
+  RefusesEntry old new e Failed = ⊥
+  RefusesEntry old new e NotLoadedOutput = ⊥
+  RefusesEntry old new e RunLogWrite = ⊥
+
+  -- some of the entries were added, and the next one was refused
+  abbrev pub AddsUpTo : Writing S → Writing S → List Entry → RunStoreError → Type 0
+  AddsUpTo old new [] e = ⊥
+  AddsUpTo old new (x ∷ xs) e = RefusesEntry old new x e ⊎ ((mid : Writing S) × Adds taken faults old mid x.name x.content × AddsUpTo mid new xs e)
+
+module _ {S L N : Type 0} (taken : S → Option (List ℕ)) (faults : S → ℕ) where
+  -- the entries were stored, and all else is as it was
+  pub record Stores (old new : Recording S L N) (es : List Entry) : Type 0 where
+    pub added : AddsEach taken faults old.store new.store es
+    pub kept : new ≡ record old { store = new.store }
+
+  -- the entries were not all stored: since a sink failed before, or by the refusal of one of them
+  abbrev pub Unstored : Recording S L N → Recording S L N → List Entry → RunStoreError → Type 0
+  Unstored old new es e =
+      ((e ≡ Failed) × (has_failed old ≡ true) × (new ≡ old))
+      ⊎ ((has_failed old ≡ false) × (new ≡ record old { store = new.store }) × AddsUpTo taken faults old.store new.store es e)

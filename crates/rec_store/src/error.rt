@@ -1,0 +1,44 @@
+//! Why a recorder refuses.
+ghost use Rattle.std.specs.Prelude.{◌≡◌};
+ghost use Rattle.rec_store.specs.declared.error.RunStoreError.TheVariants.{OutOfMemory};
+
+use rec_events::Text;
+use std::alloc::AllocError;
+use thiserror::Error;
+
+/// Why a recorder did not take what it was given.
+#[derive(Debug, Drop, Error)]
+pub enum RunStoreError {
+    /// A sink failed in an earlier call of this recorder, which writes nothing since then.
+    #[error("an earlier write failed")]
+    Failed,
+    /// The event has an output that was not loaded. Nothing of it was written.
+    #[error("an output is not loaded")]
+    NotLoadedOutput,
+    /// The store has other bytes under this path.
+    #[error("other bytes are stored under this path")]
+    NameCollision {
+        /// The path.
+        file_name: Text,
+    },
+    /// A size would be no u64.
+    #[error("a size is out of range")]
+    CountOutOfRange,
+    /// The sink of the store failed.
+    #[error("writing the store failed")]
+    StoreWrite,
+    /// The sink of the log failed.
+    #[error("writing the log failed")]
+    RunLogWrite,
+    /// Memory ran out.
+    #[error("out of memory")]
+    OutOfMemory,
+}
+
+impl From<AllocError> for RunStoreError {
+    ghost from_gives = { λ _ e. e ≡ OutOfMemory };
+
+    fn from(_error: AllocError) -> RunStoreError {
+        RunStoreError::OutOfMemory
+    }
+}

@@ -1,0 +1,42 @@
+//! Numbers for outputs, by their bytes.
+ghost use Rattle.std.specs.Prelude.{◌≡◌, ◌<◌, ◌^◌, ℕ, List};
+ghost use Rattle.rec_store.specs.Namer.{first_word};
+
+use sha2::{Digest, Sha256};
+
+/// A number for an output, which names it in the store.
+///
+/// The number is a function of the bytes, so equal outputs have one name. It takes no memory.
+pub trait OutputNamer {
+    /// The number of a byte string.
+    ghost number: { Self → List ℕ → ℕ };
+
+    /// The number of these bytes.
+    fn name(&self, bytes: &[u8]) -> u64
+        ensures { result ≡ number self.now bytes.now };
+}
+
+/// Numbers an output by the first eight bytes of its SHA-256 digest (FIPS 180-4), as a big-endian
+/// number.
+#[derive(Clone, Copy, Debug, PartialEq, Eq)]
+pub struct Sha256Namer;
+
+impl OutputNamer for Sha256Namer {
+    ghost use Rattle.rec_store.specs.Namer.{sha256_number};
+
+    ghost number = { λ _. sha256_number };
+
+    #[tactic(auto, unfolding(crate::specs::Namer::sha256_number))]
+    fn name(&self, bytes: &[u8]) -> u64 {
+        first_word_of(&Sha256::digest(bytes))
+    }
+}
+
+/// The first eight bytes of a digest, as a big-endian number.
+fn first_word_of(digest: &[u8; 32]) -> u64
+    ensures { result ≡ first_word digest.now }
+{
+    u64::from_be_bytes([
+        digest[0], digest[1], digest[2], digest[3], digest[4], digest[5], digest[6], digest[7],
+    ])
+}

@@ -1,0 +1,266 @@
+//! The recorder of one run.
+ghost use Rattle.std.specs.Prelude.{◌≡◌, ◌≤◌, Some, [], ◌∷◌, false, true, IfErr, OnOk, IfOk};
+ghost use Rattle.rec_container.specs.Writing.{Adds, named, has_name_length};
+ghost use Rattle.std.specs.Io.KnownBytes.{Appends};
+ghost use Rattle.rec_container.specs.Container.{ending};
+ghost use Rattle.rec_container.specs.Container.{AreFrom};
+ghost use Rattle.rec_store.specs.Ending.{sizes_of, sizes_of_log, Unended};
+ghost use Rattle.rec_store.specs.Recording.{RefusesEntry, IsCollisionAt, has_failed, Stores, Unstored, AddsEach, AddsUpTo};
+ghost use Rattle.rec_store.specs.Entries.{json_entry, three_entries};
+ghost use Rattle.rec_store.specs.Store.{build_scope_entry, rerun_entry, meta_entries, AreMetaRead};
+ghost use Rattle.rec_forms.specs.TextForm.{bytes_form};
+ghost use Rattle.serde_json.specs.Read.{max_depth};
+ghost use Rattle.serde_json.specs.Written.{compact_text};
+ghost use Rattle.rec_format.specs.ScopeForms.{recorded_scope_form};
+ghost use Rattle.rec_format.specs.RerunForms.{rerun_info_form};
+
+use crate::error::RunStoreError;
+use crate::namer::OutputNamer;
+use crate::sizes::{ComponentSizes, StoreSizes};
+use rec_container::{ContainerSizes, ContainerWriteError, ContainerWriter, Sink};
+use rec_events::{RecordOpts, TestListSummary, Text};
+use rec_format::{
+    BUILD_SCOPE_JSON_PATH, CARGO_METADATA_JSON_PATH, RECORD_OPTS_JSON_PATH, RERUN_INFO_JSON_PATH,
+    RecordedBuildScope, RerunInfo, TEST_LIST_JSON_PATH,
+};
+use rec_forms::{Form, write_text};
+use std::alloc::Global;
+use std::marker::Model;
+
+/// Records one run: metadata and outputs into a store, which is a container, and events into a
+/// log.
+///
+/// Nothing is written after a sink has failed.
+#[derive(Drop)]
+pub struct RunRecorder<'n, S: Sink, L: Sink, N: OutputNamer> {
+    alloc: Global,
+    store: ContainerWriter<S>,
+    log: L,
+    log_bytes: u64,
+    events: u64,
+    namer: &'n N,
+    max_output_size: u64,
+}
+
+/// How a recording ended, and its sinks.
+#[derive(Drop)]
+pub struct RecorderEnd<S, L> {
+    /// The sizes of log and store, or why the store has no end.
+    pub result: Result<StoreSizes, RunStoreError>,
+    /// The sink of the store.
+    pub store: S,
+    /// The sink of the log.
+    pub log: L,
+}
+
+impl<'n, S: Sink, L: Sink, N: OutputNamer> Model for RunRecorder<'n, S, L, N> {
+    ghost use Rattle.rec_store.specs.Recording.{Recording};
+
+    ghost Value = { Recording S L N };
+
+    ghost view = { λ r. record { store = r.store; log = r.log; log_bytes = r.log_bytes; events = r.events; namer = r.namer.now; max_output = r.max_output_size } };
+}
+
+impl<'n, S: Sink, L: Sink, N: OutputNamer> RunRecorder<'n, S, L, N> {
+    /// A recorder over these sinks, which has written nothing. Outputs are cut at
+    /// `max_output_size` bytes.
+    pub fn new(
+        alloc: Global,
+        store: S,
+        log: L,
+        namer: &'n N,
+        max_output_size: u64,
+    ) -> RunRecorder<'n, S, L, N>
+        ensures { result ≡ record {
+          store = record { entries = []; sink = store; failed = false };
+          log = log;
+          log_bytes = 0;
+          events = 0;
+          namer = namer.now;
+          max_output = max_output_size;
+        } }
+    {
+        RunRecorder {
+            alloc,
+            store: ContainerWriter::new(alloc, store),
+            log,
+            log_bytes: 0,
+            events: 0,
+            namer,
+            max_output_size,
+        }
+    }
+
+    /// Whether a sink has failed.
+    pub fn is_failed(&self) -> bool
+        ensures { result ≡ has_failed self.now }
+    {
+        self.store.is_failed()
+    }
+
+    /// Writes the end of the store, and hands both sinks back in every case.
+    ///
+    /// `Failed` comes exactly after a sink failed in an earlier call. Then nothing is written.
+    /// `StoreWrite` comes where the store's sink fails now.
+    pub fn finish(self) -> RecorderEnd<S, L>
+        ensures log { result.log ≡ self.entry.log }
+        ensures ok { IfOk result.result (λ sizes. (has_failed self.entry ≡ false) × (sizes ≡ sizes_of self.entry)
+            × Appends (S.taken self.entry.store.sink) (S.taken result.store) (ending self.entry.store.entries)) }
+        ensures sound { AreFrom [] self.entry.store.entries }
+        ensures err { IfErr result.result (Unended S.taken S.faults self.entry result.store) }
+    {
+        let RunRecorder {
+            alloc: _,
+            store,
+            log,
+            log_bytes,
+            events,
+            namer: _,
+            max_output_size: _,
+        } = self;
+        let end = store.finish();
+        let result = match end.result {
+            Ok(sizes) => Ok(StoreSizes {
+                log: log_sizes(log_bytes, events),
+                store: component_sizes(sizes),
+            }),
+            Err(ContainerWriteError::SinkFault) => Err(RunStoreError::StoreWrite),
+            Err(_) => Err(RunStoreError::Failed),
+        };
+        RecorderEnd {
+            result,
+            store: end.sink,
+            log,
+        }
+    }
+
+    /// Stores what was built.
+    ///
+    /// The refusals are those of `write_meta`.
+    pub fn write_build_scope(
+        &mut self,
+        build_scope: &RecordedBuildScope,
+    ) -> Result<(), RunStoreError>
+        ensures ok { OnOk result (Stores S.taken S.faults self.old self.new (build_scope_entry build_scope.now ∷ [])) }
+        ensures read { OnOk result (bytes_form recorded_scope_form (build_scope_entry build_scope.now).content ≡ Some build_scope.now) }
+        ensures err { IfErr result (Unstored S.taken S.faults self.old self.new (build_scope_entry build_scope.now ∷ [])) }
+    {
+        self.store_item(BUILD_SCOPE_JSON_PATH, build_scope)
+    }
+
+    /// Stores which run this one is a rerun of.
+    ///
+    /// The refusals are those of `write_meta`.
+    pub fn write_rerun_info(&mut self, rerun_info: &RerunInfo) -> Result<(), RunStoreError>
+        ensures ok { OnOk result (Stores S.taken S.faults self.old self.new (rerun_entry rerun_info.now ∷ [])) }
+        ensures read { OnOk result (bytes_form rerun_info_form (rerun_entry rerun_info.now).content ≡ Some rerun_info.now) }
+        ensures err { IfErr result (Unstored S.taken S.faults self.old self.new (rerun_entry rerun_info.now ∷ [])) }
+    {
+        self.store_item(RERUN_INFO_JSON_PATH, rerun_info)
+    }
+
+    /// Stores the test list, cargo's metadata and the options of the recording, in this order.
+    ///
+    /// `Failed` comes exactly after a sink failed in an earlier call, `NameCollision` exactly where
+    /// the store has other bytes under one of the three paths, `CountOutOfRange` exactly where the
+    /// store would be too long, and `StoreWrite` where the store's sink fails. Those before the
+    /// refused one are stored.
+    pub fn write_meta(
+        &mut self,
+        cargo_metadata_json: &str,
+        test_list: &TestListSummary,
+        opts: &RecordOpts,
+    ) -> Result<(), RunStoreError>
+        ensures ok { OnOk result (Stores S.taken S.faults self.old self.new (meta_entries cargo_metadata_json.now test_list.now opts.now)) }
+        ensures read { OnOk result (AreMetaRead test_list.now opts.now) }
+        ensures err { IfErr result (Unstored S.taken S.faults self.old self.new (meta_entries cargo_metadata_json.now test_list.now opts.now)) }
+    {
+        if self.is_failed() {
+            return Err(RunStoreError::Failed);
+        }
+        let test_list = write_text(self.alloc, test_list)?;
+        let opts = write_text(self.alloc, opts)?;
+        self.store_three(&test_list, cargo_metadata_json.as_bytes(), &opts)
+    }
+
+    /// Stores the texts of test list, cargo's metadata and options.
+    fn store_three(
+        &mut self,
+        test_list: &[u8],
+        metadata: &[u8],
+        opts: &[u8],
+    ) -> Result<(), RunStoreError>
+        requires sound { has_failed self.old ≡ false }
+        ensures kept { self.new ≡ record self.old { store = self.new.store } }
+        ensures ok { OnOk result (AddsEach S.taken S.faults self.old.store self.new.store (three_entries test_list.now metadata.now opts.now)) }
+        ensures err { IfErr result (AddsUpTo S.taken S.faults self.old.store self.new.store (three_entries test_list.now metadata.now opts.now)) }
+    {
+        self.store_entry(TEST_LIST_JSON_PATH, test_list)?;
+        self.store_entry(CARGO_METADATA_JSON_PATH, metadata)?;
+        self.store_entry(RECORD_OPTS_JSON_PATH, opts)
+    }
+
+    /// Stores an item as its JSON text.
+    fn store_item<T: Form>(&mut self, path: &str, item: &T) -> Result<(), RunStoreError>
+        requires name { has_name_length path.now ≡ true }
+        requires levels { T.levels ≤ max_depth }
+        ensures ok { OnOk result (Stores S.taken S.faults self.old self.new (json_entry path.now (T.value_of item.now) ∷ [])) }
+        ensures read { OnOk result (bytes_form T.form_of (compact_text (T.value_of item.now)) ≡ Some item.now) }
+        ensures err { IfErr result (Unstored S.taken S.faults self.old self.new (json_entry path.now (T.value_of item.now) ∷ [])) }
+    {
+        if self.is_failed() {
+            return Err(RunStoreError::Failed);
+        }
+        let text = write_text(self.alloc, item)?;
+        self.store_entry(path, &text)
+    }
+
+    /// Stores one entry.
+    fn store_entry(&mut self, path: &str, content: &[u8]) -> Result<(), RunStoreError>
+        requires sound { has_failed self.old ≡ false }
+        requires name { has_name_length path.now ≡ true }
+        ensures kept { self.new ≡ record self.old { store = self.new.store } }
+        ensures ok { OnOk result (Adds S.taken S.faults self.old.store self.new.store path.now content.now) }
+        ensures sound { OnOk result (has_failed self.new ≡ false) }
+        ensures err { IfErr result (RefusesEntry S.taken S.faults self.old.store self.new.store (named path.now content.now)) }
+    {
+        match self.store.add(path, content) {
+            Ok(()) => Ok(()),
+            Err(ContainerWriteError::NameCollision) => Err(collision(self.alloc, path)),
+            Err(ContainerWriteError::CountOutOfRange) => Err(RunStoreError::CountOutOfRange),
+            Err(ContainerWriteError::SinkFault) => Err(RunStoreError::StoreWrite),
+            Err(_) => Err(RunStoreError::OutOfMemory),
+        }
+    }
+}
+
+/// The sizes of a log of so many bytes and events. A log is not compressed.
+fn log_sizes(bytes: u64, events: u64) -> ComponentSizes
+    ensures { result ≡ sizes_of_log bytes events }
+{
+    ComponentSizes {
+        compressed: bytes,
+        uncompressed: bytes,
+        entries: events,
+    }
+}
+
+fn component_sizes(sizes: ContainerSizes) -> ComponentSizes
+    ensures { result ≡ record { compressed = sizes.compressed; uncompressed = sizes.uncompressed; entries = sizes.entries } }
+{
+    ComponentSizes {
+        compressed: sizes.compressed,
+        uncompressed: sizes.uncompressed,
+        entries: sizes.entries,
+    }
+}
+
+/// The refusal of other bytes under a path.
+fn collision(alloc: Global, path: &str) -> RunStoreError
+    ensures { IsCollisionAt path.now result }
+{
+    match Text::from_str(alloc, path) {
+        Ok(file_name) => RunStoreError::NameCollision { file_name },
+        Err(e) => RunStoreError::from(e),
+    }
+}

@@ -1,0 +1,30 @@
+//! How large a recorded run is.
+ghost use Rattle.std.specs.Prelude.{◌≡◌, ◌+◌, ◌<◌, ◌^◌};
+ghost use Rattle.std.specs.Option.{SomeIff};
+
+pub use rec_format::ComponentSizes;
+
+/// How large the log and the store of a recorded run are.
+#[derive(Clone, Copy, Debug, Default)]
+pub struct StoreSizes {
+    /// The event log. Its entries are the events.
+    pub log: ComponentSizes,
+    /// The store of metadata and outputs.
+    pub store: ComponentSizes,
+}
+
+impl StoreSizes {
+    /// How many bytes log and store take, or none where that is no u64.
+    pub fn total_compressed(&self) -> Option<u64>
+        ensures { SomeIff result (self.now.log.compressed + self.now.store.compressed < 2 ^ 64) (self.now.log.compressed + self.now.store.compressed) }
+    {
+        self.log.compressed.checked_add(self.store.compressed)
+    }
+
+    /// How many bytes the contents of log and store have, or none where that is no u64.
+    pub fn total_uncompressed(&self) -> Option<u64>
+        ensures { SomeIff result (self.now.log.uncompressed + self.now.store.uncompressed < 2 ^ 64) (self.now.log.uncompressed + self.now.store.uncompressed) }
+    {
+        self.log.uncompressed.checked_add(self.store.uncompressed)
+    }
+}
