@@ -1,0 +1,4 @@
+pub mod Bundles
+pub mod Complete
+pub mod Judging
+pub mod Recorded

@@ -1,0 +1,55 @@
+-- The bundle of a session, and why a session has none.
+use Rattle.std.specs.Prelude.{◌≡◌, ℕ, ◌^◌, List, length, Option, Some, None, nat_lt, if◌then◌else◌, option_and_then, ◌⊎◌}
+use Rattle.std.specs.Option.{option_or}
+use Rattle.rec_codec.specs.Lines.{NumberedLine}
+use Rattle.rec_codec.specs.Event.{Event}
+use Rattle.rec_forms.specs.TextForm.{bytes_form}
+use Rattle.rec_format.specs.HeadForms.{head_form}
+use Rattle.rec_format.specs.declared.head.SessionHead.{SessionHead}
+use Rattle.rec_store.specs.Bundle.{run_bundle}
+use Rattle.rec_store.specs.Reading.{IsReading, recorded}
+use Rattle.rec_program.specs.Session.{session_lines, head_text, event_lines, lines_refusal, events_of}
+use Rattle.rec_program.specs.declared.settings.Settings.{Settings}
+use Rattle.rec_program.specs.declared.refusal.RecordExportError.{RecordExportError}
+use Rattle.rec_program.specs.declared.refusal.RecordExportError.TheVariants.{ParseHead, CountOutOfRange}
+
+-- the head that a line's text is read as
+abbrev pub head_in : Option (List ℕ) → Option SessionHead
+head_in text = option_and_then (bytes_form head_form) text
+
+module _ (number : List ℕ → ℕ) (settings : Settings) where
+  -- the sizes and the number of entries are below the length of the bundle, which has to be a u64
+  abbrev pub count_refusal : SessionHead → List Event → Option RecordExportError
+  count_refusal head events = if nat_lt (length (run_bundle head events)) (2 ^ 64) then None else Some (CountOutOfRange None)
+
+  -- why lines are refused behind a head, if they are: the first failing line, then the sizes
+  abbrev pub refusal_behind : Option SessionHead → List NumberedLine → Option RecordExportError
+  refusal_behind None lines = Some ParseHead
+  refusal_behind (Some head) lines = option_or (lines_refusal lines) (count_refusal head (events_of lines))
+
+-- the head of a session, where it has one
+abbrev pub session_head : List ℕ → Option SessionHead
+session_head session = head_in (head_text (session_lines session))
+
+-- a session is refused for its head, or for a line behind it
+abbrev pub IsRefusedLine : List ℕ → RecordExportError → Type 0
+IsRefusedLine session e =
+    ((e ≡ ParseHead) × (session_head session ≡ None))
+    ⊎ ((head : SessionHead) × (session_head session ≡ Some head) × (lines_refusal (event_lines (session_lines session)) ≡ Some e))
+
+-- the events of a session
+unfoldable pub session_events : List ℕ → List Event
+session_events session = events_of (event_lines (session_lines session))
+
+module _ (number : List ℕ → ℕ) (settings : Settings) where
+  -- why a session is refused that was read whole, if it is
+  unfoldable pub refusal : List ℕ → Option RecordExportError
+  refusal session = refusal_behind number settings (session_head session) (event_lines (session_lines session))
+
+  -- the session is valid, this is its bundle, and the bundle is read as what was recorded of the session
+  pub record IsBundleOf (session bundle : List ℕ) : Type 0 where
+    pub head : SessionHead
+    pub has_head : session_head session ≡ Some head
+    pub valid : refusal session ≡ None
+    pub spelled : bundle ≡ run_bundle head (session_events session)
+    pub reads : IsReading bundle (recorded head (session_events session))

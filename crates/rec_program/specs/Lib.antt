@@ -1,0 +1,11 @@
+pub mod Built
+pub mod Bundle
+pub mod Export
+pub mod FaultLine
+pub mod Reading
+pub mod Reporting
+pub mod Running
+pub mod Session
+pub mod Settings
+pub mod Status
+pub mod Words

@@ -1,0 +1,5 @@
+-- The limits that hold where no word sets them.
+use Rattle.rec_program.specs.declared.settings.Settings.{Settings}
+
+abbrev pub default_settings : Settings
+default_settings = record { max_output = 10485760; session_limit = 268435456 }

@@ -1,0 +1,69 @@
+//! From a session to its bundle.
+ghost use Rattle.std.specs.Prelude.{◌≡◌, ◌≤◌, ℕ, List, length, IfOk, IfErr, Some, None};
+ghost use Rattle.rec_container.specs.Causes.{Rose};
+ghost use Rattle.rec_program.specs.Bundle.{refusal};
+ghost use Rattle.rec_program.specs.Export.{Exports, Fails};
+ghost use Rattle.rec_program.specs.declared.refusal.RecordExportError.TheVariants.{OutOfMemory};
+
+use crate::counts::Exported;
+use crate::deliver::deliver;
+use crate::prepare::prepare;
+use crate::read::read_session;
+use crate::refusal::RecordExportError;
+use crate::settings::Settings;
+use rec_container::{Sink, Source};
+use rec_store::OutputNamer;
+use std::alloc::Global;
+
+/// Reads a session from the source to its end, and writes its bundle.
+///
+/// The whole session is judged, and its bundle built, before the first byte is written. Writing
+/// takes no memory. The trace sink takes nothing, since no trace is built yet.
+pub fn record_and_export<S: Source, N: OutputNamer, B: Sink, T: Sink>(
+    alloc: Global,
+    settings: &Settings,
+    namer: &N,
+    source: &mut S,
+    bundle: &mut B,
+    trace: &mut T,
+) -> Result<Exported, RecordExportError>
+    ensures ok { IfOk result (Exports S.left S.faults B.taken B.faults (N.number namer.now) settings.now
+        source.old source.new bundle.old bundle.new) }
+    ensures err { IfErr result (Fails S.left S.faults B.taken B.faults (N.number namer.now) settings.now
+        source.old source.new bundle.old bundle.new) }
+    ensures trace { trace.new ≡ trace.old }
+
+    // A valid session is exported, unless memory runs out or an object fails.
+    ensures complete { (session : List ℕ)
+        → S.left source.old ≡ Some session
+        → length session ≤ settings.now.session_limit
+        → refusal (N.number namer.now) settings.now session ≡ None
+        → ¬ Rose (S.faults source.old) (S.faults source.new)
+        → ¬ Rose (B.faults bundle.old) (B.faults bundle.new)
+        → IfErr result (λ e. e ≡ OutOfMemory) }
+{
+    export(alloc, settings, namer, source, bundle)
+}
+
+fn export<S: Source, N: OutputNamer, B: Sink>(
+    alloc: Global,
+    settings: &Settings,
+    namer: &N,
+    source: &mut S,
+    bundle: &mut B,
+) -> Result<Exported, RecordExportError>
+    ensures ok { IfOk result (Exports S.left S.faults B.taken B.faults (N.number namer.now) settings.now
+        source.old source.new bundle.old bundle.new) }
+    ensures err { IfErr result (Fails S.left S.faults B.taken B.faults (N.number namer.now) settings.now
+        source.old source.new bundle.old bundle.new) }
+{
+    let session = read_session(alloc, settings.session_limit, source)?;
+    let prepared = prepare(alloc, settings, namer, &session)?;
+    deliver(prepared.bundle.bytes(), bundle)?;
+    Ok(Exported {
+        events: prepared.events,
+        outputs: prepared.outputs,
+        bundle_bytes: prepared.bundle.bytes().len() as u64,
+        trace_bytes: 0,
+    })
+}

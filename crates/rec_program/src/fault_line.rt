@@ -1,0 +1,82 @@
+//! The line that tells a fault: the name of its variant, ` name=value` for each field in order of
+//! declaration, and LF.
+ghost use Rattle.std.specs.Prelude.{◌≡◌, ℕ, List, IfOk, string_bytes};
+ghost use Rattle.rec_program.specs.FaultLine.{words_line, export_line, sink_line};
+ghost use Rattle.rec_program.specs.Reporting.{Reports};
+
+use crate::refusal::RecordExportError;
+use crate::words::WordsError;
+use rec_container::{Sink, SinkFailed, write_all};
+use std::alloc::{AllocError, Global};
+
+/// A fault that is told in one line.
+pub trait FaultLine {
+    ghost line_of: { Self → List ℕ };
+
+    /// The line, with its LF.
+    fn fault_line(&self, alloc: Global) -> Result<String, AllocError>
+        ensures { IfOk result (λ line. string_bytes line ≡ line_of self.now) };
+}
+
+impl FaultLine for WordsError {
+    ghost line_of = { words_line };
+
+    #[tactic(auto, unfolding(crate::specs::FaultLine::words_line))]
+    fn fault_line(&self, alloc: Global) -> Result<String, AllocError> {
+        match self {
+            WordsError::NoCommand => String::from_str(alloc, "NoCommand\n"),
+            WordsError::UnknownCommand { at } => format!(in alloc; "UnknownCommand at={at}\n"),
+            WordsError::MissingPositional { at } => {
+                format!(in alloc; "MissingPositional at={at}\n")
+            }
+            WordsError::UnknownOption { at } => format!(in alloc; "UnknownOption at={at}\n"),
+        }
+    }
+}
+
+impl FaultLine for RecordExportError {
+    ghost line_of = { export_line };
+
+    #[tactic(auto, unfolding(crate::specs::FaultLine::export_line))]
+    fn fault_line(&self, alloc: Global) -> Result<String, AllocError> {
+        match self {
+            RecordExportError::SourceFault => String::from_str(alloc, "SourceFault\n"),
+            RecordExportError::SessionTooLarge { limit } => {
+                format!(in alloc; "SessionTooLarge limit={limit}\n")
+            }
+            RecordExportError::ParseHead => String::from_str(alloc, "ParseHead\n"),
+            RecordExportError::ReadRunLog { line_number } => {
+                format!(in alloc; "ReadRunLog line_number={line_number}\n")
+            }
+            RecordExportError::ParseEvent { line_number } => {
+                format!(in alloc; "ParseEvent line_number={line_number}\n")
+            }
+            RecordExportError::CountOutOfRange { event: None } => {
+                String::from_str(alloc, "CountOutOfRange event=None\n")
+            }
+            RecordExportError::CountOutOfRange { event: Some(event) } => {
+                format!(in alloc; "CountOutOfRange event={event}\n")
+            }
+            RecordExportError::BundleFault => String::from_str(alloc, "BundleFault\n"),
+            RecordExportError::OutOfMemory => String::from_str(alloc, "OutOfMemory\n"),
+        }
+    }
+}
+
+impl FaultLine for SinkFailed {
+    ghost line_of = { λ _. sink_line };
+
+    #[tactic(auto, unfolding(crate::specs::FaultLine::sink_line))]
+    fn fault_line(&self, alloc: Global) -> Result<String, AllocError> {
+        String::from_str(alloc, "SinkFailed\n")
+    }
+}
+
+/// Writes the fault's line, if there is memory for it. What goes wrong here is told nowhere.
+pub fn report<F: FaultLine, G: Sink>(alloc: Global, fault: &F, diag: &mut G)
+    ensures { Reports G.taken G.faults diag.old diag.new (F.line_of fault.now) }
+{
+    if let Ok(line) = fault.fault_line(alloc) {
+        let _ = write_all(diag, line.as_bytes());
+    }
+}

@@ -1,0 +1,123 @@
+//! What the program does.
+ghost use Rattle.std.specs.Prelude.{◌≡◌, ◌↔◌, ◌≤◌, ◌⊎◌, ℕ, List, length, Some, None, Ok, IsErr};
+ghost use Rattle.rec_container.specs.Causes.{Rose};
+ghost use Rattle.rec_program.specs.Bundle.{refusal};
+ghost use Rattle.rec_program.specs.Export.{Exports};
+ghost use Rattle.rec_store.specs.Namer.{sha256_number};
+ghost use Rattle.rec_program.specs.Running.{Prints, Records, Runs};
+ghost use Rattle.rec_program.specs.Words.{command, texts, recording};
+ghost use Rattle.rec_program.specs.declared.counts.Exported.{Exported};
+ghost use Rattle.rec_program.specs.declared.settings.Settings.{Settings};
+
+use crate::export::record_and_export;
+use crate::fault_line::report;
+use crate::settings::Settings;
+use crate::status::{FAULTY_WORDS, OUTPUT_FAILED, SUCCESS, export_status};
+use crate::usage::{USAGE, VERSION};
+use crate::words::{Command, read_words};
+use rec_container::{Sink, Source, write_all};
+use rec_store::Sha256Namer;
+use std::alloc::Global;
+
+/// Does what the words ask for, and answers the status to end with.
+///
+/// The words don't hold the program's name. A status other than 0 is told in one line on `diag`, if
+/// there is memory for it; a fault of `diag` changes no status.
+pub fn run_program<S: Source, B: Sink, T: Sink, G: Sink>(
+    alloc: Global,
+    words: &[String],
+    source: &mut S,
+    bundle: &mut B,
+    out: &mut T,
+    diag: &mut G,
+) -> u8
+    ensures runs { Runs S.left S.faults B.taken B.faults T.taken T.faults G.taken G.faults sha256_number
+        (command (texts words.now)) result
+        source.old source.new bundle.old bundle.new out.old out.new diag.old diag.new }
+
+    // Status 0 of a recording: the session was read to its end, and the sink took its bundle.
+    ensures recorded { (path : List ℕ) (settings : Settings)
+        → command (texts words.now) ≡ Ok (recording path settings)
+        → result ≡ 0
+        → (exported : Exported) × Exports S.left S.faults B.taken B.faults sha256_number settings
+        source.old source.new bundle.old bundle.new exported }
+
+    // Status 2: the words are faulty.
+    ensures faulty_words { (result ≡ 2) ↔ IsErr (command (texts words.now)) }
+
+    // A valid session is recorded, unless memory runs out or an object fails.
+    ensures complete { (path : List ℕ) (settings : Settings) (session : List ℕ)
+        → command (texts words.now) ≡ Ok (recording path settings)
+        → S.left source.old ≡ Some session
+        → length session ≤ settings.session_limit
+        → refusal sha256_number settings session ≡ None
+        → ¬ Rose (S.faults source.old) (S.faults source.new)
+        → ¬ Rose (B.faults bundle.old) (B.faults bundle.new)
+        → (result ≡ 0) ⊎ (result ≡ 70) }
+{
+    run(alloc, words, source, bundle, out, diag)
+}
+
+fn run<S: Source, B: Sink, T: Sink, G: Sink>(
+    alloc: Global,
+    words: &[String],
+    source: &mut S,
+    bundle: &mut B,
+    out: &mut T,
+    diag: &mut G,
+) -> u8
+    ensures { Runs S.left S.faults B.taken B.faults T.taken T.faults G.taken G.faults sha256_number
+        (command (texts words.now)) result
+        source.old source.new bundle.old bundle.new out.old out.new diag.old diag.new }
+{
+    match read_words(words) {
+        Ok(
+            Command::Record {
+                bundle: _,
+                settings,
+            },
+        ) => record(alloc, &settings, source, bundle, out, diag),
+        Ok(Command::Help) => print(alloc, USAGE, out, diag),
+        Ok(Command::Version) => print(alloc, VERSION, out, diag),
+        Err(fault) => {
+            report(alloc, &fault, diag);
+            FAULTY_WORDS
+        }
+    }
+}
+
+/// Records the session of the source into the bundle.
+fn record<S: Source, B: Sink, T: Sink, G: Sink>(
+    alloc: Global,
+    settings: &Settings,
+    source: &mut S,
+    bundle: &mut B,
+    out: &mut T,
+    diag: &mut G,
+) -> u8
+    ensures records { Records S.left S.faults B.taken B.faults G.taken G.faults sha256_number settings.now
+        result source.old source.new bundle.old bundle.new diag.old diag.new }
+    ensures out { out.new ≡ out.old }
+{
+    match record_and_export(alloc, settings, &Sha256Namer, source, bundle, out) {
+        Ok(_) => SUCCESS,
+        Err(error) => {
+            report(alloc, &error, diag);
+            export_status(&error)
+        }
+    }
+}
+
+/// Prints a text.
+fn print<T: Sink, G: Sink>(alloc: Global, text: &str, out: &mut T, diag: &mut G) -> u8
+    ensures { Prints T.taken T.faults G.taken G.faults text.now result
+        out.old out.new diag.old diag.new }
+{
+    match write_all(out, text.as_bytes()) {
+        Ok(()) => SUCCESS,
+        Err(fault) => {
+            report(alloc, &fault, diag);
+            OUTPUT_FAILED
+        }
+    }
+}

@@ -1,0 +1,25 @@
+//! The limits of a recording.
+ghost use Rattle.std.specs.Prelude.{◌≡◌};
+
+/// The limits of a recording, in bytes.
+#[derive(Clone, Copy, Debug, PartialEq, Eq)]
+pub struct Settings {
+    /// The most bytes of an output that are kept. A longer output is cut.
+    pub max_output: u64,
+    /// The most bytes of a session.
+    pub session_limit: u64,
+}
+
+impl Default for Settings {
+    ghost use Rattle.std.specs.Prelude.{◌≡◌};
+    ghost use Rattle.rec_program.specs.Settings.{default_settings};
+
+    ghost is_default = { λ settings. settings ≡ default_settings };
+
+    fn default() -> Settings {
+        Settings {
+            max_output: 10485760,
+            session_limit: 268435456,
+        }
+    }
+}

@@ -1,0 +1,29 @@
+//! The statuses that the program ends with.
+ghost use Rattle.std.specs.Prelude.{◌≡◌};
+ghost use Rattle.rec_program.specs.Status.{export_status};
+
+use crate::refusal::RecordExportError;
+
+pub const SUCCESS: u8 = 0;
+/// The words of the command line are faulty.
+pub const FAULTY_WORDS: u8 = 2;
+/// Standard output failed.
+pub const OUTPUT_FAILED: u8 = 11;
+
+pub const OUT_OF_MEMORY: u8 = 70;
+
+/// The status for a session that isn't exported.
+pub fn export_status(error: &RecordExportError) -> u8
+    ensures { result ≡ export_status error.now }
+{
+    match error {
+        RecordExportError::SourceFault => 3,
+        RecordExportError::SessionTooLarge { .. } => 4,
+        RecordExportError::ParseHead
+        | RecordExportError::ReadRunLog { .. }
+        | RecordExportError::ParseEvent { .. } => 5,
+        RecordExportError::CountOutOfRange { .. } => 9,
+        RecordExportError::BundleFault => 10,
+        RecordExportError::OutOfMemory => OUT_OF_MEMORY,
+    }
+}

@@ -1,0 +1,26 @@
+//! The texts that the program prints about itself.
+
+/// How the program is used.
+pub const USAGE: &str = "\
+Usage: rezovamy record BUNDLE
+
+Reads the session of a test run from standard input, and writes it into the
+file BUNDLE, a portable recording.
+
+Other words, each of them alone:
+  --help     prints this text
+  --version  prints the version of the program and of its formats
+
+The status is 0 on success, 2 for faulty words, 3 if the session can't be
+read, 4 if it is too long, 5 for a faulty line, 9 for a count out of range, 10
+if the bundle can't be written, 11 if standard output fails, and 70 if memory
+runs out. With a status other than 0, one line on standard error tells the
+cause.
+";
+
+/// The version of the program, and those of the formats that it writes.
+pub const VERSION: &str = "\
+rezovamy 0.1.0
+portable recording format 1.1
+store format 3.0
+";

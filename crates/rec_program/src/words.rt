@@ -1,0 +1,88 @@
+//! The words of the command line.
+ghost use Rattle.std.specs.Prelude.{◌≡◌};
+ghost use Rattle.std.specs.Option.{option_map};
+ghost use Rattle.rec_program.specs.Words.{texts, command, record_command, other_command, bundle_of, Reads};
+
+use crate::settings::Settings;
+use thiserror::Error;
+
+/// What the words ask for.
+#[derive(Clone, Copy)]
+pub enum Command<'w> {
+    /// Records the session on standard input into the file `bundle`.
+    Record { bundle: &'w str, settings: Settings },
+    /// Prints how the program is used.
+    Help,
+    /// Prints the program's version and those of the formats that it writes.
+    Version,
+}
+
+/// The first fault of the words, from the left. `at` is the index of a word, the first being 0, or
+/// the number of the words where one is missing.
+#[derive(Clone, Copy, Debug, PartialEq, Eq, Error)]
+pub enum WordsError {
+    #[error("no command")]
+    NoCommand,
+    #[error("unknown command at word {at}")]
+    UnknownCommand { at: usize },
+    #[error("missing argument at word {at}")]
+    MissingPositional { at: usize },
+    #[error("unknown option at word {at}")]
+    UnknownOption { at: usize },
+}
+
+/// Reads the words, which don't hold the program's name. It takes no memory.
+pub fn read_words(words: &[String]) -> Result<Command<'_>, WordsError>
+    ensures { Reads result (command (texts words.now)) }
+{
+    let Some((first, others)) = words.split_first() else {
+        return Err(WordsError::NoCommand);
+    };
+    match first.as_str() {
+        "record" => read_record(others),
+        word => read_other(word, others),
+    }
+}
+
+/// Reads a word that isn't `record`, and the words behind it.
+fn read_other<'w>(word: &str, others: &'w [String]) -> Result<Command<'w>, WordsError>
+    ensures { Reads result (other_command word.now (texts others.now)) }
+{
+    if !others.is_empty() {
+        return Err(WordsError::UnknownCommand { at: 0 });
+    }
+    match word {
+        "--help" => Ok(Command::Help),
+        "--version" => Ok(Command::Version),
+        _ => Err(WordsError::UnknownCommand { at: 0 }),
+    }
+}
+
+/// Reads the words behind `record`.
+fn read_record(words: &[String]) -> Result<Command<'_>, WordsError>
+    ensures { Reads result (record_command (texts words.now)) }
+{
+    match words {
+        [] => Err(WordsError::MissingPositional { at: 1 }),
+        [bundle] => Ok(Command::Record {
+            bundle: bundle.as_str(),
+            settings: Settings::default(),
+        }),
+        [_, _, ..] => Err(WordsError::UnknownOption { at: 2 }),
+    }
+}
+
+/// The path of the bundle, where the words ask for a command that writes one.
+pub fn bundle_path(words: &[String]) -> Option<&str>
+    ensures { option_map (λ path. path.now) result ≡ bundle_of (command (texts words.now)) }
+{
+    match read_words(words) {
+        Ok(
+            Command::Record {
+                bundle,
+                settings: _,
+            },
+        ) => Some(bundle),
+        _ => None,
+    }
+}
