@@ -105,7 +105,7 @@ module _ {S : Type 0} (taken : S → Option (List ℕ)) (faults : S → ℕ) whe
   -- the entries that are there in the end
   pub entries_after : (old new : Writing S) (es : List Entry) → AddsEach taken faults old new es → new.entries ≡ with_entries old.entries es
   entries_after old new [] h = ap (λ (w : Writing S). w.entries) h
-  entries_after old new (e ∷ es) h = entries_after h.0 new es h.2 ∙ ap (λ l. with_entries l es) (added old h.0 e h.1)
+  entries_after old new (e ∷ es) h = entries_after h.0 new es h.2 ∙ ap (λ l. with_entries l es) (added old h.0 e h.1.1)
 
   grown_at : (start : Option (List ℕ)) (old new : Writing S) (e : Entry) (o : Option (List ℕ))
       → MatchOption o ((new.entries ≡ old.entries ++ named e.name e.content ∷ []) × (new.failed ≡ false) × Appends (taken old.sink) (taken new.sink) (addition old.entries (named e.name e.content))) (λ c. new ≡ old)
@@ -118,7 +118,7 @@ module _ {S : Type 0} (taken : S → Option (List ℕ)) (faults : S → ℕ) whe
   pub taken_after : (start : Option (List ℕ)) (old new : Writing S) (es : List Entry) → AddsEach taken faults old new es
       → Appends start (taken old.sink) (front old.entries) → Appends start (taken new.sink) (front new.entries)
   taken_after start old new [] h p = subst (λ (w : Writing S). Appends start (taken w.sink) (front w.entries)) (sym h) p
-  taken_after start old new (e ∷ es) h p = taken_after start h.0 new es h.2 (grown_at start old h.0 e (content_of old.entries e.name) h.1 p)
+  taken_after start old new (e ∷ es) h p = taken_after start h.0 new es h.2 (grown_at start old h.0 e (content_of old.entries e.name) h.1.1 p)
 
   -- entries behind entries
   pub AddsEach-append : (a b c : Writing S) (es fs : List Entry) → AddsEach taken faults a b es → AddsEach taken faults b c fs → AddsEach taken faults a c (es ++ fs)
@@ -132,14 +132,14 @@ module _ {S : Type 0} (taken : S → Option (List ℕ)) (faults : S → ℕ) whe
       let r = refused_sum old.failed old.entries e.name e.content h.0 in
       omega (arith, r.1, spell-grows (with_entry old.entries e) es, ap (λ l. length (spell l)) (with_entry-new old.entries e r.0))
   sum_refused old new (e ∷ es) (inr h) =
-      subst (λ l. 2 ^ 64 ≤ length (spell (with_entries l es))) (added old h.0 e h.1) (sum_refused h.0 new es h.2)
+      subst (λ l. 2 ^ 64 ≤ length (spell (with_entries l es))) (added old h.0 e h.1.1) (sum_refused h.0 new es h.2)
 
   -- names that are new don't collide
   pub no_collision_among : (old new : Writing S) (es : List Entry) (path : List ℕ) → AreNew old.entries es → AddsUpTo taken faults old new es (NameCollision path) → ⊥
   no_collision_among old new [] path n h = h
   no_collision_among old new (e ∷ es) path n (inl h) = refused_collision old.failed old.entries e.name e.content n.0 h.1
   no_collision_among old new (e ∷ es) path n (inr h) =
-      no_collision_among h.0 new es path (subst (λ l. AreNew l es) (sym (added old h.0 e h.1 ∙ with_entry-new old.entries e n.0)) n.1) h.2
+      no_collision_among h.0 new es path (subst (λ l. AreNew l es) (sym (added old h.0 e h.1.1 ∙ with_entry-new old.entries e n.0)) n.1) h.2
 
   sound_at : (old new : Writing S) (e : Entry) (o : Option (List ℕ))
       → MatchOption o ((new.entries ≡ old.entries ++ named e.name e.content ∷ []) × (new.failed ≡ false) × Appends (taken old.sink) (taken new.sink) (addition old.entries (named e.name e.content))) (λ c. new ≡ old)
@@ -150,7 +150,7 @@ module _ {S : Type 0} (taken : S → Option (List ℕ)) (faults : S → ℕ) whe
   -- a writer that added entries has not failed
   pub sound_after : (old new : Writing S) (es : List Entry) → AddsEach taken faults old new es → old.failed ≡ false → new.failed ≡ false
   sound_after old new [] h p = ap (λ (w : Writing S). w.failed) h ∙ p
-  sound_after old new (e ∷ es) h p = sound_after h.0 new es h.2 (sound_at old h.0 e (content_of old.entries e.name) h.1 p)
+  sound_after old new (e ∷ es) h p = sound_after h.0 new es h.2 (sound_at old h.0 e (content_of old.entries e.name) h.1.1 p)
 
   -- a refusal among the first entries, or among those behind them
   pub AddsUpTo-front : (old new : Writing S) (es fs : List Entry) (e : RunStoreError) → AddsUpTo taken faults old new es e → AddsUpTo taken faults old new (es ++ fs) e

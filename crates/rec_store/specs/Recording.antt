@@ -42,10 +42,14 @@ IsCollisionAt path StoreWrite = ⊥
 IsCollisionAt path RunLogWrite = ⊥
 
 module _ {S : Type 0} (taken : S → Option (List ℕ)) (faults : S → ℕ) where
-  -- each of the entries was added, in order
+  -- an entry was accepted, so another one of its name has the same content, and it was added
+  abbrev pub Takes : Writing S → Writing S → Entry → Type 0
+  Takes old new e = (refusal old.failed old.entries e.name e.content ≡ None) × Adds taken faults old new e.name e.content
+
+  -- each of the entries was taken, in order
   abbrev pub AddsEach : Writing S → Writing S → List Entry → Type 0
   AddsEach old new [] = new ≡ old
-  AddsEach old new (e ∷ es) = (mid : Writing S) × Adds taken faults old mid e.name e.content × AddsEach mid new es
+  AddsEach old new (e ∷ es) = (mid : Writing S) × Takes old mid e × AddsEach mid new es
 
   -- why an entry was not added, and what stands then
   abbrev pub RefusesEntry : Writing S → Writing S → Entry → RunStoreError → Type 0
@@ -59,10 +63,10 @@ module _ {S : Type 0} (taken : S → Option (List ℕ)) (faults : S → ℕ) whe
   RefusesEntry old new e NotLoadedOutput = ⊥
   RefusesEntry old new e RunLogWrite = ⊥
 
-  -- some of the entries were added, and the next one was refused
+  -- some of the entries were taken, and the next one was refused
   abbrev pub AddsUpTo : Writing S → Writing S → List Entry → RunStoreError → Type 0
   AddsUpTo old new [] e = ⊥
-  AddsUpTo old new (x ∷ xs) e = RefusesEntry old new x e ⊎ ((mid : Writing S) × Adds taken faults old mid x.name x.content × AddsUpTo mid new xs e)
+  AddsUpTo old new (x ∷ xs) e = RefusesEntry old new x e ⊎ ((mid : Writing S) × Takes old mid x × AddsUpTo mid new xs e)
 
 module _ {S L N : Type 0} (taken : S → Option (List ℕ)) (faults : S → ℕ) where
   -- the entries were stored, and all else is as it was

@@ -1,11 +1,11 @@
 //! The recorder of one run.
 ghost use Rattle.std.specs.Prelude.{◌≡◌, ◌≤◌, Some, [], ◌∷◌, false, true, IfErr, OnOk, IfOk};
-ghost use Rattle.rec_container.specs.Writing.{Adds, named, has_name_length};
+ghost use Rattle.rec_container.specs.Writing.{named, has_name_length};
 ghost use Rattle.std.specs.Io.KnownBytes.{Appends};
 ghost use Rattle.rec_container.specs.Container.{ending};
 ghost use Rattle.rec_container.specs.Container.{AreFrom};
 ghost use Rattle.rec_store.specs.Ending.{sizes_of, sizes_of_log, Unended};
-ghost use Rattle.rec_store.specs.Recording.{RefusesEntry, IsCollisionAt, has_failed, Stores, Unstored, AddsEach, AddsUpTo};
+ghost use Rattle.rec_store.specs.Recording.{RefusesEntry, IsCollisionAt, has_failed, Stores, Unstored, AddsEach, AddsUpTo, Takes};
 ghost use Rattle.rec_store.specs.Entries.{json_entry, three_entries};
 ghost use Rattle.rec_store.specs.Store.{build_scope_entry, rerun_entry, meta_entries, AreMetaRead};
 ghost use Rattle.rec_forms.specs.TextForm.{bytes_form};
@@ -220,7 +220,7 @@ impl<'n, S: Sink, L: Sink, N: OutputNamer> RunRecorder<'n, S, L, N> {
         requires sound { has_failed self.old ≡ false }
         requires name { has_name_length path.now ≡ true }
         ensures kept { self.new ≡ record self.old { store = self.new.store } }
-        ensures ok { OnOk result (Adds S.taken S.faults self.old.store self.new.store path.now content.now) }
+        ensures ok { OnOk result (Takes S.taken S.faults self.old.store self.new.store (named path.now content.now)) }
         ensures sound { OnOk result (has_failed self.new ≡ false) }
         ensures err { IfErr result (RefusesEntry S.taken S.faults self.old.store self.new.store (named path.now content.now)) }
     {
