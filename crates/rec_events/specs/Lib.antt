@@ -5,3 +5,9 @@ pub mod Selections
 pub mod Times
 pub mod Versions
 pub mod VersionLaws
+pub mod Attempts
+pub mod Groups
+pub mod OutputNames
+pub mod OutputNameLaws
+pub mod Results
+pub mod Stats

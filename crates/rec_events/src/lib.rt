@@ -1,11 +1,25 @@
 //! The events of a test run and the small types that they are made of.
 #![tactic(auto)]
 
+#[cfg(test)]
+mod attempt_tests;
 mod counts;
+mod events;
+mod groups;
 mod ids;
+mod instances;
 mod items;
+mod non_empty;
+mod output_bytes;
+mod output_names;
+mod outputs;
 mod recording;
+mod reporting;
+mod results;
 mod selections;
+mod stats;
+mod statuses;
+mod stress;
 mod test_names;
 #[cfg(test)]
 mod tests;
@@ -16,12 +30,30 @@ mod try_clone;
 mod version;
 
 pub use counts::NonZeroCount;
+pub use events::{CoreEventKind, OutputEventKind, TestEventKindSummary, TestEventSummary};
+pub use groups::{GroupName, TestGroup};
 pub use ids::{ReportUuid, RustBinaryId, ScriptId, TestCaseName};
+pub use instances::{OwnedTestInstanceId, RetryData, StressIndexSummary, TestSlotAssignment};
 pub use items::Items;
+pub use non_empty::NonEmpty;
+pub use output_bytes::ChildSingleOutput;
+pub use output_names::{OutputFileName, OutputKind};
+pub use outputs::{
+    ChildExecutionOutputDescription, ChildOutputDescription, LiveSpec, OutputSpec, RecordingSpec,
+    ZipStoreOutput, ZipStoreOutputDescription,
+};
 pub use recording::{NextestRunMode, RecordOpts, TestListSummary};
+pub use reporting::{CancelReason, JunitFlakyFailStatus, TestOutputDisplay};
+pub use results::{
+    ErrorSummary, ExecutionResultDescription, FailureDescription, FlakyResult, LeakTimeoutResult,
+    OutputErrorSlice, SlowTimeoutResult,
+};
 pub use selections::{
     BuildScope, FeatureSelection, NamedTargets, PackageSelection, TargetSelection,
 };
+pub use stats::RunStats;
+pub use statuses::{ExecuteStatus, ExecutionDescription, ExecutionStatuses};
+pub use stress::StressConditionSummary;
 pub use test_names::TestNames;
 pub use text::Text;
 pub use text_map::TextMap;

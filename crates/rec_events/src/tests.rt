@@ -1,6 +1,7 @@
 use crate::{
-    Duration, Items, NamedTargets, NonZeroCount, ReportUuid, RustBinaryId, ScriptId, Stamp,
-    TargetSelection, TestCaseName, TestNames, Text, TextMap, TryClone, Version, VersionError,
+    Duration, Items, NamedTargets, NonEmpty, NonZeroCount, OutputFileName, OutputKind, ReportUuid,
+    RustBinaryId, ScriptId, Stamp, TargetSelection, TestCaseName, TestGroup, TestNames, Text,
+    TextMap, TryClone, Version, VersionError,
 };
 use std::alloc::Global;
 use std::test::Fail;
@@ -110,5 +111,62 @@ fn selections(rt: HostRuntime) -> Result<(), Fail> {
     assert!(rt; targets.try_clone(alloc)? == targets);
     assert!(rt; targets.bins == NamedTargets::none(alloc));
     assert!(rt; TestNames::empty(alloc) == TestNames::empty(alloc));
+    Ok(())
+}
+
+#[test]
+fn output_names(rt: HostRuntime) -> Result<(), Fail> {
+    let alloc = rt.alloc();
+    let name = OutputFileName::new(1, OutputKind::Stderr);
+    assert!(rt; name.text(alloc)?.as_str() == "0000000000000001-stderr");
+    for text in [
+        "0123456789abcdef-stdout",
+        "ffffffffffffffff-stderr",
+        "0000000000000000-combined",
+    ] {
+        let Some(name) = OutputFileName::parse(text) else {
+            assert!(rt; false, "{text}");
+            continue;
+        };
+        assert!(rt; name.text(alloc)?.as_str() == text, "{text}");
+    }
+    Ok(())
+}
+
+#[test]
+fn other_texts_are_no_output_names(rt: HostRuntime) {
+    for text in [
+        "",
+        "-stdout",
+        "0123456789abcdef",
+        "0123456789abcdef-",
+        "0123456789abcde-stdout",
+        "0123456789abcdef0-stdout",
+        "0123456789ABCDEF-stdout",
+        "0123456789abcdeg-stdout",
+        "0123456789abcdef-Stdout",
+        "0123456789abcdef-stdout ",
+        "+123456789abcdef-stdout",
+        "é23456789abcdef-stdout",
+    ] {
+        assert!(rt; OutputFileName::parse(text).is_none(), "{text}");
+    }
+}
+
+#[test]
+fn groups_and_lists(rt: HostRuntime) -> Result<(), Fail> {
+    let alloc = rt.alloc();
+    assert!(rt; TestGroup::custom(String::from_str(alloc, "@global")?).is_none());
+    for name in ["", "global", "@global ", "é"] {
+        let group = TestGroup::custom(String::from_str(alloc, name)?);
+        assert!(rt; group.is_some_and(|group| group.text() == name), "{name}");
+    }
+    assert!(rt; TestGroup::Global.text() == "@global");
+    assert!(rt; NonEmpty::<Text>::from_items(Items::empty(alloc)).is_none());
+    let mut texts = Vec::new(alloc);
+    texts.push(Text::from_str(alloc, "a")?)?;
+    let texts = NonEmpty::new(texts);
+    assert!(rt; texts.split_first().1.is_empty());
+    assert!(rt; texts.into_vec().len() == 1);
     Ok(())
 }

@@ -1,0 +1,72 @@
+// Test groups.
+ghost use Rattle.std.specs.Prelude.{◌≡◌, ◌≢◌, ◌↔◌, IsSome, IfSome, IsTrue, string_bytes, codes};
+ghost use Rattle.std.specs.Str.{is_utf8};
+ghost use Rattle.rec_events.specs.Groups.{group_text};
+ghost use Rattle.rec_events.specs.declared.groups.TestGroup.TheVariants.{Custom};
+
+use crate::Text;
+use std::marker::Model;
+
+/// How the group of all tests that are in no other group is written.
+const GLOBAL_GROUP: &str = "@global";
+
+/// The name of a test group of one's own: any text but `@global`.
+#[derive(PartialEq, Eq, Debug, Drop)]
+pub struct GroupName {
+    text: Text,
+}
+
+impl Model for GroupName {
+    ghost use Rattle.std.specs.Prelude.{List, ℕ, ◌≢◌, codes};
+
+    ghost Value = { List ℕ };
+
+    ghost view = { λ name. name.text };
+
+    ghost invariant = { λ name. name.text ≢ codes "@global" };
+
+    ghost inverse = { λ text. record { text = text } };
+}
+
+impl GroupName {
+    /// The name.
+    pub fn as_str(&self) -> &str
+        ensures value { result.now ≡ self.now }
+        ensures utf8 { IsTrue (is_utf8 self.now) }
+        ensures other { self.now ≢ codes "@global" }
+    {
+        self.text.as_str()
+    }
+}
+
+/// The group that a test is in.
+#[derive(PartialEq, Eq, Debug, Drop)]
+pub enum TestGroup {
+    Global,
+    Custom(GroupName),
+}
+
+impl TestGroup {
+    /// The group of this name; `None` exactly for `@global`.
+    pub fn custom(name: String) -> Option<TestGroup>
+        ensures some { IsSome result ↔ (string_bytes name ≢ codes "@global") }
+        ensures value { IfSome result (λ group. group ≡ Custom (string_bytes name)) }
+    {
+        if name.as_str() == GLOBAL_GROUP {
+            return None;
+        }
+        Some(TestGroup::Custom(GroupName {
+            text: Text::new(name),
+        }))
+    }
+
+    /// The group as it is written.
+    pub fn text(&self) -> &str
+        ensures { result.now ≡ group_text self.now }
+    {
+        match self {
+            TestGroup::Global => GLOBAL_GROUP,
+            TestGroup::Custom(name) => name.as_str(),
+        }
+    }
+}

@@ -1,0 +1,34 @@
+// Which test ran, where, and which time.
+ghost use Rattle.std.specs.Prelude.{◌≡◌};
+
+use crate::{NonZeroCount, RustBinaryId, TestCaseName, TestGroup};
+
+/// A test, by its binary and its name there.
+#[derive(PartialEq, Eq, Debug, Drop)]
+pub struct OwnedTestInstanceId {
+    pub binary_id: RustBinaryId,
+    pub test_name: TestCaseName,
+}
+
+/// Where a test runs: its slot among all tests, and its slot within its group, if the group has
+/// slots.
+#[derive(PartialEq, Eq, Debug, Drop)]
+pub struct TestSlotAssignment {
+    pub global_slot: u64,
+    pub group_slot: Option<u64>,
+    pub test_group: TestGroup,
+}
+
+/// Which attempt of how many.
+#[derive(Clone, Copy, PartialEq, Eq, Debug, Drop)]
+pub struct RetryData {
+    pub attempt: u32,
+    pub total_attempts: u32,
+}
+
+/// Which run of a stress run, and of how many where that is known.
+#[derive(Clone, Copy, PartialEq, Eq, Debug, Drop)]
+pub struct StressIndexSummary {
+    pub current: u32,
+    pub total: Option<NonZeroCount>,
+}

@@ -1,0 +1,90 @@
+// A list that is not empty.
+ghost use Rattle.std.specs.Prelude.{◌≡◌, ◌++◌, ◌<◌, List, [], ◌∷◌, length, nat_lt, if◌then◌else◌, Some, None};
+ghost use Rattle.std.specs.Cmp.Lexicographic.{pointwise};
+ghost use Rattle.std.specs.Cmp.Rules.{comparing};
+ghost use Rattle.std.proofs.Common.{rules};
+
+use crate::Items;
+use std::marker::Model;
+
+/// A list of at least one item. Contracts see the items in order.
+#[derive(Drop, Debug)]
+pub struct NonEmpty<T> {
+    inner: Vec<T>,
+}
+
+impl<T> Model for NonEmpty<T> {
+    ghost use Rattle.std.specs.Prelude.{List, length, ◌<◌};
+
+    ghost Value = { List T };
+
+    ghost view = { λ t. t.inner.items };
+
+    ghost invariant = { λ t. 0 < length t.inner.items };
+}
+
+impl<T> NonEmpty<T> {
+    /// The items of a vector that has some.
+    pub fn new(inner: Vec<T>) -> NonEmpty<T>
+        requires not_empty { 0 < length inner.items }
+        ensures { result ≡ inner.items }
+    {
+        NonEmpty { inner }
+    }
+
+    /// These items; `None` where there are none.
+    pub fn from_items(items: Items<T>) -> Option<NonEmpty<T>>
+    where
+        T: Drop,
+        ensures { result ≡ (if nat_lt 0 (length items) then Some items else None) }
+    {
+        let inner = items.into_vec();
+        if inner.is_empty() {
+            None
+        } else {
+            Some(NonEmpty { inner })
+        }
+    }
+
+    /// The vector that holds the items.
+    pub fn into_vec(self) -> Vec<T>
+        ensures { result.items ≡ self }
+    {
+        self.inner
+    }
+
+    /// The items themselves.
+    pub fn as_slice(&self) -> &[T]
+        ensures value { result.now ≡ self.now }
+        ensures not_empty { 0 < length self.now }
+    {
+        self.inner.as_slice()
+    }
+
+    /// The first item, and those behind it.
+    pub fn split_first(&self) -> (&T, &[T])
+        ensures { self.now ≡ result.0.now ∷ result.1.now }
+    {
+        let all = self.as_slice();
+        (&all[0], &all[1..])
+    }
+
+    /// The last item, and those before it.
+    pub fn split_last(&self) -> (&T, &[T])
+        ensures { self.now ≡ result.1.now ++ (result.0.now ∷ []) }
+    {
+        let all = self.as_slice();
+        let end = all.len() - 1;
+        (&all[end], &all[..end])
+    }
+}
+
+impl<T: PartialEq> PartialEq for NonEmpty<T> {
+    ghost eq = { pointwise T.eq };
+
+    ghost laws = { Prim.search (comparing, rules, T.PartialEq.laws) };
+
+    fn eq(&self, other: &NonEmpty<T>) -> bool {
+        self.inner.as_slice() == other.inner.as_slice()
+    }
+}

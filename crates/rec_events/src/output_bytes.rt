@@ -1,0 +1,60 @@
+// The bytes that a process wrote.
+ghost use Rattle.std.specs.Prelude.{◌≡◌, ◌==◌, ◌<◌, ℕ, slice_index};
+ghost use Rattle.std.specs.Cmp.Lexicographic.{pointwise};
+ghost use Rattle.std.specs.Cmp.Rules.{comparing};
+ghost use Rattle.std.proofs.Common.{rules};
+
+use std::marker::Model;
+
+/// An output of a process. Contracts see its bytes.
+#[derive(Drop, Debug)]
+pub struct ChildSingleOutput {
+    bytes: Vec<u8>,
+}
+
+impl Model for ChildSingleOutput {
+    ghost use Rattle.std.specs.Prelude.{List, ℕ};
+
+    ghost Value = { List ℕ };
+
+    ghost view = { λ o. o.bytes.items };
+}
+
+impl ChildSingleOutput {
+    /// The output of these bytes.
+    pub fn new(bytes: Vec<u8>) -> ChildSingleOutput
+        ensures { result ≡ bytes.items }
+    {
+        ChildSingleOutput { bytes }
+    }
+
+    /// The bytes.
+    pub fn as_bytes(&self) -> &[u8]
+        ensures value { result.now ≡ self.now }
+        ensures octets { (i : ℕ) → slice_index self.now i < 256 }
+    {
+        known_octets(self.bytes.as_slice())
+    }
+}
+
+/// The same bytes, of which it is known that each is below 256.
+fn known_octets(bytes: &[u8]) -> &[u8]
+    ensures same { result.now ≡ bytes.now }
+    ensures octets { (i : ℕ) → slice_index bytes.now i < 256 }
+{
+    bytes
+}
+
+impl PartialEq for ChildSingleOutput {
+    ghost eq = { pointwise ◌==◌ };
+
+    ghost laws = { Prim.search (comparing, rules) };
+
+    fn eq(&self, other: &ChildSingleOutput) -> bool {
+        self.bytes.as_slice() == other.bytes.as_slice()
+    }
+}
+
+impl Eq for ChildSingleOutput {
+    ghost laws = { Prim.search (comparing, rules) };
+}

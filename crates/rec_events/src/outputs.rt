@@ -1,0 +1,80 @@
+// What an attempt wrote, as it runs and as it is stored.
+use crate::{ChildSingleOutput, ExecutionResultDescription, Items, OutputFileName, Text};
+
+/// In which form an event has its outputs.
+pub trait OutputSpec {
+    /// What a process wrote.
+    type ChildOutput: Drop;
+}
+
+/// Outputs as they are captured.
+pub struct LiveSpec;
+
+/// Outputs as they are recorded, by the names of their files.
+pub struct RecordingSpec;
+
+impl OutputSpec for LiveSpec {
+    type ChildOutput = ChildOutputDescription;
+}
+
+impl OutputSpec for RecordingSpec {
+    type ChildOutput = ZipStoreOutputDescription;
+}
+
+/// What a process wrote. An output that was not captured is None.
+#[derive(PartialEq, Eq, Drop, Debug)]
+pub enum ChildOutputDescription {
+    Split {
+        stdout: Option<ChildSingleOutput>,
+        stderr: Option<ChildSingleOutput>,
+    },
+    Combined {
+        output: ChildSingleOutput,
+    },
+    /// The output was not loaded. It can't be written.
+    NotLoaded,
+}
+
+/// An output in a store.
+#[derive(Clone, Copy, PartialEq, Eq, Drop, Debug)]
+pub enum ZipStoreOutput {
+    /// No bytes; no file holds it.
+    Empty,
+    Full {
+        file_name: OutputFileName,
+    },
+    /// The file holds a cut of it; it had `original_size` bytes.
+    Truncated {
+        file_name: OutputFileName,
+        original_size: u64,
+    },
+}
+
+/// What a process wrote, by the names of its files.
+#[derive(Clone, Copy, PartialEq, Eq, Drop, Debug)]
+pub enum ZipStoreOutputDescription {
+    Split {
+        stdout: Option<ZipStoreOutput>,
+        stderr: Option<ZipStoreOutput>,
+    },
+    Combined {
+        output: ZipStoreOutput,
+    },
+}
+
+/// What came of starting a process.
+#[derive(Drop)]
+#[derive_where(PartialEq; S::ChildOutput)]
+pub enum ChildExecutionOutputDescription<S: OutputSpec> {
+    Output {
+        /// How it ended, where that is known.
+        result: Option<ExecutionResultDescription>,
+        output: S::ChildOutput,
+        /// What went wrong while the output was captured.
+        errors: Option<Items<Text>>,
+    },
+    /// It could not be started.
+    StartError {
+        message: Text,
+    },
+}

@@ -1,0 +1,83 @@
+// How a test, a script or an attempt ended.
+ghost use Rattle.std.specs.Prelude.{◌≡◌};
+ghost use Rattle.rec_events.specs.Results.{succeeded};
+
+use crate::Text;
+
+/// What a test counts as that failed at first and passed at last.
+#[derive(Clone, Copy, PartialEq, Eq, Debug, Drop)]
+pub enum FlakyResult {
+    Pass,
+    Fail,
+}
+
+/// What a test counts as that passed and left an output open.
+#[derive(Clone, Copy, PartialEq, Eq, Debug, Drop)]
+pub enum LeakTimeoutResult {
+    Pass,
+    Fail,
+}
+
+/// What a test counts as that was stopped for its time.
+#[derive(Clone, Copy, PartialEq, Eq, Debug, Drop)]
+pub enum SlowTimeoutResult {
+    Pass,
+    Fail,
+}
+
+/// How a process failed.
+#[derive(PartialEq, Eq, Debug, Drop)]
+pub enum FailureDescription {
+    ExitCode { code: i32 },
+    /// It was ended by a signal, whose name is there where it is known.
+    Abort { signal: i32, name: Option<Text> },
+}
+
+/// How an attempt ended.
+#[derive(PartialEq, Eq, Debug, Drop)]
+pub enum ExecutionResultDescription {
+    Pass,
+    /// It passed and left an output open.
+    Leak {
+        result: LeakTimeoutResult,
+    },
+    Fail {
+        failure: FailureDescription,
+        leaked: bool,
+    },
+    /// It could not be started.
+    ExecFail,
+    /// It was stopped for its time.
+    Timeout {
+        result: SlowTimeoutResult,
+    },
+}
+
+impl ExecutionResultDescription {
+    /// Whether it counts as a success: a pass, or a leak or timeout that counts as one.
+    pub fn is_success(&self) -> bool
+        ensures { result ≡ succeeded self.now }
+    {
+        match self {
+            ExecutionResultDescription::Pass => true,
+            ExecutionResultDescription::Leak { result } => *result == LeakTimeoutResult::Pass,
+            ExecutionResultDescription::Timeout { result } => *result == SlowTimeoutResult::Pass,
+            ExecutionResultDescription::Fail { .. } => false,
+            ExecutionResultDescription::ExecFail => false,
+        }
+    }
+}
+
+/// What is said of an error, shortly and at length.
+#[derive(PartialEq, Eq, Debug, Drop)]
+pub struct ErrorSummary {
+    pub short_message: Text,
+    pub description: Text,
+}
+
+/// The piece of an output that shows an error, and at which byte it begins there.
+#[derive(PartialEq, Eq, Debug, Drop)]
+pub struct OutputErrorSlice {
+    pub slice: Text,
+    pub start: u64,
+}

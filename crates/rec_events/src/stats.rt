@@ -1,0 +1,71 @@
+// The counts of a run.
+ghost use Rattle.std.specs.Prelude.{◌≡◌, ◌↔◌, ◌<◌, ◌^◌, IsSome, IfSome};
+ghost use Rattle.rec_events.specs.Stats.{no_stats, failures};
+
+use crate::CancelReason;
+
+/// How many tests and setup scripts ran, and how they ended.
+#[derive(Clone, Copy, PartialEq, Eq, Debug, Drop)]
+pub struct RunStats {
+    pub initial_run_count: usize,
+    pub finished_count: usize,
+    pub setup_scripts_initial_count: usize,
+    pub setup_scripts_finished_count: usize,
+    pub setup_scripts_passed: usize,
+    pub setup_scripts_failed: usize,
+    pub setup_scripts_exec_failed: usize,
+    pub setup_scripts_timed_out: usize,
+    pub passed: usize,
+    pub passed_slow: usize,
+    pub passed_timed_out: usize,
+    pub flaky: usize,
+    pub failed: usize,
+    pub failed_slow: usize,
+    pub failed_timed_out: usize,
+    pub leaky: usize,
+    pub leaky_failed: usize,
+    pub exec_failed: usize,
+    pub skipped: usize,
+    pub cancel_reason: Option<CancelReason>,
+}
+
+impl RunStats {
+    /// The counts of a run in which nothing ran yet.
+    pub fn zero() -> RunStats
+        ensures { result ≡ no_stats }
+    {
+        RunStats {
+            initial_run_count: 0,
+            finished_count: 0,
+            setup_scripts_initial_count: 0,
+            setup_scripts_finished_count: 0,
+            setup_scripts_passed: 0,
+            setup_scripts_failed: 0,
+            setup_scripts_exec_failed: 0,
+            setup_scripts_timed_out: 0,
+            passed: 0,
+            passed_slow: 0,
+            passed_timed_out: 0,
+            flaky: 0,
+            failed: 0,
+            failed_slow: 0,
+            failed_timed_out: 0,
+            leaky: 0,
+            leaky_failed: 0,
+            exec_failed: 0,
+            skipped: 0,
+            cancel_reason: None,
+        }
+    }
+
+    /// How many tests failed, could not be started, or failed for their time. `None` exactly where
+    /// that is no `usize`.
+    pub fn failed_count(&self) -> Option<usize>
+        ensures some { IsSome result ↔ (failures self.now < 2 ^ 64) }
+        ensures value { IfSome result (λ n. n ≡ failures self.now) }
+    {
+        self.failed
+            .checked_add(self.exec_failed)?
+            .checked_add(self.failed_timed_out)
+    }
+}
