@@ -1,15 +1,28 @@
 //! The JSON forms of the recorder's plain types.
 #![tactic(auto)]
 
+mod error_texts;
 mod errors;
 mod fields;
 mod form;
+mod groups;
 mod ids;
+mod instances;
 mod lists;
 mod maps;
 mod numbers;
+mod output_names;
+#[cfg(test)]
+mod output_tests;
+mod outputs;
 mod recording;
+mod reporting;
+#[cfg(test)]
+mod result_tests;
+mod results;
 mod selections;
+mod stats;
+mod stress;
 mod test_names;
 #[cfg(test)]
 mod tests;

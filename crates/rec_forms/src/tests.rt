@@ -13,7 +13,7 @@ use std::process::Abort;
 use std::test::Fail;
 
 // What a text is written as once it was read, or `refused`.
-fn rewritten<T: Form + Drop>(alloc: Global, text: &[u8]) -> Result<String, Fail> {
+pub(crate) fn rewritten<T: Form + Drop>(alloc: Global, text: &[u8]) -> Result<String, Fail> {
     match read_text::<T>(alloc, text) {
         Ok(item) => Ok(String::from_utf8(write_text(alloc, &item)?)?),
         Err(FromValueError::NotAValue) => Ok(String::from_str(alloc, "refused")?),
@@ -22,7 +22,7 @@ fn rewritten<T: Form + Drop>(alloc: Global, text: &[u8]) -> Result<String, Fail>
 }
 
 // Each text of the table is written as what stands beside it.
-fn check<T: Form + Drop>(
+pub(crate) fn check<T: Form + Drop>(
     rt: &impl Abort,
     alloc: Global,
     cases: &[(&str, &str)],

@@ -1,0 +1,42 @@
+-- How outcomes are shown and reported reads back, and is writable.
+use Rattle.std.specs.Prelude.{◌≡◌, Some, refl}
+use Rattle.rec_events.specs.declared.reporting.TestOutputDisplay.{TestOutputDisplay}
+use Rattle.rec_events.specs.declared.reporting.TestOutputDisplay.TheVariants.{Immediate, Final, ImmediateFinal, Never}
+use Rattle.rec_events.specs.declared.reporting.JunitFlakyFailStatus.{JunitFlakyFailStatus}
+use Rattle.rec_events.specs.declared.reporting.JunitFlakyFailStatus.TheVariants.{Failure, Success}
+use Rattle.rec_events.specs.declared.reporting.CancelReason.{CancelReason}
+use Rattle.rec_events.specs.declared.reporting.CancelReason.TheVariants.{SetupScriptFailure, TestFailure, ReportError, GlobalTimeout, TestFailureImmediate, Signal, Interrupt, SecondSignal}
+use Rattle.rec_forms.specs.Reporting.{output_display_name, output_display_value, output_display_form, flaky_fail_status_name, flaky_fail_status_value, flaky_fail_status_form, cancel_reason_name, cancel_reason_value, cancel_reason_form}
+use Rattle.rec_forms.specs.Writable.{IsWritable, string_writable}
+
+pub output_display_back : (x : TestOutputDisplay) → output_display_form (output_display_value x) ≡ Some x
+unfolding output_display_form
+output_display_back Immediate = refl
+output_display_back Final = refl
+output_display_back ImmediateFinal = refl
+output_display_back Never = refl
+
+pub output_display_writable : (x : TestOutputDisplay) → IsWritable 0 (output_display_value x)
+output_display_writable x = string_writable (output_display_name x)
+
+pub flaky_fail_status_back : (x : JunitFlakyFailStatus) → flaky_fail_status_form (flaky_fail_status_value x) ≡ Some x
+unfolding flaky_fail_status_form
+flaky_fail_status_back Failure = refl
+flaky_fail_status_back Success = refl
+
+pub flaky_fail_status_writable : (x : JunitFlakyFailStatus) → IsWritable 0 (flaky_fail_status_value x)
+flaky_fail_status_writable x = string_writable (flaky_fail_status_name x)
+
+pub cancel_reason_back : (x : CancelReason) → cancel_reason_form (cancel_reason_value x) ≡ Some x
+unfolding cancel_reason_form
+cancel_reason_back SetupScriptFailure = refl
+cancel_reason_back TestFailure = refl
+cancel_reason_back ReportError = refl
+cancel_reason_back GlobalTimeout = refl
+cancel_reason_back TestFailureImmediate = refl
+cancel_reason_back Signal = refl
+cancel_reason_back Interrupt = refl
+cancel_reason_back SecondSignal = refl
+
+pub cancel_reason_writable : (x : CancelReason) → IsWritable 0 (cancel_reason_value x)
+cancel_reason_writable x = string_writable (cancel_reason_name x)

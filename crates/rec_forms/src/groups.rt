@@ -1,0 +1,41 @@
+// Test groups.
+use crate::{Form, FromValueError};
+use rec_events::TestGroup;
+use serde_json::Value;
+use std::alloc::{AllocError, Global};
+
+impl Form for TestGroup {
+    ghost use Rattle.rec_forms.specs.Groups.{test_group_value, test_group_form, IsTestGroup};
+    ghost use Rattle.rec_forms.specs.GroupLaws.{test_group_back, test_group_writable};
+
+    ghost well_formed = { IsTestGroup };
+
+    ghost value_of = { test_group_value };
+
+    ghost form_of = { test_group_form };
+
+    ghost levels = { 0 };
+
+    ghost reads_back = { test_group_back };
+
+    ghost writable = { test_group_writable };
+
+    fn to_value(&self, alloc: Global) -> Result<Value, AllocError> {
+        match self {
+            TestGroup::Global => Value::try_from_str(alloc, self.text()),
+            TestGroup::Custom(name) => Value::try_from_str(alloc, name.as_str()),
+        }
+    }
+
+    #[tactic(auto, unfolding(crate::specs::Groups::test_group_form))]
+    fn from_value(alloc: Global, value: &Value) -> Result<TestGroup, FromValueError> {
+        let Some(name) = value.as_str() else {
+            return Err(FromValueError::NotAValue);
+        };
+        let name = String::from_str(alloc, name)?;
+        match TestGroup::custom(name) {
+            Some(group) => Ok(group),
+            None => Ok(TestGroup::Global),
+        }
+    }
+}

@@ -1,0 +1,152 @@
+// Which test ran, where, and which time.
+use crate::fields::{optional_field, put_field, put_optional, required_field};
+use crate::{Form, FromValueError};
+use rec_events::{OwnedTestInstanceId, RetryData, StressIndexSummary, TestSlotAssignment};
+use serde_json::{Map, Value};
+use std::alloc::{AllocError, Global};
+
+impl Form for OwnedTestInstanceId {
+    ghost use Rattle.rec_forms.specs.Instances.{test_instance_value, test_instance_form, IsTestInstance};
+    ghost use Rattle.rec_forms.specs.InstanceLaws.{test_instance_back, test_instance_writable};
+
+    ghost well_formed = { IsTestInstance };
+
+    ghost value_of = { test_instance_value };
+
+    ghost form_of = { test_instance_form };
+
+    ghost levels = { 1 };
+
+    ghost reads_back = { test_instance_back };
+
+    ghost writable = { test_instance_writable };
+
+    #[tactic(auto, unfolding(crate::specs::Shape::members_of))]
+    fn to_value(&self, alloc: Global) -> Result<Value, AllocError> {
+        let mut object = Map::new(alloc);
+        put_field(alloc, &mut object, "binary-id", &self.binary_id)?;
+        put_field(alloc, &mut object, "test-name", &self.test_name)?;
+        Ok(Value::from(object))
+    }
+
+    #[tactic(auto, unfolding(crate::specs::Instances::test_instance_form))]
+    fn from_value(alloc: Global, value: &Value) -> Result<OwnedTestInstanceId, FromValueError> {
+        let Value::Object(object) = value else {
+            return Err(FromValueError::NotAValue);
+        };
+        Ok(OwnedTestInstanceId {
+            binary_id: required_field(alloc, object, "binary-id")?,
+            test_name: required_field(alloc, object, "test-name")?,
+        })
+    }
+}
+
+impl Form for TestSlotAssignment {
+    ghost use Rattle.rec_forms.specs.Instances.{slot_assignment_value, slot_assignment_form, IsSlotAssignment};
+    ghost use Rattle.rec_forms.specs.InstanceLaws.{slot_assignment_back, slot_assignment_writable};
+
+    ghost well_formed = { IsSlotAssignment };
+
+    ghost value_of = { slot_assignment_value };
+
+    ghost form_of = { slot_assignment_form };
+
+    ghost levels = { 1 };
+
+    ghost reads_back = { slot_assignment_back };
+
+    ghost writable = { slot_assignment_writable };
+
+    #[tactic(auto, unfolding(crate::specs::Shape::members_of))]
+    fn to_value(&self, alloc: Global) -> Result<Value, AllocError> {
+        let mut object = Map::new(alloc);
+        put_field(alloc, &mut object, "global-slot", &self.global_slot)?;
+        put_optional(alloc, &mut object, "group-slot", &self.group_slot)?;
+        put_field(alloc, &mut object, "test-group", &self.test_group)?;
+        Ok(Value::from(object))
+    }
+
+    #[tactic(auto, unfolding(crate::specs::Instances::slot_assignment_form))]
+    fn from_value(alloc: Global, value: &Value) -> Result<TestSlotAssignment, FromValueError> {
+        let Value::Object(object) = value else {
+            return Err(FromValueError::NotAValue);
+        };
+        Ok(TestSlotAssignment {
+            global_slot: required_field(alloc, object, "global-slot")?,
+            group_slot: optional_field(alloc, object, "group-slot")?,
+            test_group: required_field(alloc, object, "test-group")?,
+        })
+    }
+}
+
+impl Form for RetryData {
+    ghost use Rattle.rec_forms.specs.Instances.{retry_data_value, retry_data_form, IsRetryData};
+    ghost use Rattle.rec_forms.specs.InstanceLaws.{retry_data_back, retry_data_writable};
+
+    ghost well_formed = { IsRetryData };
+
+    ghost value_of = { retry_data_value };
+
+    ghost form_of = { retry_data_form };
+
+    ghost levels = { 1 };
+
+    ghost reads_back = { retry_data_back };
+
+    ghost writable = { retry_data_writable };
+
+    #[tactic(auto, unfolding(crate::specs::Shape::members_of))]
+    fn to_value(&self, alloc: Global) -> Result<Value, AllocError> {
+        let mut object = Map::new(alloc);
+        put_field(alloc, &mut object, "attempt", &self.attempt)?;
+        put_field(alloc, &mut object, "total-attempts", &self.total_attempts)?;
+        Ok(Value::from(object))
+    }
+
+    #[tactic(auto, unfolding(crate::specs::Instances::retry_data_form))]
+    fn from_value(alloc: Global, value: &Value) -> Result<RetryData, FromValueError> {
+        let Value::Object(object) = value else {
+            return Err(FromValueError::NotAValue);
+        };
+        Ok(RetryData {
+            attempt: required_field(alloc, object, "attempt")?,
+            total_attempts: required_field(alloc, object, "total-attempts")?,
+        })
+    }
+}
+
+impl Form for StressIndexSummary {
+    ghost use Rattle.rec_forms.specs.Instances.{stress_index_value, stress_index_form, IsStressIndex};
+    ghost use Rattle.rec_forms.specs.InstanceLaws.{stress_index_back, stress_index_writable};
+
+    ghost well_formed = { IsStressIndex };
+
+    ghost value_of = { stress_index_value };
+
+    ghost form_of = { stress_index_form };
+
+    ghost levels = { 1 };
+
+    ghost reads_back = { stress_index_back };
+
+    ghost writable = { stress_index_writable };
+
+    #[tactic(auto, unfolding(crate::specs::Shape::members_of))]
+    fn to_value(&self, alloc: Global) -> Result<Value, AllocError> {
+        let mut object = Map::new(alloc);
+        put_field(alloc, &mut object, "current", &self.current)?;
+        put_optional(alloc, &mut object, "total", &self.total)?;
+        Ok(Value::from(object))
+    }
+
+    #[tactic(auto, unfolding(crate::specs::Instances::stress_index_form))]
+    fn from_value(alloc: Global, value: &Value) -> Result<StressIndexSummary, FromValueError> {
+        let Value::Object(object) = value else {
+            return Err(FromValueError::NotAValue);
+        };
+        Ok(StressIndexSummary {
+            current: required_field(alloc, object, "current")?,
+            total: optional_field(alloc, object, "total")?,
+        })
+    }
+}

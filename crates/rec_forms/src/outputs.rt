@@ -1,0 +1,173 @@
+// Outputs: the bytes of one, and those in a store.
+ghost use Rattle.std.specs.Prelude.{◌≡◌};
+ghost use Rattle.serde_json.specs.View.{view};
+ghost use Rattle.rec_forms.specs.Gives.{Gives};
+ghost use Rattle.rec_forms.specs.Outputs.{truncated_form, split_form};
+
+use crate::fields::{only_member, optional_field, put_field, put_optional, required_field, tagged};
+use crate::{Form, FromValueError};
+use hex::FromHexError;
+use rec_events::{ChildSingleOutput, OutputFileName, ZipStoreOutput, ZipStoreOutputDescription};
+use serde_json::{Map, Value};
+use std::alloc::{AllocError, Global};
+
+impl Form for ChildSingleOutput {
+    ghost use Rattle.hex.specs.Hex.{IsBytes};
+    ghost use Rattle.rec_forms.specs.Outputs.{output_bytes_value, output_bytes_form};
+    ghost use Rattle.rec_forms.specs.OutputLaws.{output_bytes_back, output_bytes_writable};
+
+    ghost well_formed = { IsBytes };
+
+    ghost value_of = { output_bytes_value };
+
+    ghost form_of = { output_bytes_form };
+
+    ghost levels = { 0 };
+
+    ghost reads_back = { output_bytes_back };
+
+    ghost writable = { output_bytes_writable };
+
+    fn to_value(&self, alloc: Global) -> Result<Value, AllocError> {
+        Ok(Value::from(hex::encode(alloc, self.as_bytes())?))
+    }
+
+    #[tactic(auto, unfolding(crate::specs::Outputs::output_bytes_form))]
+    fn from_value(alloc: Global, value: &Value) -> Result<ChildSingleOutput, FromValueError> {
+        let Some(text) = value.as_str() else {
+            return Err(FromValueError::NotAValue);
+        };
+        match hex::decode(alloc, text.as_bytes()) {
+            Ok(bytes) => Ok(ChildSingleOutput::new(bytes)),
+            Err(FromHexError::OutOfMemory) => Err(FromValueError::OutOfMemory),
+            Err(_) => Err(FromValueError::NotAValue),
+        }
+    }
+}
+
+#[tactic(auto, unfolding(crate::specs::Outputs::truncated_form))]
+fn truncated_from(alloc: Global, value: &Value) -> Result<ZipStoreOutput, FromValueError>
+    ensures { Gives result (truncated_form (view value.now)) }
+{
+    let Value::Object(fields) = value else {
+        return Err(FromValueError::NotAValue);
+    };
+    Ok(ZipStoreOutput::Truncated {
+        file_name: required_field(alloc, fields, "file-name")?,
+        original_size: required_field(alloc, fields, "original-size")?,
+    })
+}
+
+#[tactic(auto, unfolding(crate::specs::Outputs::split_form))]
+fn split_from(alloc: Global, value: &Value) -> Result<ZipStoreOutputDescription, FromValueError>
+    ensures { Gives result (split_form (view value.now)) }
+{
+    let Value::Object(fields) = value else {
+        return Err(FromValueError::NotAValue);
+    };
+    Ok(ZipStoreOutputDescription::Split {
+        stdout: optional_field(alloc, fields, "stdout")?,
+        stderr: optional_field(alloc, fields, "stderr")?,
+    })
+}
+
+impl Form for ZipStoreOutput {
+    ghost use Rattle.rec_forms.specs.Outputs.{stored_output_value, stored_output_form, IsStoredOutput};
+    ghost use Rattle.rec_forms.specs.OutputLaws.{stored_output_back, stored_output_writable};
+
+    ghost well_formed = { IsStoredOutput };
+
+    ghost value_of = { stored_output_value };
+
+    ghost form_of = { stored_output_form };
+
+    ghost levels = { 2 };
+
+    ghost reads_back = { stored_output_back };
+
+    ghost writable = { stored_output_writable };
+
+    #[tactic(auto, unfolding(crate::specs::Shape::members_of))]
+    fn to_value(&self, alloc: Global) -> Result<Value, AllocError> {
+        match self {
+            ZipStoreOutput::Empty => Value::try_from_str(alloc, "empty"),
+            ZipStoreOutput::Full { file_name } => tagged(alloc, "full", file_name.to_value(alloc)?),
+            ZipStoreOutput::Truncated {
+                file_name,
+                original_size,
+            } => {
+                let mut object = Map::new(alloc);
+                put_field(alloc, &mut object, "file-name", file_name)?;
+                put_field(alloc, &mut object, "original-size", original_size)?;
+                tagged(alloc, "truncated", Value::from(object))
+            }
+        }
+    }
+
+    #[tactic(auto, unfolding(crate::specs::Outputs::stored_output_form))]
+    fn from_value(alloc: Global, value: &Value) -> Result<ZipStoreOutput, FromValueError> {
+        match value {
+            Value::String(name) => match name.as_str() {
+                "empty" => Ok(ZipStoreOutput::Empty),
+                _ => Err(FromValueError::NotAValue),
+            },
+            Value::Object(object) => match only_member(object) {
+                Some(("full", value)) => Ok(ZipStoreOutput::Full {
+                    file_name: OutputFileName::from_value(alloc, value)?,
+                }),
+                Some(("truncated", value)) => truncated_from(alloc, value),
+                _ => Err(FromValueError::NotAValue),
+            },
+            _ => Err(FromValueError::NotAValue),
+        }
+    }
+}
+
+impl Form for ZipStoreOutputDescription {
+    ghost use Rattle.rec_forms.specs.Outputs.{stored_outputs_value, stored_outputs_form, IsStoredOutputs};
+    ghost use Rattle.rec_forms.specs.OutputLaws.{stored_outputs_back, stored_outputs_writable};
+
+    ghost well_formed = { IsStoredOutputs };
+
+    ghost value_of = { stored_outputs_value };
+
+    ghost form_of = { stored_outputs_form };
+
+    ghost levels = { 4 };
+
+    ghost reads_back = { stored_outputs_back };
+
+    ghost writable = { stored_outputs_writable };
+
+    #[tactic(auto, unfolding(crate::specs::Shape::members_of))]
+    fn to_value(&self, alloc: Global) -> Result<Value, AllocError> {
+        match self {
+            ZipStoreOutputDescription::Split { stdout, stderr } => {
+                let mut object = Map::new(alloc);
+                put_optional(alloc, &mut object, "stdout", stdout)?;
+                put_optional(alloc, &mut object, "stderr", stderr)?;
+                tagged(alloc, "split", Value::from(object))
+            }
+            ZipStoreOutputDescription::Combined { output } => {
+                tagged(alloc, "combined", output.to_value(alloc)?)
+            }
+        }
+    }
+
+    #[tactic(auto, unfolding(crate::specs::Outputs::stored_outputs_form))]
+    fn from_value(
+        alloc: Global,
+        value: &Value,
+    ) -> Result<ZipStoreOutputDescription, FromValueError> {
+        let Value::Object(object) = value else {
+            return Err(FromValueError::NotAValue);
+        };
+        match only_member(object) {
+            Some(("split", value)) => split_from(alloc, value),
+            Some(("combined", value)) => Ok(ZipStoreOutputDescription::Combined {
+                output: ZipStoreOutput::from_value(alloc, value)?,
+            }),
+            _ => Err(FromValueError::NotAValue),
+        }
+    }
+}

@@ -1,0 +1,123 @@
+// How the outcome of a test is shown and reported.
+use crate::{Form, FromValueError};
+use rec_events::{CancelReason, JunitFlakyFailStatus, TestOutputDisplay};
+use serde_json::Value;
+use std::alloc::{AllocError, Global};
+
+impl Form for TestOutputDisplay {
+    ghost use Rattle.rec_forms.specs.Reporting.{output_display_value, output_display_form};
+    ghost use Rattle.rec_forms.specs.ReportingLaws.{output_display_back, output_display_writable};
+
+    ghost well_formed = { λ _. Unit {0} };
+
+    ghost value_of = { output_display_value };
+
+    ghost form_of = { output_display_form };
+
+    ghost levels = { 0 };
+
+    ghost reads_back = { λ x _. output_display_back x };
+
+    ghost writable = { output_display_writable };
+
+    fn to_value(&self, alloc: Global) -> Result<Value, AllocError> {
+        let name = match self {
+            TestOutputDisplay::Immediate => "immediate",
+            TestOutputDisplay::Final => "final",
+            TestOutputDisplay::ImmediateFinal => "immediate-final",
+            TestOutputDisplay::Never => "never",
+        };
+        Value::try_from_str(alloc, name)
+    }
+
+    #[tactic(auto, unfolding(crate::specs::Reporting::output_display_form))]
+    fn from_value(_alloc: Global, value: &Value) -> Result<TestOutputDisplay, FromValueError> {
+        match value.as_str() {
+            Some("immediate") => Ok(TestOutputDisplay::Immediate),
+            Some("final") => Ok(TestOutputDisplay::Final),
+            Some("immediate-final") => Ok(TestOutputDisplay::ImmediateFinal),
+            Some("never") => Ok(TestOutputDisplay::Never),
+            _ => Err(FromValueError::NotAValue),
+        }
+    }
+}
+
+impl Form for JunitFlakyFailStatus {
+    ghost use Rattle.rec_forms.specs.Reporting.{flaky_fail_status_value, flaky_fail_status_form};
+    ghost use Rattle.rec_forms.specs.ReportingLaws.{flaky_fail_status_back, flaky_fail_status_writable};
+
+    ghost well_formed = { λ _. Unit {0} };
+
+    ghost value_of = { flaky_fail_status_value };
+
+    ghost form_of = { flaky_fail_status_form };
+
+    ghost levels = { 0 };
+
+    ghost reads_back = { λ x _. flaky_fail_status_back x };
+
+    ghost writable = { flaky_fail_status_writable };
+
+    fn to_value(&self, alloc: Global) -> Result<Value, AllocError> {
+        let name = match self {
+            JunitFlakyFailStatus::Failure => "failure",
+            JunitFlakyFailStatus::Success => "success",
+        };
+        Value::try_from_str(alloc, name)
+    }
+
+    #[tactic(auto, unfolding(crate::specs::Reporting::flaky_fail_status_form))]
+    fn from_value(_alloc: Global, value: &Value) -> Result<JunitFlakyFailStatus, FromValueError> {
+        match value.as_str() {
+            Some("failure") => Ok(JunitFlakyFailStatus::Failure),
+            Some("success") => Ok(JunitFlakyFailStatus::Success),
+            _ => Err(FromValueError::NotAValue),
+        }
+    }
+}
+
+impl Form for CancelReason {
+    ghost use Rattle.rec_forms.specs.Reporting.{cancel_reason_value, cancel_reason_form};
+    ghost use Rattle.rec_forms.specs.ReportingLaws.{cancel_reason_back, cancel_reason_writable};
+
+    ghost well_formed = { λ _. Unit {0} };
+
+    ghost value_of = { cancel_reason_value };
+
+    ghost form_of = { cancel_reason_form };
+
+    ghost levels = { 0 };
+
+    ghost reads_back = { λ x _. cancel_reason_back x };
+
+    ghost writable = { cancel_reason_writable };
+
+    fn to_value(&self, alloc: Global) -> Result<Value, AllocError> {
+        let name = match self {
+            CancelReason::SetupScriptFailure => "setup-script-failure",
+            CancelReason::TestFailure => "test-failure",
+            CancelReason::ReportError => "report-error",
+            CancelReason::GlobalTimeout => "global-timeout",
+            CancelReason::TestFailureImmediate => "test-failure-immediate",
+            CancelReason::Signal => "signal",
+            CancelReason::Interrupt => "interrupt",
+            CancelReason::SecondSignal => "second-signal",
+        };
+        Value::try_from_str(alloc, name)
+    }
+
+    #[tactic(auto, unfolding(crate::specs::Reporting::cancel_reason_form))]
+    fn from_value(_alloc: Global, value: &Value) -> Result<CancelReason, FromValueError> {
+        match value.as_str() {
+            Some("setup-script-failure") => Ok(CancelReason::SetupScriptFailure),
+            Some("test-failure") => Ok(CancelReason::TestFailure),
+            Some("report-error") => Ok(CancelReason::ReportError),
+            Some("global-timeout") => Ok(CancelReason::GlobalTimeout),
+            Some("test-failure-immediate") => Ok(CancelReason::TestFailureImmediate),
+            Some("signal") => Ok(CancelReason::Signal),
+            Some("interrupt") => Ok(CancelReason::Interrupt),
+            Some("second-signal") => Ok(CancelReason::SecondSignal),
+            _ => Err(FromValueError::NotAValue),
+        }
+    }
+}

@@ -1,0 +1,252 @@
+// How a test, a script or an attempt ended.
+ghost use Rattle.std.specs.Prelude.{◌≡◌};
+ghost use Rattle.serde_json.specs.View.{view};
+ghost use Rattle.rec_forms.specs.Gives.{Gives};
+ghost use Rattle.rec_forms.specs.Results.{abort_form, fail_form};
+
+use crate::fields::{only_member, optional_field, put_field, put_optional, required_field, tagged};
+use crate::{Form, FromValueError};
+use rec_events::{
+    ExecutionResultDescription, FailureDescription, FlakyResult, LeakTimeoutResult,
+    SlowTimeoutResult,
+};
+use serde_json::{Map, Value};
+use std::alloc::{AllocError, Global};
+
+impl Form for FlakyResult {
+    ghost use Rattle.rec_forms.specs.Results.{flaky_result_value, flaky_result_form};
+    ghost use Rattle.rec_forms.specs.ResultLaws.{flaky_result_back, flaky_result_writable};
+
+    ghost well_formed = { λ _. Unit {0} };
+
+    ghost value_of = { flaky_result_value };
+
+    ghost form_of = { flaky_result_form };
+
+    ghost levels = { 0 };
+
+    ghost reads_back = { λ x _. flaky_result_back x };
+
+    ghost writable = { flaky_result_writable };
+
+    fn to_value(&self, alloc: Global) -> Result<Value, AllocError> {
+        let name = match self {
+            FlakyResult::Pass => "pass",
+            FlakyResult::Fail => "fail",
+        };
+        Value::try_from_str(alloc, name)
+    }
+
+    #[tactic(auto, unfolding(crate::specs::Results::flaky_result_form))]
+    fn from_value(_alloc: Global, value: &Value) -> Result<FlakyResult, FromValueError> {
+        match value.as_str() {
+            Some("pass") => Ok(FlakyResult::Pass),
+            Some("fail") => Ok(FlakyResult::Fail),
+            _ => Err(FromValueError::NotAValue),
+        }
+    }
+}
+
+impl Form for LeakTimeoutResult {
+    ghost use Rattle.rec_forms.specs.Results.{leak_result_value, leak_result_form};
+    ghost use Rattle.rec_forms.specs.ResultLaws.{leak_result_back, leak_result_writable};
+
+    ghost well_formed = { λ _. Unit {0} };
+
+    ghost value_of = { leak_result_value };
+
+    ghost form_of = { leak_result_form };
+
+    ghost levels = { 0 };
+
+    ghost reads_back = { λ x _. leak_result_back x };
+
+    ghost writable = { leak_result_writable };
+
+    fn to_value(&self, alloc: Global) -> Result<Value, AllocError> {
+        let name = match self {
+            LeakTimeoutResult::Pass => "pass",
+            LeakTimeoutResult::Fail => "fail",
+        };
+        Value::try_from_str(alloc, name)
+    }
+
+    #[tactic(auto, unfolding(crate::specs::Results::leak_result_form))]
+    fn from_value(_alloc: Global, value: &Value) -> Result<LeakTimeoutResult, FromValueError> {
+        match value.as_str() {
+            Some("pass") => Ok(LeakTimeoutResult::Pass),
+            Some("fail") => Ok(LeakTimeoutResult::Fail),
+            _ => Err(FromValueError::NotAValue),
+        }
+    }
+}
+
+impl Form for SlowTimeoutResult {
+    ghost use Rattle.rec_forms.specs.Results.{slow_result_value, slow_result_form};
+    ghost use Rattle.rec_forms.specs.ResultLaws.{slow_result_back, slow_result_writable};
+
+    ghost well_formed = { λ _. Unit {0} };
+
+    ghost value_of = { slow_result_value };
+
+    ghost form_of = { slow_result_form };
+
+    ghost levels = { 0 };
+
+    ghost reads_back = { λ x _. slow_result_back x };
+
+    ghost writable = { slow_result_writable };
+
+    fn to_value(&self, alloc: Global) -> Result<Value, AllocError> {
+        let name = match self {
+            SlowTimeoutResult::Pass => "pass",
+            SlowTimeoutResult::Fail => "fail",
+        };
+        Value::try_from_str(alloc, name)
+    }
+
+    #[tactic(auto, unfolding(crate::specs::Results::slow_result_form))]
+    fn from_value(_alloc: Global, value: &Value) -> Result<SlowTimeoutResult, FromValueError> {
+        match value.as_str() {
+            Some("pass") => Ok(SlowTimeoutResult::Pass),
+            Some("fail") => Ok(SlowTimeoutResult::Fail),
+            _ => Err(FromValueError::NotAValue),
+        }
+    }
+}
+
+impl Form for FailureDescription {
+    ghost use Rattle.rec_forms.specs.Results.{failure_value, failure_form, IsFailure};
+    ghost use Rattle.rec_forms.specs.ResultLaws.{failure_back, failure_writable};
+
+    ghost well_formed = { IsFailure };
+
+    ghost value_of = { failure_value };
+
+    ghost form_of = { failure_form };
+
+    ghost levels = { 2 };
+
+    ghost reads_back = { failure_back };
+
+    ghost writable = { failure_writable };
+
+    #[tactic(auto, unfolding(crate::specs::Shape::members_of))]
+    fn to_value(&self, alloc: Global) -> Result<Value, AllocError> {
+        match self {
+            FailureDescription::ExitCode { code } => {
+                tagged(alloc, "exit-code", code.to_value(alloc)?)
+            }
+            FailureDescription::Abort { signal, name } => {
+                let mut object = Map::new(alloc);
+                put_field(alloc, &mut object, "signal", signal)?;
+                put_optional(alloc, &mut object, "name", name)?;
+                tagged(alloc, "abort", Value::from(object))
+            }
+        }
+    }
+
+    #[tactic(auto, unfolding(crate::specs::Results::failure_form))]
+    fn from_value(alloc: Global, value: &Value) -> Result<FailureDescription, FromValueError> {
+        let Value::Object(object) = value else {
+            return Err(FromValueError::NotAValue);
+        };
+        match only_member(object) {
+            Some(("exit-code", value)) => Ok(FailureDescription::ExitCode {
+                code: i32::from_value(alloc, value)?,
+            }),
+            Some(("abort", value)) => abort_from(alloc, value),
+            _ => Err(FromValueError::NotAValue),
+        }
+    }
+}
+
+/// The fields of an abort.
+#[tactic(auto, unfolding(crate::specs::Results::abort_form))]
+fn abort_from(alloc: Global, value: &Value) -> Result<FailureDescription, FromValueError>
+    ensures { Gives result (abort_form (view value.now)) }
+{
+    let Value::Object(fields) = value else {
+        return Err(FromValueError::NotAValue);
+    };
+    Ok(FailureDescription::Abort {
+        signal: required_field(alloc, fields, "signal")?,
+        name: optional_field(alloc, fields, "name")?,
+    })
+}
+
+impl Form for ExecutionResultDescription {
+    ghost use Rattle.rec_forms.specs.Results.{execution_result_value, execution_result_form, IsExecutionResult};
+    ghost use Rattle.rec_forms.specs.ResultLaws.{execution_result_back, execution_result_writable};
+
+    ghost well_formed = { IsExecutionResult };
+
+    ghost value_of = { execution_result_value };
+
+    ghost form_of = { execution_result_form };
+
+    ghost levels = { 4 };
+
+    ghost reads_back = { execution_result_back };
+
+    ghost writable = { execution_result_writable };
+
+    #[tactic(auto, unfolding(crate::specs::Shape::members_of))]
+    fn to_value(&self, alloc: Global) -> Result<Value, AllocError> {
+        match self {
+            ExecutionResultDescription::Pass => Value::try_from_str(alloc, "pass"),
+            ExecutionResultDescription::Leak { result } => {
+                tagged(alloc, "leak", result.to_value(alloc)?)
+            }
+            ExecutionResultDescription::Fail { failure, leaked } => {
+                let mut object = Map::new(alloc);
+                put_field(alloc, &mut object, "failure", failure)?;
+                put_field(alloc, &mut object, "leaked", leaked)?;
+                tagged(alloc, "fail", Value::from(object))
+            }
+            ExecutionResultDescription::ExecFail => Value::try_from_str(alloc, "exec-fail"),
+            ExecutionResultDescription::Timeout { result } => {
+                tagged(alloc, "timeout", result.to_value(alloc)?)
+            }
+        }
+    }
+
+    #[tactic(auto, unfolding(crate::specs::Results::execution_result_form))]
+    fn from_value(
+        alloc: Global,
+        value: &Value,
+    ) -> Result<ExecutionResultDescription, FromValueError> {
+        match value {
+            Value::String(name) => match name.as_str() {
+                "pass" => Ok(ExecutionResultDescription::Pass),
+                "exec-fail" => Ok(ExecutionResultDescription::ExecFail),
+                _ => Err(FromValueError::NotAValue),
+            },
+            Value::Object(object) => match only_member(object) {
+                Some(("leak", value)) => Ok(ExecutionResultDescription::Leak {
+                    result: LeakTimeoutResult::from_value(alloc, value)?,
+                }),
+                Some(("fail", value)) => fail_from(alloc, value),
+                Some(("timeout", value)) => Ok(ExecutionResultDescription::Timeout {
+                    result: SlowTimeoutResult::from_value(alloc, value)?,
+                }),
+                _ => Err(FromValueError::NotAValue),
+            },
+            _ => Err(FromValueError::NotAValue),
+        }
+    }
+}
+
+/// The fields of a failure.
+#[tactic(auto, unfolding(crate::specs::Results::fail_form))]
+fn fail_from(alloc: Global, value: &Value) -> Result<ExecutionResultDescription, FromValueError>
+    ensures { Gives result (fail_form (view value.now)) }
+{
+    let Value::Object(fields) = value else {
+        return Err(FromValueError::NotAValue);
+    };
+    Ok(ExecutionResultDescription::Fail {
+        failure: required_field(alloc, fields, "failure")?,
+        leaked: required_field(alloc, fields, "leaked")?,
+    })
+}
