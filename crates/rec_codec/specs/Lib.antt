@@ -1,3 +1,11 @@
 pub mod Lines
 pub mod LineView
 pub mod Event
+pub mod Writes
+pub mod Live
+pub mod LiveLaws
+pub mod Status
+pub mod StatusLaws
+pub mod EventForms
+pub mod EventFormLaws
+pub mod LineEvents

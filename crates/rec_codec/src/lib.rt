@@ -1,8 +1,24 @@
-//! The lines of sessions and event logs.
+//! The lines of sessions and event logs, and the JSON forms of events.
 #![tactic(auto)]
 
+mod core_kinds;
+mod errors;
+mod event;
+#[cfg(test)]
+mod event_tests;
+mod line_events;
 mod lines;
+mod live;
+mod output;
+mod output_kinds;
+mod part;
+mod status;
 #[cfg(test)]
 mod tests;
 
+pub use errors::ToValueError;
+pub use event::{event_from_value, event_to_value};
+pub use line_events::{LineError, read_line};
 pub use lines::{Line, Lines};
+pub use output::OutputForm;
+pub use part::Part;

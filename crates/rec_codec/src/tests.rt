@@ -1,4 +1,6 @@
-use crate::Lines;
+use crate::{Line, LineError, Lines, read_line};
+use rec_events::RecordingSpec;
+use std::alloc::Global;
 use std::test::Fail;
 
 #[test]
@@ -22,4 +24,35 @@ fn a_text_by_its_lines(rt: HostRuntime) -> Result<(), Fail> {
         assert_eq!(rt; seen.as_str(), expected, "{text:?}");
     }
     Ok(())
+}
+
+// What the line with these bytes gives.
+fn told(alloc: Global, bytes: &[u8]) -> &'static str {
+    match read_line::<RecordingSpec>(alloc, Line { number: 4, bytes }) {
+        None => "nothing",
+        Some(Ok(_)) => "an event",
+        Some(Err(LineError::ReadRunLog { line_number: 4 })) => "ReadRunLog",
+        Some(Err(LineError::ParseEvent { line_number: 4 })) => "ParseEvent",
+        Some(Err(_)) => "another fault",
+    }
+}
+
+fn run_start() -> &'static [u8] {
+    b"\t{\"timestamp\":{\"secs\":1000,\"nanos\":0,\"offset\":0},\"elapsed\":{\"secs\":0,\"nanos\":0},\"kind\":\"run-started\",\"run-id\":\"550e8400-e29b-41d4-a716-446655440000\",\"profile-name\":\"default\",\"cli-args\":[]}\r"
+}
+
+#[test]
+fn a_line_is_told(rt: HostRuntime) {
+    let alloc = rt.alloc();
+    assert_eq!(rt; told(alloc, run_start()), "an event");
+    for (bytes, want) in [
+        (b"".as_slice(), "nothing"),
+        (b" \t\r", "nothing"),
+        (b"\xff", "ReadRunLog"),
+        (b" \xc3", "ReadRunLog"),
+        (b"{", "ParseEvent"),
+        (b"{}", "ParseEvent"),
+    ] {
+        assert_eq!(rt; told(alloc, bytes), want, "{bytes:?}");
+    }
 }

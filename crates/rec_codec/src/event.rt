@@ -1,0 +1,99 @@
+// Events as JSON values.
+ghost use Rattle.std.specs.Prelude.{◌≡◌, OnOk, IfOk, Some};
+ghost use Rattle.serde_json.specs.View.{view, members_view};
+ghost use Rattle.rec_forms.specs.Gives.{Gives};
+ghost use Rattle.rec_forms.specs.Shape.{with_members};
+ghost use Rattle.rec_codec.specs.Writes.{Writes, Refuses};
+ghost use Rattle.rec_codec.specs.EventForms.{kind_fields, kind_form, kind_loaded, IsKind, event_value, event_form, IsEvent};
+
+use crate::core_kinds::{put_core, run_started_from, test_started_from};
+use crate::output_kinds::{put_output, test_finished_from};
+use crate::{OutputForm, ToValueError};
+use rec_events::{TestEventKindSummary, TestEventSummary};
+use rec_forms::{FromValueError, Object, member, put_field, required_field};
+use serde_json::{Map, Value};
+use std::alloc::Global;
+
+// Writes a kind and its members.
+fn put_kind<S: OutputForm>(
+    alloc: Global,
+    object: &mut Object,
+    kind: &TestEventKindSummary<S>,
+) -> Result<(), ToValueError>
+    ensures written { OnOk result (members_view object.new.entries
+        ≡ with_members (members_view object.old.entries) (kind_fields S.output_value kind.now)) }
+    ensures loaded { Refuses result (kind_loaded S.loaded kind.now) }
+    ensures known { OnOk result (IsKind S.output_well_formed kind.now) }
+{
+    match kind {
+        TestEventKindSummary::Core(kind) => Ok(put_core(alloc, object, kind)?),
+        TestEventKindSummary::Output(kind) => put_output(alloc, object, kind),
+    }
+}
+
+// The value of an event.
+#[tactic(auto, unfolding(rec_forms::specs::Shape::members_of))]
+fn value_from<S: OutputForm>(
+    alloc: Global,
+    event: &TestEventSummary<S>,
+) -> Result<Value, ToValueError>
+    ensures written { Writes result (event_value S.output_value event.now) (kind_loaded S.loaded event.now.kind) }
+    ensures known { OnOk result (IsEvent S.output_well_formed event.now) }
+{
+    let mut object = Map::new(alloc);
+    put_field(alloc, &mut object, "timestamp", &event.timestamp)?;
+    put_field(alloc, &mut object, "elapsed", &event.elapsed)?;
+    put_kind(alloc, &mut object, &event.kind)?;
+    Ok(Value::from(object))
+}
+
+/// The value of an event: an object with its times, the name of its kind and the members of that
+/// kind. `NotLoaded` only where an output isn't loaded.
+pub fn event_to_value<S: OutputForm>(
+    alloc: Global,
+    event: &TestEventSummary<S>,
+) -> Result<Value, ToValueError>
+    ensures written { Writes result (event_value S.output_value event.now) (kind_loaded S.loaded event.now.kind) }
+    ensures known { OnOk result (IsEvent S.output_well_formed event.now) }
+    ensures reads_back { IfOk result (λ v. event_form S.output_form (view v) ≡ Some event.now) }
+{
+    let value = value_from(alloc, event)?;
+    Ok(value)
+}
+
+// Reads a kind by its name.
+#[tactic(auto, unfolding(crate::specs::EventForms::kind_form))]
+fn kind_from<S: OutputForm>(
+    alloc: Global,
+    object: &Object,
+) -> Result<TestEventKindSummary<S>, FromValueError>
+    ensures { Gives result (kind_form S.output_form (members_view object.now.entries)) }
+{
+    match member(object, "kind") {
+        Some(Value::String(name)) => match name.as_str() {
+            "run-started" => Ok(TestEventKindSummary::Core(run_started_from(alloc, object)?)),
+            "test-started" => Ok(TestEventKindSummary::Core(test_started_from(alloc, object)?)),
+            "test-finished" => Ok(TestEventKindSummary::Output(test_finished_from(alloc, object)?)),
+            _ => Err(FromValueError::NotAValue),
+        },
+        _ => Err(FromValueError::NotAValue),
+    }
+}
+
+/// The event for which `value` stands; `NotAValue` exactly where it stands for none.
+#[tactic(auto, unfolding(crate::specs::EventForms::event_form))]
+pub fn event_from_value<S: OutputForm>(
+    alloc: Global,
+    value: &Value,
+) -> Result<TestEventSummary<S>, FromValueError>
+    ensures { Gives result (event_form S.output_form (view value.now)) }
+{
+    let Value::Object(object) = value else {
+        return Err(FromValueError::NotAValue);
+    };
+    Ok(TestEventSummary {
+        timestamp: required_field(alloc, object, "timestamp")?,
+        elapsed: required_field(alloc, object, "elapsed")?,
+        kind: kind_from(alloc, object)?,
+    })
+}

@@ -1,0 +1,90 @@
+// The events of a log, line by line.
+ghost use Rattle.std.specs.Prelude.{Some};
+ghost use Rattle.serde_json.specs.View.{view};
+ghost use Rattle.rec_forms.specs.Gives.{Gives, GivesBy};
+ghost use Rattle.rec_forms.specs.TextForm.{text_form};
+ghost use Rattle.serde_json.specs.Read.{read};
+ghost use Rattle.rec_codec.specs.EventForms.{event_form};
+ghost use Rattle.rec_codec.specs.Lines.{text_of};
+ghost use Rattle.rec_codec.specs.LineEvents.{Answers, Tells};
+
+use crate::{Line, OutputForm, event_from_value};
+use rec_events::TestEventSummary;
+use rec_forms::FromValueError;
+use serde_json::Value;
+use std::alloc::Global;
+use thiserror::Error;
+
+/// Why a line of a log gives no event.
+#[derive(Clone, Copy, PartialEq, Eq, Debug, Drop, Error)]
+pub enum LineError {
+    /// The line isn't UTF-8.
+    #[error("line {line_number} can't be read")]
+    ReadRunLog { line_number: u64 },
+    /// The line is no JSON value, or one that stands for no event.
+    #[error("line {line_number} isn't an event")]
+    ParseEvent { line_number: u64 },
+    /// There was not enough memory to read it.
+    #[error("out of memory")]
+    OutOfMemory,
+}
+
+// The value of a text.
+fn value_from(alloc: Global, text: &str) -> Result<Value, FromValueError>
+    ensures { GivesBy view result (read text.now) }
+{
+    match Value::from_str(alloc, text) {
+        Ok(value) => Ok(value),
+        Err(error) => {
+            if error.is_memory() {
+                Err(FromValueError::OutOfMemory)
+            } else {
+                Err(FromValueError::NotAValue)
+            }
+        }
+    }
+}
+
+// The event of a text.
+fn event_from_text<S: OutputForm>(
+    alloc: Global,
+    text: &str,
+) -> Result<TestEventSummary<S>, FromValueError>
+    ensures { Gives result (text_form (event_form S.output_form) text.now) }
+{
+    let value = value_from(alloc, text)?;
+    event_from_value(alloc, &value)
+}
+
+/// What a line gives: an event, or why it gives none, or nothing where it is blank.
+pub fn read_line<S: OutputForm>(
+    alloc: Global,
+    line: Line<'_>,
+) -> Option<Result<TestEventSummary<S>, LineError>>
+    ensures { Answers (event_form S.output_form) result line.entry.number (text_of line.entry.bytes.now) }
+{
+    let Some(text) = line.text() else {
+        return Some(Err(LineError::ReadRunLog {
+            line_number: line.number,
+        }));
+    };
+    if text.is_empty() {
+        return None;
+    }
+    Some(event_of_line(alloc, text, line.number))
+}
+
+// The event of a text, and its line's number where there is none.
+fn event_of_line<S: OutputForm>(
+    alloc: Global,
+    text: &str,
+    line_number: u64,
+) -> Result<TestEventSummary<S>, LineError>
+    ensures { Tells (event_form S.output_form) result line_number (Some text.now) }
+{
+    match event_from_text(alloc, text) {
+        Ok(event) => Ok(event),
+        Err(FromValueError::NotAValue) => Err(LineError::ParseEvent { line_number }),
+        Err(FromValueError::OutOfMemory) => Err(LineError::OutOfMemory),
+    }
+}

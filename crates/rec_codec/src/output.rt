@@ -1,0 +1,80 @@
+// Outputs in either form.
+ghost use Rattle.std.specs.Prelude.{◌≡◌, ℕ, Bool, Option, Some, OnOk};
+ghost use Rattle.serde_json.specs.Data.{Data};
+ghost use Rattle.serde_json.specs.View.{view};
+ghost use Rattle.rec_forms.specs.Gives.{Gives};
+ghost use Rattle.rec_forms.specs.Writable.{IsWritable};
+ghost use Rattle.rec_codec.specs.Writes.{Writes};
+
+use crate::ToValueError;
+use rec_events::{OutputSpec, RecordingSpec, ZipStoreOutputDescription};
+use rec_forms::{Form, FromValueError};
+use serde_json::Value;
+use std::alloc::Global;
+
+/// A form of outputs that are written as JSON values, and read from them.
+pub trait OutputForm: OutputSpec {
+    // What holds of each output that a program has, if it is loaded.
+    ghost output_well_formed: { Self.ChildOutput → Type 0 };
+
+    // Whether an output is there to be written.
+    ghost loaded: { Self.ChildOutput → Bool };
+
+    // The value that an output is written as, where it is loaded.
+    ghost output_value: { Self.ChildOutput → Data };
+
+    // The output for which a value stands, if any.
+    ghost output_form: { Data → Option Self.ChildOutput };
+
+    // How deep the objects of a written value nest at most.
+    ghost output_levels: { ℕ };
+
+    /// The value of the output; `NotLoaded` only where it isn't loaded.
+    fn output_to_value(alloc: Global, output: &Self::ChildOutput) -> Result<Value, ToValueError>
+        ensures written { Writes result (output_value output.now) (loaded output.now) }
+        ensures known { OnOk result (output_well_formed output.now) };
+
+    /// The output for which `value` stands; `NotAValue` exactly where it stands for none.
+    fn output_from_value(alloc: Global, value: &Value) -> Result<Self::ChildOutput, FromValueError>
+        ensures read { Gives result (output_form (view value.now)) };
+
+    // What was written is read back.
+    ghost output_reads_back: { (o : Self.ChildOutput) → output_well_formed o → output_form (output_value o) ≡ Some o };
+
+    // What is written is no null, has no float, and nests no deeper than `output_levels`.
+    ghost output_writable: { (o : Self.ChildOutput) → IsWritable output_levels (output_value o) };
+}
+
+impl OutputForm for RecordingSpec {
+    ghost use Rattle.std.specs.Prelude.{true};
+    ghost use Rattle.rec_forms.specs.Outputs.{stored_outputs_value, stored_outputs_form, IsStoredOutputs};
+    ghost use Rattle.rec_forms.specs.OutputLaws.{stored_outputs_back, stored_outputs_writable};
+
+    ghost output_well_formed = { IsStoredOutputs };
+
+    ghost loaded = { λ _. true };
+
+    ghost output_value = { stored_outputs_value };
+
+    ghost output_form = { stored_outputs_form };
+
+    ghost output_levels = { 4 };
+
+    ghost output_reads_back = { stored_outputs_back };
+
+    ghost output_writable = { stored_outputs_writable };
+
+    fn output_to_value(
+        alloc: Global,
+        output: &ZipStoreOutputDescription,
+    ) -> Result<Value, ToValueError> {
+        Ok(output.to_value(alloc)?)
+    }
+
+    fn output_from_value(
+        alloc: Global,
+        value: &Value,
+    ) -> Result<ZipStoreOutputDescription, FromValueError> {
+        ZipStoreOutputDescription::from_value(alloc, value)
+    }
+}

@@ -1,0 +1,128 @@
+// What holds outputs, and so isn't written where one isn't loaded.
+ghost use Rattle.std.specs.Prelude.{◌≡◌, ℕ, Bool, Option, Some, OnOk, map};
+ghost use Rattle.std.specs.List.{AllByRecursion};
+ghost use Rattle.serde_json.specs.Data.{Data};
+ghost use Rattle.serde_json.specs.View.{view, members_view};
+ghost use Rattle.rec_forms.specs.Gives.{Gives};
+ghost use Rattle.rec_forms.specs.Shape.{with_member, required};
+ghost use Rattle.rec_forms.specs.Lists.{list_value, list_form, some_form};
+ghost use Rattle.rec_forms.specs.Writable.{IsWritable};
+ghost use Rattle.rec_codec.specs.Writes.{Writes, Refuses, every};
+
+use crate::ToValueError;
+use rec_events::{Items, NonEmpty};
+use rec_forms::{FromValueError, Object, member};
+use serde_json::Value;
+use std::alloc::Global;
+
+/// A type whose items hold outputs, and are written as JSON values where these are loaded.
+pub trait Part: Sized {
+    // What holds of each item that a program has, if its outputs are loaded.
+    ghost well_formed: { Self → Type 0 };
+
+    // Whether all its outputs are there to be written.
+    ghost loaded: { Self → Bool };
+
+    // The value that an item is written as.
+    ghost value_of: { Self → Data };
+
+    // The item for which a value stands, if any.
+    ghost form_of: { Data → Option Self };
+
+    // How deep the arrays and objects of a written value nest at most.
+    ghost levels: { ℕ };
+
+    /// The value of the item; `NotLoaded` only where an output isn't loaded.
+    fn to_value(&self, alloc: Global) -> Result<Value, ToValueError>
+        ensures written { Writes result (value_of self.now) (loaded self.now) }
+        ensures known { OnOk result (well_formed self.now) };
+
+    /// The item for which `value` stands; `NotAValue` exactly where it stands for none.
+    fn from_value(alloc: Global, value: &Value) -> Result<Self, FromValueError>
+        ensures read { Gives result (form_of (view value.now)) };
+
+    // What was written is read back.
+    ghost reads_back: { (x : Self) → well_formed x → form_of (value_of x) ≡ Some x };
+
+    // What is written is no null, has no float, and nests no deeper than `levels`.
+    ghost writable: { (x : Self) → IsWritable levels (value_of x) };
+}
+
+/// Writes a field.
+pub fn put_part<T: Part>(
+    alloc: Global,
+    object: &mut Object,
+    key: &str,
+    item: &T,
+) -> Result<(), ToValueError>
+    ensures written { OnOk result (members_view object.new.entries
+        ≡ with_member key.now (Some (T.value_of item.now)) (members_view object.old.entries)) }
+    ensures loaded { Refuses result (T.loaded item.now) }
+    ensures known { OnOk result (T.well_formed item.now) }
+{
+    let value = item.to_value(alloc)?;
+    serde_json::put(object, alloc, key, value)?;
+    Ok(())
+}
+
+/// Reads a field that has to be there.
+pub fn required_part<T: Part>(
+    alloc: Global,
+    object: &Object,
+    key: &str,
+) -> Result<T, FromValueError>
+    ensures { Gives result (required T.form_of key.now (members_view object.now.entries)) }
+{
+    match member(object, key) {
+        Some(value) => T::from_value(alloc, value),
+        None => Err(FromValueError::NotAValue),
+    }
+}
+
+/// The array of the values of `items`.
+pub fn each_to_value<T: Part>(alloc: Global, items: &[T]) -> Result<Value, ToValueError>
+    ensures written { Writes result (list_value T.value_of items.now) (every T.loaded items.now) }
+    ensures known { OnOk result (AllByRecursion T.well_formed items.now) }
+{
+    let mut values = Vec::new(alloc);
+    for item in items {
+        let value = item.to_value(alloc)?;
+        values.push(value)?;
+    }
+    Ok(Value::from(values))
+}
+
+/// The items of an array.
+pub fn each_from_value<T: Part + Drop>(
+    alloc: Global,
+    value: &Value,
+) -> Result<Items<T>, FromValueError>
+    ensures { Gives result (list_form T.form_of (view value.now)) }
+{
+    let Value::Array(values) = value else {
+        return Err(FromValueError::NotAValue);
+    };
+    let mut items = Vec::new(alloc);
+    for value in values {
+        let item = T::from_value(alloc, value)?;
+        items.push(item)?;
+    }
+    Ok(Items::new(items))
+}
+
+/// Reads a field that has to be there and holds a list that isn't empty.
+pub fn some_from_value<T: Part + Drop>(
+    alloc: Global,
+    object: &Object,
+    key: &str,
+) -> Result<NonEmpty<T>, FromValueError>
+    ensures { Gives result (required (some_form T.form_of) key.now (members_view object.now.entries)) }
+{
+    match member(object, key) {
+        Some(value) => {
+            let items = each_from_value(alloc, value)?;
+            NonEmpty::from_items(items).ok_or(FromValueError::NotAValue)
+        }
+        None => Err(FromValueError::NotAValue),
+    }
+}

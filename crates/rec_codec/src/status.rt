@@ -1,0 +1,252 @@
+// The attempts of a test, with their outputs.
+ghost use Rattle.std.specs.Prelude.{◌≡◌, OnOk};
+ghost use Rattle.serde_json.specs.View.{view, members_view};
+ghost use Rattle.rec_forms.specs.Gives.{Gives};
+ghost use Rattle.rec_forms.specs.Shape.{with_members, required};
+ghost use Rattle.rec_codec.specs.Status.{output_case_form, course_fields, course_form, IsCourse, attempts_form};
+
+use crate::part::{Part, each_to_value, put_part, required_part, some_from_value};
+use crate::{OutputForm, ToValueError};
+use rec_events::{
+    ChildExecutionOutputDescription, Duration, ExecuteStatus, ExecutionStatuses, NonEmpty, Stamp,
+    Text,
+};
+use rec_forms::{
+    Form, FromValueError, Object, member, only_member, optional_field, put_field, put_optional,
+    required_field, tagged,
+};
+use serde_json::{Map, Value};
+use std::alloc::{AllocError, Global};
+
+#[tactic(auto, unfolding(crate::specs::Status::output_case_form))]
+fn output_from<S: OutputForm>(
+    alloc: Global,
+    value: &Value,
+) -> Result<ChildExecutionOutputDescription<S>, FromValueError>
+    ensures { Gives result (output_case_form S.output_form (view value.now)) }
+{
+    let Value::Object(fields) = value else {
+        return Err(FromValueError::NotAValue);
+    };
+    Ok(ChildExecutionOutputDescription::Output {
+        result: optional_field(alloc, fields, "result")?,
+        output: match member(fields, "output") {
+            Some(value) => S::output_from_value(alloc, value)?,
+            None => return Err(FromValueError::NotAValue),
+        },
+        errors: optional_field(alloc, fields, "errors")?,
+    })
+}
+
+impl<S: OutputForm> Part for ChildExecutionOutputDescription<S> {
+    ghost use Rattle.std.specs.Prelude.{◌+◌};
+    ghost use Rattle.rec_codec.specs.Status.{description_value, description_form, description_loaded, IsDescription};
+    ghost use Rattle.rec_codec.specs.StatusLaws.{description_back, description_writable};
+
+    ghost well_formed = { IsDescription S.output_well_formed };
+
+    ghost loaded = { description_loaded S.loaded };
+
+    ghost value_of = { description_value S.output_value };
+
+    ghost form_of = { description_form S.output_form };
+
+    ghost levels = { S.output_levels + 6 };
+
+    ghost reads_back = { description_back S.output_well_formed S.output_value S.output_form S.output_reads_back };
+
+    ghost writable = { description_writable S.output_levels S.output_value S.output_writable };
+
+    #[tactic(auto, unfolding(rec_forms::specs::Shape::members_of))]
+    fn to_value(&self, alloc: Global) -> Result<Value, ToValueError> {
+        match self {
+            ChildExecutionOutputDescription::Output {
+                result,
+                output,
+                errors,
+            } => {
+                let mut object = Map::new(alloc);
+                put_optional(alloc, &mut object, "result", result)?;
+                let output = S::output_to_value(alloc, output)?;
+                serde_json::put(&mut object, alloc, "output", output)?;
+                put_optional(alloc, &mut object, "errors", errors)?;
+                Ok(tagged(alloc, "output", Value::from(object))?)
+            }
+            ChildExecutionOutputDescription::StartError { message } => {
+                Ok(tagged(alloc, "start-error", message.to_value(alloc)?)?)
+            }
+        }
+    }
+
+    #[tactic(auto, unfolding(crate::specs::Status::description_form))]
+    fn from_value(
+        alloc: Global,
+        value: &Value,
+    ) -> Result<ChildExecutionOutputDescription<S>, FromValueError> {
+        let Value::Object(object) = value else {
+            return Err(FromValueError::NotAValue);
+        };
+        match only_member(object) {
+            Some(("output", value)) => output_from(alloc, value),
+            Some(("start-error", value)) => Ok(ChildExecutionOutputDescription::StartError {
+                message: Text::from_value(alloc, value)?,
+            }),
+            _ => Err(FromValueError::NotAValue),
+        }
+    }
+}
+
+// When an attempt ran.
+#[derive(Drop)]
+struct Course {
+    start_time: Stamp,
+    time_taken: Duration,
+    is_slow: bool,
+    delay_before_start: Duration,
+}
+
+impl Course {
+    fn put(&self, alloc: Global, object: &mut Object) -> Result<(), AllocError>
+        ensures written { OnOk result (members_view object.new.entries
+            ≡ with_members (members_view object.old.entries) (course_fields self.now)) }
+        ensures known { OnOk result (IsCourse self.now) }
+    {
+        put_field(alloc, object, "start-time", &self.start_time)?;
+        put_field(alloc, object, "time-taken", &self.time_taken)?;
+        put_field(alloc, object, "is-slow", &self.is_slow)?;
+        put_field(
+            alloc,
+            object,
+            "delay-before-start",
+            &self.delay_before_start,
+        )?;
+        Ok(())
+    }
+
+    #[tactic(auto, unfolding(crate::specs::Status::course_form))]
+    fn read(alloc: Global, object: &Object) -> Result<Course, FromValueError>
+        ensures { Gives result (course_form (members_view object.now.entries)) }
+    {
+        Ok(Course {
+            start_time: required_field(alloc, object, "start-time")?,
+            time_taken: required_field(alloc, object, "time-taken")?,
+            is_slow: required_field(alloc, object, "is-slow")?,
+            delay_before_start: required_field(alloc, object, "delay-before-start")?,
+        })
+    }
+}
+
+impl<S: OutputForm> Part for ExecuteStatus<S> {
+    ghost use Rattle.std.specs.Prelude.{◌+◌};
+    ghost use Rattle.rec_codec.specs.Status.{status_value, status_form, status_loaded, IsStatus};
+    ghost use Rattle.rec_codec.specs.StatusLaws.{status_back, status_writable};
+
+    ghost well_formed = { IsStatus S.output_well_formed };
+
+    ghost loaded = { status_loaded S.loaded };
+
+    ghost value_of = { status_value S.output_value };
+
+    ghost form_of = { status_form S.output_form };
+
+    ghost levels = { S.output_levels + 7 };
+
+    ghost reads_back = { status_back S.output_well_formed S.output_value S.output_form S.output_reads_back };
+
+    ghost writable = { status_writable S.output_levels S.output_value S.output_writable };
+
+    #[tactic(auto, unfolding(rec_forms::specs::Shape::members_of))]
+    fn to_value(&self, alloc: Global) -> Result<Value, ToValueError> {
+        let mut object = Map::new(alloc);
+        put_field(alloc, &mut object, "retry-data", &self.retry_data)?;
+        put_part(alloc, &mut object, "output", &self.output)?;
+        put_field(alloc, &mut object, "result", &self.result)?;
+        let course = Course {
+            start_time: self.start_time,
+            time_taken: self.time_taken,
+            is_slow: self.is_slow,
+            delay_before_start: self.delay_before_start,
+        };
+        course.put(alloc, &mut object)?;
+        put_optional(alloc, &mut object, "error-summary", &self.error_summary)?;
+        put_optional(
+            alloc,
+            &mut object,
+            "output-error-slice",
+            &self.output_error_slice,
+        )?;
+        Ok(Value::from(object))
+    }
+
+    #[tactic(auto, unfolding(crate::specs::Status::status_form))]
+    fn from_value(alloc: Global, value: &Value) -> Result<ExecuteStatus<S>, FromValueError> {
+        let Value::Object(object) = value else {
+            return Err(FromValueError::NotAValue);
+        };
+        let course = Course::read(alloc, object)?;
+        Ok(ExecuteStatus {
+            retry_data: required_field(alloc, object, "retry-data")?,
+            output: required_part(alloc, object, "output")?,
+            result: required_field(alloc, object, "result")?,
+            start_time: course.start_time,
+            time_taken: course.time_taken,
+            is_slow: course.is_slow,
+            delay_before_start: course.delay_before_start,
+            error_summary: optional_field(alloc, object, "error-summary")?,
+            output_error_slice: optional_field(alloc, object, "output-error-slice")?,
+        })
+    }
+}
+
+// Reads the attempts, of which there is at least one.
+#[tactic(auto, unfolding(crate::specs::Status::attempts_form))]
+fn attempts_from<S: OutputForm>(
+    alloc: Global,
+    object: &Object,
+    key: &str,
+) -> Result<NonEmpty<ExecuteStatus<S>>, FromValueError>
+    ensures { Gives result (required (attempts_form S.output_form) key.now (members_view object.now.entries)) }
+{
+    some_from_value(alloc, object, key)
+}
+
+impl<S: OutputForm> Part for ExecutionStatuses<S> {
+    ghost use Rattle.std.specs.Prelude.{◌+◌};
+    ghost use Rattle.rec_codec.specs.Status.{statuses_value, statuses_form, statuses_loaded, AreStatuses};
+    ghost use Rattle.rec_codec.specs.StatusLaws.{statuses_back, statuses_writable};
+
+    ghost well_formed = { AreStatuses S.output_well_formed };
+
+    ghost loaded = { statuses_loaded S.loaded };
+
+    ghost value_of = { statuses_value S.output_value };
+
+    ghost form_of = { statuses_form S.output_form };
+
+    ghost levels = { S.output_levels + 9 };
+
+    ghost reads_back = { statuses_back S.output_well_formed S.output_value S.output_form S.output_reads_back };
+
+    ghost writable = { statuses_writable S.output_levels S.output_value S.output_writable };
+
+    #[tactic(auto, unfolding(rec_forms::specs::Shape::members_of))]
+    fn to_value(&self, alloc: Global) -> Result<Value, ToValueError> {
+        let mut object = Map::new(alloc);
+        let each = each_to_value(alloc, self.statuses.as_slice())?;
+        serde_json::put(&mut object, alloc, "statuses", each)?;
+        put_field(alloc, &mut object, "flaky-result", &self.flaky_result)?;
+        Ok(Value::from(object))
+    }
+
+    #[tactic(auto, unfolding(crate::specs::Status::statuses_form))]
+    fn from_value(alloc: Global, value: &Value) -> Result<ExecutionStatuses<S>, FromValueError> {
+        let Value::Object(object) = value else {
+            return Err(FromValueError::NotAValue);
+        };
+        let flaky_result = required_field(alloc, object, "flaky-result")?;
+        Ok(ExecutionStatuses {
+            statuses: attempts_from(alloc, object, "statuses")?,
+            flaky_result,
+        })
+    }
+}
