@@ -1,7 +1,9 @@
 pub mod Bundle
+pub mod Cut
 pub mod Ending
 pub mod Entries
 pub mod Namer
+pub mod OutputPaths
 pub mod Reading
 pub mod Recording
 pub mod Store

@@ -1,15 +1,21 @@
 //! The store and the log of a run, as they are written.
 #![tactic(auto)]
 
+mod cut;
+#[cfg(test)]
+mod cut_tests;
 mod error;
 pub mod laws;
 mod namer;
+mod output_paths;
 mod recorder;
 mod sizes;
 #[cfg(test)]
 mod tests;
 
+pub use cut::{CutOutput, truncate_output};
 pub use error::RunStoreError;
-pub use namer::{OutputNamer, Sha256Namer};
+pub use namer::{ConstantNamer, OutputNamer, Sha256Namer};
+pub use output_paths::output_path;
 pub use recorder::{RecorderEnd, RunRecorder};
 pub use sizes::{ComponentSizes, StoreSizes};

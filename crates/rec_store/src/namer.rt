@@ -32,6 +32,21 @@ impl OutputNamer for Sha256Namer {
     }
 }
 
+/// Names every output by the same number, so that different outputs clash.
+#[derive(Clone, Copy, Debug, PartialEq, Eq)]
+pub struct ConstantNamer {
+    /// The number of each output.
+    pub number: u64,
+}
+
+impl OutputNamer for ConstantNamer {
+    ghost number = { λ namer _. namer.number };
+
+    fn name(&self, _bytes: &[u8]) -> u64 {
+        self.number
+    }
+}
+
 /// The first eight bytes of a digest, as a big-endian number.
 fn first_word_of(digest: &[u8; 32]) -> u64
     ensures { result ≡ first_word digest.now }

@@ -1,0 +1,66 @@
+//! Outputs that are cut to a limit.
+ghost use Rattle.std.specs.Prelude.{◌≡◌, ◌≤◌, ◌-◌, ◌↔◌, length, max, IfOk, Ok};
+ghost use Rattle.rec_store.specs.Cut.{IsBorrowed, cut, cut_bytes, marker};
+ghost use Rattle.rec_store.specs.declared.cut.CutOutput.TheVariants.{Borrowed};
+
+use itoa::Buffer;
+use std::alloc::{AllocError, Global};
+
+/// An output as it is stored: the whole of it, or what is left after a cut.
+#[derive(Debug, Drop)]
+pub enum CutOutput<'a> {
+    /// The output itself, which is within the limit.
+    Borrowed(&'a [u8]),
+    /// The front and the back of the output, around a marker.
+    Owned(Vec<u8>),
+}
+
+impl<'a> CutOutput<'a> {
+    /// The bytes to be stored.
+    pub fn as_bytes(&self) -> &[u8]
+        ensures { result.now ≡ cut_bytes self.now }
+    {
+        match self {
+            CutOutput::Borrowed(bytes) => *bytes,
+            CutOutput::Owned(bytes) => bytes.as_slice(),
+        }
+    }
+}
+
+const MARKER_START: &[u8] = b"\n\n... [truncated ";
+
+const MARKER_END: &[u8] = b" bytes] ...\n\n";
+
+/// An output, cut to a limit of `max_size` bytes.
+///
+/// An output of at most this many bytes is lent as it is. Of a longer one the front and the back
+/// are kept, and a marker between them that says by how many bytes the output exceeds the limit.
+/// A cut is longer than the limit only where its marker alone is.
+pub fn truncate_output(
+    alloc: Global,
+    buf: &[u8],
+    max_size: usize,
+) -> Result<CutOutput<'_>, AllocError>
+    ensures bytes { IfOk result (λ c. cut_bytes c ≡ cut buf.now max_size) }
+    ensures size { IfOk result (λ c. length (cut_bytes c) ≤ max max_size (length (marker (length buf.now - max_size)))) }
+    ensures lent { length buf.now ≤ max_size → result ≡ Ok (Borrowed buf.entry) }
+    ensures borrowed { IfOk result (λ c. IsBorrowed c ↔ (length buf.now ≤ max_size)) }
+{
+    if buf.len() <= max_size {
+        return Ok(CutOutput::Borrowed(buf));
+    }
+    let excess = buf.len() - max_size;
+    let mut buffer = Buffer::new();
+    let digits = buffer.format(excess).as_bytes();
+    let marker_len = MARKER_START.len() + digits.len() + MARKER_END.len();
+    let space = max_size.saturating_sub(marker_len);
+    let front = space / 2;
+    let back = space - front;
+    let mut bytes = Vec::with_capacity(alloc, space + marker_len)?;
+    bytes.extend_from_slice(&buf[..front])?;
+    bytes.extend_from_slice(MARKER_START)?;
+    bytes.extend_from_slice(digits)?;
+    bytes.extend_from_slice(MARKER_END)?;
+    bytes.extend_from_slice(&buf[buf.len() - back..])?;
+    Ok(CutOutput::Owned(bytes))
+}
