@@ -1,5 +1,5 @@
 -- What several entries leave, one after the other.
-use Rattle.std.proofs.Common.{◌≡◌, ℕ, ◌+◌, ◌^◌, ◌<◌, ◌≤◌, List, [], ◌∷◌, ◌++◌, length, Bool, true, false, not, cond, Option, Some, None, is_some, refl, sym, ap, subst, ◌∙◌, arith, append_assoc, append-nil, nat_lt, ◌⊎◌, inl, inr, if◌then◌else◌, MatchOption}
+use Rattle.std.proofs.Common.{◌≡◌, ℕ, ◌^◌, ◌≤◌, List, [], ◌∷◌, ◌++◌, length, Bool, true, false, not, Option, Some, None, is_some, refl, sym, ap, subst, ◌∙◌, arith, append_assoc, append-nil, nat_lt, ◌⊎◌, inl, inr, if◌then◌else◌, MatchOption}
 use Rattle.std.proofs.lemmas.Bool.{ltb-false}
 use Rattle.std.specs.Option.{option_map_or}
 use Rattle.std.specs.Str.{bytes_eq}
@@ -12,8 +12,8 @@ use Rattle.rec_container.specs.declared.errors.ContainerWriteError.TheVariants a
 use Rattle.rec_container.proofs.Lengths.{length-spell-push}
 use Rattle.rec_container.proofs.Spelling.{front-push}
 use Rattle.rec_store.specs.declared.error.RunStoreError.{RunStoreError}
-use Rattle.rec_store.specs.declared.error.RunStoreError.TheVariants.{Failed, NotLoadedOutput, NameCollision, CountOutOfRange, StoreWrite, RunLogWrite, OutOfMemory}
-use Rattle.rec_store.specs.Recording.{with_entry, with_entries, AddsEach, AddsUpTo, RefusesEntry}
+use Rattle.rec_store.specs.declared.error.RunStoreError.TheVariants.{NameCollision, CountOutOfRange}
+use Rattle.rec_store.specs.Recording.{with_entry, with_entries, AddsEach, AddsUpTo}
 
 -- each name is new to the entries before it
 abbrev pub AreNew : List Entry → List Entry → Type 0

@@ -20,7 +20,6 @@ use Rattle.rec_format.specs.RunForms.{manifest_form}
 use Rattle.rec_format.specs.Runs.{manifest_of, run_of, info_of}
 use Rattle.rec_format.specs.ScopeForms.{recorded_scope_form}
 use Rattle.rec_format.specs.Status.{status_format, status_of}
-use Rattle.rec_store.specs.Entries.{bundle_entries}
 use Rattle.rec_store.specs.Bundle.{manifest_text, run_bundle, run_entries, run_info}
 use Rattle.rec_store.specs.Reading.{AreRead, IsReading, IsRerunRead, RunRecord, record_of, recorded}
 use Rattle.rec_store.specs.Store.{AreMetaRead, build_scope_entry, metadata_of, store_entries}

@@ -1,8 +1,7 @@
 -- What several calls of a recorder leave, one after the other.
-use Rattle.std.proofs.Common.{◌≡◌, ℕ, List, ◌++◌, false, Option, sym, ap, ◌∙◌, ◌⊎◌, inl, inr}
+use Rattle.std.proofs.Common.{◌≡◌, ℕ, List, ◌++◌, false, Option, sym, ap, ◌∙◌, inl, inr}
 use Rattle.rec_container.specs.Container.{Entry}
 use Rattle.rec_store.specs.declared.error.RunStoreError.{RunStoreError}
-use Rattle.rec_store.specs.declared.error.RunStoreError.TheVariants.{Failed}
 use Rattle.rec_store.specs.Recording.{Recording, has_failed, Stores, Unstored}
 use Rattle.rec_store.proofs.Adding.{AddsEach-append, AddsUpTo-front, AddsUpTo-behind, sound_after}
 

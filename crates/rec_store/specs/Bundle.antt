@@ -1,5 +1,5 @@
 -- The bundle of a run.
-use Rattle.std.specs.Prelude.{ℕ, List, [], length}
+use Rattle.std.specs.Prelude.{ℕ, List, length}
 use Rattle.serde_json.specs.Written.{compact_text}
 use Rattle.rec_container.specs.Container.{Entry, spell}
 use Rattle.rec_codec.specs.Event.{Event, log_text}

@@ -1,5 +1,5 @@
 -- How a recording ends.
-use Rattle.std.specs.Prelude.{◌≡◌, ℕ, List, length, true, false, Option, Some}
+use Rattle.std.specs.Prelude.{◌≡◌, ℕ, List, length, true, false, Option}
 use Rattle.rec_container.specs.Causes.{Rose}
 use Rattle.rec_container.specs.Taking.{TookPart}
 use Rattle.rec_container.specs.Container.{Entry, spell, ending, content_bytes}

@@ -2,8 +2,10 @@ pub mod Bundle
 pub mod Cut
 pub mod Ending
 pub mod Entries
+pub mod EventOutputs
 pub mod Namer
 pub mod OutputPaths
 pub mod Reading
 pub mod Recording
+pub mod Stopping
 pub mod Store

@@ -1,9 +1,6 @@
 -- What a recorder is, as contracts see it, and what its calls do.
 use Rattle.std.specs.Prelude.{◌≡◌, ℕ, List, [], ◌∷◌, ◌++◌, Bool, true, false, Option, Some, None, is_some, if◌then◌else◌, ◌⊎◌}
-use Rattle.std.specs.Io.KnownBytes.{Appends}
-use Rattle.rec_container.specs.Causes.{Rose}
-use Rattle.rec_container.specs.Taking.{TookPart}
-use Rattle.rec_container.specs.Container.{Entry, ending, content_of}
+use Rattle.rec_container.specs.Container.{Entry, content_of}
 use Rattle.rec_container.specs.Writing.{Writing, Adds, RefusesLate, refusal}
 use Rattle.rec_container.specs.declared.errors.ContainerWriteError.TheVariants as writing
 use Rattle.rec_store.specs.declared.error.RunStoreError.{RunStoreError}

@@ -3,7 +3,7 @@ ghost use Rattle.std.specs.Prelude.{◌≡◌};
 ghost use Rattle.rec_store.specs.declared.error.RunStoreError.TheVariants.{OutOfMemory};
 
 use rec_events::Text;
-use std::alloc::AllocError;
+use std::alloc::{AllocError, AllocFailed};
 use thiserror::Error;
 
 /// Why a recorder did not take what it was given.
@@ -39,6 +39,14 @@ impl From<AllocError> for RunStoreError {
     ghost from_gives = { λ _ e. e ≡ OutOfMemory };
 
     fn from(_error: AllocError) -> RunStoreError {
+        RunStoreError::OutOfMemory
+    }
+}
+
+impl<T: Drop> From<AllocFailed<T>> for RunStoreError {
+    ghost from_gives = { λ _ e. e ≡ OutOfMemory };
+
+    fn from(_error: AllocFailed<T>) -> RunStoreError {
         RunStoreError::OutOfMemory
     }
 }

@@ -4,10 +4,15 @@
 mod cut;
 #[cfg(test)]
 mod cut_tests;
+mod entries;
 mod error;
+mod event_outputs;
 pub mod laws;
 mod namer;
 mod output_paths;
+#[cfg(test)]
+mod output_tests;
+mod outputs;
 mod recorder;
 mod sizes;
 #[cfg(test)]
@@ -17,5 +22,6 @@ pub use cut::{CutOutput, truncate_output};
 pub use error::RunStoreError;
 pub use namer::{ConstantNamer, OutputNamer, Sha256Namer};
 pub use output_paths::output_path;
+pub use outputs::OutputRules;
 pub use recorder::{RecorderEnd, RunRecorder};
 pub use sizes::{ComponentSizes, StoreSizes};

@@ -5,7 +5,7 @@ ghost use Rattle.std.specs.Io.KnownBytes.{Appends};
 ghost use Rattle.rec_container.specs.Container.{ending};
 ghost use Rattle.rec_container.specs.Container.{AreFrom};
 ghost use Rattle.rec_store.specs.Ending.{sizes_of, sizes_of_log, Unended};
-ghost use Rattle.rec_store.specs.Recording.{RefusesEntry, IsCollisionAt, has_failed, Stores, Unstored, AddsEach, AddsUpTo, Takes};
+ghost use Rattle.rec_store.specs.Recording.{RefusesEntry, has_failed, Stores, Unstored, AddsEach, AddsUpTo, Takes};
 ghost use Rattle.rec_store.specs.Entries.{json_entry, three_entries};
 ghost use Rattle.rec_store.specs.Store.{build_scope_entry, rerun_entry, meta_entries, AreMetaRead};
 ghost use Rattle.rec_forms.specs.TextForm.{bytes_form};
@@ -14,11 +14,12 @@ ghost use Rattle.serde_json.specs.Written.{compact_text};
 ghost use Rattle.rec_format.specs.ScopeForms.{recorded_scope_form};
 ghost use Rattle.rec_format.specs.RerunForms.{rerun_info_form};
 
+use crate::entries::add_entry;
 use crate::error::RunStoreError;
 use crate::namer::OutputNamer;
 use crate::sizes::{ComponentSizes, StoreSizes};
 use rec_container::{ContainerSizes, ContainerWriteError, ContainerWriter, Sink};
-use rec_events::{RecordOpts, TestListSummary, Text};
+use rec_events::{RecordOpts, TestListSummary};
 use rec_format::{
     BUILD_SCOPE_JSON_PATH, CARGO_METADATA_JSON_PATH, RECORD_OPTS_JSON_PATH, RERUN_INFO_JSON_PATH,
     RecordedBuildScope, RerunInfo, TEST_LIST_JSON_PATH,
@@ -224,13 +225,7 @@ impl<'n, S: Sink, L: Sink, N: OutputNamer> RunRecorder<'n, S, L, N> {
         ensures sound { OnOk result (has_failed self.new ≡ false) }
         ensures err { IfErr result (RefusesEntry S.taken S.faults self.old.store self.new.store (named path.now content.now)) }
     {
-        match self.store.add(path, content) {
-            Ok(()) => Ok(()),
-            Err(ContainerWriteError::NameCollision) => Err(collision(self.alloc, path)),
-            Err(ContainerWriteError::CountOutOfRange) => Err(RunStoreError::CountOutOfRange),
-            Err(ContainerWriteError::SinkFault) => Err(RunStoreError::StoreWrite),
-            Err(_) => Err(RunStoreError::OutOfMemory),
-        }
+        add_entry(self.alloc, &mut self.store, path, content)
     }
 }
 
@@ -252,15 +247,5 @@ fn component_sizes(sizes: ContainerSizes) -> ComponentSizes
         compressed: sizes.compressed,
         uncompressed: sizes.uncompressed,
         entries: sizes.entries,
-    }
-}
-
-/// The refusal of other bytes under a path.
-fn collision(alloc: Global, path: &str) -> RunStoreError
-    ensures { IsCollisionAt path.now result }
-{
-    match Text::from_str(alloc, path) {
-        Ok(file_name) => RunStoreError::NameCollision { file_name },
-        Err(e) => RunStoreError::from(e),
     }
 }

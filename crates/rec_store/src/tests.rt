@@ -105,7 +105,7 @@ fn told_end(
 }
 
 /// The entries of a store, a line each.
-fn told_store(alloc: Global, store: &[u8]) -> Result<String, Fail> {
+pub(crate) fn told_store(alloc: Global, store: &[u8]) -> Result<String, Fail> {
     let container = Container::parse(alloc, store)?;
     let mut text = String::new(alloc);
     for i in 0..container.len() {

@@ -5,7 +5,6 @@ use Rattle.rec_container.specs.Container.{Entry}
 use Rattle.rec_forms.specs.Recording.{test_list_value, record_opts_value}
 use Rattle.rec_store.specs.Entries.{three_entries}
 use Rattle.rec_store.specs.Recording.{AddsEach, AddsUpTo}
-use Rattle.rec_store.specs.Store.{meta_entries}
 use Rattle.rec_store.specs.declared.error.RunStoreError.{RunStoreError}
 use Rattle.rec_store.proofs.Refusals.{if_err_weaker}
 use Rattle.rec_store.proofs.recorder.RunRecorder.write_meta.Goals as goal

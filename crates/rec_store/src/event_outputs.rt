@@ -1,0 +1,155 @@
+//! The outputs of an event's attempts, as they are stored.
+ghost use Rattle.std.specs.Prelude.{◌≡◌, false, true, Err};
+ghost use Rattle.rec_store.specs.declared.error.RunStoreError.TheVariants.{Failed};
+ghost use Rattle.rec_store.specs.EventOutputs.{status_entries, status_recorded, kind_entries, kind_recorded, event_entries, event_recorded, statuses_recorded};
+ghost use Rattle.std.specs.List.{flat_map};
+ghost use Rattle.rec_store.specs.Stopping.{StoresAs};
+
+use crate::error::RunStoreError;
+use crate::namer::OutputNamer;
+use crate::outputs::OutputRules;
+use rec_container::{ContainerWriter, Sink};
+use rec_events::{
+    ExecuteStatus, ExecutionStatuses, LiveSpec, OutputEventKind, RecordingSpec,
+    TestEventKindSummary, TestEventSummary,
+};
+
+impl<'n, N: OutputNamer> OutputRules<'n, N> {
+    /// Stores the outputs of an attempt.
+    fn store_status<S: Sink>(
+        &self,
+        store: &mut ContainerWriter<S>,
+        status: ExecuteStatus<LiveSpec>,
+    ) -> Result<ExecuteStatus<RecordingSpec>, RunStoreError>
+        requires sound { store.old.failed ≡ false }
+        ensures { StoresAs S.taken S.faults store.old store.new
+            (status_entries (N.number self.now.namer.now) self.now.max_size status)
+            (status_recorded (N.number self.now.namer.now) self.now.max_size status) result }
+    {
+        let ExecuteStatus {
+            retry_data,
+            output,
+            result,
+            start_time,
+            time_taken,
+            is_slow,
+            delay_before_start,
+            error_summary,
+            output_error_slice,
+        } = status;
+        Ok(ExecuteStatus {
+            retry_data,
+            output: self.store_execution(store, output)?,
+            result,
+            start_time,
+            time_taken,
+            is_slow,
+            delay_before_start,
+            error_summary,
+            output_error_slice,
+        })
+    }
+
+    /// Stores the outputs of all attempts, in order.
+    fn store_statuses<S: Sink>(
+        &self,
+        store: &mut ContainerWriter<S>,
+        statuses: ExecutionStatuses<LiveSpec>,
+    ) -> Result<ExecutionStatuses<RecordingSpec>, RunStoreError>
+        requires sound { store.old.failed ≡ false }
+        ensures { StoresAs S.taken S.faults store.old store.new
+            (flat_map (status_entries (N.number self.now.namer.now) self.now.max_size) statuses.statuses)
+            (statuses_recorded (N.number self.now.namer.now) self.now.max_size statuses) result }
+    {
+        let _some = statuses.statuses.as_slice();
+        let mut recorded = Vec::new(self.alloc);
+        for status in statuses.statuses.into_vec() {
+            let status = self.store_status(store, status)?;
+            recorded.push(status)?;
+        }
+        Ok(ExecutionStatuses::new(recorded, statuses.flaky_result))
+    }
+
+    /// Stores the outputs of what happened.
+    fn store_kind<S: Sink>(
+        &self,
+        store: &mut ContainerWriter<S>,
+        kind: TestEventKindSummary<LiveSpec>,
+    ) -> Result<TestEventKindSummary<RecordingSpec>, RunStoreError>
+        requires sound { store.old.failed ≡ false }
+        ensures { StoresAs S.taken S.faults store.old store.new
+            (kind_entries (N.number self.now.namer.now) self.now.max_size kind)
+            (kind_recorded (N.number self.now.namer.now) self.now.max_size kind) result }
+    {
+        match kind {
+            TestEventKindSummary::Core(kind) => Ok(TestEventKindSummary::Core(kind)),
+            TestEventKindSummary::Output(
+                OutputEventKind::TestFinished {
+                    stress_index,
+                    test_instance,
+                    success_output,
+                    failure_output,
+                    junit_store_success_output,
+                    junit_store_failure_output,
+                    junit_flaky_fail_status,
+                    run_statuses,
+                    current_stats,
+                    running,
+                },
+            ) => {
+                let run_statuses = self.store_statuses(store, run_statuses)?;
+                Ok(TestEventKindSummary::Output(OutputEventKind::TestFinished {
+                    stress_index,
+                    test_instance,
+                    success_output,
+                    failure_output,
+                    junit_store_success_output,
+                    junit_store_failure_output,
+                    junit_flaky_fail_status,
+                    run_statuses,
+                    current_stats,
+                    running,
+                }))
+            }
+        }
+    }
+
+    /// Stores the outputs of an event, and gives the event as it is recorded.
+    ///
+    /// Outputs are stored one after the other, stdout before stderr. The first refusal ends it, and
+    /// those before it are stored. `Failed` comes exactly where the store's sink failed before, and
+    /// then nothing is stored; the other refusals are those of `RunRecorder::write_meta`.
+    pub fn store_event<S: Sink>(
+        &self,
+        store: &mut ContainerWriter<S>,
+        event: TestEventSummary<LiveSpec>,
+    ) -> Result<TestEventSummary<RecordingSpec>, RunStoreError>
+        ensures failed { store.old.failed ≡ true → (result ≡ Err Failed) × (store.new ≡ store.old) }
+        ensures stored { store.old.failed ≡ false → StoresAs S.taken S.faults store.old store.new
+            (event_entries (N.number self.now.namer.now) self.now.max_size event)
+            (event_recorded (N.number self.now.namer.now) self.now.max_size event) result }
+    {
+        if store.is_failed() {
+            return Err(RunStoreError::Failed);
+        }
+        self.store_outputs(store, event)
+    }
+
+    /// Stores the outputs of an event in a store that has not failed.
+    fn store_outputs<S: Sink>(
+        &self,
+        store: &mut ContainerWriter<S>,
+        event: TestEventSummary<LiveSpec>,
+    ) -> Result<TestEventSummary<RecordingSpec>, RunStoreError>
+        requires sound { store.old.failed ≡ false }
+        ensures { StoresAs S.taken S.faults store.old store.new
+            (event_entries (N.number self.now.namer.now) self.now.max_size event)
+            (event_recorded (N.number self.now.namer.now) self.now.max_size event) result }
+    {
+        Ok(TestEventSummary {
+            timestamp: event.timestamp,
+            elapsed: event.elapsed,
+            kind: self.store_kind(store, event.kind)?,
+        })
+    }
+}
