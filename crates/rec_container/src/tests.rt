@@ -159,6 +159,16 @@ fn reads_in_pieces(rt: HostRuntime) -> Result<(), Fail> {
 }
 
 #[test]
+fn hands_the_sink_back(rt: HostRuntime) -> Result<(), Fail> {
+    let mut sink = MemorySink::new(rt.alloc());
+    sink.reserve(23)?;
+    let mut writer = ContainerWriter::new(rt.alloc(), sink);
+    assert_eq!(rt; writer.add("a", b"hi"), Ok(()));
+    assert_eq!(rt; writer.into_sink().bytes(), &ONE[..22]);
+    Ok(())
+}
+
+#[test]
 fn stops_at_a_failing_sink(rt: HostRuntime) -> Result<(), Fail> {
     // The two pieces of the entry and the end mark, byte by byte or whole.
     for (piece, call, taken) in [

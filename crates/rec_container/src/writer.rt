@@ -193,6 +193,14 @@ impl<K: Sink> ContainerWriter<K> {
             },
         }
     }
+
+    /// Hands the sink back without an end mark.
+    pub fn into_sink(self) -> K
+        ensures sink { result ≡ self.sink }
+        ensures entries { AreFrom [] self.entries }
+    {
+        self.sink
+    }
 }
 
 /// The end mark, behind the magic where there is no entry.

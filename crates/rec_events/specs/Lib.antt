@@ -11,3 +11,4 @@ pub mod OutputNames
 pub mod OutputNameLaws
 pub mod Results
 pub mod Stats
+pub mod EventMaps
