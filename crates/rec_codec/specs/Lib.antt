@@ -9,3 +9,4 @@ pub mod StatusLaws
 pub mod EventForms
 pub mod EventFormLaws
 pub mod LineEvents
+pub mod LineItems

@@ -48,7 +48,7 @@ fn check_refused<S: OutputForm>(
 // What stands for a missing member: one that is ignored.
 const MISSING: &str = "\"y\":0";
 
-fn run_start() -> &'static str {
+pub fn run_start() -> &'static str {
     r#"{"timestamp":{"secs":1000,"nanos":0,"offset":0},"elapsed":{"secs":0,"nanos":0},"kind":"run-started","run-id":"550e8400-e29b-41d4-a716-446655440000","profile-name":"default","cli-args":[]}"#
 }
 
@@ -184,7 +184,7 @@ fn other_values_are_no_test_starts(rt: HostRuntime) -> Result<(), Fail> {
 }
 
 // A finished test with these attempts.
-fn finished(alloc: Global, statuses: &str) -> Result<String, Fail> {
+pub fn finished(alloc: Global, statuses: &str) -> Result<String, Fail> {
     let stats = no_stats();
     Ok(format!(in alloc;
         r#"{{"current-stats":{stats},"elapsed":{{"nanos":0,"secs":3}},"failure-output":"immediate-final","junit-flaky-fail-status":"success","junit-store-failure-output":true,"junit-store-success-output":false,"kind":"test-finished","run-statuses":{{"flaky-result":"fail","statuses":[{statuses}]}},"running":0,"success-output":"never","test-instance":{{"binary-id":"alpha::a","test-name":"t1"}},"timestamp":{{"nanos":0,"offset":0,"secs":1002}}}}"#
@@ -192,7 +192,7 @@ fn finished(alloc: Global, statuses: &str) -> Result<String, Fail> {
 }
 
 // An attempt with this output.
-fn attempt(alloc: Global, output: &str) -> Result<String, Fail> {
+pub fn attempt(alloc: Global, output: &str) -> Result<String, Fail> {
     Ok(format!(in alloc;
         r#"{{"delay-before-start":{{"nanos":0,"secs":0}},"is-slow":true,"output":{output},"result":{{"fail":{{"failure":{{"exit-code":-1}},"leaked":false}}}},"retry-data":{{"attempt":1,"total-attempts":2}},"start-time":{{"nanos":0,"offset":0,"secs":1001}},"time-taken":{{"nanos":5,"secs":2}}}}"#
     )?)

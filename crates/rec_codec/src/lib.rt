@@ -6,9 +6,15 @@ mod errors;
 mod event;
 #[cfg(test)]
 mod event_tests;
+pub mod laws;
 mod line_events;
+mod line_iter;
+#[cfg(test)]
+mod line_iter_tests;
 mod lines;
 mod live;
+mod loaded;
+mod log_lines;
 mod output;
 mod output_kinds;
 mod part;
@@ -19,6 +25,9 @@ mod tests;
 pub use errors::ToValueError;
 pub use event::{event_from_value, event_to_value};
 pub use line_events::{LineError, read_line};
+pub use line_iter::LineIter;
 pub use lines::{Line, Lines};
+pub use loaded::has_all_outputs;
+pub use log_lines::log_line;
 pub use output::OutputForm;
 pub use part::Part;

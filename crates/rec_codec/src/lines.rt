@@ -31,31 +31,30 @@ impl<'a> Line<'a> {
 #[derive(Drop)]
 pub struct Lines<'a> {
     rest: &'a [u8],
-    // how many lines stand before the rest, by the number of the first
-    before: u64,
+    // the number of the first line in the rest
+    number: u64,
 }
 
 impl<'a> Model for Lines<'a> {
-    ghost use Rattle.std.specs.Prelude.{◌+◌, ◌<◌, ◌^◌, List, length};
+    ghost use Rattle.std.specs.Prelude.{◌+◌, ◌≤◌, ◌^◌, List, length};
     ghost use Rattle.rec_codec.specs.Lines.{NumberedLine, lines, numbered};
 
     ghost Value = { List NumberedLine };
 
-    ghost view = { λ l. numbered (l.before + 1) (lines l.rest.now) };
+    ghost view = { λ l. numbered l.number (lines l.rest.now) };
 
-    ghost invariant = { λ l. l.before + length l.rest.now < 2 ^ 64 };
+    ghost invariant = { λ l. l.number + length l.rest.now ≤ 2 ^ 64 };
 }
 
 impl<'a> Lines<'a> {
     /// The lines of the text, the first of which has the number `first_line`.
     pub fn new(text: &'a [u8], first_line: u64) -> Lines<'a>
-        requires positive { 1 ≤ first_line }
         requires room { first_line + length text.now ≤ 2 ^ 64 }
         ensures { result ≡ numbered first_line (lines text.now) }
     {
         Lines {
             rest: text,
-            before: first_line - 1,
+            number: first_line,
         }
     }
 }
@@ -94,11 +93,10 @@ impl<'a> Iterator for Lines<'a> {
             return None;
         }
         let (bytes, rest) = split_line(self.rest);
+        let number = self.number;
         self.rest = rest;
-        self.before += 1;
-        Some(Line {
-            number: self.before,
-            bytes,
-        })
+        // behind a line with the greatest number nothing stands
+        self.number = number.saturating_add(1);
+        Some(Line { number, bytes })
     }
 }

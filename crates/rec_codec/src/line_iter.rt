@@ -1,0 +1,72 @@
+// Goes over the events of a log.
+ghost use Rattle.std.specs.Prelude.{◌≡◌, ◌+◌, ◌<◌, ◌^◌, length};
+ghost use Rattle.rec_codec.specs.Lines.{lines, numbered};
+ghost use Rattle.rec_codec.specs.LineItems.{left_after};
+
+use crate::{LineError, Lines, OutputForm, read_line};
+use rec_events::TestEventSummary;
+use std::alloc::Global;
+use std::marker::{Model, PhantomData};
+
+/// Goes over the lines of a log: an item for each line that isn't blank. It goes on behind a line
+/// that gives no event, and ends where there was not enough memory for one.
+#[derive(Drop)]
+pub struct LineIter<'a, S: OutputForm> {
+    alloc: Global,
+    lines: Lines<'a>,
+    spec: PhantomData<S>,
+}
+
+impl<'a, S: OutputForm> Model for LineIter<'a, S> {
+    ghost use Rattle.std.specs.Prelude.{List};
+    ghost use Rattle.rec_codec.specs.Lines.{NumberedLine};
+
+    ghost Value = { List NumberedLine };
+
+    ghost view = { λ l. l.lines };
+}
+
+impl<'a, S: OutputForm> LineIter<'a, S> {
+    /// The items of the text's lines, the first of which has the number `first_line`.
+    pub fn new(alloc: Global, text: &'a [u8], first_line: u64) -> LineIter<'a, S>
+        requires { first_line + length text.now < 2 ^ 64 }
+        ensures { result ≡ numbered first_line (lines text.now) }
+    {
+        LineIter {
+            alloc,
+            lines: Lines::new(text, first_line),
+            spec: PhantomData,
+        }
+    }
+
+    // Lets the lines go that are left where there was not enough memory.
+    fn keep_after(&mut self, told: &Result<TestEventSummary<S>, LineError>)
+        ensures { self.new ≡ left_after told.now self.old }
+    {
+        if let Err(LineError::OutOfMemory) = told {
+            self.lines = Lines::new(&[], 1);
+        }
+    }
+}
+
+impl<'a, S: OutputForm> Iterator for LineIter<'a, S> {
+    ghost use Rattle.std.specs.Iterator.{item_count};
+    ghost use Rattle.rec_codec.specs.EventForms.{event_form};
+    ghost use Rattle.rec_codec.specs.LineItems.{GivesNext};
+
+    type Item = Result<TestEventSummary<S>, LineError>;
+
+    ghost next_gives = { GivesNext (event_form S.output_form) };
+
+    ghost remaining = { item_count (λ lines. lines) };
+
+    fn next(&mut self) -> Option<Result<TestEventSummary<S>, LineError>> {
+        while let Some(line) = self.lines.next() {
+            if let Some(told) = read_line(self.alloc, line) {
+                self.keep_after(&told);
+                return Some(told);
+            }
+        }
+        None
+    }
+}

@@ -1,0 +1,60 @@
+// Whether the outputs of an event are there.
+ghost use Rattle.std.specs.Prelude.{◌≡◌};
+ghost use Rattle.rec_codec.specs.EventForms.{kind_loaded, output_loaded};
+ghost use Rattle.rec_codec.specs.Live.{is_loaded};
+ghost use Rattle.rec_codec.specs.Status.{status_loaded};
+ghost use Rattle.rec_codec.specs.Writes.{every};
+
+use rec_events::{
+    ChildExecutionOutputDescription, ChildOutputDescription, ExecuteStatus, LiveSpec,
+    OutputEventKind, TestEventKindSummary, TestEventSummary,
+};
+
+fn has_output(output: &ChildOutputDescription) -> bool
+    ensures { result ≡ is_loaded output.now }
+{
+    match output {
+        ChildOutputDescription::Split { .. } | ChildOutputDescription::Combined { .. } => true,
+        ChildOutputDescription::NotLoaded => false,
+    }
+}
+
+fn attempt_has_output(attempt: &ExecuteStatus<LiveSpec>) -> bool
+    ensures { result ≡ status_loaded is_loaded attempt.now }
+{
+    match &attempt.output {
+        ChildExecutionOutputDescription::Output { output, .. } => has_output(output),
+        ChildExecutionOutputDescription::StartError { .. } => true,
+    }
+}
+
+fn all_have_output(attempts: &[ExecuteStatus<LiveSpec>]) -> bool
+    ensures { result ≡ every (status_loaded is_loaded) attempts.now }
+{
+    for attempt in attempts {
+        if !attempt_has_output(attempt) {
+            return false;
+        }
+    }
+    true
+}
+
+fn kind_has_outputs(kind: &OutputEventKind<LiveSpec>) -> bool
+    ensures { result ≡ output_loaded is_loaded kind.now }
+{
+    match kind {
+        OutputEventKind::TestFinished { run_statuses, .. } => {
+            all_have_output(run_statuses.statuses.as_slice())
+        }
+    }
+}
+
+/// Whether each output of the event was loaded, so that the event can be written.
+pub fn has_all_outputs(event: &TestEventSummary<LiveSpec>) -> bool
+    ensures { result ≡ kind_loaded is_loaded event.now.kind }
+{
+    match &event.kind {
+        TestEventKindSummary::Core(_) => true,
+        TestEventKindSummary::Output(kind) => kind_has_outputs(kind),
+    }
+}

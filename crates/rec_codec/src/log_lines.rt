@@ -1,0 +1,42 @@
+// The lines of a log.
+ghost use Rattle.std.specs.Prelude.{◌≡◌, ◌++◌, ◌≤◌, [], ◌∷◌, Some, IfOk, OnOk, IsTrue};
+ghost use Rattle.serde_json.specs.View.{view};
+ghost use Rattle.rec_forms.specs.Outputs.{stored_outputs_value, stored_outputs_form};
+ghost use Rattle.rec_forms.specs.Writable.{IsWritable};
+ghost use Rattle.rec_codec.specs.EventForms.{event_value, event_form};
+ghost use Rattle.rec_codec.specs.Event.{event_line, IsLogged};
+
+use crate::event_to_value;
+use rec_events::{RecordingSpec, TestEventSummary};
+use serde_json::Value;
+use std::alloc::{AllocError, Global};
+
+// The value of an event. The names of files are always loaded, so only memory can be short.
+fn recorded_value(
+    alloc: Global,
+    event: &TestEventSummary<RecordingSpec>,
+) -> Result<Value, AllocError>
+    ensures value { IfOk result (λ v. view v ≡ event_value stored_outputs_value event.now) }
+    ensures reads_back { IfOk result (λ v. event_form stored_outputs_form (view v) ≡ Some event.now) }
+    ensures writable { IfOk result (λ v. IsWritable 14 (view v)) }
+{
+    match event_to_value::<RecordingSpec>(alloc, event) {
+        Ok(value) => Ok(value),
+        Err(_) => Err(AllocError),
+    }
+}
+
+/// The line of an event in a log: its compact JSON text and LF.
+pub fn log_line(
+    alloc: Global,
+    event: &TestEventSummary<RecordingSpec>,
+) -> Result<Vec<u8>, AllocError>
+    ensures line { IfOk result (λ b. b.items ≡ event_line event.now) }
+    ensures logged { OnOk result (IsLogged event.now) }
+{
+    let value = recorded_value(alloc, event)?;
+    let text = value.to_string(alloc)?;
+    let mut line = text.into_bytes();
+    line.push(b'\n')?;
+    Ok(line)
+}
