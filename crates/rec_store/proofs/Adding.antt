@@ -13,7 +13,8 @@ use Rattle.rec_container.proofs.Lengths.{length-spell-push}
 use Rattle.rec_container.proofs.Spelling.{front-push}
 use Rattle.rec_store.specs.declared.error.RunStoreError.{RunStoreError}
 use Rattle.rec_store.specs.declared.error.RunStoreError.TheVariants.{NameCollision, CountOutOfRange}
-use Rattle.rec_store.specs.Recording.{with_entry, with_entries, AddsEach, AddsUpTo}
+use Rattle.rec_store.specs.Clashes.{with_entry, with_entries}
+use Rattle.rec_store.specs.Recording.{AddsEach, AddsUpTo}
 
 -- each name is new to the entries before it
 abbrev pub AreNew : List Entry → List Entry → Type 0
@@ -99,7 +100,7 @@ module _ {S : Type 0} (taken : S → Option (List ℕ)) (faults : S → ℕ) whe
   added_at old new e None is h = h.0 ∙ sym (ap (λ o. if is_some o then old.entries else old.entries ++ e ∷ []) is)
   added_at old new e (Some c) is h = ap (λ (w : Writing S). w.entries) h ∙ sym (ap (λ o. if is_some o then old.entries else old.entries ++ e ∷ []) is)
 
-  added : (old new : Writing S) (e : Entry) → Adds taken faults old new e.name e.content → new.entries ≡ with_entry old.entries e
+  pub added : (old new : Writing S) (e : Entry) → Adds taken faults old new e.name e.content → new.entries ≡ with_entry old.entries e
   added old new e h = added_at old new e (content_of old.entries e.name) refl h
 
   -- the entries that are there in the end
@@ -147,10 +148,14 @@ module _ {S : Type 0} (taken : S → Option (List ℕ)) (faults : S → ℕ) whe
   sound_at old new e None h p = h.1
   sound_at old new e (Some c) h p = ap (λ (w : Writing S). w.failed) h ∙ p
 
-  -- a writer that added entries has not failed
+  -- a writer that added an entry has not failed
+  pub sound_added : (old new : Writing S) (e : Entry) → Adds taken faults old new e.name e.content → old.failed ≡ false → new.failed ≡ false
+  sound_added old new e h p = sound_at old new e (content_of old.entries e.name) h p
+
+  -- nor one that added several
   pub sound_after : (old new : Writing S) (es : List Entry) → AddsEach taken faults old new es → old.failed ≡ false → new.failed ≡ false
   sound_after old new [] h p = ap (λ (w : Writing S). w.failed) h ∙ p
-  sound_after old new (e ∷ es) h p = sound_after h.0 new es h.2 (sound_at old h.0 e (content_of old.entries e.name) h.1.1 p)
+  sound_after old new (e ∷ es) h p = sound_after h.0 new es h.2 (sound_added old h.0 e h.1.1 p)
 
   -- a refusal among the first entries, or among those behind them
   pub AddsUpTo-front : (old new : Writing S) (es fs : List Entry) (e : RunStoreError) → AddsUpTo taken faults old new es e → AddsUpTo taken faults old new (es ++ fs) e

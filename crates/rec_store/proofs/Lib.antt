@@ -1,6 +1,13 @@
 pub mod Adding
+pub mod Clashing
+mod EventMapLaws
+mod Held
+mod KeptLaws
+mod Logged
+pub mod OutputLaws
+mod OutputsRead
+mod PathLengths
 pub mod ReadLaws
 pub mod Refusals
-pub mod Storing
-mod PathLengths
 mod Stopped
+pub mod Storing

@@ -1,11 +1,13 @@
 -- What a bundle is read as.
-use Rattle.std.proofs.Common.{◌≡◌, ℕ, List, [], ◌∷◌, Option, Some, None, IsTrue, refl, sym, ap, subst, ◌∙◌}
+use Rattle.std.proofs.Common.{◌≡◌, ℕ, List, [], ◌∷◌, ◌++◌, Option, Some, None, IsTrue, map, refl, sym, ap, subst, ◌∙◌}
+use Rattle.std.specs.List.{AllByRecursion}
 use Rattle.std.specs.Str.{is_utf8}
-use Rattle.rec_container.specs.Container.{Entry, spell}
-use Rattle.rec_container.specs.Container.{AreFrom, IsContainer}
+use Rattle.rec_container.specs.Container.{Entry, content_of, spell, AreFrom, IsContainer}
 use Rattle.rec_container.proofs.Spelling.{IsContainer-spell}
 use Rattle.rec_container.proofs.Unique.{one_reading_spec}
-use Rattle.rec_codec.specs.Event.{Event}
+use Rattle.rec_codec.specs.Event.{LiveEvent, RecordedEvent, IsLogged, log_events}
+use Rattle.rec_codec.specs.Lines.{lines}
+use Rattle.rec_codec.proofs.LogLaws.{log_events_back}
 use Rattle.rec_events.specs.declared.recording.TestListSummary.{TestListSummary}
 use Rattle.rec_events.specs.declared.recording.RecordOpts.{RecordOpts}
 use Rattle.rec_forms.specs.TextForm.{bytes_form}
@@ -20,13 +22,15 @@ use Rattle.rec_format.specs.RunForms.{manifest_form}
 use Rattle.rec_format.specs.Runs.{manifest_of, run_of, info_of}
 use Rattle.rec_format.specs.ScopeForms.{recorded_scope_form}
 use Rattle.rec_format.specs.Status.{status_format, status_of}
-use Rattle.rec_store.specs.Bundle.{manifest_text, run_bundle, run_entries, run_info}
-use Rattle.rec_store.specs.Reading.{AreRead, IsReading, IsRerunRead, RunRecord, record_of, recorded}
-use Rattle.rec_store.specs.Store.{AreMetaRead, build_scope_entry, metadata_of, store_entries}
-
-no_events : (events : List Event) → events ≡ []
-no_events [] = refl
-no_events (e ∷ events) = elim e [ ]
+use Rattle.rec_store.specs.Bundle.{events_recorded, run_log, run_outputs, outputs_stored, run_store, run_info, manifest_text, run_bundle, run_entries}
+use Rattle.rec_store.specs.Clashes.{clash}
+use Rattle.rec_store.specs.Entries.{rerun_info_path}
+use Rattle.rec_store.specs.Kept.{KeptEvent, event_kept, event_resolved}
+use Rattle.rec_store.specs.Reading.{AreRead, IsReading, IsRerunRead, RunRecord, outputs_of, record_of, recorded}
+use Rattle.rec_store.specs.Store.{AreMetaRead, build_scope_entry, metadata_of}
+use Rattle.rec_store.proofs.KeptLaws.{resolved_events}
+use Rattle.rec_store.proofs.OutputLaws.{no_rerun, stored_are_outputs}
+use Rattle.rec_store.proofs.OutputsRead.{run_held, run_outputs_read}
 
 status_again : (s : RecordedRunStatus) → status_of (status_format s) ≡ s
 status_again Incomplete = refl
@@ -41,8 +45,8 @@ pub info_again : (info : RecordedRunInfo) → info_of (run_of info) ≡ info
 info_again info = ap (λ (s : RecordedRunStatus). record info { status = s }) (status_again info.status)
 
 -- what the parts are read as
-abbrev read_from : PortableManifest → RecordedBuildScope → Option RerunInfo → List ℕ → TestListSummary → RecordOpts → RunRecord
-read_from m scope rerun metadata list opts = record {
+abbrev read_from : PortableManifest → RecordedBuildScope → Option RerunInfo → List ℕ → TestListSummary → RecordOpts → List KeptEvent → List Entry → RunRecord
+read_from m scope rerun metadata list opts events outs = record {
   format_version = m.format_version;
   run = info_of m.run;
   cargo_metadata = metadata;
@@ -50,37 +54,53 @@ read_from m scope rerun metadata list opts = record {
   record_opts = opts;
   build_scope = scope;
   rerun_info = rerun;
-  events = [];
-  outputs = [];
+  events = events;
+  outputs = outs;
 }
 
-parts_read : (manifest : List ℕ) (m : PortableManifest) (scope : RecordedBuildScope) (rerun : Option RerunInfo) (metadata : List ℕ) (list : TestListSummary) (opts : RecordOpts)
-    → bytes_form manifest_form manifest ≡ Some m → bytes_form recorded_scope_form (build_scope_entry scope).content ≡ Some scope → IsRerunRead rerun
-    → AreMetaRead list opts → IsTrue (is_utf8 metadata) → record_of manifest [] (metadata_of scope rerun metadata list opts) ≡ Some (read_from m scope rerun metadata list opts)
-parts_read manifest m scope None metadata list opts is built again meta utf8 = rw (is, utf8, meta.test_list, meta.record_opts, built)
-parts_read manifest m scope (Some info) metadata list opts is built again meta utf8 = rw (is, utf8, meta.test_list, meta.record_opts, built, again)
+module _ (manifest log : List ℕ) (m : PortableManifest) (events : List RecordedEvent) (scope : RecordedBuildScope) (metadata : List ℕ) (list : TestListSummary) (opts : RecordOpts) (outs : List Entry)
+    (is : bytes_form manifest_form manifest ≡ Some m) (logged : log_events (lines log) ≡ Some events) (built : bytes_form recorded_scope_form (build_scope_entry scope).content ≡ Some scope)
+    (meta : AreMetaRead list opts) (utf8 : IsTrue (is_utf8 metadata)) where
+  parts_read : (rerun : Option RerunInfo) → IsRerunRead rerun → content_of outs rerun_info_path ≡ None → outputs_of events (metadata_of scope rerun metadata list opts ++ outs) ≡ Some outs
+      → record_of manifest log (metadata_of scope rerun metadata list opts ++ outs)
+      ≡ Some (read_from m scope rerun metadata list opts (map (event_resolved (metadata_of scope rerun metadata list opts ++ outs)) events) outs)
+  parts_read None again without found = rw (is, logged, utf8, meta.test_list, meta.record_opts, built, without, found)
+  parts_read (Some info) again without found = rw (is, logged, utf8, meta.test_list, meta.record_opts, built, again, found)
 
-reads_without_events : (head : SessionHead) → AreRead head → bytes_form manifest_form (manifest_text head []) ≡ Some (manifest_of (run_info head []))
-    → AreFrom [] (store_entries head) → AreFrom [] (run_entries head []) → IsReading (run_bundle head []) (recorded head [])
-reads_without_events head parts manifest stored bundled = record {
-  manifest = manifest_text head [];
-  log = [];
-  store = spell (store_entries head);
-  entries = store_entries head;
-  bundled = IsContainer-spell (run_entries head []) bundled;
-  stored = IsContainer-spell (store_entries head) stored;
-  read =
-      parts_read (manifest_text head []) (manifest_of (run_info head [])) head.build_scope head.rerun_info head.cargo_metadata head.test_list head.record_opts
-      manifest parts.build_scope parts.rerun_info parts.meta parts.cargo_metadata
-      ∙ ap (λ (info : RecordedRunInfo). Some (record (recorded head []) { run = info })) (info_again (run_info head []));
-}
+module _ (number : List ℕ → ℕ) (m : ℕ) (head : SessionHead) (events : List LiveEvent) (agree : clash [] (run_outputs number m events) ≡ None) where
+  read_record : List KeptEvent → RecordedRunInfo → RunRecord
+  read_record kept info = record (recorded number m head events) { run = info; events = kept }
 
-pub bundle_reads_spec : (head : SessionHead) (events : List Event) → AreRead head → bytes_form manifest_form (manifest_text head events) ≡ Some (manifest_of (run_info head events))
-    → AreFrom [] (store_entries head) → AreFrom [] (run_entries head events) → IsReading (run_bundle head events) (recorded head events)
-bundle_reads_spec head events parts manifest stored bundled =
-    let none : [] ≡ events = sym (no_events events) in
-    let all = λ (es : List Event). bytes_form manifest_form (manifest_text head es) ≡ Some (manifest_of (run_info head es)) → AreFrom [] (run_entries head es) → IsReading (run_bundle head es) (recorded head es) in
-    subst all none (λ m b. reads_without_events head parts m stored b) manifest bundled
+  run_read : AreRead head → log_events (lines (run_log number m events)) ≡ Some (events_recorded number m events)
+      → bytes_form manifest_form (manifest_text number m head events) ≡ Some (manifest_of (run_info number m head events))
+      → record_of (manifest_text number m head events) (run_log number m events) (run_store number m head events) ≡ Some (recorded number m head events)
+  unfolding read_record
+  run_read parts logged manifest =
+      let store = run_store number m head events in
+      parts_read (manifest_text number m head events) (run_log number m events) (manifest_of (run_info number m head events)) (events_recorded number m events)
+      head.build_scope head.cargo_metadata head.test_list head.record_opts (outputs_stored number m events) manifest logged parts.build_scope parts.meta parts.cargo_metadata
+      head.rerun_info parts.rerun_info (no_rerun (outputs_stored number m events) (stored_are_outputs number m events)) (run_outputs_read number m head events agree)
+      ∙ ap (λ l. Some (read_record l (info_of (run_of (run_info number m head events))))) (resolved_events number m store events (run_held number m head events agree))
+      ∙ ap (λ info. Some (read_record (map (event_kept m) events) info)) (info_again (run_info number m head events))
+
+  bundle_read : AreRead head → log_events (lines (run_log number m events)) ≡ Some (events_recorded number m events)
+      → bytes_form manifest_form (manifest_text number m head events) ≡ Some (manifest_of (run_info number m head events))
+      → AreFrom [] (run_store number m head events) → AreFrom [] (run_entries number m head events) → IsReading (run_bundle number m head events) (recorded number m head events)
+  bundle_read parts logged manifest stored bundled = record {
+    manifest = manifest_text number m head events;
+    log = run_log number m events;
+    store = spell (run_store number m head events);
+    entries = run_store number m head events;
+    bundled = IsContainer-spell (run_entries number m head events) bundled;
+    stored = IsContainer-spell (run_store number m head events) stored;
+    read = run_read parts logged manifest;
+  }
+
+pub bundle_reads_spec : (number : List ℕ → ℕ) (m : ℕ) (head : SessionHead) (events : List LiveEvent) → AreRead head → AllByRecursion IsLogged (events_recorded number m events)
+    → clash [] (run_outputs number m events) ≡ None → bytes_form manifest_form (manifest_text number m head events) ≡ Some (manifest_of (run_info number m head events))
+    → AreFrom [] (run_store number m head events) → AreFrom [] (run_entries number m head events) → IsReading (run_bundle number m head events) (recorded number m head events)
+bundle_reads_spec number m head events parts logged agree manifest stored bundled =
+    bundle_read number m head events agree parts (log_events_back (events_recorded number m events) logged) manifest stored bundled
 
 -- ---- one record
 

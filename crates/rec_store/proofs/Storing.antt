@@ -1,9 +1,17 @@
 -- What several calls of a recorder leave, one after the other.
-use Rattle.std.proofs.Common.{◌≡◌, ℕ, List, ◌++◌, false, Option, sym, ap, ◌∙◌, inl, inr}
+use Rattle.std.proofs.Common.{◌≡◌, ℕ, List, ◌++◌, Bool, true, false, ◌||◌, Option, refl, sym, ap, ◌∙◌, inl, inr}
 use Rattle.rec_container.specs.Container.{Entry}
 use Rattle.rec_store.specs.declared.error.RunStoreError.{RunStoreError}
 use Rattle.rec_store.specs.Recording.{Recording, has_failed, Stores, Unstored}
 use Rattle.rec_store.proofs.Adding.{AddsEach-append, AddsUpTo-front, AddsUpTo-behind, sound_after}
+
+both_false : (a b : Bool) → (a || b) ≡ false → (a ≡ false) × (b ≡ false)
+both_false true b h = absurd (let k = h in cc)
+both_false false b h = (refl, h)
+
+-- where no sink has failed, the store's has not
+pub sound_store : {S L N : Type 0} (r : Recording S L N) → has_failed r ≡ false → r.store.failed ≡ false
+sound_store r h = (both_false r.store.failed r.log_failed h).0
 
 module _ {S L N : Type 0} (taken : S → Option (List ℕ)) (faults : S → ℕ) where
   kept_then : (a b c : Recording S L N) → b ≡ record a { store = b.store } → c ≡ record b { store = c.store } → c ≡ record a { store = c.store }
@@ -17,7 +25,9 @@ module _ {S L N : Type 0} (taken : S → Option (List ℕ)) (faults : S → ℕ)
 
   -- a recorder that stored entries has not failed
   pub sound_stores : (a b : Recording S L N) (es : List Entry) → Stores taken faults a b es → has_failed a ≡ false → has_failed b ≡ false
-  sound_stores a b es p h = sound_after taken faults a.store b.store es p.added h
+  sound_stores a b es p h =
+      let was = both_false a.store.failed a.log_failed h in
+      ap (λ (r : Recording S L N). has_failed r) p.kept ∙ ap (λ failed. failed || a.log_failed) (sound_after taken faults a.store b.store es p.added was.0) ∙ was.1
 
   pub Unstored-front : (a b : Recording S L N) (es fs : List Entry) (e : RunStoreError) → Unstored taken faults a b es e → Unstored taken faults a b (es ++ fs) e
   Unstored-front a b es fs e (inl h) = inl h

@@ -1,6 +1,5 @@
 -- What is stored of an event's outputs, and what the event is recorded as.
-use Rattle.std.specs.Prelude.{ℕ, List, [], ◌∷◌, ◌++◌, length, map, nat_le, ◌==◌, Option, Some, None, option_map, if◌then◌else◌}
-use Rattle.std.specs.List.{flat_map}
+use Rattle.std.specs.Prelude.{ℕ, List, [], ◌∷◌, ◌++◌, length, nat_le, ◌==◌, Option, Some, None, option_map, if◌then◌else◌}
 use Rattle.rec_container.specs.Container.{Entry}
 use Rattle.rec_container.specs.Writing.{named}
 use Rattle.rec_events.specs.declared.output_names.OutputKind.{OutputKind}
@@ -15,13 +14,11 @@ use Rattle.rec_events.specs.declared.outputs.ZipStoreOutput.TheVariants.{Empty, 
 use Rattle.rec_events.specs.declared.outputs.ZipStoreOutputDescription.{ZipStoreOutputDescription}
 use Rattle.rec_events.specs.declared.outputs.ZipStoreOutputDescription.TheVariants as stored
 use Rattle.rec_events.specs.declared.outputs.ChildExecutionOutputDescription.{ChildExecutionOutputDescription}
-use Rattle.rec_events.specs.declared.outputs.ChildExecutionOutputDescription.TheVariants.{Output, StartError}
 use Rattle.rec_events.specs.declared.statuses.ExecuteStatus.{ExecuteStatus}
 use Rattle.rec_events.specs.declared.statuses.ExecutionStatuses.{ExecutionStatuses}
-use Rattle.rec_events.specs.declared.events.OutputEventKind.TheVariants.{TestFinished}
 use Rattle.rec_events.specs.declared.events.TestEventKindSummary.{TestEventKindSummary}
-use Rattle.rec_events.specs.declared.events.TestEventKindSummary.TheVariants as event
-use Rattle.rec_events.specs.declared.events.TestEventSummary.{TestEventSummary}
+use Rattle.rec_events.specs.EventMaps.{execution_with, status_with, statuses_with, kind_with, event_with, of_execution, of_status, of_kind, of_event}
+use Rattle.rec_codec.specs.Event.{LiveEvent, RecordedEvent}
 use Rattle.rec_store.specs.Cut.{cut}
 use Rattle.rec_store.specs.OutputPaths.{output_path}
 
@@ -58,18 +55,16 @@ module _ (number : List ℕ → ℕ) (m : ℕ) where
   description_entries live.NotLoaded = []
 
   abbrev pub execution_entries : Live ChildExecutionOutputDescription → List Entry
-  execution_entries (Output result output errors) = description_entries output
-  execution_entries (StartError message) = []
+  execution_entries e = of_execution description_entries e
 
   abbrev pub status_entries : Live ExecuteStatus → List Entry
-  status_entries s = execution_entries s.output
+  status_entries s = of_status description_entries s
 
   abbrev pub kind_entries : Live TestEventKindSummary → List Entry
-  kind_entries (event.Core kind) = []
-  kind_entries (event.Output (TestFinished index test success failure store_success store_failure flaky statuses stats running)) = flat_map status_entries statuses.statuses
+  kind_entries k = of_kind description_entries k
 
-  abbrev pub event_entries : Live TestEventSummary → List Entry
-  event_entries e = kind_entries e.kind
+  abbrev pub event_entries : LiveEvent → List Entry
+  event_entries e = of_event description_entries e
 
   -- ---- what the event is recorded as
 
@@ -86,29 +81,16 @@ module _ (number : List ℕ → ℕ) (m : ℕ) where
   description_recorded live.NotLoaded = stored.Split None None
 
   abbrev pub execution_recorded : Live ChildExecutionOutputDescription → Recorded ChildExecutionOutputDescription
-  execution_recorded (Output result output errors) = Output result (description_recorded output) errors
-  execution_recorded (StartError message) = StartError message
+  execution_recorded e = execution_with description_recorded e
 
   abbrev pub status_recorded : Live ExecuteStatus → Recorded ExecuteStatus
-  status_recorded s = record {
-    retry_data = s.retry_data;
-    output = execution_recorded s.output;
-    result = s.result;
-    start_time = s.start_time;
-    time_taken = s.time_taken;
-    is_slow = s.is_slow;
-    delay_before_start = s.delay_before_start;
-    error_summary = s.error_summary;
-    output_error_slice = s.output_error_slice;
-  }
+  status_recorded s = status_with description_recorded s
 
   abbrev pub statuses_recorded : Live ExecutionStatuses → Recorded ExecutionStatuses
-  statuses_recorded s = record { statuses = map status_recorded s.statuses; flaky_result = s.flaky_result }
+  statuses_recorded s = statuses_with description_recorded s
 
   abbrev pub kind_recorded : Live TestEventKindSummary → Recorded TestEventKindSummary
-  kind_recorded (event.Core kind) = event.Core kind
-  kind_recorded (event.Output (TestFinished index test success failure store_success store_failure flaky statuses stats running)) =
-      event.Output (TestFinished index test success failure store_success store_failure flaky (statuses_recorded statuses) stats running)
+  kind_recorded k = kind_with description_recorded k
 
-  abbrev pub event_recorded : Live TestEventSummary → Recorded TestEventSummary
-  event_recorded e = record { timestamp = e.timestamp; elapsed = e.elapsed; kind = kind_recorded e.kind }
+  abbrev pub event_recorded : LiveEvent → RecordedEvent
+  event_recorded e = event_with description_recorded e

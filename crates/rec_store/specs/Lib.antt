@@ -1,8 +1,11 @@
 pub mod Bundle
+pub mod Clashes
 pub mod Cut
 pub mod Ending
 pub mod Entries
 pub mod EventOutputs
+pub mod Kept
+pub mod Logging
 pub mod Namer
 pub mod OutputPaths
 pub mod Reading

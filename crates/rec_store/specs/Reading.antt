@@ -1,5 +1,5 @@
 -- What a bundle's bytes are read as.
-use Rattle.std.specs.Prelude.{◌≡◌, ℕ, Bool, IsTrue, not, ◌&&◌, List, [], ◌∷◌, filter, Option, Some, None, is_some, option_map, option_and_then}
+use Rattle.std.specs.Prelude.{◌≡◌, ℕ, Bool, IsTrue, not, ◌&&◌, List, [], ◌∷◌, filter, Option, Some, None, is_some, option_map, option_and_then, map}
 use Rattle.std.specs.List.{list_any, list_all, flat_map}
 use Rattle.std.specs.Str.{bytes_eq, is_utf8}
 use Rattle.serde_json.specs.Data.{Data}
@@ -8,7 +8,7 @@ use Rattle.rec_container.specs.Container.{IsContainer}
 use Rattle.rec_events.specs.declared.recording.TestListSummary.{TestListSummary}
 use Rattle.rec_events.specs.declared.recording.RecordOpts.{RecordOpts}
 use Rattle.rec_codec.specs.Lines.{lines}
-use Rattle.rec_codec.specs.Event.{Event, log_events, output_paths}
+use Rattle.rec_codec.specs.Event.{LiveEvent, RecordedEvent, log_events}
 use Rattle.rec_forms.specs.Shape.{◌>>=◌, only}
 use Rattle.rec_forms.specs.TextForm.{bytes_form}
 use Rattle.rec_forms.specs.Recording.{test_list_form, record_opts_form}
@@ -25,7 +25,8 @@ use Rattle.rec_format.specs.declared.head.SessionHead.{SessionHead}
 use Rattle.rec_format.specs.Versions.{portable_version}
 use Rattle.rec_store.specs.Store.{build_scope_entry, rerun_entry, AreMetaRead}
 use Rattle.rec_store.specs.Entries.{bundle_entries}
-use Rattle.rec_store.specs.Bundle.{run_info}
+use Rattle.rec_store.specs.Bundle.{run_info, outputs_stored}
+use Rattle.rec_store.specs.Kept.{KeptEvent, event_kept, event_resolved, event_paths}
 
 -- what was recorded of a run
 pub record RunRecord : Type 0 where
@@ -36,7 +37,7 @@ pub record RunRecord : Type 0 where
   pub record_opts : RecordOpts
   pub build_scope : RecordedBuildScope
   pub rerun_info : Option RerunInfo
-  pub events : List Event
+  pub events : List KeptEvent
   pub outputs : List Entry
 
 -- the item for which an entry's bytes stand
@@ -59,9 +60,9 @@ abbrev pub is_metadata : List ℕ → Bool
 is_metadata path = list_any (λ p. bytes_eq path p) metadata_paths
 
 -- the other entries, where they are those that the events name
-abbrev pub outputs_of : List Event → List Entry → Option (List Entry)
+abbrev pub outputs_of : List RecordedEvent → List Entry → Option (List Entry)
 outputs_of events es =
-    let named = flat_map output_paths events in
+    let named = flat_map event_paths events in
     let others = filter (λ e. not (is_metadata e.name)) es in
     only (list_all (λ p. is_some (content_of es p)) named && list_all (λ e. list_any (λ p. bytes_eq e.name p) named) others) others
 
@@ -84,7 +85,7 @@ record_of manifest log es = do
     record_opts = record_opts;
     build_scope = build_scope;
     rerun_info = rerun_info;
-    events = events;
+    events = map (event_resolved es) events;
     outputs = outputs;
   })
 
@@ -98,18 +99,18 @@ pub record IsReading (bytes : List ℕ) (r : RunRecord) : Type 0 where
   pub stored : IsContainer store entries
   pub read : record_of manifest log entries ≡ Some r
 
--- what is recorded of a run
-abbrev pub recorded : SessionHead → List Event → RunRecord
-recorded head events = record {
+-- what is recorded of a run: its head, and its events with each output cut at m bytes
+abbrev pub recorded : (List ℕ → ℕ) → ℕ → SessionHead → List LiveEvent → RunRecord
+recorded number m head events = record {
   format_version = portable_version;
-  run = run_info head events;
+  run = run_info number m head events;
   cargo_metadata = head.cargo_metadata;
   test_list = head.test_list;
   record_opts = head.record_opts;
   build_scope = head.build_scope;
   rerun_info = head.rerun_info;
-  events = events;
-  outputs = [];
+  events = map (event_kept m) events;
+  outputs = outputs_stored number m events;
 }
 
 -- the text of rerun information is read as it, where there is any

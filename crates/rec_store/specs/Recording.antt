@@ -1,32 +1,24 @@
 -- What a recorder is, as contracts see it, and what its calls do.
-use Rattle.std.specs.Prelude.{◌≡◌, ℕ, List, [], ◌∷◌, ◌++◌, Bool, true, false, Option, Some, None, is_some, if◌then◌else◌, ◌⊎◌}
-use Rattle.rec_container.specs.Container.{Entry, content_of}
+use Rattle.std.specs.Prelude.{◌≡◌, ℕ, List, [], ◌∷◌, Bool, true, false, ◌||◌, Option, Some, None, ◌⊎◌}
+use Rattle.rec_container.specs.Container.{Entry}
 use Rattle.rec_container.specs.Writing.{Writing, Adds, RefusesLate, refusal}
 use Rattle.rec_container.specs.declared.errors.ContainerWriteError.TheVariants as writing
 use Rattle.rec_store.specs.declared.error.RunStoreError.{RunStoreError}
 use Rattle.rec_store.specs.declared.error.RunStoreError.TheVariants.{Failed, NotLoadedOutput, NameCollision, CountOutOfRange, StoreWrite, RunLogWrite, OutOfMemory}
 
--- the store's writer; the log's sink, its length and its events; the namer and the limit of an output
+-- the store's writer; the log's sink, whether it has failed, its length and its events; the namer and the limit of an output
 pub record Recording (S L N : Type 0) : Type 0 where
   pub store : Writing S
   pub log : L
+  pub log_failed : Bool
   pub log_bytes : ℕ
   pub events : ℕ
   pub namer : N
   pub max_output : ℕ
 
--- whether the store's sink has failed; nothing is written to the log yet
+-- whether a sink has failed
 abbrev pub has_failed : {S L N : Type 0} → Recording S L N → Bool
-has_failed r = r.store.failed
-
--- the entries, with one more if its name is new
-abbrev pub with_entry : List Entry → Entry → List Entry
-with_entry es e = if is_some (content_of es e.name) then es else es ++ e ∷ []
-
--- the same for several, one after the other
-abbrev pub with_entries : List Entry → List Entry → List Entry
-with_entries es [] = es
-with_entries es (f ∷ fs) = with_entries (with_entry es f) fs
+has_failed r = r.store.failed || r.log_failed
 
 -- the refusal of other bytes under this path; its text may want memory
 abbrev pub IsCollisionAt : List ℕ → RunStoreError → Type 0

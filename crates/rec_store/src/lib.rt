@@ -14,6 +14,8 @@ mod output_paths;
 mod output_tests;
 mod outputs;
 mod recorder;
+#[cfg(test)]
+mod recorder_tests;
 mod sizes;
 #[cfg(test)]
 mod tests;

@@ -21,7 +21,7 @@ fn behind_output() -> &'static str {
 }
 
 /// A finished test with this output.
-fn finished(alloc: Global, output: &str) -> Result<TestEventSummary<LiveSpec>, Fail> {
+pub(crate) fn finished(alloc: Global, output: &str) -> Result<TestEventSummary<LiveSpec>, Fail> {
     let mut text = String::from_str(alloc, before_output())?;
     text.push_str(output)?;
     text.push_str(behind_output())?;
@@ -87,7 +87,7 @@ fn stored<N: OutputNamer>(
 }
 
 /// `abc` on standard output.
-fn abc() -> &'static str {
+pub(crate) fn abc() -> &'static str {
     r#"{"output":{"output":{"split":{"stdout":"616263"}}}}"#
 }
 
@@ -111,7 +111,7 @@ fn an_output_is_cut_at_the_limit(rt: HostRuntime) -> Result<(), Fail> {
     Ok(())
 }
 
-fn abc_as_stderr() -> &'static str {
+pub(crate) fn abc_as_stderr() -> &'static str {
     r#"{"output":{"output":{"split":{"stdout":"","stderr":"616263"}}}}"#
 }
 
@@ -133,7 +133,7 @@ fn equal_outputs_are_stored_once(rt: HostRuntime) -> Result<(), Fail> {
     Ok(())
 }
 
-fn hello() -> &'static str {
+pub(crate) fn hello() -> &'static str {
     r#"{"output":{"output":{"split":{"stdout":"68656c6c6f"}}}}"#
 }
 

@@ -1,11 +1,15 @@
 //! The recorder of one run.
-ghost use Rattle.std.specs.Prelude.{◌≡◌, ◌≤◌, Some, [], ◌∷◌, false, true, IfErr, OnOk, IfOk};
+ghost use Rattle.std.specs.Prelude.{◌≡◌, ◌<◌, ◌≤◌, Some, [], ◌∷◌, length, false, true, IfErr, OnOk, IfOk};
 ghost use Rattle.rec_container.specs.Writing.{named, has_name_length};
 ghost use Rattle.std.specs.Io.KnownBytes.{Appends};
 ghost use Rattle.rec_container.specs.Container.{ending};
 ghost use Rattle.rec_container.specs.Container.{AreFrom};
 ghost use Rattle.rec_store.specs.Ending.{sizes_of, sizes_of_log, Unended};
 ghost use Rattle.rec_store.specs.Recording.{RefusesEntry, has_failed, Stores, Unstored, AddsEach, AddsUpTo, Takes};
+ghost use Rattle.rec_store.specs.EventOutputs.{event_entries, event_recorded};
+ghost use Rattle.rec_store.specs.Logging.{AppendsAs, AppendsEvent, Logs, LogsLoaded, Unlogged};
+ghost use Rattle.rec_store.specs.Stopping.{StoresAs};
+ghost use Rattle.rec_codec.specs.Event.{IsLogged};
 ghost use Rattle.rec_store.specs.Entries.{json_entry, three_entries};
 ghost use Rattle.rec_store.specs.Store.{build_scope_entry, rerun_entry, meta_entries, AreMetaRead};
 ghost use Rattle.rec_forms.specs.TextForm.{bytes_form};
@@ -17,9 +21,11 @@ ghost use Rattle.rec_format.specs.RerunForms.{rerun_info_form};
 use crate::entries::add_entry;
 use crate::error::RunStoreError;
 use crate::namer::OutputNamer;
+use crate::outputs::OutputRules;
 use crate::sizes::{ComponentSizes, StoreSizes};
-use rec_container::{ContainerSizes, ContainerWriteError, ContainerWriter, Sink};
-use rec_events::{RecordOpts, TestListSummary};
+use rec_codec::{has_all_outputs, log_line};
+use rec_container::{ContainerSizes, ContainerWriteError, ContainerWriter, Sink, write_all};
+use rec_events::{LiveSpec, RecordOpts, RecordingSpec, TestEventSummary, TestListSummary};
 use rec_format::{
     BUILD_SCOPE_JSON_PATH, CARGO_METADATA_JSON_PATH, RECORD_OPTS_JSON_PATH, RERUN_INFO_JSON_PATH,
     RecordedBuildScope, RerunInfo, TEST_LIST_JSON_PATH,
@@ -37,6 +43,7 @@ pub struct RunRecorder<'n, S: Sink, L: Sink, N: OutputNamer> {
     alloc: Global,
     store: ContainerWriter<S>,
     log: L,
+    log_failed: bool,
     log_bytes: u64,
     events: u64,
     namer: &'n N,
@@ -55,11 +62,15 @@ pub struct RecorderEnd<S, L> {
 }
 
 impl<'n, S: Sink, L: Sink, N: OutputNamer> Model for RunRecorder<'n, S, L, N> {
+    ghost use Rattle.std.specs.Prelude.{◌≤◌};
     ghost use Rattle.rec_store.specs.Recording.{Recording};
 
     ghost Value = { Recording S L N };
 
-    ghost view = { λ r. record { store = r.store; log = r.log; log_bytes = r.log_bytes; events = r.events; namer = r.namer.now; max_output = r.max_output_size } };
+    ghost view = { λ r. record { store = r.store; log = r.log; log_failed = r.log_failed; log_bytes = r.log_bytes; events = r.events; namer = r.namer.now; max_output = r.max_output_size } };
+
+    // The line of an event has at least one byte.
+    ghost invariant = { λ r. r.events ≤ r.log_bytes };
 }
 
 impl<'n, S: Sink, L: Sink, N: OutputNamer> RunRecorder<'n, S, L, N> {
@@ -75,6 +86,7 @@ impl<'n, S: Sink, L: Sink, N: OutputNamer> RunRecorder<'n, S, L, N> {
         ensures { result ≡ record {
           store = record { entries = []; sink = store; failed = false };
           log = log;
+          log_failed = false;
           log_bytes = 0;
           events = 0;
           namer = namer.now;
@@ -85,6 +97,7 @@ impl<'n, S: Sink, L: Sink, N: OutputNamer> RunRecorder<'n, S, L, N> {
             alloc,
             store: ContainerWriter::new(alloc, store),
             log,
+            log_failed: false,
             log_bytes: 0,
             events: 0,
             namer,
@@ -94,9 +107,10 @@ impl<'n, S: Sink, L: Sink, N: OutputNamer> RunRecorder<'n, S, L, N> {
 
     /// Whether a sink has failed.
     pub fn is_failed(&self) -> bool
-        ensures { result ≡ has_failed self.now }
+        ensures value { result ≡ has_failed self.now }
+        ensures store { result ≡ false → self.now.store.failed ≡ false }
     {
-        self.store.is_failed()
+        self.store.is_failed() || self.log_failed
     }
 
     /// Writes the end of the store, and hands both sinks back in every case.
@@ -110,15 +124,24 @@ impl<'n, S: Sink, L: Sink, N: OutputNamer> RunRecorder<'n, S, L, N> {
         ensures sound { AreFrom [] self.entry.store.entries }
         ensures err { IfErr result.result (Unended S.taken S.faults self.entry result.store) }
     {
+        let failed = self.is_failed();
         let RunRecorder {
             alloc: _,
             store,
             log,
+            log_failed: _,
             log_bytes,
             events,
             namer: _,
             max_output_size: _,
         } = self;
+        if failed {
+            return RecorderEnd {
+                result: Err(RunStoreError::Failed),
+                store: store.into_sink(),
+                log,
+            };
+        }
         let end = store.finish();
         let result = match end.result {
             Ok(sizes) => Ok(StoreSizes {
@@ -184,6 +207,87 @@ impl<'n, S: Sink, L: Sink, N: OutputNamer> RunRecorder<'n, S, L, N> {
         self.store_three(&test_list, cargo_metadata_json.as_bytes(), &opts)
     }
 
+    /// Records one event: stores its outputs, in order, and then appends its line to the log.
+    ///
+    /// Outputs are stored one after the other, in the order of the attempts, stdout before stderr,
+    /// and each under its name; one that is there already is not stored again. Where one is refused,
+    /// those before it stay.
+    ///
+    /// - `Failed` comes exactly after a sink failed in an earlier call.
+    /// - `NotLoadedOutput` comes exactly where an output of the event is not loaded. Nothing is stored.
+    /// - `NameCollision` comes exactly where the store has other bytes under the path of an output.
+    /// - `CountOutOfRange` comes exactly where store or log would be too long.
+    /// - `StoreWrite` and `RunLogWrite` come where the sink of the store or of the log fails now.
+    ///
+    /// After `RunLogWrite` a part of the line may stand in the log. Any other refusal leaves the log
+    /// as it was.
+    pub fn write_event(&mut self, event: TestEventSummary<LiveSpec>) -> Result<(), RunStoreError>
+        ensures ok { OnOk result (Logs S.taken S.faults L.taken L.faults N.number self.old self.new event) }
+        ensures logged { OnOk result (IsLogged (event_recorded (N.number self.old.namer) self.old.max_output event)) }
+        ensures err { IfErr result (Unlogged S.taken S.faults L.taken L.faults N.number self.old self.new event) }
+    {
+        if self.is_failed() {
+            return Err(RunStoreError::Failed);
+        }
+        if !has_all_outputs(&event) {
+            return Err(RunStoreError::NotLoadedOutput);
+        }
+        self.write_loaded(event)
+    }
+
+    /// Records an event that is loaded.
+    fn write_loaded(&mut self, event: TestEventSummary<LiveSpec>) -> Result<(), RunStoreError>
+        requires sound { self.old.store.failed ≡ false }
+        ensures { LogsLoaded S.taken S.faults L.taken L.faults N.number self.old self.new event result }
+    {
+        let recorded = self.store_event(event)?;
+        self.append_event(&recorded)
+    }
+
+    /// Stores the outputs of an event, and gives the event as it is recorded.
+    fn store_event(
+        &mut self,
+        event: TestEventSummary<LiveSpec>,
+    ) -> Result<TestEventSummary<RecordingSpec>, RunStoreError>
+        requires sound { self.old.store.failed ≡ false }
+        ensures kept { self.new ≡ record self.old { store = self.new.store } }
+        ensures stored { StoresAs S.taken S.faults self.old.store self.new.store
+            (event_entries (N.number self.old.namer) self.old.max_output event)
+            (event_recorded (N.number self.old.namer) self.old.max_output event) result }
+    {
+        let rules = OutputRules {
+            alloc: self.alloc,
+            namer: self.namer,
+            max_size: self.max_output_size as usize,
+        };
+        rules.store_event(&mut self.store, event)
+    }
+
+    /// Appends the line of an event to the log.
+    fn append_event(&mut self, event: &TestEventSummary<RecordingSpec>) -> Result<(), RunStoreError>
+        ensures { AppendsEvent L.taken L.faults self.old self.new event.now result }
+    {
+        let line = log_line(self.alloc, event)?;
+        self.append_line(&line)
+    }
+
+    /// Appends a line to the log, and counts it.
+    fn append_line(&mut self, line: &[u8]) -> Result<(), RunStoreError>
+        requires some { 0 < length line.now }
+        ensures { AppendsAs L.taken L.faults self.old self.new line.now result }
+    {
+        let Some(log_bytes) = self.log_bytes.checked_add(line.len() as u64) else {
+            return Err(RunStoreError::CountOutOfRange);
+        };
+        if write_all(&mut self.log, line).is_err() {
+            self.log_failed = true;
+            return Err(RunStoreError::RunLogWrite);
+        }
+        self.log_bytes = log_bytes;
+        self.events += 1;
+        Ok(())
+    }
+
     /// Stores the texts of test list, cargo's metadata and options.
     fn store_three(
         &mut self,
@@ -191,7 +295,7 @@ impl<'n, S: Sink, L: Sink, N: OutputNamer> RunRecorder<'n, S, L, N> {
         metadata: &[u8],
         opts: &[u8],
     ) -> Result<(), RunStoreError>
-        requires sound { has_failed self.old ≡ false }
+        requires sound { self.old.store.failed ≡ false }
         ensures kept { self.new ≡ record self.old { store = self.new.store } }
         ensures ok { OnOk result (AddsEach S.taken S.faults self.old.store self.new.store (three_entries test_list.now metadata.now opts.now)) }
         ensures err { IfErr result (AddsUpTo S.taken S.faults self.old.store self.new.store (three_entries test_list.now metadata.now opts.now)) }
@@ -218,11 +322,11 @@ impl<'n, S: Sink, L: Sink, N: OutputNamer> RunRecorder<'n, S, L, N> {
 
     /// Stores one entry.
     fn store_entry(&mut self, path: &str, content: &[u8]) -> Result<(), RunStoreError>
-        requires sound { has_failed self.old ≡ false }
+        requires sound { self.old.store.failed ≡ false }
         requires name { has_name_length path.now ≡ true }
         ensures kept { self.new ≡ record self.old { store = self.new.store } }
         ensures ok { OnOk result (Takes S.taken S.faults self.old.store self.new.store (named path.now content.now)) }
-        ensures sound { OnOk result (has_failed self.new ≡ false) }
+        ensures sound { OnOk result (self.new.store.failed ≡ false) }
         ensures err { IfErr result (RefusesEntry S.taken S.faults self.old.store self.new.store (named path.now content.now)) }
     {
         add_entry(self.alloc, &mut self.store, path, content)

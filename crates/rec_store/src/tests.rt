@@ -75,7 +75,7 @@ fn write_meta<S: Sink>(
 }
 
 /// An answer, as a text.
-fn told(alloc: Global, answer: Result<(), RunStoreError>) -> Result<String, AllocError> {
+pub(crate) fn told(alloc: Global, answer: Result<(), RunStoreError>) -> Result<String, AllocError> {
     match answer {
         Ok(()) => String::from_str(alloc, "taken"),
         Err(RunStoreError::NameCollision { file_name }) => {

@@ -29,5 +29,5 @@ returns-clause-err g c =
     same_entries c.deref.result.now c.as_bytes.result.now c.deref-2.result.now c.args.cargo_metadata_json.now (compact_text (test_list_value c.args.test_list.now)) (compact_text (record_opts_value c.args.opts.now))
     (c.deref.ensures.value ∙ c.in_ok-test_list.ensures.text) c.as_bytes.ensures.value (c.deref-2.ensures.value ∙ c.in_ok-opts.ensures.text) in
     if_err_weaker c.store_three.result (λ (e : RunStoreError) refused.
-    inr (sym c.is_failed.ensures ∙ c.if-is_failed.false, c.store_three.ensures.kept, subst (λ (es : List Entry). AddsUpTo g.S.Sink.taken g.S.Sink.faults c.args.self.now.store c.store_three.new.self.store es e) is refused))
+    inr (sym c.is_failed.ensures.value ∙ c.if-is_failed.false, c.store_three.ensures.kept, subst (λ (es : List Entry). AddsUpTo g.S.Sink.taken g.S.Sink.faults c.args.self.now.store c.store_three.new.self.store es e) is refused))
     c.store_three.ensures.err
