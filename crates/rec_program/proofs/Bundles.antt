@@ -1,16 +1,17 @@
--- Bundles that would be too long.
-use Rattle.std.proofs.Common.{◌≡◌, ℕ, ◌^◌, ◌≤◌, List, [], ◌∷◌, ◌++◌, length, Some, None, ap, sym, ◌∙◌, arith, ◌⊎◌, inl, inr}
+-- The entries of bundles, by their texts.
+use Rattle.std.proofs.Common.{◌≡◌, ℕ, ◌^◌, ◌≤◌, List, ◌∷◌, ◌++◌, length, Some, None, ap, sym, ◌∙◌, arith, ◌⊎◌, inl, inr}
 use Rattle.rec_container.specs.Container.{Entry, spell}
-use Rattle.rec_container.proofs.Lengths.{length-spell-append, content_bytes-below}
+use Rattle.rec_container.specs.Writing.{named}
+use Rattle.rec_container.proofs.Lengths.{length-spell-append}
 use Rattle.serde_json.specs.Written.{compact_text}
+use Rattle.rec_codec.specs.Event.{LiveEvent}
 use Rattle.rec_forms.specs.TextForm.{bytes_form}
 use Rattle.rec_format.specs.RunForms.{manifest_form, manifest_value}
 use Rattle.rec_format.specs.Runs.{manifest_of, recorded_info}
 use Rattle.rec_format.specs.declared.head.SessionHead.{SessionHead}
 use Rattle.rec_format.specs.declared.sizes.RecordedSizes.{RecordedSizes}
-use Rattle.rec_store.specs.Bundle.{manifest_text, run_bundle, run_entries, run_info, run_sizes}
-use Rattle.rec_store.specs.Entries.{bundle_entries}
-use Rattle.rec_store.specs.Store.{store_entries}
+use Rattle.rec_store.specs.Bundle.{manifest_text, run_entries, run_info, run_log, run_sizes, run_store}
+use Rattle.rec_store.specs.Entries.{bundle_entries, log_name, manifest_name}
 use Rattle.rec_program.specs.declared.refusal.RecordExportError.{RecordExportError}
 use Rattle.rec_program.specs.declared.refusal.RecordExportError.TheVariants.{CountOutOfRange, OutOfMemory}
 
@@ -23,25 +24,29 @@ pub too_long_front : (es fs all : List Entry) (e : RecordExportError) → es ++ 
 too_long_front es fs all e is (inl h) = inl h
 too_long_front es fs all e is (inr h) = inr (h.0, omega (arith, h.1, length-spell-append es fs, ap (λ l. length (spell l)) is))
 
--- the entries of a bundle, by its three texts
-pub same_entries : (head : SessionHead) (sizes : RecordedSizes) (manifest log store : List ℕ) → sizes ≡ run_sizes head []
-    → manifest ≡ compact_text (manifest_value (manifest_of (recorded_info head sizes))) → log ≡ [] → store ≡ spell (store_entries head)
-    → bundle_entries manifest log store ≡ run_entries head []
-unfolding manifest_text
-same_entries head sizes manifest log store same text none stored =
-    ap (λ m. bundle_entries m log store) (text ∙ ap (λ (z : RecordedSizes). compact_text (manifest_value (manifest_of (recorded_info head z)))) same)
-    ∙ ap (λ l. bundle_entries (manifest_text head []) l store) none ∙ ap (bundle_entries (manifest_text head []) []) stored
+module _ (number : List ℕ → ℕ) (m : ℕ) (head : SessionHead) (events : List LiveEvent) (sizes : RecordedSizes) (manifest : List ℕ) (same : sizes ≡ run_sizes number m head events)
+    (text : manifest ≡ compact_text (manifest_value (manifest_of (recorded_info head sizes)))) where
+  written : manifest ≡ manifest_text number m head events
+  unfolding manifest_text
+  written = text ∙ ap (λ (z : RecordedSizes). compact_text (manifest_value (manifest_of (recorded_info head z)))) same
 
--- the manifest is read as that of the run
-pub manifest_read : (head : SessionHead) (sizes : RecordedSizes) (manifest : List ℕ) → sizes ≡ run_sizes head []
-    → manifest ≡ compact_text (manifest_value (manifest_of (recorded_info head sizes))) → bytes_form manifest_form manifest ≡ Some (manifest_of (recorded_info head sizes))
-    → bytes_form manifest_form (manifest_text head []) ≡ Some (manifest_of (run_info head []))
-unfolding manifest_text
-manifest_read head sizes manifest same text read =
-    let written : manifest ≡ manifest_text head [] = text ∙ ap (λ (z : RecordedSizes). compact_text (manifest_value (manifest_of (recorded_info head z)))) same in
-    ap (bytes_form manifest_form) (sym written) ∙ read ∙ ap (λ (z : RecordedSizes). Some (manifest_of (recorded_info head z))) same
+  -- the entries of a bundle, by its three texts
+  pub same_entries : (log store : List ℕ) → log ≡ run_log number m events → store ≡ spell (run_store number m head events)
+      → bundle_entries manifest log store ≡ run_entries number m head events
+  same_entries log store logged stored =
+      ap (λ t. bundle_entries t log store) written
+      ∙ ap (λ l. bundle_entries (manifest_text number m head events) l store) logged
+      ∙ ap (bundle_entries (manifest_text number m head events) (run_log number m events)) stored
 
--- a store that is too long makes a bundle that is too long
-pub too_long_store : (head : SessionHead) (e : RecordExportError) → IsTooLong (length (spell (store_entries head))) e → IsTooLong (length (run_bundle head [])) e
-too_long_store head e (inl h) = inl h
-too_long_store head e (inr h) = inr (h.0, omega (arith, h.1, content_bytes-below (run_entries head [])))
+  -- what is weighed of it: manifest, log and the store's entries
+  pub same_weighed : (log : List ℕ) → log ≡ run_log number m events
+      → named manifest_name manifest ∷ named log_name log ∷ run_store number m head events
+      ≡ named manifest_name (manifest_text number m head events) ∷ named log_name (run_log number m events) ∷ run_store number m head events
+  same_weighed log logged =
+      ap (λ t. named manifest_name t ∷ named log_name log ∷ run_store number m head events) written
+      ∙ ap (λ l. named manifest_name (manifest_text number m head events) ∷ named log_name l ∷ run_store number m head events) logged
+
+  -- the manifest is read as that of the run
+  pub manifest_read : bytes_form manifest_form manifest ≡ Some (manifest_of (recorded_info head sizes))
+      → bytes_form manifest_form (manifest_text number m head events) ≡ Some (manifest_of (run_info number m head events))
+  manifest_read read = ap (bytes_form manifest_form) (sym written) ∙ read ∙ ap (λ (z : RecordedSizes). Some (manifest_of (recorded_info head z))) same

@@ -7,7 +7,7 @@ use Rattle.rec_program.specs.Reading.{Unread}
 use Rattle.rec_program.specs.Export.{Undelivered, Fails}
 use Rattle.rec_program.specs.declared.settings.Settings.{Settings}
 use Rattle.rec_program.specs.declared.refusal.RecordExportError.{RecordExportError}
-use Rattle.rec_program.specs.declared.refusal.RecordExportError.TheVariants.{SourceFault, SessionTooLarge, ParseHead, ReadRunLog, ParseEvent, CountOutOfRange, BundleFault, OutOfMemory}
+use Rattle.rec_program.specs.declared.refusal.RecordExportError.TheVariants.{SourceFault, SessionTooLarge, ParseHead, ReadRunLog, ParseEvent, NameCollision, CountOutOfRange, FileTooLarge, BundleFault, OutOfMemory}
 
 -- what a source gave to its end is what it had
 same_session : (a b : Option (List ℕ)) (session given : List ℕ) → a ≡ Some session → Consumes a b given → IsAtEnd b → given ≡ session
@@ -33,7 +33,9 @@ module _ {S B : Type 0} (left : S → Option (List ℕ)) (source_faults : S → 
   unread ParseHead u = absurd u
   unread (ReadRunLog line_number) u = absurd u
   unread (ParseEvent line_number) u = absurd u
+  unread (NameCollision file_name) u = absurd u
   unread (CountOutOfRange event) u = absurd u
+  unread (FileTooLarge file_name size most) u = absurd u
   unread BundleFault u = absurd u
   unread OutOfMemory u = refl
 
@@ -43,7 +45,9 @@ module _ {S B : Type 0} (left : S → Option (List ℕ)) (source_faults : S → 
   undelivered text ParseHead u = absurd u
   undelivered text (ReadRunLog line_number) u = absurd u
   undelivered text (ParseEvent line_number) u = absurd u
+  undelivered text (NameCollision file_name) u = absurd u
   undelivered text (CountOutOfRange event) u = absurd u
+  undelivered text (FileTooLarge file_name size most) u = absurd u
   undelivered text BundleFault u = absurd (bundle u.0)
   undelivered text OutOfMemory u = refl
 

@@ -1,14 +1,17 @@
 -- The bundle of a session, and why a session has none.
-use Rattle.std.specs.Prelude.{◌≡◌, ℕ, ◌^◌, List, length, Option, Some, None, nat_lt, if◌then◌else◌, option_and_then, ◌⊎◌}
+use Rattle.std.specs.Prelude.{◌≡◌, ℕ, ◌^◌, List, [], ◌∷◌, length, Option, Some, None, nat_lt, if◌then◌else◌, option_and_then}
 use Rattle.std.specs.Option.{option_or}
 use Rattle.rec_codec.specs.Lines.{NumberedLine}
-use Rattle.rec_codec.specs.Event.{Event}
+use Rattle.rec_codec.specs.Event.{LiveEvent}
 use Rattle.rec_forms.specs.TextForm.{bytes_form}
 use Rattle.rec_format.specs.HeadForms.{head_form}
 use Rattle.rec_format.specs.declared.head.SessionHead.{SessionHead}
-use Rattle.rec_store.specs.Bundle.{run_bundle}
+use Rattle.rec_container.specs.Writing.{named}
+use Rattle.rec_store.specs.Bundle.{manifest_text, run_bundle, run_log, run_store}
+use Rattle.rec_store.specs.Entries.{log_name, manifest_name}
 use Rattle.rec_store.specs.Reading.{IsReading, recorded}
 use Rattle.rec_program.specs.Session.{session_lines, head_text, event_lines, lines_refusal, events_of}
+use Rattle.rec_program.specs.Sizes.{entries_refusal}
 use Rattle.rec_program.specs.declared.settings.Settings.{Settings}
 use Rattle.rec_program.specs.declared.refusal.RecordExportError.{RecordExportError}
 use Rattle.rec_program.specs.declared.refusal.RecordExportError.TheVariants.{ParseHead, CountOutOfRange}
@@ -17,39 +20,40 @@ use Rattle.rec_program.specs.declared.refusal.RecordExportError.TheVariants.{Par
 abbrev pub head_in : Option (List ℕ) → Option SessionHead
 head_in text = option_and_then (bytes_form head_form) text
 
-module _ (number : List ℕ → ℕ) (settings : Settings) where
-  -- the sizes and the number of entries are below the length of the bundle, which has to be a u64
-  abbrev pub count_refusal : SessionHead → List Event → Option RecordExportError
-  count_refusal head events = if nat_lt (length (run_bundle head events)) (2 ^ 64) then None else Some (CountOutOfRange None)
-
-  -- why lines are refused behind a head, if they are: the first failing line, then the sizes
-  abbrev pub refusal_behind : Option SessionHead → List NumberedLine → Option RecordExportError
-  refusal_behind None lines = Some ParseHead
-  refusal_behind (Some head) lines = option_or (lines_refusal lines) (count_refusal head (events_of lines))
-
 -- the head of a session, where it has one
 abbrev pub session_head : List ℕ → Option SessionHead
 session_head session = head_in (head_text (session_lines session))
 
--- a session is refused for its head, or for a line behind it
-abbrev pub IsRefusedLine : List ℕ → RecordExportError → Type 0
-IsRefusedLine session e =
-    ((e ≡ ParseHead) × (session_head session ≡ None))
-    ⊎ ((head : SessionHead) × (session_head session ≡ Some head) × (lines_refusal (event_lines (session_lines session)) ≡ Some e))
-
 -- the events of a session
-unfoldable pub session_events : List ℕ → List Event
+unfoldable pub session_events : List ℕ → List LiveEvent
 session_events session = events_of (event_lines (session_lines session))
 
 module _ (number : List ℕ → ℕ) (settings : Settings) where
+  -- the sizes and the number of entries are below the length of the bundle, which has to be a u64
+  abbrev pub count_refusal : SessionHead → List LiveEvent → Option RecordExportError
+  count_refusal head events = if nat_lt (length (run_bundle number settings.max_output head events)) (2 ^ 64) then None else Some (CountOutOfRange None)
+
+  -- a reader with the limit takes the manifest, the log and each entry of the store
+  abbrev pub size_refusal : SessionHead → List LiveEvent → Option RecordExportError
+  size_refusal head events =
+      entries_refusal settings.read_limit (named manifest_name (manifest_text number settings.max_output head events)
+      ∷ named log_name (run_log number settings.max_output events)
+      ∷ run_store number settings.max_output head events)
+
+  -- why lines are refused behind a head, if they are: the first failing line, then the sum of all sizes, then the first size
+  abbrev pub refusal_behind : Option SessionHead → List NumberedLine → Option RecordExportError
+  refusal_behind None lines = Some ParseHead
+  refusal_behind (Some head) lines =
+      option_or (lines_refusal number settings.max_output [] lines) (option_or (count_refusal head (events_of lines)) (size_refusal head (events_of lines)))
+
   -- why a session is refused that was read whole, if it is
   unfoldable pub refusal : List ℕ → Option RecordExportError
-  refusal session = refusal_behind number settings (session_head session) (event_lines (session_lines session))
+  refusal session = refusal_behind (session_head session) (event_lines (session_lines session))
 
   -- the session is valid, this is its bundle, and the bundle is read as what was recorded of the session
   pub record IsBundleOf (session bundle : List ℕ) : Type 0 where
     pub head : SessionHead
     pub has_head : session_head session ≡ Some head
     pub valid : refusal session ≡ None
-    pub spelled : bundle ≡ run_bundle head (session_events session)
-    pub reads : IsReading bundle (recorded head (session_events session))
+    pub spelled : bundle ≡ run_bundle number settings.max_output head (session_events session)
+    pub reads : IsReading bundle (recorded number settings.max_output head (session_events session))

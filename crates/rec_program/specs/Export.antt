@@ -3,6 +3,7 @@ use Rattle.std.specs.Prelude.{◌≡◌, ℕ, List, length, Option, Some, ◌⊎
 use Rattle.std.specs.Io.KnownBytes.{Appends}
 use Rattle.rec_container.specs.Causes.{Rose}
 use Rattle.rec_container.specs.Taking.{TookPart}
+use Rattle.rec_store.specs.Bundle.{outputs_stored}
 use Rattle.rec_program.specs.Bundle.{session_events, refusal, IsBundleOf}
 use Rattle.rec_program.specs.Reading.{Gave, Unread}
 use Rattle.rec_program.specs.declared.counts.Exported.{Exported}
@@ -10,10 +11,10 @@ use Rattle.rec_program.specs.declared.settings.Settings.{Settings}
 use Rattle.rec_program.specs.declared.refusal.RecordExportError.{RecordExportError}
 use Rattle.rec_program.specs.declared.refusal.RecordExportError.TheVariants.{BundleFault}
 
--- what is counted of a session and its bundle; no kind of event is built yet that has outputs, and no trace is
-pub record CountsOf (session bundle : List ℕ) (exported : Exported) : Type 0 where
+-- what is counted of a session, with the outputs that are stored of it, and of its bundle; no trace is written yet
+pub record CountsOf (number : List ℕ → ℕ) (m : ℕ) (session bundle : List ℕ) (exported : Exported) : Type 0 where
   pub events : exported.events ≡ length (session_events session)
-  pub outputs : exported.outputs ≡ 0
+  pub outputs : exported.outputs ≡ length (outputs_stored number m (session_events session))
   pub bundle_bytes : exported.bundle_bytes ≡ length bundle
   pub trace_bytes : exported.trace_bytes ≡ 0
 
@@ -28,7 +29,7 @@ module _ {S B : Type 0} (left : S → Option (List ℕ)) (source_faults : S → 
   abbrev pub Exports : S → S → B → B → Exported → Type 0
   Exports s0 s1 b0 b1 exported =
       (session : List ℕ) × (bundle : List ℕ) × Gave left source_faults settings.session_limit s0 s1 session × IsBundleOf number settings session bundle
-      × Appends (taken b0) (taken b1) bundle × CountsOf session bundle exported
+      × Appends (taken b0) (taken b1) bundle × CountsOf number settings.max_output session bundle exported
 
   -- why a session isn't exported: it wasn't read, or it is refused, or the sink failed; before its first byte the sink is as it was
   abbrev pub Fails : S → S → B → B → RecordExportError → Type 0

@@ -2,9 +2,9 @@
 use Rattle.std.specs.Prelude.{ℕ, List, [], ◌∷◌, ◌++◌, Option, Some, None, codes}
 use Rattle.std.specs.Fmt.{decimal}
 use Rattle.rec_program.specs.declared.refusal.RecordExportError.{RecordExportError}
-use Rattle.rec_program.specs.declared.refusal.RecordExportError.TheVariants.{SourceFault, SessionTooLarge, ParseHead, ReadRunLog, ParseEvent, CountOutOfRange, BundleFault, OutOfMemory}
+use Rattle.rec_program.specs.declared.refusal.RecordExportError.TheVariants.{SourceFault, SessionTooLarge, ParseHead, ReadRunLog, ParseEvent, NameCollision, CountOutOfRange, FileTooLarge, BundleFault, OutOfMemory}
 use Rattle.rec_program.specs.declared.words.WordsError.{WordsError}
-use Rattle.rec_program.specs.declared.words.WordsError.TheVariants.{NoCommand, UnknownCommand, MissingPositional, UnknownOption}
+use Rattle.rec_program.specs.declared.words.WordsError.TheVariants.{NoCommand, UnknownCommand, MissingPositional, UnknownOption, RepeatedOption, MissingValue, BadValue}
 
 -- ` name=value` for each field, and a newline
 abbrev pub fields_line : List (List ℕ × List ℕ) → List ℕ
@@ -25,6 +25,9 @@ words_line NoCommand = fault_line (codes "NoCommand") []
 words_line (UnknownCommand at) = fault_line (codes "UnknownCommand") ((codes "at", decimal at) ∷ [])
 words_line (MissingPositional at) = fault_line (codes "MissingPositional") ((codes "at", decimal at) ∷ [])
 words_line (UnknownOption at) = fault_line (codes "UnknownOption") ((codes "at", decimal at) ∷ [])
+words_line (RepeatedOption at) = fault_line (codes "RepeatedOption") ((codes "at", decimal at) ∷ [])
+words_line (MissingValue at) = fault_line (codes "MissingValue") ((codes "at", decimal at) ∷ [])
+words_line (BadValue at) = fault_line (codes "BadValue") ((codes "at", decimal at) ∷ [])
 
 unfoldable pub export_line : RecordExportError → List ℕ
 export_line SourceFault = fault_line (codes "SourceFault") []
@@ -32,7 +35,10 @@ export_line (SessionTooLarge limit) = fault_line (codes "SessionTooLarge") ((cod
 export_line ParseHead = fault_line (codes "ParseHead") []
 export_line (ReadRunLog line_number) = fault_line (codes "ReadRunLog") ((codes "line_number", decimal line_number) ∷ [])
 export_line (ParseEvent line_number) = fault_line (codes "ParseEvent") ((codes "line_number", decimal line_number) ∷ [])
+export_line (NameCollision file_name) = fault_line (codes "NameCollision") ((codes "file_name", file_name) ∷ [])
 export_line (CountOutOfRange event) = fault_line (codes "CountOutOfRange") ((codes "event", optional_number event) ∷ [])
+export_line (FileTooLarge file_name size limit) =
+    fault_line (codes "FileTooLarge") ((codes "file_name", file_name) ∷ (codes "size", decimal size) ∷ (codes "limit", decimal limit) ∷ [])
 export_line BundleFault = fault_line (codes "BundleFault") []
 export_line OutOfMemory = fault_line (codes "OutOfMemory") []
 

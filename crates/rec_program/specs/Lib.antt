@@ -2,10 +2,14 @@ pub mod Built
 pub mod Bundle
 pub mod Export
 pub mod FaultLine
+pub mod LineFaults
+pub mod Options
 pub mod Reading
+pub mod Recorded
 pub mod Reporting
 pub mod Running
 pub mod Session
 pub mod Settings
+pub mod Sizes
 pub mod Status
 pub mod Words

@@ -1,10 +1,13 @@
 -- The lines of a session: the head's, and those of events.
-use Rattle.std.specs.Prelude.{ℕ, List, [], ◌∷◌, filter_map, Option, Some, None, option_and_then, Result, Ok, Err, ◌≡◌, ◌||◌, if◌then◌else◌}
+use Rattle.std.specs.Prelude.{ℕ, List, [], ◌∷◌, filter_map, Option, Some, None, option_map, if◌then◌else◌}
 use Rattle.std.specs.Option.{option_or}
+use Rattle.rec_container.specs.Container.{Entry}
 use Rattle.rec_codec.specs.Lines.{NumberedLine, lines, numbered, text_of, is_blank}
-use Rattle.rec_codec.specs.Event.{Event, event_of, stands_for_event}
+use Rattle.rec_codec.specs.Event.{LiveEvent, live_event, live_event_of}
+use Rattle.rec_store.specs.Clashes.{clash, with_entries}
+use Rattle.rec_store.specs.EventOutputs.{event_entries}
 use Rattle.rec_program.specs.declared.refusal.RecordExportError.{RecordExportError}
-use Rattle.rec_program.specs.declared.refusal.RecordExportError.TheVariants.{ReadRunLog, ParseEvent}
+use Rattle.rec_program.specs.declared.refusal.RecordExportError.TheVariants.{ReadRunLog, ParseEvent, NameCollision}
 
 -- the lines of a session, numbered from 1
 abbrev pub session_lines : List ℕ → List NumberedLine
@@ -20,25 +23,36 @@ abbrev pub event_lines : List NumberedLine → List NumberedLine
 event_lines [] = []
 event_lines (line ∷ lines) = lines
 
--- why a text at a line is refused, if it is; no text is a line that isn't UTF-8
-abbrev pub text_refusal : ℕ → Option (List ℕ) → Option RecordExportError
-text_refusal number None = Some (ReadRunLog number)
-text_refusal number (Some text) = if is_blank text || stands_for_event text then None else Some (ParseEvent number)
+-- the event of a line, if it has one
+abbrev pub event_at : NumberedLine → Option LiveEvent
+event_at line = live_event (text_of line.bytes)
 
--- why a line behind the first is refused, if it is
-abbrev pub line_refusal : NumberedLine → Option RecordExportError
-line_refusal line = text_refusal line.number (text_of line.bytes)
+-- the events of lines
+abbrev pub events_of : List NumberedLine → List LiveEvent
+events_of lines = filter_map event_at lines
 
--- the first refusal among lines
-abbrev pub lines_refusal : List NumberedLine → Option RecordExportError
-lines_refusal [] = None
-lines_refusal (line ∷ lines) = option_or (line_refusal line) (lines_refusal lines)
+-- outputs are numbered by their bytes, and cut at m bytes
+module _ (number : List ℕ → ℕ) (m : ℕ) where
+  -- the outputs of a line's event
+  abbrev pub outputs_at : Option LiveEvent → List Entry
+  outputs_at None = []
+  outputs_at (Some event) = event_entries number m event
 
--- the events that lines are read as
-abbrev pub events_of : List NumberedLine → List Event
-events_of lines = filter_map (λ line. option_and_then event_of (text_of line.bytes)) lines
+  -- why a text that isn't blank is refused at a line, if it is: it is no event, or an output clashes with those stored before
+  abbrev pub event_refusal : List Entry → ℕ → Option LiveEvent → Option RecordExportError
+  event_refusal stored n None = Some (ParseEvent n)
+  event_refusal stored n (Some event) = option_map NameCollision (clash stored (event_entries number m event))
 
--- a refusal is answered, exactly where there is one
-abbrev pub Judges : {T : Type 0} → Result T RecordExportError → Option RecordExportError → Type 0
-Judges (Ok x) refusal = refusal ≡ None
-Judges (Err e) refusal = refusal ≡ Some e
+  -- why a text at a line is refused, if it is; no text is a line that isn't UTF-8
+  abbrev pub text_refusal : List Entry → ℕ → Option (List ℕ) → Option RecordExportError
+  text_refusal stored n None = Some (ReadRunLog n)
+  text_refusal stored n (Some text) = if is_blank text then None else event_refusal stored n (live_event_of text)
+
+  -- why a line behind the first is refused, if it is
+  abbrev pub line_refusal : List Entry → NumberedLine → Option RecordExportError
+  line_refusal stored line = text_refusal stored line.number (text_of line.bytes)
+
+  -- the first refusal among lines, where these outputs were stored before
+  abbrev pub lines_refusal : List Entry → List NumberedLine → Option RecordExportError
+  lines_refusal stored [] = None
+  lines_refusal stored (line ∷ lines) = option_or (line_refusal stored line) (lines_refusal (with_entries stored (outputs_at (event_at line))) lines)

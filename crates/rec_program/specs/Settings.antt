@@ -2,4 +2,4 @@
 use Rattle.rec_program.specs.declared.settings.Settings.{Settings}
 
 abbrev pub default_settings : Settings
-default_settings = record { max_output = 10485760; session_limit = 268435456 }
+default_settings = record { max_output = 10485760; read_limit = 268435456; session_limit = 268435456 }

@@ -1,7 +1,7 @@
 -- The statuses that the program ends with.
 use Rattle.std.specs.Prelude.{ℕ}
 use Rattle.rec_program.specs.declared.refusal.RecordExportError.{RecordExportError}
-use Rattle.rec_program.specs.declared.refusal.RecordExportError.TheVariants.{SourceFault, SessionTooLarge, ParseHead, ReadRunLog, ParseEvent, CountOutOfRange, BundleFault, OutOfMemory}
+use Rattle.rec_program.specs.declared.refusal.RecordExportError.TheVariants.{SourceFault, SessionTooLarge, ParseHead, ReadRunLog, ParseEvent, NameCollision, CountOutOfRange, FileTooLarge, BundleFault, OutOfMemory}
 
 -- the status for a session that isn't exported
 abbrev pub export_status : RecordExportError → ℕ
@@ -10,6 +10,8 @@ export_status (SessionTooLarge limit) = 4
 export_status ParseHead = 5
 export_status (ReadRunLog line_number) = 5
 export_status (ParseEvent line_number) = 5
+export_status (NameCollision file_name) = 6
 export_status (CountOutOfRange event) = 9
+export_status (FileTooLarge file_name size limit) = 7
 export_status BundleFault = 10
 export_status OutOfMemory = 70

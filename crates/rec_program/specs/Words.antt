@@ -2,12 +2,13 @@
 use Rattle.std.specs.Prelude.{◌≡◌, ℕ, List, [], ◌∷◌, map, Option, Some, None, Result, Ok, Err, String, string_bytes, codes, if◌then◌else◌}
 use Rattle.std.specs.Str.{bytes_eq}
 use Rattle.std.specs.declared.alloc.Global.{Global}
-use Rattle.rec_program.specs.Settings.{default_settings}
+use Rattle.rec_container.specs.Reading.{◌>>=◌}
+use Rattle.rec_program.specs.Options.{no_limits, limits_from, settings_of}
 use Rattle.rec_program.specs.declared.settings.Settings.{Settings}
 use Rattle.rec_program.specs.declared.words.Command.{Command}
 use Rattle.rec_program.specs.declared.words.Command.TheVariants as commands
 use Rattle.rec_program.specs.declared.words.WordsError.{WordsError}
-use Rattle.rec_program.specs.declared.words.WordsError.TheVariants.{NoCommand, UnknownCommand, MissingPositional, UnknownOption}
+use Rattle.rec_program.specs.declared.words.WordsError.TheVariants.{NoCommand, UnknownCommand, MissingPositional}
 
 -- what words ask for: a recording into a bundle at a path, or a text
 pub data Asked : Type 0 where
@@ -25,15 +26,10 @@ asked commands.Version = version
 abbrev pub texts : List (String Global) → List (List ℕ)
 texts words = map string_bytes words
 
--- what stands behind the bundle: no option is there yet
-abbrev pub options_command : List ℕ → List (List ℕ) → Result Asked WordsError
-options_command bundle [] = Ok (recording bundle default_settings)
-options_command bundle (word ∷ words) = Err (UnknownOption 2)
-
--- what stands behind `record`
+-- what stands behind `record`: a bundle, and options from the word 2 on
 abbrev pub record_command : List (List ℕ) → Result Asked WordsError
 record_command [] = Err (MissingPositional 1)
-record_command (bundle ∷ words) = options_command bundle words
+record_command (bundle ∷ words) = limits_from no_limits 2 words >>= (λ limits. Ok (recording bundle (settings_of limits)))
 
 -- what a word that isn't `record` asks for, with the words behind it
 abbrev pub other_command : List ℕ → List (List ℕ) → Result Asked WordsError

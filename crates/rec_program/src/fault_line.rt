@@ -30,6 +30,9 @@ impl FaultLine for WordsError {
                 format!(in alloc; "MissingPositional at={at}\n")
             }
             WordsError::UnknownOption { at } => format!(in alloc; "UnknownOption at={at}\n"),
+            WordsError::RepeatedOption { at } => format!(in alloc; "RepeatedOption at={at}\n"),
+            WordsError::MissingValue { at } => format!(in alloc; "MissingValue at={at}\n"),
+            WordsError::BadValue { at } => format!(in alloc; "BadValue at={at}\n"),
         }
     }
 }
@@ -51,11 +54,23 @@ impl FaultLine for RecordExportError {
             RecordExportError::ParseEvent { line_number } => {
                 format!(in alloc; "ParseEvent line_number={line_number}\n")
             }
+            RecordExportError::NameCollision { file_name } => {
+                let file_name = file_name.as_str();
+                format!(in alloc; "NameCollision file_name={file_name}\n")
+            }
             RecordExportError::CountOutOfRange { event: None } => {
                 String::from_str(alloc, "CountOutOfRange event=None\n")
             }
             RecordExportError::CountOutOfRange { event: Some(event) } => {
                 format!(in alloc; "CountOutOfRange event={event}\n")
+            }
+            RecordExportError::FileTooLarge {
+                file_name,
+                size,
+                limit,
+            } => {
+                let file_name = file_name.as_str();
+                format!(in alloc; "FileTooLarge file_name={file_name} size={size} limit={limit}\n")
             }
             RecordExportError::BundleFault => String::from_str(alloc, "BundleFault\n"),
             RecordExportError::OutOfMemory => String::from_str(alloc, "OutOfMemory\n"),

@@ -8,20 +8,30 @@ mod built;
 mod bundle;
 mod counts;
 mod deliver;
+#[cfg(test)]
+mod event_tests;
 mod export;
 mod fault_line;
-mod judge;
+mod head;
+#[cfg(test)]
+mod hostile_tests;
+mod options;
 mod prepare;
 mod program;
 mod read;
 mod record;
 mod refusal;
 mod settings;
+#[cfg(test)]
+mod settings_tests;
+mod sizes;
 mod status;
 #[cfg(test)]
 mod tests;
 mod usage;
 mod words;
+#[cfg(test)]
+mod words_tests;
 
 use program::run_program;
 use rec_container::{FileSink, StdSink, StdSource};

@@ -1,20 +1,21 @@
 //! The judging of a session, and its bundle in memory.
-ghost use Rattle.std.specs.Prelude.{◌≡◌, ◌⊎◌, ◌<◌, ◌≤◌, ◌^◌, [], List, ℕ, length, Some, None, IfOk, IfErr, OnOk, option_map};
-ghost use Rattle.rec_program.specs.Bundle.{IsBundleOf, IsRefusedLine, head_in, refusal, session_events, session_head};
-ghost use Rattle.rec_program.specs.Session.{event_lines, lines_refusal, session_lines};
-ghost use Rattle.rec_program.specs.declared.refusal.RecordExportError.TheVariants.{CountOutOfRange, OutOfMemory, ParseHead};
-ghost use Rattle.rec_store.specs.Bundle.{run_bundle};
+ghost use Rattle.std.specs.Prelude.{◌≡◌, ◌⊎◌, ◌<◌, ◌^◌, [], length, Some, None, IfOk, IfErr, OnOk};
+ghost use Rattle.rec_program.specs.Bundle.{IsBundleOf, refusal, refusal_behind, session_events};
+ghost use Rattle.rec_program.specs.Session.{events_of, lines_refusal};
+ghost use Rattle.rec_program.specs.declared.refusal.RecordExportError.TheVariants.{OutOfMemory};
+ghost use Rattle.rec_store.specs.Bundle.{outputs_stored, run_bundle};
 ghost use Rattle.rec_store.specs.Reading.{IsReading, recorded};
+ghost use Rattle.rec_store.specs.Store.{store_entries};
 
 use crate::built::BuiltText;
 use crate::bundle::{build_bundle, build_manifest};
-use crate::judge::{judge_lines, take_head};
+use crate::head::{read_head, take_head};
 use crate::record::record_run;
 use crate::refusal::RecordExportError;
 use crate::settings::Settings;
+use crate::sizes::judge_sizes;
 use rec_codec::Lines;
 use rec_format::SessionHead;
-use rec_forms::{FromValueError, read_text};
 use rec_store::OutputNamer;
 use std::alloc::Global;
 
@@ -36,59 +37,58 @@ pub fn prepare<N: OutputNamer>(
     ensures bundle { IfOk result (λ p.
         IsBundleOf (N.number namer.now) settings.now session.now p.bundle.bytes) }
     ensures events { IfOk result (λ p. p.events ≡ length (session_events session.now)) }
-    ensures outputs { IfOk result (λ p. p.outputs ≡ 0) }
+    ensures outputs { IfOk result (λ p. p.outputs
+        ≡ length (outputs_stored (N.number namer.now) settings.now.max_output (session_events session.now))) }
     ensures err { IfErr result (λ e. (e ≡ OutOfMemory)
         ⊎ (refusal (N.number namer.now) settings.now session.now ≡ Some e)) }
 {
-    let head = judge(alloc, session)?;
-    let bundle = bundle_head(alloc, settings, namer, &head)?;
-    Ok(Prepared {
-        bundle,
-        events: 0,
-        outputs: 0,
-    })
-}
-
-/// Judges the lines of a session, and answers its head.
-fn judge(alloc: Global, session: &[u8]) -> Result<SessionHead, RecordExportError>
-    ensures head { IfOk result (λ head. session_head session.now ≡ Some head) }
-    ensures lines { OnOk result (lines_refusal (event_lines (session_lines session.now)) ≡ None) }
-    ensures err { IfErr result (λ e. (e ≡ OutOfMemory) ⊎ IsRefusedLine session.now e) }
-{
     let mut lines = Lines::new(session, 1);
     let head = read_head(alloc, take_head(&mut lines))?;
-    judge_lines(lines)?;
-    Ok(head)
+    bundle_run(alloc, settings, namer, &head, lines)
 }
 
-/// The head that the first line's text is read as.
-fn read_head(alloc: Global, text: Option<&str>) -> Result<SessionHead, RecordExportError>
-    ensures head { IfOk result (λ head. head_in (option_map (λ t. t.now) text.entry) ≡ Some head) }
-    ensures err { IfErr result (λ e. (e ≡ OutOfMemory) ⊎ ((e ≡ ParseHead) × (head_in (option_map (λ t. t.now) text.entry) ≡ None))) }
-{
-    let Some(text) = text else {
-        return Err(RecordExportError::ParseHead);
-    };
-    match read_text(alloc, text.as_bytes()) {
-        Ok(head) => Ok(head),
-        Err(FromValueError::NotAValue) => Err(RecordExportError::ParseHead),
-        Err(FromValueError::OutOfMemory) => Err(RecordExportError::OutOfMemory),
-    }
-}
-
-/// The bundle of a run with this head and no events.
-fn bundle_head<N: OutputNamer>(
+/// The bundle of a run with this head, and the events of the lines behind it.
+fn bundle_run<N: OutputNamer>(
     alloc: Global,
     settings: &Settings,
     namer: &N,
     head: &SessionHead,
-) -> Result<BuiltText, RecordExportError>
-    ensures bundle { IfOk result (λ b. b.bytes ≡ run_bundle head.now []) }
-    ensures fits { OnOk result (length (run_bundle head.now []) < 2 ^ 64) }
-    ensures reads { OnOk result (IsReading (run_bundle head.now []) (recorded head.now [])) }
-    ensures err { IfErr result (λ e. (e ≡ OutOfMemory) ⊎ ((e ≡ CountOutOfRange None) × (2 ^ 64 ≤ length (run_bundle head.now [])))) }
+    lines: Lines<'_>,
+) -> Result<Prepared, RecordExportError>
+    ensures bundle { IfOk result (λ p. p.bundle.bytes
+        ≡ run_bundle (N.number namer.now) settings.now.max_output head.now (events_of lines.entry)) }
+    ensures reads { IfOk result (λ p. IsReading p.bundle.bytes
+        (recorded (N.number namer.now) settings.now.max_output head.now (events_of lines.entry))) }
+    ensures valid { OnOk result (refusal_behind (N.number namer.now) settings.now (Some head.now) lines.entry ≡ None) }
+    ensures events { IfOk result (λ p. p.events ≡ length (events_of lines.entry)) }
+    ensures outputs { IfOk result (λ p. p.outputs
+        ≡ length (outputs_stored (N.number namer.now) settings.now.max_output (events_of lines.entry))) }
+    ensures err { IfErr result (λ e. (e ≡ OutOfMemory)
+        ⊎ (refusal_behind (N.number namer.now) settings.now (Some head.now) lines.entry ≡ Some e)) }
 {
-    let run = record_run(alloc, settings, namer, head)?;
+    let run = record_run(alloc, settings, namer, head, lines)?;
     let manifest = build_manifest(alloc, head, run.sizes)?;
-    build_bundle(alloc, &manifest, run.log.bytes(), run.store.bytes())
+    let bundle = build_bundle(alloc, &manifest, run.log.bytes(), run.store.bytes())?;
+    judge_sizes(
+        alloc,
+        settings.read_limit,
+        &manifest,
+        run.log.bytes(),
+        run.store.bytes(),
+    )?;
+    Ok(Prepared {
+        bundle,
+        events: run.sizes.log.entries,
+        outputs: run.sizes.store.entries - metadata_count(head),
+    })
+}
+
+/// How many entries a store has of a head.
+fn metadata_count(head: &SessionHead) -> u64
+    ensures { result ≡ length (store_entries head.now) }
+{
+    match head.rerun_info {
+        Some(_) => 5,
+        None => 4,
+    }
 }

@@ -1,17 +1,21 @@
-//! Records the head of a session.
-ghost use Rattle.std.specs.Prelude.{◌≡◌, ◌≤◌, ◌^◌, [], false, None, Some, length, IfOk, IfErr, OnOk, ◌⊎◌};
-ghost use Rattle.rec_container.specs.Container.{spell};
-ghost use Rattle.rec_container.specs.Container.{AreFrom};
-ghost use Rattle.rec_store.specs.Recording.{Stores, Unstored, has_failed};
-ghost use Rattle.rec_store.specs.Store.{rerun_entries, store_entries};
-ghost use Rattle.rec_store.specs.Bundle.{run_sizes};
+//! Records a session into memory.
+ghost use Rattle.std.specs.Prelude.{◌≡◌, ◌⊎◌, ◌++◌, [], List, false, None, Some, length, IfOk, IfErr, OnOk};
+ghost use Rattle.rec_codec.specs.Event.{LiveEvent};
+ghost use Rattle.rec_codec.specs.LineView.{line_view};
+ghost use Rattle.rec_format.specs.declared.head.SessionHead.{SessionHead};
+ghost use Rattle.rec_store.specs.Recording.{Stores, has_failed};
 ghost use Rattle.rec_store.specs.Reading.{AreRead, IsRerunRead};
-ghost use Rattle.rec_program.specs.declared.refusal.RecordExportError.TheVariants.{CountOutOfRange, OutOfMemory};
+ghost use Rattle.rec_store.specs.Store.{rerun_entries, store_entries};
+ghost use Rattle.rec_program.specs.Recorded.{HasRecorded, IsRunOf, RecordsEvent, RecordsLine, RecordsLines};
+ghost use Rattle.rec_program.specs.Session.{events_of, lines_refusal};
+ghost use Rattle.rec_program.specs.declared.refusal.RecordExportError.TheVariants.{OutOfMemory};
 
 use crate::built::BuiltText;
 use crate::refusal::RecordExportError;
 use crate::settings::Settings;
+use rec_codec::{Line, Lines, read_line};
 use rec_container::Sink;
+use rec_events::{LiveSpec, TestEventSummary};
 use rec_format::{RecordedSizes, RerunInfo, SessionHead};
 use rec_store::{OutputNamer, RunRecorder, RunStoreError};
 use std::alloc::Global;
@@ -27,20 +31,24 @@ pub struct RecordedInMemory {
     pub sizes: RecordedSizes,
 }
 
-/// Records a head into memory.
+/// A recorder of a run into memory.
+type MemoryRecorder<'n, N> = RunRecorder<'n, BuiltText, BuiltText, N>;
+
+/// Records a head, and the events of the lines behind it.
+///
+/// Sinks in memory fail only for want of it, and a log or store of more bytes than a u64 counts
+/// doesn't fit into it. So a line's refusal is the only other one.
 pub fn record_run<N: OutputNamer>(
     alloc: Global,
     settings: &Settings,
     namer: &N,
     head: &SessionHead,
+    lines: Lines<'_>,
 ) -> Result<RecordedInMemory, RecordExportError>
-    ensures store { IfOk result (λ r. r.store.bytes ≡ spell (store_entries head.now)) }
-    ensures log { IfOk result (λ r. r.log.bytes ≡ []) }
-    ensures sizes { IfOk result (λ r. r.sizes ≡ run_sizes head.now []) }
-    ensures sound { OnOk result (AreFrom [] (store_entries head.now)) }
-    ensures read { OnOk result (AreRead head.now) }
+    ensures valid { OnOk result (lines_refusal (N.number namer.now) settings.now.max_output [] lines.entry ≡ None) }
+    ensures run { IfOk result (λ r. IsRunOf (N.number namer.now) settings.now.max_output head.now (events_of lines.entry) r.store.bytes r.log.bytes r.sizes) }
     ensures err { IfErr result (λ e. (e ≡ OutOfMemory)
-        ⊎ ((e ≡ CountOutOfRange None) × (2 ^ 64 ≤ length (spell (store_entries head.now))))) }
+        ⊎ (lines_refusal (N.number namer.now) settings.now.max_output [] lines.entry ≡ Some e)) }
 {
     let mut recorder = RunRecorder::new(
         alloc,
@@ -49,13 +57,10 @@ pub fn record_run<N: OutputNamer>(
         namer,
         settings.max_output,
     );
-    match record_head(&mut recorder, head) {
-        Ok(()) => {}
-        Err(RunStoreError::CountOutOfRange) => {
-            return Err(RecordExportError::CountOutOfRange { event: None });
-        }
-        Err(_) => return Err(RecordExportError::OutOfMemory),
-    }
+    let Ok(()) = record_head(&mut recorder, head) else {
+        return Err(RecordExportError::OutOfMemory);
+    };
+    record_lines(alloc, lines, &mut recorder)?;
     let end = recorder.finish();
     match end.result {
         Ok(sizes) => Ok(RecordedInMemory {
@@ -70,6 +75,56 @@ pub fn record_run<N: OutputNamer>(
     }
 }
 
+/// Records the events of lines.
+fn record_lines<N: OutputNamer>(
+    alloc: Global,
+    lines: Lines<'_>,
+    recorder: &mut MemoryRecorder<'_, N>,
+) -> Result<(), RecordExportError>
+    ensures { (head : SessionHead) (events : List LiveEvent)
+        → HasRecorded N.number recorder.old.namer recorder.old.max_output head events recorder.old
+        → RecordsLines N.number recorder.old.namer recorder.old.max_output head events lines.entry recorder.new result }
+{
+    for line in lines {
+        record_line(alloc, line, recorder)?;
+    }
+    Ok(())
+}
+
+/// Records the event of a line, if it has one.
+fn record_line<N: OutputNamer>(
+    alloc: Global,
+    line: Line<'_>,
+    recorder: &mut MemoryRecorder<'_, N>,
+) -> Result<(), RecordExportError>
+    ensures { (head : SessionHead) (events : List LiveEvent)
+        → HasRecorded N.number recorder.old.namer recorder.old.max_output head events recorder.old
+        → RecordsLine N.number recorder.old.namer recorder.old.max_output head events (line_view line.entry) recorder.new result }
+{
+    match read_line(alloc, line) {
+        None => Ok(()),
+        Some(event) => record_event(event?, recorder),
+    }
+}
+
+/// Records an event.
+fn record_event<N: OutputNamer>(
+    event: TestEventSummary<LiveSpec>,
+    recorder: &mut MemoryRecorder<'_, N>,
+) -> Result<(), RecordExportError>
+    ensures { (head : SessionHead) (events : List LiveEvent)
+        → HasRecorded N.number recorder.old.namer recorder.old.max_output head events recorder.old
+        → RecordsEvent N.number recorder.old.namer recorder.old.max_output head events event recorder.new result }
+{
+    match recorder.write_event(event) {
+        Ok(()) => Ok(()),
+        Err(RunStoreError::NameCollision { file_name }) => {
+            Err(RecordExportError::NameCollision { file_name })
+        }
+        Err(_) => Err(RecordExportError::OutOfMemory),
+    }
+}
+
 /// Stores what a head says of the run, each part once and in order.
 fn record_head<S: Sink, L: Sink, N: OutputNamer>(
     recorder: &mut RunRecorder<'_, S, L, N>,
@@ -78,7 +133,6 @@ fn record_head<S: Sink, L: Sink, N: OutputNamer>(
     requires { has_failed recorder.old ≡ false }
     ensures ok { OnOk result (Stores S.taken S.faults recorder.old recorder.new (store_entries head.now)) }
     ensures read { OnOk result (AreRead head.now) }
-    ensures err { IfErr result (Unstored S.taken S.faults recorder.old recorder.new (store_entries head.now)) }
 {
     recorder.write_build_scope(&head.build_scope)?;
     record_rerun(recorder, &head.rerun_info)?;
@@ -96,7 +150,6 @@ fn record_rerun<S: Sink, L: Sink, N: OutputNamer>(
 ) -> Result<(), RunStoreError>
     ensures ok { OnOk result (Stores S.taken S.faults recorder.old recorder.new (rerun_entries rerun_info.now)) }
     ensures read { OnOk result (IsRerunRead rerun_info.now) }
-    ensures err { IfErr result (Unstored S.taken S.faults recorder.old recorder.new (rerun_entries rerun_info.now)) }
 {
     match rerun_info {
         Some(rerun_info) => recorder.write_rerun_info(rerun_info),

@@ -6,6 +6,9 @@ ghost use Rattle.std.specs.Prelude.{◌≡◌};
 pub struct Settings {
     /// The most bytes of an output that are kept. A longer output is cut.
     pub max_output: u64,
+    /// The most bytes of the manifest, the log or an entry of the store, so that a reader with this
+    /// limit can read them.
+    pub read_limit: u64,
     /// The most bytes of a session.
     pub session_limit: u64,
 }
@@ -19,6 +22,7 @@ impl Default for Settings {
     fn default() -> Settings {
         Settings {
             max_output: 10485760,
+            read_limit: 268435456,
             session_limit: 268435456,
         }
     }

@@ -22,6 +22,8 @@ pub fn export_status(error: &RecordExportError) -> u8
         RecordExportError::ParseHead
         | RecordExportError::ReadRunLog { .. }
         | RecordExportError::ParseEvent { .. } => 5,
+        RecordExportError::NameCollision { .. } => 6,
+        RecordExportError::FileTooLarge { .. } => 7,
         RecordExportError::CountOutOfRange { .. } => 9,
         RecordExportError::BundleFault => 10,
         RecordExportError::OutOfMemory => OUT_OF_MEMORY,

@@ -17,7 +17,7 @@ const HEAD: &str =
     r#"{"run-id":"550e8400-e29b-41d4-a716-446655440000","nextest-version":"0.9.111","started-at":{"secs":1000,"nanos":0,"offset":0},"last-written-at":{"secs":1011,"nanos":0,"offset":0},"status":{"status":"incomplete"},"cargo-metadata":"{}","test-list":{"suites":{}},"record-opts":{"run-mode":"test"},"build-scope":{"build-kind":"cargo","scope":{}}}"#;
 
 /// The head, as a text that no proof looks into.
-fn head() -> &'static str {
+pub(crate) fn head() -> &'static str {
     HEAD
 }
 
@@ -26,7 +26,7 @@ fn bad_head() -> &'static str {
     r#"{"run-id":1,"nextest-version":"0.9.111","started-at":{"secs":1000,"nanos":0,"offset":0},"last-written-at":{"secs":1011,"nanos":0,"offset":0},"status":{"status":"incomplete"},"cargo-metadata":"{}","test-list":{"suites":{}},"record-opts":{"run-mode":"test"},"build-scope":{"build-kind":"cargo","scope":{}}}"#
 }
 
-fn words_of(alloc: Global, texts: &[&str]) -> Result<Vec<String>, AllocError> {
+pub(crate) fn words_of(alloc: Global, texts: &[&str]) -> Result<Vec<String>, AllocError> {
     let mut words = Vec::new(alloc);
     for text in texts {
         words.push(String::from_str(alloc, text)?)?;
@@ -35,7 +35,11 @@ fn words_of(alloc: Global, texts: &[&str]) -> Result<Vec<String>, AllocError> {
 }
 
 /// Runs the program, and tells what it did: the status, what it wrote to, and its line on `diag`.
-fn told<S: Source>(alloc: Global, words: &[&str], source: &mut S) -> Result<String, AllocError> {
+pub(crate) fn told<S: Source>(
+    alloc: Global,
+    words: &[&str],
+    source: &mut S,
+) -> Result<String, AllocError> {
     let words = words_of(alloc, words)?;
     let mut bundle = BuiltText::new(alloc);
     let mut out = BuiltText::new(alloc);
@@ -52,38 +56,9 @@ fn told<S: Source>(alloc: Global, words: &[&str], source: &mut S) -> Result<Stri
 }
 
 /// The path of the bundle that the words name.
-fn path_of(alloc: Global, words: &[&str]) -> Result<String, AllocError> {
+pub(crate) fn path_of(alloc: Global, words: &[&str]) -> Result<String, AllocError> {
     let words = words_of(alloc, words)?;
     String::from_str(alloc, bundle_path(&words).unwrap_or("none"))
-}
-
-#[test]
-fn words(rt: HostRuntime) -> Result<(), Fail> {
-    let cases: [(&[&str], &str, &str); 13] = [
-        (&[], "none", "2 NoCommand\n"),
-        (&["rec", "b"], "none", "2 UnknownCommand at=0\n"),
-        (&["", "b"], "none", "2 UnknownCommand at=0\n"),
-        (&["--help", "x"], "none", "2 UnknownCommand at=0\n"),
-        (&["record"], "none", "2 MissingPositional at=1\n"),
-        (&["record", "b", "x"], "none", "2 UnknownOption at=2\n"),
-        (&["record", "b", ""], "none", "2 UnknownOption at=2\n"),
-        (
-            &["record", "b", "--help", "x"],
-            "none",
-            "2 UnknownOption at=2\n",
-        ),
-        (&["record", "b"], "b", "0 bundle "),
-        (&["record", ""], "", "0 bundle "),
-        (&["record", "--help"], "--help", "0 bundle "),
-        (&["--help"], "none", "0 out "),
-        (&["--version"], "none", "0 out "),
-    ];
-    for (texts, path, expected) in cases {
-        let mut source = SliceSource::new(head().as_bytes());
-        assert_eq!(rt; told(rt.alloc(), texts, &mut source)?.as_str(), expected);
-        assert_eq!(rt; path_of(rt.alloc(), texts)?.as_str(), path);
-    }
-    Ok(())
 }
 
 #[test]
@@ -135,6 +110,7 @@ fn exported<S: Source>(
 ) -> Result<String, AllocError> {
     let settings = Settings {
         max_output: 0,
+        read_limit: u64::MAX,
         session_limit,
     };
     let mut bundle = BuiltText::new(alloc);
@@ -249,7 +225,7 @@ fn faults_of_sinks(rt: HostRuntime) -> Result<(), Fail> {
         "11 0 30 SinkFailed\n"
     );
     assert_eq!(rt;
-        faulted(rt.alloc(), &["record", "b", "--max-output"], 10, 1)?.as_str(),
+        faulted(rt.alloc(), &["record", "b", "--output"], 10, 1)?.as_str(),
         "2 0 0 UnknownOptio"
     );
     Ok(())
@@ -270,8 +246,17 @@ meta/record-opts.json {"run-mode":"test"}
 }
 
 /// The bundle of a session.
-fn bundled(alloc: Global, session: &[u8]) -> Result<BuiltText, AllocError> {
-    let words = words_of(alloc, &["record", "b"])?;
+pub(crate) fn bundled(alloc: Global, session: &[u8]) -> Result<BuiltText, AllocError> {
+    bundled_by(alloc, &["record", "b"], session)
+}
+
+/// The bundle that these words make of a session.
+pub(crate) fn bundled_by(
+    alloc: Global,
+    words: &[&str],
+    session: &[u8],
+) -> Result<BuiltText, AllocError> {
+    let words = words_of(alloc, words)?;
     let mut source = SliceSource::new(session);
     let mut bundle = BuiltText::new(alloc);
     let mut out = BuiltText::new(alloc);
@@ -281,12 +266,12 @@ fn bundled(alloc: Global, session: &[u8]) -> Result<BuiltText, AllocError> {
 }
 
 /// The text that a container has under a name.
-fn text_of<'a>(container: &Container<'a>, name: &str) -> &'a str {
+pub(crate) fn text_of<'a>(container: &Container<'a>, name: &str) -> &'a str {
     str::from_utf8(container.get(name).unwrap_or(b"none")).unwrap_or("no text")
 }
 
 /// The entries of a container, a line each.
-fn entries_of(alloc: Global, container: &Container<'_>) -> Result<String, AllocError> {
+pub(crate) fn entries_of(alloc: Global, container: &Container<'_>) -> Result<String, AllocError> {
     let mut text = String::new(alloc);
     for i in 0..container.len() {
         text.push_str(container.name(i))?;

@@ -3,6 +3,7 @@ ghost use Rattle.std.specs.Prelude.{◌≡◌};
 ghost use Rattle.std.specs.Option.{option_map};
 ghost use Rattle.rec_program.specs.Words.{texts, command, record_command, other_command, bundle_of, Reads};
 
+use crate::options::read_options;
 use crate::settings::Settings;
 use thiserror::Error;
 
@@ -29,6 +30,12 @@ pub enum WordsError {
     MissingPositional { at: usize },
     #[error("unknown option at word {at}")]
     UnknownOption { at: usize },
+    #[error("repeated option at word {at}")]
+    RepeatedOption { at: usize },
+    #[error("missing value at word {at}")]
+    MissingValue { at: usize },
+    #[error("bad value at word {at}")]
+    BadValue { at: usize },
 }
 
 /// Reads the words, which don't hold the program's name. It takes no memory.
@@ -58,18 +65,18 @@ fn read_other<'w>(word: &str, others: &'w [String]) -> Result<Command<'w>, Words
     }
 }
 
-/// Reads the words behind `record`.
+/// Reads the words behind `record`: the bundle, and options with their values.
 fn read_record(words: &[String]) -> Result<Command<'_>, WordsError>
     ensures { Reads result (record_command (texts words.now)) }
 {
-    match words {
-        [] => Err(WordsError::MissingPositional { at: 1 }),
-        [bundle] => Ok(Command::Record {
-            bundle: bundle.as_str(),
-            settings: Settings::default(),
-        }),
-        [_, _, ..] => Err(WordsError::UnknownOption { at: 2 }),
-    }
+    let Some((bundle, options)) = words.split_first() else {
+        return Err(WordsError::MissingPositional { at: 1 });
+    };
+    let limits = read_options(options)?;
+    Ok(Command::Record {
+        bundle: bundle.as_str(),
+        settings: limits.settings(),
+    })
 }
 
 /// The path of the bundle, where the words ask for a command that writes one.

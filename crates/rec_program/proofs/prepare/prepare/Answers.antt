@@ -1,38 +1,70 @@
-use Rattle.std.proofs.Common.{◌≡◌, ◌⊎◌, ◌≤◌, ◌^◌, List, ℕ, [], length, ◌∙◌, ap, sym, subst, inl, inr, Some, None}
+use Rattle.std.proofs.Common.{◌≡◌, ◌⊎◌, List, ◌∙◌, ap, sym, subst, inl, inr, length, Option, Some, None, Result, Ok, Err, IfOk, IfErr, OnOk}
 use Rattle.std.proofs.lemmas.Result.{err_from_is_err_and}
-use Rattle.rec_store.specs.Bundle.{run_bundle}
+use Rattle.rec_codec.specs.Event.{LiveEvent}
+use Rattle.rec_codec.specs.Lines.{NumberedLine}
+use Rattle.rec_store.specs.Bundle.{outputs_stored, run_bundle}
 use Rattle.rec_store.specs.Reading.{IsReading, recorded}
-use Rattle.rec_program.specs.Bundle.{IsRefusedLine, refusal, session_events}
+use Rattle.rec_program.specs.Bundle.{head_in, refusal_behind, session_events}
+use Rattle.rec_program.specs.Session.{event_lines, events_of, head_text}
+use Rattle.rec_program.specs.declared.prepare.Prepared.{Prepared}
 use Rattle.rec_program.specs.declared.refusal.RecordExportError.{RecordExportError}
-use Rattle.rec_program.specs.declared.refusal.RecordExportError.TheVariants.{CountOutOfRange, OutOfMemory}
-use Rattle.rec_program.proofs.Judging.{accepted, no_events_of, refused_count, refused_line}
+use Rattle.rec_program.specs.declared.refusal.RecordExportError.TheVariants.{OutOfMemory}
+use Rattle.rec_program.proofs.Judging.{behind_head, events_behind, refused_head}
 use Rattle.rec_program.proofs.prepare.prepare.Goals as goal
+
+-- three facts of an answer make a fourth
+joined : {T E V : Type 0} {P Q R : T → Type 0} (r : Result T E) → ((x : T) → P x → Q x → V → R x) → IfOk r P → IfOk r Q → OnOk r V → IfOk r R
+joined (Ok x) f p q v = f x p q v
+joined (Err e) f p q v = tt
 
 pub returns-in_err-head-clause-err : goal.returns-in_err-head-clause-err
 returns-in_err-head-clause-err g c =
+    let text = c.take_head.ensures.text ∙ ap head_text c.new-lines.ensures in
     let p = err_from_is_err_and c.from_residual.result c.from_residual.ensures.1 in
     rw (p.1, p.2) (let r = c.in_err-head.ensures.err in elim r [
       | inl h ↦ inl h
-      | inr h ↦ inr (refused_line (g.N.OutputNamer.number c.args.namer.now) c.args.settings.now c.args.session.now c.in_err-head.field-0.0 h)
+      | inr h ↦ inr (refused_head (g.N.OutputNamer.number c.args.namer.now) c.args.settings.now c.args.session.now (ap head_in (sym text) ∙ h.1) ∙ ap Some (sym h.0))
     ])
-
-pub returns-in_err-bundle-clause-err : goal.returns-in_err-bundle-clause-err
-returns-in_err-bundle-clause-err g c =
-    let p = err_from_is_err_and c.from_residual-in_err-bundle.result c.from_residual-in_err-bundle.ensures.1 in
-    rw (p.1, p.2) (refused_count (g.N.OutputNamer.number c.args.namer.now) c.args.settings.now c.args.session.now c.in_ok-head.head c.in_err-bundle.field-0.0
-    c.in_ok-head.ensures.head c.in_ok-head.ensures.lines c.in_err-bundle.ensures.err)
 
 pub returns-clause-bundle : goal.returns-clause-bundle
 returns-clause-bundle g c =
-    let none = sym (no_events_of (session_events c.args.session.now)) in
-    record {
-      head = c.in_ok-head.head;
-      has_head = c.in_ok-head.ensures.head;
-      valid = accepted (g.N.OutputNamer.number c.args.namer.now) c.args.settings.now c.args.session.now c.in_ok-head.head c.in_ok-head.ensures.head c.in_ok-head.ensures.lines c.in_ok-bundle.ensures.fits;
-      spelled = c.in_ok-bundle.ensures.bundle ∙ ap (run_bundle c.in_ok-head.head) none;
-      reads = subst (λ es. IsReading c.in_ok-bundle.bundle.bytes (recorded c.in_ok-head.head es)) none
-          (subst (λ b. IsReading b (recorded c.in_ok-head.head [])) (sym c.in_ok-bundle.ensures.bundle) c.in_ok-bundle.ensures.reads);
-    }
+    let number = g.N.OutputNamer.number c.args.namer.now in
+    let settings = c.args.settings.now in
+    let session = c.args.session.now in
+    let head = c.in_ok-head.head in
+    let text = c.take_head.ensures.text ∙ ap head_text c.new-lines.ensures in
+    let has_head = ap head_in (sym text) ∙ c.in_ok-head.ensures.head in
+    let lines = c.take_head.ensures.others ∙ ap event_lines c.new-lines.ensures in
+    let events = ap events_of lines ∙ events_behind session in
+    joined c.bundle_run.result (λ prepared spelled reads valid. record {
+      head = head;
+      has_head = has_head;
+      valid = behind_head number settings session head has_head ∙ ap (refusal_behind number settings (Some head)) (sym lines) ∙ valid;
+      spelled = spelled ∙ ap (run_bundle number settings.max_output head) events;
+      reads = subst (λ (es : List LiveEvent). IsReading prepared.bundle.bytes (recorded number settings.max_output head es)) events reads;
+    }) c.bundle_run.ensures.bundle c.bundle_run.ensures.reads c.bundle_run.ensures.valid
 
 pub returns-clause-events : goal.returns-clause-events
-returns-clause-events g c = ap length (sym (no_events_of (session_events c.args.session.now)))
+returns-clause-events g c =
+    let lines = c.take_head.ensures.others ∙ ap event_lines c.new-lines.ensures in
+    let events = ap events_of lines ∙ events_behind c.args.session.now in
+    subst (λ (es : List LiveEvent). IfOk c.bundle_run.result (λ p. p.events ≡ length es)) events c.bundle_run.ensures.events
+
+pub returns-clause-outputs : goal.returns-clause-outputs
+returns-clause-outputs g c =
+    let number = g.N.OutputNamer.number c.args.namer.now in
+    let m = c.args.settings.now.max_output in
+    let lines = c.take_head.ensures.others ∙ ap event_lines c.new-lines.ensures in
+    let events = ap events_of lines ∙ events_behind c.args.session.now in
+    subst (λ (es : List LiveEvent). IfOk c.bundle_run.result (λ p. p.outputs ≡ length (outputs_stored number m es))) events c.bundle_run.ensures.outputs
+
+pub returns-clause-err : goal.returns-clause-err
+returns-clause-err g c =
+    let number = g.N.OutputNamer.number c.args.namer.now in
+    let settings = c.args.settings.now in
+    let head = c.in_ok-head.head in
+    let text = c.take_head.ensures.text ∙ ap head_text c.new-lines.ensures in
+    let has_head = ap head_in (sym text) ∙ c.in_ok-head.ensures.head in
+    let lines = c.take_head.ensures.others ∙ ap event_lines c.new-lines.ensures in
+    let same = ap (refusal_behind number settings (Some head)) lines ∙ sym (behind_head number settings c.args.session.now head has_head) in
+    subst (λ (o : Option RecordExportError). IfErr c.bundle_run.result (λ e. (e ≡ OutOfMemory) ⊎ (o ≡ Some e))) same c.bundle_run.ensures.err

@@ -1,0 +1,19 @@
+use Rattle.std.proofs.Common.{List, Result}
+use Rattle.std.specs.Bool.{⊤}
+use Rattle.rec_codec.specs.Event.{LiveEvent}
+use Rattle.rec_format.specs.declared.head.SessionHead.{SessionHead}
+use Rattle.rec_store.specs.Recording.{Recording}
+use Rattle.rec_program.specs.Built.{Built}
+use Rattle.rec_program.specs.Recorded.{HasRecorded, RecordsLines}
+use Rattle.rec_program.specs.declared.refusal.RecordExportError.{RecordExportError}
+use Rattle.rec_program.proofs.record.record_lines.Given as goal
+
+-- what the rest gives is what all give
+abbrev pub invariant-loop-line : goal.invariant-loop-line
+invariant-loop-line g l =
+    let number = g.N.OutputNamer.number in
+    let namer = l.fn.recorder.namer in
+    let m = l.fn.recorder.max_output in
+    (head : SessionHead) (events : List LiveEvent) → HasRecorded number namer m head events l.fn.recorder
+    → (so_far : List LiveEvent) × HasRecorded number namer m head so_far l.recorder
+    × ((r : Result ⊤ RecordExportError) (new : Recording Built Built _) → RecordsLines number namer m head so_far l.line-iterator new r → RecordsLines number namer m head events l.fn.lines new r)

@@ -1,0 +1,111 @@
+#!/usr/bin/env python3
+"""Prints a session of a number of tests, for trying things out and for measuring.
+
+    tools/make_session.py 10000 > large.session
+
+Test i is `t{i}` of the binary `bin-{i mod 4}`, on slot i mod 8. Eight tests run at a time, in
+batches four seconds apart. Each test writes one line on standard output, and every hundredth one
+fails. With a second number, each test writes so many further bytes.
+"""
+
+import json
+import sys
+
+SLOTS = 8
+RUN_ID = "550e8400-e29b-41d4-a716-446655440000"
+COUNTS = [
+    "initial-run-count", "finished-count", "setup-scripts-initial-count",
+    "setup-scripts-finished-count", "setup-scripts-passed", "setup-scripts-failed",
+    "setup-scripts-exec-failed", "setup-scripts-timed-out", "passed", "passed-slow",
+    "passed-timed-out", "flaky", "failed", "failed-slow", "failed-timed-out", "leaky",
+    "leaky-failed", "exec-failed", "skipped",
+]
+
+
+def text(value):
+    """The compact text of a value, its keys in order."""
+    return json.dumps(value, separators=(",", ":"), sort_keys=True)
+
+
+def instant(seconds, nanoseconds=0):
+    return {"secs": seconds, "nanos": nanoseconds, "offset": 0}
+
+
+def span(seconds):
+    return {"secs": seconds, "nanos": 0}
+
+
+def stats(count):
+    return {**dict.fromkeys(COUNTS, 0), "initial-run-count": count}
+
+
+def test_id(i):
+    return {"binary-id": f"bin-{i % 4}", "test-name": f"t{i}"}
+
+
+def head(count):
+    suites = {}
+    for i in range(count):
+        suites.setdefault(f"bin-{i % 4}", []).append(f"t{i}")
+    return {
+        "run-id": RUN_ID, "nextest-version": "0.9.111", "started-at": instant(1000),
+        "last-written-at": instant(1011), "status": {"status": "incomplete"},
+        "cargo-metadata": "{}", "test-list": {"suites": suites},
+        "record-opts": {"run-mode": "test"}, "build-scope": {"build-kind": "cargo", "scope": {}},
+    }
+
+
+def event(kind, at, **fields):
+    members = {name.replace("_", "-"): value for name, value in fields.items()}
+    return {"timestamp": at, "elapsed": span(0), "kind": kind, **members}
+
+
+def started(i, batch, count, running):
+    return event(
+        "test-started", instant(1000 + 4 * batch, 1000 * (i % SLOTS)),
+        test_instance=test_id(i),
+        slot_assignment={"global-slot": i % SLOTS, "test-group": "@global"},
+        current_stats=stats(count), running=running, command_line=[],
+    )
+
+
+def finished(i, batch, count, running, extra):
+    failed = i % 100 == 99
+    output = f"output {i % 16}\n".encode() + b"x" * extra
+    result = {"fail": {"failure": {"exit-code": 1}, "leaked": False}} if failed else "pass"
+    status = {
+        "retry-data": {"attempt": 1, "total-attempts": 1},
+        "output": {"output": {"output": {"split": {"stdout": output.hex()}}}},
+        "result": result, "start-time": instant(1000 + 4 * batch, 1000 * (i % SLOTS)),
+        "time-taken": span(3), "is-slow": False, "delay-before-start": span(0),
+    }
+    return event(
+        "test-finished", instant(1003 + 4 * batch, 1000 * (i % SLOTS)),
+        test_instance=test_id(i), success_output="never", failure_output="never",
+        junit_store_success_output=False, junit_store_failure_output=False,
+        junit_flaky_fail_status="failure",
+        run_statuses={"statuses": [status], "flaky-result": "pass"},
+        current_stats=stats(count), running=running,
+    )
+
+
+def session(count, extra):
+    yield head(count)
+    yield event("run-started", instant(1000), run_id=RUN_ID, profile_name="default", cli_args=[])
+    for batch in range((count + SLOTS - 1) // SLOTS):
+        tests = range(batch * SLOTS, min(count, (batch + 1) * SLOTS))
+        for place, i in enumerate(tests):
+            yield started(i, batch, count, place + 1)
+        for place, i in enumerate(tests):
+            yield finished(i, batch, count, len(tests) - place - 1, extra)
+
+
+def main():
+    count = int(sys.argv[1])
+    extra = int(sys.argv[2]) if len(sys.argv) > 2 else 0
+    for line in session(count, extra):
+        print(text(line))
+
+
+if __name__ == "__main__":
+    main()
