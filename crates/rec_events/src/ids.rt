@@ -9,7 +9,7 @@ use std::marker::Model;
 use uuid::Uuid;
 
 /// The name of a test binary. Any text is one.
-#[derive(PartialEq, Eq, Drop, Debug)]
+#[derive(PartialEq, Eq, PartialOrd, Ord, Drop, Debug)]
 pub struct RustBinaryId {
     text: Text,
 }
@@ -57,7 +57,7 @@ impl TryClone for RustBinaryId {
 }
 
 /// The name of a test within its binary. Any text is one.
-#[derive(PartialEq, Eq, Drop, Debug)]
+#[derive(PartialEq, Eq, PartialOrd, Ord, Drop, Debug)]
 pub struct TestCaseName {
     text: Text,
 }

@@ -1,10 +1,12 @@
 // Which test ran, where, and which time.
 ghost use Rattle.std.specs.Prelude.{◌≡◌};
 
-use crate::{NonZeroCount, RustBinaryId, TestCaseName, TestGroup};
+use crate::{NonZeroCount, RustBinaryId, TestCaseName, TestGroup, TryClone};
+use std::alloc::{AllocError, Global};
 
-/// A test, by its binary and its name there.
-#[derive(PartialEq, Eq, Debug, Drop)]
+/// A test, by its binary and its name there. Tests stand in the order of their binaries, and those
+/// of one binary in the order of their names.
+#[derive(PartialEq, Eq, PartialOrd, Ord, Debug, Drop)]
 pub struct OwnedTestInstanceId {
     pub binary_id: RustBinaryId,
     pub test_name: TestCaseName,
@@ -31,4 +33,13 @@ pub struct RetryData {
 pub struct StressIndexSummary {
     pub current: u32,
     pub total: Option<NonZeroCount>,
+}
+
+impl TryClone for OwnedTestInstanceId {
+    fn try_clone(&self, alloc: Global) -> Result<OwnedTestInstanceId, AllocError> {
+        Ok(OwnedTestInstanceId {
+            binary_id: self.binary_id.try_clone(alloc)?,
+            test_name: self.test_name.try_clone(alloc)?,
+        })
+    }
 }

@@ -1,9 +1,9 @@
 use crate::{
-    Duration, Items, NamedTargets, NonEmpty, NonZeroCount, OutputFileName, OutputKind, ReportUuid,
-    RustBinaryId, ScriptId, Stamp, TargetSelection, TestCaseName, TestGroup, TestNames, Text,
-    TextMap, TryClone, Version, VersionError,
+    Duration, Items, NamedTargets, NonEmpty, NonZeroCount, OutputFileName, OutputKind,
+    OwnedTestInstanceId, ReportUuid, RustBinaryId, ScriptId, Stamp, TargetSelection, TestCaseName,
+    TestGroup, TestNames, Text, TextMap, TryClone, Version, VersionError,
 };
-use std::alloc::Global;
+use std::alloc::{AllocError, Global};
 use std::test::Fail;
 use uuid::Uuid;
 
@@ -168,5 +168,25 @@ fn groups_and_lists(rt: HostRuntime) -> Result<(), Fail> {
     let texts = NonEmpty::new(texts);
     assert!(rt; texts.split_first().1.is_empty());
     assert!(rt; texts.into_vec().len() == 1);
+    Ok(())
+}
+
+/// The test of this name in the binary of that one.
+fn test_of(alloc: Global, binary: &str, name: &str) -> Result<OwnedTestInstanceId, AllocError> {
+    Ok(OwnedTestInstanceId {
+        binary_id: RustBinaryId::new(String::from_str(alloc, binary)?),
+        test_name: TestCaseName::new(String::from_str(alloc, name)?),
+    })
+}
+
+#[test]
+fn tests_stand_in_the_order_of_their_binaries(rt: HostRuntime) -> Result<(), Fail> {
+    let alloc = rt.alloc();
+    let second = test_of(alloc, "a", "t2")?;
+    let tenth = test_of(alloc, "a", "t10")?;
+    let other = test_of(alloc, "b", "t1")?;
+    assert!(rt; tenth < second);
+    assert!(rt; second < other);
+    assert!(rt; second.try_clone(alloc)? == second);
     Ok(())
 }
