@@ -1,0 +1,134 @@
+-- In a history that is not refused, each start finds its key, its place and its row free.
+use Rattle.std.proofs.Common.{◌≡◌, ℕ, suc, List, [], ◌∷◌, ◌++◌, length, Option, Some, None, refl, sym, ◌∙◌, ap, subst, cond}
+use Rattle.std.specs.Option.{option_or}
+use Rattle.rec_events.specs.declared.events.TestEventSummary.{TestEventSummary}
+use Rattle.rec_trace.specs.History.{behind, Known, known}
+use Rattle.rec_trace.specs.Kinds.{history}
+use Rattle.rec_trace.specs.Past.{Change, Happening, of_key, in_place, is_paused, pause_after, open_after, open_spans}
+use Rattle.rec_trace.specs.Past.Change.{Start, Stop, Pause, Resume, Other}
+use Rattle.rec_trace.specs.Refusals.{is_none_open, number_refusal, instant_refusal, missing_refusal, open_refusal, busy, slot_refusal, row_refusal, count_refusal, refusal_of, refusal_behind, refusal}
+use Rattle.rec_trace.specs.declared.errors.ChromeTraceError.TheVariants.{SpanAlreadyOpen}
+use Rattle.rec_trace.specs.declared.settings.ChromeTraceGroupBy.{ChromeTraceGroupBy}
+use Rattle.rec_trace.specs.declared.spans.Place.{Place}
+use Rattle.rec_trace.specs.declared.spans.Place.TheVariants as places
+use Rattle.rec_trace.specs.declared.spans.Span.{Span}
+use Rattle.rec_trace.specs.declared.spans.SpanKey.{SpanKey}
+use Rattle.rec_trace.specs.declared.spans.SpanKey.TheVariants.{Run, SubRun, Script, Test}
+use Rattle.rec_trace.proofs.Fits.{FitsAt, Fits, AllFit, StartFits, StartsFit, AllFit-open_after, row-free_from_place, place-free_from_key, only_run, only_sub_run, only_script, history-fits}
+use Rattle.rec_trace.proofs.Rows.{FindsRoom, AllFindRoom}
+
+-- ---- what is known
+
+-- the count of the events so far
+pub known-number : (past : List Happening) → (known past).number ≡ length past
+known-number [] = refl
+known-number (h ∷ past) = ap suc (known-number past)
+
+-- whether the last event left a pause
+pub known-in_pause : (past : List Happening) → (known past).in_pause ≡ is_paused past
+known-in_pause [] = refl
+known-in_pause (h ∷ past) = ap (pause_after h.change) (known-in_pause past)
+
+-- what is open
+pub known-spans : (past : List Happening) → (known past).spans ≡ open_spans past
+known-spans [] = refl
+known-spans (h ∷ past) = ap (open_after h.change) (known-spans past)
+
+-- all that is known of a past
+pub known-is : (past : List Happening) → known past ≡ record { number = length past; in_pause = is_paused past; spans = open_spans past }
+known-is past = λ i. record { number = known-number past i; in_pause = known-in_pause past i; spans = known-spans past i }
+
+-- ---- refusals
+
+-- neither of two is there
+pub or-none : {X : Type 0} (a b : Option X) → option_or a b ≡ None → (a ≡ None) × (b ≡ None)
+or-none None b e = (refl, e)
+or-none (Some x) b e = cc
+
+or-assoc : {X : Type 0} (a b c : Option X) → option_or a (option_or b c) ≡ option_or (option_or a b) c
+or-assoc None b c = refl
+or-assoc (Some x) b c = refl
+
+-- the refusal of two histories, one behind the other
+pub refusal_behind-append : (past xs ys : List Happening) → refusal_behind (known past) (xs ++ ys) ≡ option_or (refusal_behind (known past) xs) (refusal_behind (known (behind past xs)) ys)
+refusal_behind-append past [] ys = refl
+refusal_behind-append past (h ∷ xs) ys =
+    ap (option_or (refusal_of (known past) h)) (refusal_behind-append (h ∷ past) xs ys)
+    ∙ or-assoc (refusal_of (known past) h) (refusal_behind (known (h ∷ past)) xs) (refusal_behind (known (behind (h ∷ past) xs)) ys)
+
+-- a history that is not refused has no first part that is
+pub accepted-prefix : (xs ys : List Happening) → refusal (xs ++ ys) ≡ None → refusal xs ≡ None
+accepted-prefix xs ys ok = (or-none (refusal xs) (refusal_behind (known (behind [] xs)) ys) (sym (refusal_behind-append [] xs ys) ∙ ok)).0
+
+-- an event that is not refused is not refused for an open span or a busy slot
+pub refusal_of-none : (k : Known) (h : Happening) → refusal_of k h ≡ None → (open_refusal (suc k.number) k.spans h.change ≡ None) × (slot_refusal (suc k.number) k.spans h.change ≡ None)
+refusal_of-none k h e =
+    let n = suc k.number in
+    let a = or-none (number_refusal n) (option_or (instant_refusal n h.at) (option_or (missing_refusal n k.spans h.change) (option_or (open_refusal n k.spans h.change) (option_or (slot_refusal n k.spans h.change) (option_or (row_refusal n h.change) (count_refusal n h.failures)))))) e in
+    let b = or-none (instant_refusal n h.at) (option_or (missing_refusal n k.spans h.change) (option_or (open_refusal n k.spans h.change) (option_or (slot_refusal n k.spans h.change) (option_or (row_refusal n h.change) (count_refusal n h.failures))))) a.1 in
+    let c = or-none (missing_refusal n k.spans h.change) (option_or (open_refusal n k.spans h.change) (option_or (slot_refusal n k.spans h.change) (option_or (row_refusal n h.change) (count_refusal n h.failures)))) b.1 in
+    let d = or-none (open_refusal n k.spans h.change) (option_or (slot_refusal n k.spans h.change) (option_or (row_refusal n h.change) (count_refusal n h.failures))) c.1 in
+    (d.0, (or-none (slot_refusal n k.spans h.change) (option_or (row_refusal n h.change) (count_refusal n h.failures)) d.1).0)
+
+-- ---- room
+
+-- none of these spans is there, where a refusal says so
+none-open : {X : Type 0} (x : X) (found : List Span) → cond (is_none_open found) None (Some x) ≡ None → found ≡ []
+none-open x [] e = refl
+none-open x (s ∷ found) e = cc
+
+-- a start that is not refused for an open span finds its key free
+pub key-free : (n : ℕ) (s : Span) (spans : List Span) → open_refusal n spans (Start s) ≡ None → of_key s.key spans ≡ []
+key-free n s spans e = none-open (SpanAlreadyOpen n s.key) (of_key s.key spans) e
+
+-- no span is at the place of a slot that is not busy
+slot-free : (n slot : ℕ) (p : Place) (spans : List Span) → p ≡ places.Slot slot → cond (is_none_open (in_place p spans)) None (busy n p) ≡ None → in_place p spans ≡ []
+slot-free n slot p spans at e = go (in_place p spans) (ap (λ v. cond (is_none_open (in_place p spans)) None (busy n v)) (sym at) ∙ e)
+  where
+    go : (found : List Span) → cond (is_none_open found) None (busy n (places.Slot slot)) ≡ None → found ≡ []
+    go [] e = refl
+    go (s ∷ found) e = cc
+
+-- a start that fits and is not refused finds its place free, where all that is open fits
+pub place-free : (n : ℕ) (s : Span) (spans : List Span) → Fits s → AllFit spans → of_key s.key spans ≡ [] → slot_refusal n spans (Start s) ≡ None → in_place s.place spans ≡ []
+place-free n s spans fits all free e = go s.key fits free
+  where
+    go : (k : SpanKey) → FitsAt k s → of_key k spans ≡ [] → in_place s.place spans ≡ []
+    go Run (at, pid, tid) none = ap (λ v. in_place v spans) at ∙ place-free_from_key Run places.Run spans only_run all none
+    go SubRun (at, pid, tid) none = ap (λ v. in_place v spans) at ∙ place-free_from_key SubRun places.SubRun spans only_sub_run all none
+    go (Script i) (at, pid, tid) none = ap (λ v. in_place v spans) at ∙ place-free_from_key (Script i) (places.Script i) spans (only_script i) all none
+    go (Test t) (slot, at, pid, tid) none = slot-free n slot s.place spans at e
+
+-- a change that fits and is not refused finds room
+pub room-from_none : (n : ℕ) (c : Change) (spans : List Span) → StartFits c → AllFit spans → open_refusal n spans c ≡ None → slot_refusal n spans c ≡ None → FindsRoom c spans
+room-from_none n (Start s) spans fits all no_open no_slot =
+    let free = key-free n s spans no_open in
+    (free, row-free_from_place s spans fits all (place-free n s spans fits all free no_slot))
+room-from_none n (Stop k) spans fits all no_open no_slot = tt
+room-from_none n Pause spans fits all no_open no_slot = tt
+room-from_none n Resume spans fits all no_open no_slot = tt
+room-from_none n Other spans fits all no_open no_slot = tt
+
+-- an event that fits and is not refused finds room
+pub room-from_accepted : (past : List Happening) (h : Happening) → AllFit (open_spans past) → StartFits h.change → refusal_of (known past) h ≡ None → FindsRoom h.change (open_spans past)
+room-from_accepted past h all fits e =
+    let k = known past in
+    let (no_open, no_slot) = refusal_of-none k h e in
+    let same = known-spans past in
+    room-from_none (suc k.number) h.change (open_spans past) fits all
+    (subst (λ v. open_refusal (suc k.number) v h.change ≡ None) same no_open) (subst (λ v. slot_refusal (suc k.number) v h.change ≡ None) same no_slot)
+
+-- behind a past whose open spans fit, events that fit and are not refused find room
+pub rooms-from_accepted : (past hs : List Happening) → AllFit (open_spans past) → StartsFit hs → refusal_behind (known past) hs ≡ None → AllFindRoom past hs
+rooms-from_accepted past [] all fits e = tt
+rooms-from_accepted past (h ∷ hs) all fits e =
+    let p = or-none (refusal_of (known past) h) (refusal_behind (known (h ∷ past)) hs) e in
+    (room-from_accepted past h all fits.0 p.0, rooms-from_accepted (h ∷ past) hs (AllFit-open_after h.change (open_spans past) fits.0 all) fits.1 p.1)
+
+-- in a history that fits and is not refused each start finds room
+pub accepted-room : (hs : List Happening) → StartsFit hs → refusal hs ≡ None → AllFindRoom [] hs
+accepted-room hs fits ok = rooms-from_accepted [] hs tt fits ok
+
+-- in a history of events that is not refused each start finds room
+pub history-room : {S O : Type 0} (g : ChromeTraceGroupBy) (events : List (TestEventSummary S O)) → refusal (history g events) ≡ None → AllFindRoom [] (history g events)
+history-room g events ok = accepted-room (history g events) (history-fits g events) ok

@@ -1,0 +1,126 @@
+-- The trace of what an iterator gives, event by event.
+use Rattle.std.proofs.Common.{◌≡◌, ◌⊎◌, inl, inr, ℕ, List, [], ◌∷◌, ◌++◌, map, Option, None, Some, Result, Ok, Err, ap, refl, sym, ◌∙◌, subst}
+use Rattle.std.proofs.lemmas.List.{map-append}
+use Rattle.std.specs.Iterator.{Yields}
+use Rattle.semver.specs.Parse.{Parts}
+use Rattle.rec_codec.specs.Event.{RecordedEvent}
+use Rattle.rec_codec.specs.declared.line_events.LineError.{LineError}
+use Rattle.rec_codec.specs.declared.line_events.LineError.TheVariants as faults
+use Rattle.rec_trace.specs.Converting.{Converts, HasNoTrace, KeepsPrefixes, fault_error}
+use Rattle.rec_trace.specs.Drawing.{trace_text}
+use Rattle.rec_trace.specs.History.{behind, shown_after, trace_marks}
+use Rattle.rec_trace.specs.Kinds.{happening, history}
+use Rattle.rec_trace.specs.Past.{Happening}
+use Rattle.rec_trace.specs.Refusals.{refusal}
+use Rattle.rec_trace.specs.Traces.{HasTraced}
+use Rattle.rec_trace.specs.declared.builder.TraceBuilder.{TraceBuilder}
+use Rattle.rec_trace.specs.declared.errors.ChromeTraceError.{ChromeTraceError}
+use Rattle.rec_trace.specs.declared.errors.ChromeTraceError.TheVariants.{OutOfMemory, ReadError}
+use Rattle.rec_trace.specs.declared.settings.ChromeTraceGroupBy.{ChromeTraceGroupBy}
+use Rattle.rec_trace.specs.declared.settings.ChromeTraceMessageFormat.{ChromeTraceMessageFormat}
+use Rattle.rec_trace.proofs.Acceptance.{accepted-prefix}
+use Rattle.rec_trace.proofs.Prefixes.{shown_after-append}
+use Rattle.rec_trace.proofs.Timelines.{timeline}
+
+-- the builder has traced the events that these items hold
+abbrev pub HasConverted : ChromeTraceGroupBy → List (Result RecordedEvent LineError) → TraceBuilder → Type 0
+HasConverted g items b = (events : List RecordedEvent) × (items ≡ map Ok events) × HasTraced g (history g events) b
+
+-- ---- what a trace keeps
+
+-- the history of two lists of events
+history-append : (g : ChromeTraceGroupBy) (xs ys : List RecordedEvent) → history g (xs ++ ys) ≡ history g xs ++ history g ys
+history-append g xs ys = map-append (happening g) xs ys
+
+-- the first part of events that have a trace has one too
+pub keeps-prefixes : (g : ChromeTraceGroupBy) (events : List RecordedEvent) → refusal (history g events) ≡ None → KeepsPrefixes g events
+keeps-prefixes g events ok xs ys is =
+    let parts : history g events ≡ history g xs ++ history g ys = ap (history g) is ∙ history-append g xs ys in (
+      accepted-prefix (history g xs) (history g ys) (ap refusal (sym parts) ∙ ok),
+      (shown_after (behind [] (history g xs)) (history g ys), ap trace_marks parts ∙ shown_after-append [] (history g xs) (history g ys)),
+    )
+
+-- ---- one item more
+
+-- calls that gave items, with one call more
+yields-push : {S A : Type 0} (steps : S → Option A → S → Type 0) (s : S) (xs : List A) (x : A) (t u : S) → Yields steps s xs t → steps t (Some x) u → Yields steps s (xs ++ x ∷ []) u
+yields-push steps s [] x t u same step = (u, subst (λ v. steps v (Some x) u) (sym same) step, refl)
+yields-push steps s (y ∷ xs) x t u (j, first, others) step = (j, first, yields-push steps j xs x t u others step)
+
+-- the items of events, with one event more
+items-push : (items : List (Result RecordedEvent LineError)) (item : Result RecordedEvent LineError) (events : List RecordedEvent) (event : RecordedEvent) →
+    items ≡ map Ok events → item ≡ Ok event → items ++ item ∷ [] ≡ map Ok (events ++ event ∷ [])
+items-push items item events event all is = ap (λ v. items ++ v ∷ []) is ∙ ap (λ v. v ++ Ok event ∷ []) all ∙ sym (map-append Ok events (event ∷ []))
+
+module _ (g : ChromeTraceGroupBy) (b : TraceBuilder) (items : List (Result RecordedEvent LineError)) (converted : HasConverted g items b) where
+  -- an event that was taken is converted with those before it
+  pub converted-push : (new : TraceBuilder) (item : Result RecordedEvent LineError) (event : RecordedEvent) → item ≡ Ok event →
+      ((past : List Happening) → HasTraced b.group_by past b → HasTraced b.group_by (past ++ happening b.group_by event ∷ []) new) → HasConverted g (items ++ item ∷ []) new
+  converted-push new item event is step =
+      let events = converted.0 in
+      let has = converted.2 in
+      let taken = subst (λ k. HasTraced k (history g events ++ happening k event ∷ []) new) has.group_kept (step (history g events) (subst (λ k. HasTraced k (history g events) b) (sym has.group_kept) has)) in
+      (events ++ event ∷ [], items-push items item events event converted.1 is, subst (λ v. HasTraced g v new) (sym (history-append g events (event ∷ []))) taken)
+
+  module _ {S : Type 0} (steps : S → Option (Result RecordedEvent LineError) → S → Type 0) (s start mid rest : S) (from : start ≡ s) (yields : Yields steps start items mid) where
+    -- an event that was refused is the first one
+    pub refused-event : (new : TraceBuilder) (item : Result RecordedEvent LineError) (event : RecordedEvent) (e : ChromeTraceError) → item ≡ Ok event → steps mid (Some item) rest →
+        ((past : List Happening) → HasTraced b.group_by past b → (e ≡ OutOfMemory) ⊎ ((refusal (past ++ happening b.group_by event ∷ []) ≡ Some e) × (new ≡ b))) → HasNoTrace steps s g e
+    refused-event new item event e is step told =
+        let events = converted.0 in
+        let has = converted.2 in
+        elim (subst (λ k. (e ≡ OutOfMemory) ⊎ ((refusal (history g events ++ happening k event ∷ []) ≡ Some e) × (new ≡ b))) has.group_kept
+        (told (history g events) (subst (λ k. HasTraced k (history g events) b) (sym has.group_kept) has))) [
+          | inl memory ↦ inl memory
+          | inr refused ↦ inr (inr (record {
+            before = events;
+            event = event;
+            rest = rest;
+            yielded = subst (λ v. Yields steps v (map Ok (events ++ event ∷ [])) rest) from
+                (subst (λ v. Yields steps start v rest) (items-push items item events event converted.1 is) (yields-push steps start items item mid rest yields step));
+            accepted = has.accepted;
+            refused = ap refusal (history-append g events (event ∷ [])) ∙ refused.0;
+          }))
+        ]
+
+    -- a fault behind events that have a trace
+    pub unread-event : (item : Result RecordedEvent LineError) (fault : LineError) (e : ChromeTraceError) → item ≡ Err fault → steps mid (Some item) rest → e ≡ fault_error fault → HasNoTrace steps s g e
+    unread-event item fault e is step told = go fault is told
+      where
+        unread : (fault : LineError) → item ≡ Err fault → e ≡ ReadError fault → (fault ≡ faults.OutOfMemory → ⊥) → HasNoTrace steps s g e
+        unread fault is told no_memory = inr (inl (record {
+          events = converted.0;
+          fault = fault;
+          rest = rest;
+          yielded = (
+            mid,
+            subst (λ v. Yields steps v (map Ok converted.0) mid) from (subst (λ v. Yields steps start v mid) converted.1 yields),
+            subst (λ v. steps mid (Some v) rest) is step,
+          );
+          told = told;
+          no_memory = no_memory;
+          accepted = converted.2.accepted;
+        }))
+
+        go : (fault : LineError) → item ≡ Err fault → e ≡ fault_error fault → HasNoTrace steps s g e
+        go (faults.ReadRunLog n) is told = unread (faults.ReadRunLog n) is told (λ same. cc)
+        go (faults.ParseEvent n) is told = unread (faults.ParseEvent n) is told (λ same. cc)
+        go faults.OutOfMemory is told = inl told
+
+    -- events to the end, and the text of their trace
+    pub converts-all : (format : ChromeTraceMessageFormat) (version : Parts) (text : List ℕ) → steps mid None rest →
+        ((k : ChromeTraceGroupBy) (past : List Happening) → HasTraced k past b → text ≡ trace_text format version (trace_marks past)) → Converts steps s g format version text
+    converts-all format version text step written =
+        let events = converted.0 in
+        let has = converted.2 in
+        record {
+          events = events;
+          drained = (
+            rest,
+            (mid, subst (λ v. Yields steps v (map Ok events) mid) from (subst (λ v. Yields steps start v mid) converted.1 yields), step),
+          );
+          accepted = has.accepted;
+          written = written g (history g events) has;
+          timeline = timeline g events has.accepted;
+          prefixes = keeps-prefixes g events has.accepted;
+        }

@@ -1,0 +1,48 @@
+use Rattle.std.proofs.Common.{[], ap, refl, ◌∙◌}
+use Rattle.std.proofs.lemmas.Result.{err_from_is_err_and}
+use Rattle.rec_trace.proofs.Converting.{converted-push, converts-all, refused-event, unread-event}
+use Rattle.rec_trace.proofs.convert.convert_to_chrome_trace.Goals as goal
+
+pub loop-item-init : goal.loop-item-init
+loop-item-init g c = record { converted = ([], refl, c.new-builder.ensures) }
+
+pub loop-item-preserved : goal.loop-item-preserved
+loop-item-preserved g c = record {
+  converted = converted-push c.args.group_by c.loop-item.builder c.loop-item.yielded c.loop-item.invariant.converted
+      c.process_event.new.self c.in-Some.item c.in_ok-event.event c.in_ok-event.was c.in_ok-process_event.ensures;
+}
+
+pub loop-item-preserved-in_ok-process_event : goal.loop-item-preserved-in_ok-process_event
+loop-item-preserved-in_ok-process_event g c = record {
+  converted = converted-push c.args.group_by c.loop-item.builder c.loop-item.yielded c.loop-item.invariant.converted
+      c.process_event.new.self c.in-Some.item c.in_ok-event.event c.in_ok-event.was c.in_ok-process_event.ensures;
+}
+
+pub loop-item-preserved-in_ok-process_event-2 : goal.loop-item-preserved-in_ok-process_event-2
+loop-item-preserved-in_ok-process_event-2 g c = record {
+  converted = converted-push c.args.group_by c.loop-item.builder c.loop-item.yielded c.loop-item.invariant.converted
+      c.process_event.new.self c.in-Some.item c.in_ok-event.event c.in_ok-event.was c.in_ok-process_event.ensures;
+}
+
+pub returns-in_err-event-clause-no_trace : goal.returns-in_err-event-clause-no_trace
+returns-in_err-event-clause-no_trace g c =
+    let p = err_from_is_err_and c.from_residual.result c.from_residual.ensures.1 in
+    rw p.1
+    (unread-event c.args.group_by c.loop-item.builder c.loop-item.yielded c.loop-item.invariant.converted
+    g.I.Iterator.next_gives c.args.events c.into_iter-item-iterator.result c.loop-item.item-iterator c.next.new.self c.into_iter-item-iterator.ensures.into_iter_gives c.loop-item.yielded_by
+    c.in-Some.item c.in_err-event.field-0.0 p.0 c.in_err-event.was c.in-Some.ensures.steps p.2)
+
+pub returns-in_err-process_event-clause-no_trace : goal.returns-in_err-process_event-clause-no_trace
+returns-in_err-process_event-clause-no_trace g c =
+    let p = err_from_is_err_and c.from_residual-in_err-process_event.result c.from_residual-in_err-process_event.ensures.1 in
+    rw (p.1, p.2)
+    (refused-event c.args.group_by c.loop-item.builder c.loop-item.yielded c.loop-item.invariant.converted
+    g.I.Iterator.next_gives c.args.events c.into_iter-item-iterator.result c.loop-item.item-iterator c.next.new.self c.into_iter-item-iterator.ensures.into_iter_gives c.loop-item.yielded_by
+    c.process_event.new.self c.in-Some.item c.in_ok-event.event c.in_err-process_event.field-0.0 c.in_ok-event.was c.in-Some.ensures.steps c.in_err-process_event.ensures)
+
+pub returns-clause-trace : goal.returns-clause-trace
+returns-clause-trace g c =
+    converts-all c.args.group_by c.loop-item.builder c.loop-item.yielded c.loop-item.invariant.converted
+    g.I.Iterator.next_gives c.args.events c.into_iter-item-iterator.result c.loop-item.item-iterator c.next.new.self c.into_iter-item-iterator.ensures.into_iter_gives c.loop-item.yielded_by
+    c.args.message_format c.args.version.now c.into_bytes.result.items c.in-None.ensures.steps
+    (λ k past has. ap (λ v. v.items) c.into_bytes.ensures.value ∙ c.in_ok-into_text.ensures k past has)

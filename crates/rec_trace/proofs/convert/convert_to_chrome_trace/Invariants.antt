@@ -1,0 +1,7 @@
+use Rattle.rec_trace.proofs.Converting.{HasConverted}
+use Rattle.rec_trace.proofs.convert.convert_to_chrome_trace.Given as goal
+
+abbrev pub invariant-loop-item : goal.invariant-loop-item
+invariant-loop-item g l = record {
+  converted : HasConverted l.fn.group_by l.yielded l.builder;
+}

@@ -1,0 +1,60 @@
+-- What becomes of the recorded events that an iterator gives: the text of their trace, or why there is none.
+use Rattle.std.specs.Prelude.{◌≡◌, ◌⊎◌, ℕ, List, [], ◌∷◌, ◌++◌, map, Option, Some, None, Result, Ok, Err}
+use Rattle.std.specs.Iterator.{Drains, Yields, YieldsThen}
+use Rattle.semver.specs.Parse.{Parts}
+use Rattle.rec_codec.specs.Event.{RecordedEvent}
+use Rattle.rec_codec.specs.declared.line_events.LineError.{LineError}
+use Rattle.rec_codec.specs.declared.line_events.LineError.TheVariants as faults
+use Rattle.rec_trace.specs.Drawing.{trace_text}
+use Rattle.rec_trace.specs.History.{trace_marks}
+use Rattle.rec_trace.specs.Kinds.{history}
+use Rattle.rec_trace.specs.Past.{Mark}
+use Rattle.rec_trace.specs.Refusals.{refusal}
+use Rattle.rec_trace.specs.Timeline.{IsTimeline}
+use Rattle.rec_trace.specs.declared.errors.ChromeTraceError.{ChromeTraceError}
+use Rattle.rec_trace.specs.declared.errors.ChromeTraceError.TheVariants.{OutOfMemory, ReadError}
+use Rattle.rec_trace.specs.declared.settings.ChromeTraceGroupBy.{ChromeTraceGroupBy}
+use Rattle.rec_trace.specs.declared.settings.ChromeTraceMessageFormat.{ChromeTraceMessageFormat}
+
+-- what a fault of the history is answered as: want of memory as such, every other as a history that can't be read
+abbrev pub fault_error : LineError → ChromeTraceError
+fault_error (faults.ReadRunLog n) = ReadError (faults.ReadRunLog n)
+fault_error (faults.ParseEvent n) = ReadError (faults.ParseEvent n)
+fault_error faults.OutOfMemory = OutOfMemory
+
+-- each first part of these events has a trace, with the first marks of theirs
+abbrev pub KeepsPrefixes : ChromeTraceGroupBy → List RecordedEvent → Type 0
+KeepsPrefixes g events = (xs ys : List RecordedEvent) → events ≡ xs ++ ys →
+    (refusal (history g xs) ≡ None) × ((more : List Mark) × (trace_marks (history g events) ≡ trace_marks (history g xs) ++ more))
+
+-- the iterator gave events and ended, and the text is that of their trace, whose marks are their timeline
+pub record Converts {S : Type 0} (steps : S → Option (Result RecordedEvent LineError) → S → Type 0) (s : S) (g : ChromeTraceGroupBy) (format : ChromeTraceMessageFormat) (version : Parts) (text : List ℕ) : Type 0 where
+  pub events : List RecordedEvent
+  pub drained : Drains steps s (map Ok events)
+  pub accepted : refusal (history g events) ≡ None
+  pub written : text ≡ trace_text format version (trace_marks (history g events))
+  pub timeline : IsTimeline (history g events)
+  pub prefixes : KeepsPrefixes g events
+
+-- the iterator gave events without a cause to be refused, and then a fault, which is the error
+pub record IsUnread {S : Type 0} (steps : S → Option (Result RecordedEvent LineError) → S → Type 0) (s : S) (g : ChromeTraceGroupBy) (e : ChromeTraceError) : Type 0 where
+  pub events : List RecordedEvent
+  pub fault : LineError
+  pub rest : S
+  pub yielded : YieldsThen steps s (map Ok events) (Some (Err fault)) rest
+  pub told : e ≡ ReadError fault
+  pub no_memory : fault ≡ faults.OutOfMemory → ⊥
+  pub accepted : refusal (history g events) ≡ None
+
+-- the iterator gave events, of which the last is the first with a cause to be refused, which is the error
+pub record IsRefused {S : Type 0} (steps : S → Option (Result RecordedEvent LineError) → S → Type 0) (s : S) (g : ChromeTraceGroupBy) (e : ChromeTraceError) : Type 0 where
+  pub before : List RecordedEvent
+  pub event : RecordedEvent
+  pub rest : S
+  pub yielded : Yields steps s (map Ok (before ++ event ∷ [])) rest
+  pub accepted : refusal (history g before) ≡ None
+  pub refused : refusal (history g (before ++ event ∷ [])) ≡ Some e
+
+-- why there is no trace: memory ran out, or the history can't be read, or an event is refused
+abbrev pub HasNoTrace : {S : Type 0} → (S → Option (Result RecordedEvent LineError) → S → Type 0) → S → ChromeTraceGroupBy → ChromeTraceError → Type 0
+HasNoTrace steps s g e = (e ≡ OutOfMemory) ⊎ (IsUnread steps s g e ⊎ IsRefused steps s g e)

@@ -1,0 +1,65 @@
+-- What each kind of event does, as a trace sees it.
+use Rattle.std.specs.Prelude.{ℕ, ◌+◌, List, ◌∷◌, ◌++◌, map, codes}
+use Rattle.rec_events.specs.Stats as stats
+use Rattle.rec_events.specs.Times.{micros}
+use Rattle.rec_events.specs.declared.events.CoreEventKind.{CoreEventKind}
+use Rattle.rec_events.specs.declared.events.CoreEventKind.TheVariants.{RunStarted, TestStarted}
+use Rattle.rec_events.specs.declared.events.OutputEventKind.{OutputEventKind}
+use Rattle.rec_events.specs.declared.events.OutputEventKind.TheVariants.{TestFinished}
+use Rattle.rec_events.specs.declared.events.TestEventKindSummary.{TestEventKindSummary}
+use Rattle.rec_events.specs.declared.events.TestEventKindSummary.TheVariants.{Core, Output}
+use Rattle.rec_events.specs.declared.events.TestEventSummary.{TestEventSummary}
+use Rattle.rec_events.specs.declared.instances.OwnedTestInstanceId.{OwnedTestInstanceId}
+use Rattle.rec_trace.specs.Past.{Change, Happening}
+use Rattle.rec_trace.specs.Past.Change.{Start, Stop}
+use Rattle.rec_trace.specs.declared.settings.ChromeTraceGroupBy.{ChromeTraceGroupBy}
+use Rattle.rec_trace.specs.declared.settings.ChromeTraceGroupBy.TheVariants.{Slot}
+use Rattle.rec_trace.specs.declared.spans.Place.TheVariants as places
+use Rattle.rec_trace.specs.declared.spans.Row.{Row}
+use Rattle.rec_trace.specs.declared.spans.Span.{Span}
+use Rattle.rec_trace.specs.declared.spans.SpanKey.TheVariants.{Run, Test}
+
+-- ---- spans
+
+abbrev pub run_span : Span
+run_span = record { key = Run; place = places.Run; row = record { pid = 0; tid = 1 }; name = codes "test run" }
+
+-- all tests are threads of one process, a thread for each slot
+abbrev pub test_row : ChromeTraceGroupBy → ℕ → Row
+test_row Slot slot = record { pid = 2; tid = slot + 10000 }
+
+abbrev pub test_name : ChromeTraceGroupBy → OwnedTestInstanceId → List ℕ
+test_name Slot test = test.binary_id ++ 32 ∷ test.test_name
+
+abbrev pub test_span : ChromeTraceGroupBy → OwnedTestInstanceId → ℕ → Span
+test_span g test slot = record { key = Test test; place = places.Slot slot; row = test_row g slot; name = test_name g test }
+
+-- ---- events
+
+abbrev pub core_change : ChromeTraceGroupBy → CoreEventKind → Change
+core_change g (RunStarted run_id profile_name cli_args stress_condition) = Start run_span
+core_change g (TestStarted stress_index test slot_assignment current_stats running command_line) = Start (test_span g test slot_assignment.global_slot)
+
+module _ {S O : Type 0} where
+  abbrev pub output_change : OutputEventKind S O → Change
+  output_change (TestFinished index test success failure store_success store_failure flaky statuses current_stats running) = Stop (Test test)
+
+  abbrev pub change_of : ChromeTraceGroupBy → TestEventKindSummary S O → Change
+  change_of g (Core kind) = core_change g kind
+  change_of g (Output kind) = output_change kind
+
+  abbrev pub output_failures : OutputEventKind S O → ℕ
+  output_failures (TestFinished index test success failure store_success store_failure flaky statuses current_stats running) = stats.failures current_stats
+
+  -- how many tests an event tells as failed
+  abbrev pub failures_of : TestEventKindSummary S O → ℕ
+  failures_of (Core kind) = 0
+  failures_of (Output kind) = output_failures kind
+
+  -- an event as a trace sees it
+  abbrev pub happening : ChromeTraceGroupBy → TestEventSummary S O → Happening
+  happening g event = record { at = micros event.timestamp; change = change_of g event.kind; failures = failures_of event.kind }
+
+  -- the history of events
+  abbrev pub history : ChromeTraceGroupBy → List (TestEventSummary S O) → List Happening
+  history g events = map (happening g) events

@@ -1,0 +1,14 @@
+pub mod Places
+pub mod Keys
+pub mod Past
+pub mod History
+pub mod Turns
+pub mod Positions
+pub mod Refusals
+pub mod Kinds
+pub mod Drawing
+pub mod Tied
+pub mod Machine
+pub mod Traces
+pub mod Timeline
+pub mod Converting

@@ -1,0 +1,99 @@
+-- What each event of a run shows in its trace, behind what came before. A past is the list of what happened so far, the newest first.
+use Rattle.std.specs.Prelude.{ℕ, ℤ, Bool, true, false, not, List, [], ◌∷◌, ◌++◌, map, filter, if◌then◌else◌}
+use Rattle.rec_trace.specs.Keys.{key_eq, row_eq}
+use Rattle.rec_trace.specs.Places.{place_eq, place_lt}
+use Rattle.rec_trace.specs.declared.spans.Phase.{Phase}
+use Rattle.rec_trace.specs.declared.spans.Phase.TheVariants.{Begin, End}
+use Rattle.rec_trace.specs.declared.spans.Place.{Place}
+use Rattle.rec_trace.specs.declared.spans.Row.{Row}
+use Rattle.rec_trace.specs.declared.spans.Span.{Span}
+use Rattle.rec_trace.specs.declared.spans.SpanKey.{SpanKey}
+
+-- what an event does: it starts a span, stops the span of a key, pauses the run, lets it go on, or none of these
+pub data Change : Type 0 where
+  Start : Span → Change
+  Stop : SpanKey → Change
+  Pause : Change
+  Resume : Change
+  Other : Change
+
+-- an event as a trace sees it: its instant in microseconds, what it does, and how many tests it tells as failed
+pub record Happening : Type 0 where
+  pub at : ℤ
+  pub change : Change
+  pub failures : ℕ
+
+-- the begin or the end of a slice of a span, at an instant
+pub record Mark : Type 0 where
+  pub phase : Phase
+  pub span : Span
+  pub at : ℤ
+
+-- ---- pauses
+
+abbrev pub pause_after : Change → Bool → Bool
+pause_after Pause before = true
+pause_after Resume before = false
+pause_after (Start s) before = before
+pause_after (Stop k) before = before
+pause_after Other before = before
+
+-- whether the last pause or continuation of the past is a pause
+abbrev pub is_paused : List Happening → Bool
+is_paused [] = false
+is_paused (h ∷ past) = pause_after h.change (is_paused past)
+
+-- ---- open spans
+
+-- the spans of a key, those at a place, those in a row, and those of every other key
+abbrev pub of_key : SpanKey → List Span → List Span
+of_key k spans = filter (λ s. key_eq s.key k) spans
+
+abbrev pub in_place : Place → List Span → List Span
+in_place p spans = filter (λ s. place_eq p s.place) spans
+
+abbrev pub in_row : Row → List Span → List Span
+in_row r spans = filter (λ s. row_eq s.row r) spans
+
+abbrev pub without : SpanKey → List Span → List Span
+without k spans = filter (λ s. not (key_eq s.key k)) spans
+
+-- the span put in by its place
+abbrev pub put_in : Span → List Span → List Span
+put_in s [] = s ∷ []
+put_in s (x ∷ spans) = if place_lt s.place x.place then s ∷ x ∷ spans else (x ∷ put_in s spans)
+
+-- a start puts its span in, a stop takes that of its key out
+abbrev pub open_after : Change → List Span → List Span
+open_after (Start s) spans = put_in s spans
+open_after (Stop k) spans = without k spans
+open_after Pause spans = spans
+open_after Resume spans = spans
+open_after Other spans = spans
+
+-- the spans that are open behind the past, by place
+abbrev pub open_spans : List Happening → List Span
+open_spans [] = []
+open_spans (h ∷ past) = open_after h.change (open_spans past)
+
+-- ---- marks
+
+abbrev pub mark : Phase → ℤ → Span → Mark
+mark phase t s = record { phase = phase; span = s; at = t }
+
+-- the begins, or the ends, of these spans at an instant
+abbrev pub marks : Phase → ℤ → List Span → List Mark
+marks phase t spans = map (mark phase t) spans
+
+-- what a change shows at an instant, in a pause and outside one, where these spans are open. In a pause a start and a stop show
+-- an instant: a begin and its end
+abbrev pub shown_of : Bool → List Span → ℤ → Change → List Mark
+shown_of in_pause spans t (Start s) = marks Begin t (s ∷ []) ++ (if in_pause then marks End t (s ∷ []) else [])
+shown_of in_pause spans t (Stop k) = (if in_pause then marks Begin t (of_key k spans) else []) ++ marks End t (of_key k spans)
+shown_of in_pause spans t Pause = if in_pause then [] else marks End t spans
+shown_of in_pause spans t Resume = if in_pause then marks Begin t spans else []
+shown_of in_pause spans t Other = []
+
+-- what an event shows behind the past
+abbrev pub shown : List Happening → Happening → List Mark
+shown past h = shown_of (is_paused past) (open_spans past) h.at h.change

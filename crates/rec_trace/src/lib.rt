@@ -1,0 +1,20 @@
+//! The trace of a test run: a timeline for trace viewers, in which pauses are gaps.
+#![tactic(auto)]
+
+mod builder;
+mod convert;
+#[cfg(test)]
+mod convert_tests;
+mod drawing;
+mod errors;
+pub mod laws;
+mod machine;
+mod open_spans;
+mod settings;
+mod spans;
+
+pub use builder::TraceBuilder;
+pub use convert::convert_to_chrome_trace;
+pub use errors::ChromeTraceError;
+pub use settings::{ChromeTraceGroupBy, ChromeTraceMessageFormat};
+pub use spans::SpanKey;

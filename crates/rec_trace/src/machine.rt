@@ -1,0 +1,325 @@
+//! Takes the events of a run one by one, and answers what each shows.
+ghost use Rattle.std.specs.Prelude.{◌≡◌, ◌^◌, ◌⊎◌, suc, [], ◌∷◌, false, true, map, nat_lt, IfOk, OnOk, OnErr, MatchOption};
+ghost use Rattle.serde_json.specs.View.{view};
+ghost use Rattle.rec_events.specs.Stats as stats;
+ghost use Rattle.rec_events.specs.Times.{micros};
+ghost use Rattle.rec_trace.specs.Drawing.{mark_value};
+ghost use Rattle.rec_trace.specs.History.{nothing_known};
+ghost use Rattle.rec_trace.specs.Kinds.{core_change, happening, output_change, output_failures, run_span, test_name, test_row, test_span};
+ghost use Rattle.rec_trace.specs.Machine.{Takes};
+ghost use Rattle.rec_trace.specs.Past.{in_place, mark, marks, of_key};
+ghost use Rattle.rec_trace.specs.Past.Change.{Start, Stop};
+ghost use Rattle.rec_trace.specs.Refusals.{Judges, change_refusal, count_refusal, instant_refusal, number_refusal, refusal_of};
+ghost use Rattle.rec_trace.specs.declared.spans.Phase.TheVariants as phases;
+ghost use Rattle.rec_trace.specs.declared.spans.Place.TheVariants as places;
+ghost use Rattle.rec_trace.specs.declared.spans.SpanKey.TheVariants as keys;
+
+use crate::drawing::mark_value;
+use crate::errors::ChromeTraceError;
+use crate::open_spans::OpenSpans;
+use crate::settings::ChromeTraceGroupBy;
+use crate::spans::{Phase, Place, Row, Span, SpanKey};
+use rec_events::{
+    CoreEventKind, OutputEventKind, OutputSpec, OwnedTestInstanceId, RunStats, Stamp,
+    TestEventKindSummary, TestEventSummary, Text, TryClone,
+};
+use serde_json::Value;
+use std::alloc::{AllocError, Global};
+use std::marker::Model;
+
+/// What is known of the events so far. No kind of event that is recorded yet pauses a run.
+#[derive(Drop)]
+pub struct Machine {
+    /// How many events there were.
+    number: u64,
+    open: OpenSpans,
+}
+
+impl Model for Machine {
+    ghost use Rattle.std.specs.Prelude.{false};
+    ghost use Rattle.rec_trace.specs.History.{Known};
+
+    ghost Value = { Known };
+
+    ghost view = { λ m. record { number = m.number; in_pause = false; spans = m.open } };
+}
+
+impl Machine {
+    /// There was no event.
+    pub fn new(alloc: Global) -> Machine
+        ensures { result ≡ nothing_known }
+    {
+        Machine {
+            number: 0,
+            open: OpenSpans::new(alloc),
+        }
+    }
+
+    /// Takes an event, and answers the trace events that it shows. Where it is refused, or memory is
+    /// short, the machine stays as it was.
+    pub fn step<S: OutputSpec>(
+        &mut self,
+        alloc: Global,
+        group_by: ChromeTraceGroupBy,
+        event: &TestEventSummary<S>,
+    ) -> Result<Vec<Value>, ChromeTraceError>
+        ensures { Takes (refusal_of self.old (happening group_by event.now)) (happening group_by event.now) self.old self.new result }
+    {
+        let number = self.next_number()?;
+        let at = instant(number, &event.timestamp)?;
+        match &event.kind {
+            TestEventKindSummary::Core(kind) => self.take_core(alloc, group_by, number, at, kind),
+            TestEventKindSummary::Output(kind) => self.take_output(alloc, number, at, kind),
+        }
+    }
+
+    /// The number of the next event.
+    fn next_number(&self) -> Result<u64, ChromeTraceError>
+        ensures number { IfOk result (λ n. n ≡ suc self.now.number) }
+        ensures judged { Judges result (number_refusal (suc self.now.number)) }
+    {
+        match self.number.checked_add(1) {
+            Some(number) => Ok(number),
+            None => Err(ChromeTraceError::CountOutOfRange { event: u64::MAX }),
+        }
+    }
+}
+
+/// The instant of an event, in microseconds.
+fn instant(number: u64, timestamp: &Stamp) -> Result<i64, ChromeTraceError>
+    ensures value { IfOk result (λ t. t ≡ micros timestamp.now) }
+    ensures judged { Judges result (instant_refusal number (micros timestamp.now)) }
+{
+    match timestamp.microseconds() {
+        Some(at) => Ok(at),
+        None => Err(ChromeTraceError::TimestampOutOfRange { event: number }),
+    }
+}
+
+/// The row of a test on a slot, where its number is a u64.
+fn test_row(group_by: ChromeTraceGroupBy, slot: u64) -> Option<Row>
+    ensures { MatchOption result (nat_lt (test_row group_by slot).tid (2 ^ 64) ≡ false)
+        (λ row. (row ≡ test_row group_by slot) × (nat_lt (test_row group_by slot).tid (2 ^ 64) ≡ true)) }
+{
+    match group_by {
+        ChromeTraceGroupBy::Slot => Some(Row {
+            pid: 2,
+            tid: slot.checked_add(10000)?,
+        }),
+    }
+}
+
+/// The name of the span of a test.
+fn test_name(
+    alloc: Global,
+    group_by: ChromeTraceGroupBy,
+    test: &OwnedTestInstanceId,
+) -> Result<Text, AllocError>
+    ensures { IfOk result (λ name. name ≡ test_name group_by test.now) }
+{
+    match group_by {
+        ChromeTraceGroupBy::Slot => {
+            let binary_id = test.binary_id.as_str();
+            let test_name = test.test_name.as_str();
+            Ok(Text::new(format!(in alloc; "{binary_id} {test_name}")?))
+        }
+    }
+}
+
+/// The trace event of one end of a slice.
+fn one_event(alloc: Global, phase: Phase, span: &Span, at: i64) -> Result<Vec<Value>, AllocError>
+    ensures { IfOk result (λ events. map view events.items ≡ mark_value (mark phase at span.now) ∷ []) }
+{
+    let mut events = Vec::new(alloc);
+    events.push(mark_value(alloc, phase, span, at)?)?;
+    Ok(events)
+}
+
+impl Machine {
+    /// Takes an event without outputs.
+    fn take_core(
+        &mut self,
+        alloc: Global,
+        group_by: ChromeTraceGroupBy,
+        number: u64,
+        at: i64,
+        kind: &CoreEventKind,
+    ) -> Result<Vec<Value>, ChromeTraceError>
+        requires { number ≡ suc self.old.number }
+        ensures { Takes (change_refusal number self.old.spans (core_change group_by kind.now) 0)
+            (record { at = at; change = core_change group_by kind.now; failures = 0 }) self.old self.new result }
+    {
+        match kind {
+            CoreEventKind::RunStarted { .. } => self.start_run(alloc, number, at),
+            CoreEventKind::TestStarted {
+                test_instance,
+                slot_assignment,
+                ..
+            } => self.start_test(
+                alloc,
+                group_by,
+                number,
+                at,
+                test_instance,
+                slot_assignment.global_slot,
+            ),
+        }
+    }
+
+    /// Takes an event with outputs.
+    fn take_output<S: OutputSpec>(
+        &mut self,
+        alloc: Global,
+        number: u64,
+        at: i64,
+        kind: &OutputEventKind<S>,
+    ) -> Result<Vec<Value>, ChromeTraceError>
+        requires { number ≡ suc self.old.number }
+        ensures { Takes (change_refusal number self.old.spans (output_change kind.now) (output_failures kind.now))
+            (record { at = at; change = output_change kind.now; failures = output_failures kind.now }) self.old self.new result }
+    {
+        match kind {
+            OutputEventKind::TestFinished {
+                test_instance,
+                current_stats,
+                ..
+            } => self.finish_test(alloc, number, at, test_instance, current_stats),
+        }
+    }
+
+    /// Starts the span of the run.
+    fn start_run(
+        &mut self,
+        alloc: Global,
+        number: u64,
+        at: i64,
+    ) -> Result<Vec<Value>, ChromeTraceError>
+        requires { number ≡ suc self.old.number }
+        ensures { Takes (change_refusal number self.old.spans (Start run_span) 0)
+            (record { at = at; change = Start run_span; failures = 0 }) self.old self.new result }
+    {
+        if self.open.run().is_some() {
+            return Err(ChromeTraceError::SpanAlreadyOpen {
+                event: number,
+                span: SpanKey::Run,
+            });
+        }
+        let span = Span {
+            key: SpanKey::Run,
+            place: Place::Run,
+            row: Row { pid: 0, tid: 1 },
+            name: Text::from_str(alloc, "test run")?,
+        };
+        let events = one_event(alloc, Phase::Begin, &span, at)?;
+        self.open.open(span)?;
+        self.number = number;
+        Ok(events)
+    }
+
+    /// Starts the span of an attempt of a test.
+    fn start_test(
+        &mut self,
+        alloc: Global,
+        group_by: ChromeTraceGroupBy,
+        number: u64,
+        at: i64,
+        test: &OwnedTestInstanceId,
+        slot: u64,
+    ) -> Result<Vec<Value>, ChromeTraceError>
+        requires { number ≡ suc self.old.number }
+        ensures { Takes (change_refusal number self.old.spans (Start (test_span group_by test.now slot)) 0)
+            (record { at = at; change = Start (test_span group_by test.now slot); failures = 0 }) self.old self.new result }
+    {
+        let row = self.row_of_start(alloc, group_by, number, test, slot)?;
+        let span = Span {
+            key: SpanKey::Test(test.try_clone(alloc)?),
+            place: Place::Slot(slot),
+            row,
+            name: test_name(alloc, group_by, test)?,
+        };
+        let events = one_event(alloc, Phase::Begin, &span, at)?;
+        self.open.open_test(alloc, test, slot, span)?;
+        self.number = number;
+        Ok(events)
+    }
+
+    /// The row of an attempt of a test that may start on a slot.
+    fn row_of_start(
+        &self,
+        alloc: Global,
+        group_by: ChromeTraceGroupBy,
+        number: u64,
+        test: &OwnedTestInstanceId,
+        slot: u64,
+    ) -> Result<Row, ChromeTraceError>
+        ensures row { IfOk result (λ row. row ≡ test_row group_by slot) }
+        ensures key_free { OnOk result (of_key (keys.Test test.now) self.now.spans ≡ []) }
+        ensures place_free { OnOk result (in_place (places.Slot slot) self.now.spans ≡ []) }
+        ensures judged { Judges result (change_refusal number self.now.spans (Start (test_span group_by test.now slot)) 0) }
+    {
+        if self.open.test(test).is_some() {
+            return Err(ChromeTraceError::SpanAlreadyOpen {
+                event: number,
+                span: SpanKey::Test(test.try_clone(alloc)?),
+            });
+        }
+        if self.open.on_slot(slot).is_some() {
+            return Err(ChromeTraceError::SlotBusy {
+                event: number,
+                slot,
+            });
+        }
+        match test_row(group_by, slot) {
+            Some(row) => Ok(row),
+            None => Err(ChromeTraceError::RowOutOfRange {
+                event: number,
+                number: slot,
+            }),
+        }
+    }
+
+    /// Ends the span of the open attempt of a test.
+    fn finish_test(
+        &mut self,
+        alloc: Global,
+        number: u64,
+        at: i64,
+        test: &OwnedTestInstanceId,
+        current_stats: &RunStats,
+    ) -> Result<Vec<Value>, ChromeTraceError>
+        requires { number ≡ suc self.old.number }
+        ensures { Takes (change_refusal number self.old.spans (Stop (keys.Test test.now)) (stats.failures current_stats.now))
+            (record { at = at; change = Stop (keys.Test test.now); failures = stats.failures current_stats.now }) self.old self.new result }
+    {
+        let events = self.end_of_test(alloc, number, at, test, current_stats)?;
+        let _closed = self.open.close_test(test);
+        self.number = number;
+        Ok(events)
+    }
+
+    /// The trace event that ends the span of a test, where an attempt of it is open.
+    fn end_of_test(
+        &self,
+        alloc: Global,
+        number: u64,
+        at: i64,
+        test: &OwnedTestInstanceId,
+        current_stats: &RunStats,
+    ) -> Result<Vec<Value>, ChromeTraceError>
+        ensures events { IfOk result (λ events. map view events.items
+            ≡ map mark_value (marks phases.End at (of_key (keys.Test test.now) self.now.spans))) }
+        ensures judged { Judges result (change_refusal number self.now.spans (Stop (keys.Test test.now)) (stats.failures current_stats.now)) }
+    {
+        let Some(span) = self.open.test(test) else {
+            return Err(ChromeTraceError::MissingTestStart {
+                event: number,
+                binary_id: test.binary_id.try_clone(alloc)?,
+                test_name: test.test_name.try_clone(alloc)?,
+            });
+        };
+        if current_stats.failed_count().is_none() {
+            return Err(ChromeTraceError::CountOutOfRange { event: number });
+        }
+        Ok(one_event(alloc, Phase::End, span, at)?)
+    }
+}

@@ -1,0 +1,115 @@
+//! The spans that are open at once.
+ghost use Rattle.std.specs.Prelude.{◌≡◌, ℕ, [], Some, OnOk, OnErr, option_copied, option_to_list};
+ghost use Rattle.rec_trace.specs.Past.{in_place, of_key, put_in, without};
+ghost use Rattle.rec_trace.specs.Tied.{place_of};
+ghost use Rattle.rec_trace.specs.declared.spans.Place.TheVariants as places;
+ghost use Rattle.rec_trace.specs.declared.spans.SpanKey.TheVariants as keys;
+
+use crate::spans::{Place, Span};
+use rec_events::{OwnedTestInstanceId, TryClone};
+use std::alloc::{AllocError, Global};
+use std::collections::BTreeMap;
+use std::marker::Model;
+
+/// The spans that are open, found by their place and by what they are of. Contracts see them in the
+/// order of their places.
+#[derive(Drop)]
+pub struct OpenSpans {
+    /// The slot of each test of which an attempt is open.
+    slots: BTreeMap<OwnedTestInstanceId, u64>,
+    spans: BTreeMap<Place, Span>,
+}
+
+impl Model for OpenSpans {
+    ghost use Rattle.std.specs.Prelude.{List};
+    ghost use Rattle.std.specs.Map.{values_of};
+    ghost use Rattle.rec_trace.specs.Tied.{AreTied};
+    ghost use Rattle.rec_trace.specs.declared.spans.Span.{Span};
+
+    ghost Value = { List Span };
+
+    ghost view = { λ o. values_of o.spans.entries };
+
+    ghost invariant = { λ o. AreTied o.slots.entries o.spans.entries };
+}
+
+impl OpenSpans {
+    /// No span is open.
+    pub fn new(alloc: Global) -> OpenSpans
+        ensures { result ≡ [] }
+    {
+        OpenSpans {
+            slots: BTreeMap::new(alloc),
+            spans: BTreeMap::new(alloc),
+        }
+    }
+
+    /// The span of the run, where it is open.
+    pub fn run(&self) -> Option<&Span>
+        ensures key { option_to_list (option_copied result) ≡ of_key keys.Run self.now }
+        ensures place { option_to_list (option_copied result) ≡ in_place places.Run self.now }
+    {
+        self.spans.get(&Place::Run)
+    }
+
+    /// The span of the open attempt of a test.
+    pub fn test(&self, test: &OwnedTestInstanceId) -> Option<&Span>
+        ensures { option_to_list (option_copied result) ≡ of_key (keys.Test test.now) self.now }
+    {
+        let slot = self.slots.get(test)?;
+        self.spans.get(&Place::Slot(*slot))
+    }
+
+    /// The span of the test that runs on a slot.
+    pub fn on_slot(&self, slot: u64) -> Option<&Span>
+        ensures { option_to_list (option_copied result) ≡ in_place (places.Slot slot) self.now }
+    {
+        self.spans.get(&Place::Slot(slot))
+    }
+
+    /// Opens a span that is not of a test.
+    pub fn open(&mut self, span: Span) -> Result<(), AllocError>
+        requires place { place_of [] span.key ≡ Some span.place }
+        requires key_free { of_key span.key self.old ≡ [] }
+        requires place_free { in_place span.place self.old ≡ [] }
+        ensures ok { OnOk result (self.new ≡ put_in span self.old) }
+        ensures err { OnErr result (self.new ≡ self.old) }
+    {
+        self.spans.insert(span.place, span)?;
+        Ok(())
+    }
+
+    /// Opens the span of an attempt of a test, on a slot.
+    pub fn open_test(
+        &mut self,
+        alloc: Global,
+        test: &OwnedTestInstanceId,
+        slot: u64,
+        span: Span,
+    ) -> Result<(), AllocError>
+        requires key { span.key ≡ keys.Test test.now }
+        requires place { span.place ≡ places.Slot slot }
+        requires key_free { of_key span.key self.old ≡ [] }
+        requires place_free { in_place span.place self.old ≡ [] }
+        ensures ok { OnOk result (self.new ≡ put_in span self.old) }
+        ensures err { OnErr result (self.new ≡ self.old) }
+    {
+        self.slots.insert(test.try_clone(alloc)?, slot)?;
+        match self.spans.insert(Place::Slot(slot), span) {
+            Ok(_) => Ok(()),
+            Err(_) => {
+                self.slots.remove(test);
+                Err(AllocError)
+            }
+        }
+    }
+
+    /// Closes the span of the open attempt of a test, and answers it, if there is one.
+    pub fn close_test(&mut self, test: &OwnedTestInstanceId) -> Option<Span>
+        ensures closed { self.new ≡ without (keys.Test test.now) self.old }
+        ensures span { option_to_list result ≡ of_key (keys.Test test.now) self.old }
+    {
+        let slot = self.slots.remove(test)?;
+        self.spans.remove(&Place::Slot(slot))
+    }
+}
