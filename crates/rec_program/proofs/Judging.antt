@@ -8,6 +8,7 @@ use Rattle.rec_format.specs.declared.head.SessionHead.{SessionHead}
 use Rattle.rec_store.specs.Bundle.{run_bundle}
 use Rattle.rec_program.specs.Bundle.{count_refusal, refusal, refusal_behind, session_events, session_head, size_refusal}
 use Rattle.rec_program.specs.Session.{event_lines, events_of, lines_refusal, session_lines}
+use Rattle.rec_program.specs.SessionTraces.{trace_refusal}
 use Rattle.rec_program.specs.declared.settings.Settings.{Settings}
 use Rattle.rec_program.specs.declared.refusal.RecordExportError.{RecordExportError}
 use Rattle.rec_program.specs.declared.refusal.RecordExportError.TheVariants.{CountOutOfRange, OutOfMemory, ParseHead}
@@ -33,9 +34,13 @@ module _ (number : List ℕ → ℕ) (settings : Settings) where
   unfolding refusal
   behind_head session head h = ap (λ o. refusal_behind number settings o (event_lines (session_lines session))) h
 
+  -- why a session is refused behind the sum of its sizes
+  abbrev pub behind_count : SessionHead → List NumberedLine → Option RecordExportError
+  behind_count head lines = option_or (size_refusal number settings head (events_of lines)) (trace_refusal settings (events_of lines))
+
   -- why a session is refused behind its lines
-  abbrev behind_lines : SessionHead → List NumberedLine → Option RecordExportError
-  behind_lines head lines = option_or (count_refusal number settings head (events_of lines)) (size_refusal number settings head (events_of lines))
+  abbrev pub behind_lines : SessionHead → List NumberedLine → Option RecordExportError
+  behind_lines head lines = option_or (count_refusal number settings head (events_of lines)) (behind_count head lines)
 
   pub refused_line : (head : SessionHead) (lines : List NumberedLine) (e : RecordExportError) → lines_refusal number settings.max_output [] lines ≡ Some e
       → refusal_behind number settings (Some head) lines ≡ Some e
@@ -47,13 +52,24 @@ module _ (number : List ℕ → ℕ) (settings : Settings) where
   refused_count head lines e h (inl k) = inl k
   refused_count head lines e h (inr k) =
       inr (ap (λ o. option_or o (behind_lines head lines)) h
-      ∙ ap (λ b. option_or (if b then None else Some (CountOutOfRange None)) (size_refusal number settings head (events_of lines))) (is_not_less _ k.1)
+      ∙ ap (λ b. option_or (if b then None else Some (CountOutOfRange None)) (behind_count head lines)) (is_not_less _ k.1)
       ∙ ap (λ x. Some x) (sym k.0))
 
-  -- lines and their sum that are no fault leave the sizes
+  -- lines and their sum that are no fault leave the sizes and the trace
   pub sizes_left : (head : SessionHead) (lines : List NumberedLine) → lines_refusal number settings.max_output [] lines ≡ None
       → length (run_bundle number settings.max_output head (events_of lines)) < 2 ^ 64
-      → refusal_behind number settings (Some head) lines ≡ size_refusal number settings head (events_of lines)
+      → refusal_behind number settings (Some head) lines ≡ behind_count head lines
   sizes_left head lines h fits =
       ap (λ o. option_or o (behind_lines head lines)) h
-      ∙ ap (λ b. option_or (if b then None else Some (CountOutOfRange None)) (size_refusal number settings head (events_of lines))) (is_less _ fits)
+      ∙ ap (λ b. option_or (if b then None else Some (CountOutOfRange None)) (behind_count head lines)) (is_less _ fits)
+
+  -- a size that is refused comes first
+  pub refused_size : (head : SessionHead) (lines : List NumberedLine) (e : RecordExportError) → refusal_behind number settings (Some head) lines ≡ behind_count head lines
+      → (e ≡ OutOfMemory) ⊎ (size_refusal number settings head (events_of lines) ≡ Some e) → (e ≡ OutOfMemory) ⊎ (refusal_behind number settings (Some head) lines ≡ Some e)
+  refused_size head lines e left (inl h) = inl h
+  refused_size head lines e left (inr h) = inr (left ∙ ap (λ o. option_or o (trace_refusal settings (events_of lines))) h)
+
+  -- sizes that are no fault leave the trace
+  pub trace_left : (head : SessionHead) (lines : List NumberedLine) → refusal_behind number settings (Some head) lines ≡ behind_count head lines
+      → size_refusal number settings head (events_of lines) ≡ None → refusal_behind number settings (Some head) lines ≡ trace_refusal settings (events_of lines)
+  trace_left head lines left h = left ∙ ap (λ o. option_or o (trace_refusal settings (events_of lines))) h

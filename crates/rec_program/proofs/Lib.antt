@@ -6,3 +6,4 @@ pub mod Numbers
 pub mod OptionSteps
 pub mod Recorded
 pub mod RecordedLines
+pub mod SessionTraced

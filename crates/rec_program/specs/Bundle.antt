@@ -1,4 +1,4 @@
--- The bundle of a session, and why a session has none.
+-- The bundle and the trace of a session, and why a session has none.
 use Rattle.std.specs.Prelude.{◌≡◌, ℕ, ◌^◌, List, [], ◌∷◌, length, Option, Some, None, nat_lt, if◌then◌else◌, option_and_then}
 use Rattle.std.specs.Option.{option_or}
 use Rattle.rec_codec.specs.Lines.{NumberedLine}
@@ -11,6 +11,8 @@ use Rattle.rec_store.specs.Bundle.{manifest_text, run_bundle, run_log, run_store
 use Rattle.rec_store.specs.Entries.{log_name, manifest_name}
 use Rattle.rec_store.specs.Reading.{IsReading, recorded}
 use Rattle.rec_program.specs.Session.{session_lines, head_text, event_lines, lines_refusal, events_of}
+use Rattle.rec_trace.specs.Timeline.{IsTimeline}
+use Rattle.rec_program.specs.SessionTraces.{run_trace, session_history, trace_refusal}
 use Rattle.rec_program.specs.Sizes.{entries_refusal}
 use Rattle.rec_program.specs.declared.settings.Settings.{Settings}
 use Rattle.rec_program.specs.declared.refusal.RecordExportError.{RecordExportError}
@@ -40,20 +42,26 @@ module _ (number : List ℕ → ℕ) (settings : Settings) where
       ∷ named log_name (run_log number settings.max_output events)
       ∷ run_store number settings.max_output head events)
 
-  -- why lines are refused behind a head, if they are: the first failing line, then the sum of all sizes, then the first size
+  -- why lines are refused behind a head, if they are: the first failing line, then the sum of all sizes, then the first size, then the
+  -- first event that has no trace
   abbrev pub refusal_behind : Option SessionHead → List NumberedLine → Option RecordExportError
   refusal_behind None lines = Some ParseHead
   refusal_behind (Some head) lines =
-      option_or (lines_refusal number settings.max_output [] lines) (option_or (count_refusal head (events_of lines)) (size_refusal head (events_of lines)))
+      option_or (lines_refusal number settings.max_output [] lines)
+      (option_or (count_refusal head (events_of lines))
+      (option_or (size_refusal head (events_of lines)) (trace_refusal settings (events_of lines))))
 
   -- why a session is refused that was read whole, if it is
   unfoldable pub refusal : List ℕ → Option RecordExportError
   refusal session = refusal_behind (session_head session) (event_lines (session_lines session))
 
-  -- the session is valid, this is its bundle, and the bundle is read as what was recorded of the session
-  pub record IsBundleOf (session bundle : List ℕ) : Type 0 where
+  -- The session is valid, this is its bundle, and the bundle is read as what was recorded of the session. This is the text of its
+  -- trace: begins and ends on every row take turns, and are the slices that the pauses leave, at their events' instants
+  pub record AreOf (session bundle trace : List ℕ) : Type 0 where
     pub head : SessionHead
     pub has_head : session_head session ≡ Some head
     pub valid : refusal session ≡ None
     pub spelled : bundle ≡ run_bundle number settings.max_output head (session_events session)
     pub reads : IsReading bundle (recorded number settings.max_output head (session_events session))
+    pub traced : trace ≡ run_trace settings head (session_events session)
+    pub timeline : IsTimeline (session_history settings (session_events session))

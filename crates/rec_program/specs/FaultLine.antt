@@ -2,7 +2,9 @@
 use Rattle.std.specs.Prelude.{ℕ, List, [], ◌∷◌, ◌++◌, Option, Some, None, codes}
 use Rattle.std.specs.Fmt.{decimal}
 use Rattle.rec_program.specs.declared.refusal.RecordExportError.{RecordExportError}
-use Rattle.rec_program.specs.declared.refusal.RecordExportError.TheVariants.{SourceFault, SessionTooLarge, ParseHead, ReadRunLog, ParseEvent, NameCollision, CountOutOfRange, FileTooLarge, BundleFault, OutOfMemory}
+use Rattle.rec_program.specs.declared.refusal.RecordExportError.TheVariants.{SourceFault, SessionTooLarge, ParseHead, ReadRunLog, ParseEvent, NameCollision, CountOutOfRange, FileTooLarge, MissingTestStart, SpanAlreadyOpen, SlotBusy, TimestampOutOfRange, RowOutOfRange, BundleFault, TraceFault, OutOfMemory}
+use Rattle.rec_trace.specs.declared.spans.SpanKey.{SpanKey}
+use Rattle.rec_trace.specs.declared.spans.SpanKey.TheVariants as spans
 use Rattle.rec_program.specs.declared.words.WordsError.{WordsError}
 use Rattle.rec_program.specs.declared.words.WordsError.TheVariants.{NoCommand, UnknownCommand, MissingPositional, UnknownOption, RepeatedOption, MissingValue, BadValue}
 
@@ -19,6 +21,13 @@ fault_line name fields = name ++ fields_line fields
 abbrev pub optional_number : Option ℕ → List ℕ
 optional_number None = codes "None"
 optional_number (Some n) = decimal n
+
+-- what a span is of: the name of the variant, and its fields
+abbrev pub span_text : SpanKey → List ℕ
+span_text spans.Run = codes "Run"
+span_text spans.SubRun = codes "SubRun"
+span_text (spans.Script index) = codes "Script " ++ decimal index
+span_text (spans.Test test) = codes "Test binary_id=" ++ (test.binary_id ++ (codes " test_name=" ++ test.test_name))
 
 unfoldable pub words_line : WordsError → List ℕ
 words_line NoCommand = fault_line (codes "NoCommand") []
@@ -39,7 +48,14 @@ export_line (NameCollision file_name) = fault_line (codes "NameCollision") ((cod
 export_line (CountOutOfRange event) = fault_line (codes "CountOutOfRange") ((codes "event", optional_number event) ∷ [])
 export_line (FileTooLarge file_name size limit) =
     fault_line (codes "FileTooLarge") ((codes "file_name", file_name) ∷ (codes "size", decimal size) ∷ (codes "limit", decimal limit) ∷ [])
+export_line (MissingTestStart event binary_id test_name) =
+    fault_line (codes "MissingTestStart") ((codes "event", decimal event) ∷ (codes "binary_id", binary_id) ∷ (codes "test_name", test_name) ∷ [])
+export_line (SpanAlreadyOpen event span) = fault_line (codes "SpanAlreadyOpen") ((codes "event", decimal event) ∷ (codes "span", span_text span) ∷ [])
+export_line (SlotBusy event slot) = fault_line (codes "SlotBusy") ((codes "event", decimal event) ∷ (codes "slot", decimal slot) ∷ [])
+export_line (TimestampOutOfRange event) = fault_line (codes "TimestampOutOfRange") ((codes "event", decimal event) ∷ [])
+export_line (RowOutOfRange event number) = fault_line (codes "RowOutOfRange") ((codes "event", decimal event) ∷ (codes "number", decimal number) ∷ [])
 export_line BundleFault = fault_line (codes "BundleFault") []
+export_line TraceFault = fault_line (codes "TraceFault") []
 export_line OutOfMemory = fault_line (codes "OutOfMemory") []
 
 -- standard output failed

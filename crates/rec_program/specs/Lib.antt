@@ -11,5 +11,7 @@ pub mod Running
 pub mod Session
 pub mod Settings
 pub mod Sizes
+pub mod SessionTraces
 pub mod Status
+pub mod TraceFaults
 pub mod Words

@@ -44,6 +44,8 @@ with_limit limits SessionLimit limit = record limits { session_limit = Some limi
 -- the limits that options set, and the defaults elsewhere
 abbrev pub settings_of : Limits → Settings
 settings_of limits = record {
+  group_by = default_settings.group_by;
+  message_format = default_settings.message_format;
   max_output = unwrap_or limits.max_output default_settings.max_output;
   read_limit = unwrap_or limits.read_limit default_settings.read_limit;
   session_limit = unwrap_or limits.session_limit default_settings.session_limit;

@@ -104,7 +104,7 @@ fn the_first_line_that_fails_is_told(rt: HostRuntime) -> Result<(), Fail> {
         ("{\"kind\":\"run-started\"}", "5 ParseEvent line_number=4\n"),
         ("{}", "5 ParseEvent line_number=4\n"),
         ("null", "5 ParseEvent line_number=4\n"),
-        ("\u{a0}", "0 bundle "),
+        ("\u{a0}", "8 SpanAlreadyOpen event=2 span=Run\n"),
     ] {
         assert_eq!(rt;
             told_lines(alloc, &[run, " ", line, run])?.as_str(),
@@ -133,7 +133,7 @@ fn a_line_that_is_no_text_is_told(rt: HostRuntime) -> Result<(), Fail> {
     Ok(())
 }
 
-/// What comes of two finished tests with these outputs, and how many bytes both sinks took.
+/// What comes of two runs of a test with these outputs, and whether both sinks took nothing.
 fn exported<N: OutputNamer>(
     alloc: Global,
     namer: &N,
@@ -143,11 +143,13 @@ fn exported<N: OutputNamer>(
     let settings = Settings::default();
     let first = finished(alloc, first)?;
     let second = finished(alloc, second)?;
-    let session = session_of(alloc, &[first.as_str(), second.as_str()])?;
+    let start = test_started();
+    let session = session_of(alloc, &[start, first.as_str(), start, second.as_str()])?;
     let mut source = SliceSource::new(session.as_bytes());
     let mut bundle = MemorySink::new(alloc);
     bundle.reserve(16384)?;
     let mut trace = MemorySink::new(alloc);
+    trace.reserve(1024)?;
     let told = match record_and_export(
         alloc,
         &settings,
@@ -165,7 +167,7 @@ fn exported<N: OutputNamer>(
     };
     let told = told.as_str();
     let bundle = bundle.bytes().is_empty();
-    let trace = trace.bytes().len();
+    let trace = trace.bytes().is_empty();
     Ok(format!(in alloc; "{told} {bundle} {trace}")?)
 }
 
@@ -175,15 +177,15 @@ fn outputs_clash(rt: HostRuntime) -> Result<(), Fail> {
     let zero = ConstantNamer { number: 0 };
     assert_eq!(rt;
         exported(alloc, &zero, abc(), hello())?.as_str(),
-        "NameCollision file_name=out/0000000000000000-stdout\n true 0"
+        "NameCollision file_name=out/0000000000000000-stdout\n true true"
     );
     assert_eq!(rt;
         exported(alloc, &zero, abc(), abc())?.as_str(),
-        "2 events, 1 outputs false 0"
+        "4 events, 1 outputs false false"
     );
     assert_eq!(rt;
         exported(alloc, &Sha256Namer, abc(), hello())?.as_str(),
-        "2 events, 2 outputs false 0"
+        "4 events, 2 outputs false false"
     );
     let clash = RecordExportError::NameCollision {
         file_name: Text::from_str(alloc, "out/0000000000000000-stdout")?,

@@ -1,4 +1,4 @@
-//! From a session to its bundle.
+//! From a session to its bundle and its trace.
 ghost use Rattle.std.specs.Prelude.{◌≡◌, ◌≤◌, ℕ, List, length, IfOk, IfErr, Some, None};
 ghost use Rattle.rec_container.specs.Causes.{Rose};
 ghost use Rattle.rec_program.specs.Bundle.{refusal};
@@ -15,10 +15,10 @@ use rec_container::{Sink, Source};
 use rec_store::OutputNamer;
 use std::alloc::Global;
 
-/// Reads a session from the source to its end, and writes its bundle.
+/// Reads a session from the source to its end, and writes its bundle and then its trace.
 ///
-/// The whole session is judged, and its bundle built, before the first byte is written. Writing
-/// takes no memory. The trace sink takes nothing, since no trace is built yet.
+/// The whole session is judged, and both are built, before the first byte is written. Writing takes
+/// no memory.
 pub fn record_and_export<S: Source, N: OutputNamer, B: Sink, T: Sink>(
     alloc: Global,
     settings: &Settings,
@@ -27,11 +27,11 @@ pub fn record_and_export<S: Source, N: OutputNamer, B: Sink, T: Sink>(
     bundle: &mut B,
     trace: &mut T,
 ) -> Result<Exported, RecordExportError>
-    ensures ok { IfOk result (Exports S.left S.faults B.taken B.faults (N.number namer.now) settings.now
-        source.old source.new bundle.old bundle.new) }
-    ensures err { IfErr result (Fails S.left S.faults B.taken B.faults (N.number namer.now) settings.now
-        source.old source.new bundle.old bundle.new) }
-    ensures trace { trace.new ≡ trace.old }
+    // The session was read to its end, and the sinks took its bundle and its trace.
+    ensures ok { IfOk result (Exports S.left S.faults B.taken B.faults T.taken T.faults (N.number namer.now) settings.now
+        source.old source.new bundle.old bundle.new trace.old trace.new) }
+    ensures err { IfErr result (Fails S.left S.faults B.taken B.faults T.taken T.faults (N.number namer.now) settings.now
+        source.old source.new bundle.old bundle.new trace.old trace.new) }
 
     // A valid session is exported, unless memory runs out or an object fails.
     ensures complete { (session : List ℕ)
@@ -40,30 +40,33 @@ pub fn record_and_export<S: Source, N: OutputNamer, B: Sink, T: Sink>(
         → refusal (N.number namer.now) settings.now session ≡ None
         → ¬ Rose (S.faults source.old) (S.faults source.new)
         → ¬ Rose (B.faults bundle.old) (B.faults bundle.new)
+        → ¬ Rose (T.faults trace.old) (T.faults trace.new)
         → IfErr result (λ e. e ≡ OutOfMemory) }
 {
-    export(alloc, settings, namer, source, bundle)
+    export(alloc, settings, namer, source, bundle, trace)
 }
 
-fn export<S: Source, N: OutputNamer, B: Sink>(
+fn export<S: Source, N: OutputNamer, B: Sink, T: Sink>(
     alloc: Global,
     settings: &Settings,
     namer: &N,
     source: &mut S,
     bundle: &mut B,
+    trace: &mut T,
 ) -> Result<Exported, RecordExportError>
-    ensures ok { IfOk result (Exports S.left S.faults B.taken B.faults (N.number namer.now) settings.now
-        source.old source.new bundle.old bundle.new) }
-    ensures err { IfErr result (Fails S.left S.faults B.taken B.faults (N.number namer.now) settings.now
-        source.old source.new bundle.old bundle.new) }
+    ensures ok { IfOk result (Exports S.left S.faults B.taken B.faults T.taken T.faults (N.number namer.now) settings.now
+        source.old source.new bundle.old bundle.new trace.old trace.new) }
+    ensures err { IfErr result (Fails S.left S.faults B.taken B.faults T.taken T.faults (N.number namer.now) settings.now
+        source.old source.new bundle.old bundle.new trace.old trace.new) }
 {
     let session = read_session(alloc, settings.session_limit, source)?;
     let prepared = prepare(alloc, settings, namer, &session)?;
-    deliver(prepared.bundle.bytes(), bundle)?;
+    let text = prepared.trace.as_str();
+    deliver(prepared.bundle.bytes(), text, bundle, trace)?;
     Ok(Exported {
         events: prepared.events,
         outputs: prepared.outputs,
         bundle_bytes: prepared.bundle.bytes().len() as u64,
-        trace_bytes: 0,
+        trace_bytes: text.len() as u64,
     })
 }

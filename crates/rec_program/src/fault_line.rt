@@ -1,12 +1,13 @@
 //! The line that tells a fault: the name of its variant, ` name=value` for each field in order of
 //! declaration, and LF.
 ghost use Rattle.std.specs.Prelude.{◌≡◌, ℕ, List, IfOk, string_bytes};
-ghost use Rattle.rec_program.specs.FaultLine.{words_line, export_line, sink_line};
+ghost use Rattle.rec_program.specs.FaultLine.{words_line, export_line, sink_line, span_text};
 ghost use Rattle.rec_program.specs.Reporting.{Reports};
 
 use crate::refusal::RecordExportError;
 use crate::words::WordsError;
 use rec_container::{Sink, SinkFailed, write_all};
+use rec_trace::SpanKey;
 use std::alloc::{AllocError, Global};
 
 /// A fault that is told in one line.
@@ -72,8 +73,50 @@ impl FaultLine for RecordExportError {
                 let file_name = file_name.as_str();
                 format!(in alloc; "FileTooLarge file_name={file_name} size={size} limit={limit}\n")
             }
+            RecordExportError::MissingTestStart {
+                event,
+                binary_id,
+                test_name,
+            } => {
+                let binary_id = binary_id.as_str();
+                let test_name = test_name.as_str();
+                format!(in alloc;
+                    "MissingTestStart event={event} binary_id={binary_id} test_name={test_name}\n"
+                )
+            }
+            RecordExportError::SpanAlreadyOpen { event, span } => {
+                let span = span_text(alloc, span)?;
+                let span = span.as_str();
+                format!(in alloc; "SpanAlreadyOpen event={event} span={span}\n")
+            }
+            RecordExportError::SlotBusy { event, slot } => {
+                format!(in alloc; "SlotBusy event={event} slot={slot}\n")
+            }
+            RecordExportError::TimestampOutOfRange { event } => {
+                format!(in alloc; "TimestampOutOfRange event={event}\n")
+            }
+            RecordExportError::RowOutOfRange { event, number } => {
+                format!(in alloc; "RowOutOfRange event={event} number={number}\n")
+            }
             RecordExportError::BundleFault => String::from_str(alloc, "BundleFault\n"),
+            RecordExportError::TraceFault => String::from_str(alloc, "TraceFault\n"),
             RecordExportError::OutOfMemory => String::from_str(alloc, "OutOfMemory\n"),
+        }
+    }
+}
+
+/// What a span is of, as a fault's line tells it.
+fn span_text(alloc: Global, span: &SpanKey) -> Result<String, AllocError>
+    ensures { IfOk result (λ text. string_bytes text ≡ span_text span.now) }
+{
+    match span {
+        SpanKey::Run => String::from_str(alloc, "Run"),
+        SpanKey::SubRun => String::from_str(alloc, "SubRun"),
+        SpanKey::Script(index) => format!(in alloc; "Script {index}"),
+        SpanKey::Test(test) => {
+            let binary_id = test.binary_id.as_str();
+            let test_name = test.test_name.as_str();
+            format!(in alloc; "Test binary_id={binary_id} test_name={test_name}")
         }
     }
 }

@@ -27,6 +27,7 @@ fn recorded_in_bytes(
     let mut out = FailingSink::new(alloc, 1, Vec::new(alloc));
     let mut diag = FailingSink::new(alloc, 0, Vec::new(alloc));
     bundle.reserve(4096)?;
+    out.reserve(1024)?;
     diag.reserve(100)?;
     let status = run_program(alloc, &words, &mut source, &mut bundle, &mut out, &mut diag);
     let taken = bundle.bytes().len();

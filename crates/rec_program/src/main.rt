@@ -1,4 +1,4 @@
-//! Records a test run into a portable bundle.
+//! Records a test run into a portable bundle, and draws its trace.
 #![tactic(auto)]
 
 ghost use Rattle.std.specs.Prelude.{◌≡◌, [], IfOk, string_bytes, unwrap_or};
@@ -28,6 +28,9 @@ mod sizes;
 mod status;
 #[cfg(test)]
 mod tests;
+mod trace;
+#[cfg(test)]
+mod trace_tests;
 mod usage;
 mod words;
 #[cfg(test)]
@@ -39,7 +42,7 @@ use status::{FAULTY_WORDS, OUT_OF_MEMORY};
 use std::alloc::{AllocError, Global};
 use std::process::ExitCode;
 use std::rt::Env;
-use std::{env, io};
+use std::{env, fs, io};
 use words::bundle_path;
 
 /// The words behind the program's name. A word that isn't UTF-8 is an error.
@@ -64,6 +67,11 @@ fn path_of(alloc: Global, words: &[String]) -> Result<String, AllocError>
 }
 
 fn main(rt: HostRuntime) -> ExitCode {
+    // Where a standard stream is closed, the next file that is opened would take its place. So these are
+    // opened first: the root folder can neither be read nor written as a file.
+    let _first = fs::open(&rt, "/").ok();
+    let _second = fs::open(&rt, "/").ok();
+    let _third = fs::open(&rt, "/").ok();
     let words = match words_of(&rt) {
         Ok(words) => words,
         Err(error) => return ExitCode::from(status_without_words(&error)),

@@ -59,6 +59,8 @@ impl Limits {
     {
         let defaults = Settings::default();
         Settings {
+            group_by: defaults.group_by,
+            message_format: defaults.message_format,
             max_output: self.max_output.unwrap_or(defaults.max_output),
             read_limit: self.read_limit.unwrap_or(defaults.read_limit),
             session_limit: self.session_limit.unwrap_or(defaults.session_limit),

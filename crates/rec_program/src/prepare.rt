@@ -1,7 +1,9 @@
-//! The judging of a session, and its bundle in memory.
-ghost use Rattle.std.specs.Prelude.{◌≡◌, ◌⊎◌, ◌<◌, ◌^◌, [], length, Some, None, IfOk, IfErr, OnOk};
-ghost use Rattle.rec_program.specs.Bundle.{IsBundleOf, refusal, refusal_behind, session_events};
+//! The judging of a session, and its bundle and its trace in memory.
+ghost use Rattle.std.specs.Prelude.{◌≡◌, ◌⊎◌, ◌<◌, ◌^◌, [], length, Some, None, IfOk, IfErr, OnOk, string_bytes};
+ghost use Rattle.rec_program.specs.Bundle.{AreOf, refusal, refusal_behind, session_events};
 ghost use Rattle.rec_program.specs.Session.{events_of, lines_refusal};
+ghost use Rattle.rec_trace.specs.Refusals as traces;
+ghost use Rattle.rec_program.specs.SessionTraces.{run_trace, session_history};
 ghost use Rattle.rec_program.specs.declared.refusal.RecordExportError.TheVariants.{OutOfMemory};
 ghost use Rattle.rec_store.specs.Bundle.{outputs_stored, run_bundle};
 ghost use Rattle.rec_store.specs.Reading.{IsReading, recorded};
@@ -23,19 +25,20 @@ use std::alloc::Global;
 #[derive(Drop)]
 pub struct Prepared {
     pub bundle: BuiltText,
+    pub trace: String,
     pub events: u64,
     pub outputs: u64,
 }
 
-/// Judges a whole session, and builds its bundle.
+/// Judges a whole session, and builds its bundle and its trace.
 pub fn prepare<N: OutputNamer>(
     alloc: Global,
     settings: &Settings,
     namer: &N,
     session: &[u8],
 ) -> Result<Prepared, RecordExportError>
-    ensures bundle { IfOk result (λ p.
-        IsBundleOf (N.number namer.now) settings.now session.now p.bundle.bytes) }
+    ensures texts { IfOk result (λ p.
+        AreOf (N.number namer.now) settings.now session.now p.bundle.bytes (string_bytes p.trace)) }
     ensures events { IfOk result (λ p. p.events ≡ length (session_events session.now)) }
     ensures outputs { IfOk result (λ p. p.outputs
         ≡ length (outputs_stored (N.number namer.now) settings.now.max_output (session_events session.now))) }
@@ -47,7 +50,7 @@ pub fn prepare<N: OutputNamer>(
     bundle_run(alloc, settings, namer, &head, lines)
 }
 
-/// The bundle of a run with this head, and the events of the lines behind it.
+/// The bundle and the trace of a run with this head, and the events of the lines behind it.
 fn bundle_run<N: OutputNamer>(
     alloc: Global,
     settings: &Settings,
@@ -59,6 +62,9 @@ fn bundle_run<N: OutputNamer>(
         ≡ run_bundle (N.number namer.now) settings.now.max_output head.now (events_of lines.entry)) }
     ensures reads { IfOk result (λ p. IsReading p.bundle.bytes
         (recorded (N.number namer.now) settings.now.max_output head.now (events_of lines.entry))) }
+    ensures trace { IfOk result (λ p. string_bytes p.trace
+        ≡ run_trace settings.now head.now (events_of lines.entry)) }
+    ensures accepted { OnOk result (traces.refusal (session_history settings.now (events_of lines.entry)) ≡ None) }
     ensures valid { OnOk result (refusal_behind (N.number namer.now) settings.now (Some head.now) lines.entry ≡ None) }
     ensures events { IfOk result (λ p. p.events ≡ length (events_of lines.entry)) }
     ensures outputs { IfOk result (λ p. p.outputs
@@ -76,10 +82,15 @@ fn bundle_run<N: OutputNamer>(
         run.log.bytes(),
         run.store.bytes(),
     )?;
+    let sizes = run.sizes;
+    let trace = run
+        .trace
+        .into_text(alloc, &head.nextest_version, settings.message_format)?;
     Ok(Prepared {
         bundle,
-        events: run.sizes.log.entries,
-        outputs: run.sizes.store.entries - metadata_count(head),
+        trace,
+        events: sizes.log.entries,
+        outputs: sizes.store.entries - metadata_count(head),
     })
 }
 

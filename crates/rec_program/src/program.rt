@@ -35,12 +35,14 @@ pub fn run_program<S: Source, B: Sink, T: Sink, G: Sink>(
         (command (texts words.now)) result
         source.old source.new bundle.old bundle.new out.old out.new diag.old diag.new }
 
-    // Status 0 of a recording: the session was read to its end, and the sink took its bundle.
+    // Status 0 of a recording: the session was read to its end, the bundle's sink took bytes whose reading is the session with each
+    // output cut at the limit, and `out` took the text of the trace, whose begins and ends on every row alternate and are exactly the
+    // slices that the pauses leave.
     ensures recorded { (path : List ℕ) (settings : Settings)
         → command (texts words.now) ≡ Ok (recording path settings)
         → result ≡ 0
-        → (exported : Exported) × Exports S.left S.faults B.taken B.faults sha256_number settings
-        source.old source.new bundle.old bundle.new exported }
+        → (exported : Exported) × Exports S.left S.faults B.taken B.faults T.taken T.faults sha256_number settings
+        source.old source.new bundle.old bundle.new out.old out.new exported }
 
     // Status 2: the words are faulty.
     ensures faulty_words { (result ≡ 2) ↔ IsErr (command (texts words.now)) }
@@ -53,6 +55,7 @@ pub fn run_program<S: Source, B: Sink, T: Sink, G: Sink>(
         → refusal sha256_number settings session ≡ None
         → ¬ Rose (S.faults source.old) (S.faults source.new)
         → ¬ Rose (B.faults bundle.old) (B.faults bundle.new)
+        → ¬ Rose (T.faults out.old) (T.faults out.new)
         → (result ≡ 0) ⊎ (result ≡ 70) }
 {
     run(alloc, words, source, bundle, out, diag)
@@ -86,7 +89,7 @@ fn run<S: Source, B: Sink, T: Sink, G: Sink>(
     }
 }
 
-/// Records the session of the source into the bundle.
+/// Records the session of the source into the bundle, and its trace into `out`.
 fn record<S: Source, B: Sink, T: Sink, G: Sink>(
     alloc: Global,
     settings: &Settings,
@@ -95,9 +98,8 @@ fn record<S: Source, B: Sink, T: Sink, G: Sink>(
     out: &mut T,
     diag: &mut G,
 ) -> u8
-    ensures records { Records S.left S.faults B.taken B.faults G.taken G.faults sha256_number settings.now
-        result source.old source.new bundle.old bundle.new diag.old diag.new }
-    ensures out { out.new ≡ out.old }
+    ensures { Records S.left S.faults B.taken B.faults T.taken T.faults G.taken G.faults sha256_number settings.now
+        result source.old source.new bundle.old bundle.new out.old out.new diag.old diag.new }
 {
     match record_and_export(alloc, settings, &Sha256Namer, source, bundle, out) {
         Ok(_) => SUCCESS,

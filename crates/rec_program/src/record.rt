@@ -1,5 +1,6 @@
 //! Records a session into memory.
-ghost use Rattle.std.specs.Prelude.{◌≡◌, ◌⊎◌, ◌++◌, [], List, false, None, Some, length, IfOk, IfErr, OnOk};
+ghost use Rattle.std.specs.Prelude.{◌≡◌, ◌⊎◌, ◌++◌, ◌∷◌, [], List, map, false, None, Some, length, IfOk, IfErr, OnOk};
+ghost use Rattle.std.specs.Option.{option_to_list};
 ghost use Rattle.rec_codec.specs.Event.{LiveEvent};
 ghost use Rattle.rec_codec.specs.LineView.{line_view};
 ghost use Rattle.rec_format.specs.declared.head.SessionHead.{SessionHead};
@@ -7,12 +8,17 @@ ghost use Rattle.rec_store.specs.Recording.{Stores, has_failed};
 ghost use Rattle.rec_store.specs.Reading.{AreRead, IsRerunRead};
 ghost use Rattle.rec_store.specs.Store.{rerun_entries, store_entries};
 ghost use Rattle.rec_program.specs.Recorded.{HasRecorded, IsRunOf, RecordsEvent, RecordsLine, RecordsLines};
-ghost use Rattle.rec_program.specs.Session.{events_of, lines_refusal};
+ghost use Rattle.rec_trace.specs.Kinds.{happening};
+ghost use Rattle.rec_trace.specs.Past.{Happening};
+ghost use Rattle.rec_trace.specs.declared.settings.ChromeTraceGroupBy.{ChromeTraceGroupBy};
+ghost use Rattle.rec_program.specs.Session.{event_at, events_of, lines_refusal};
+ghost use Rattle.rec_program.specs.SessionTraces.{IsTraceOf, session_history};
 ghost use Rattle.rec_program.specs.declared.refusal.RecordExportError.TheVariants.{OutOfMemory};
 
 use crate::built::BuiltText;
 use crate::refusal::RecordExportError;
 use crate::settings::Settings;
+use crate::trace::SessionTrace;
 use rec_codec::{Line, Lines, read_line};
 use rec_container::Sink;
 use rec_events::{LiveSpec, TestEventSummary};
@@ -29,6 +35,8 @@ pub struct RecordedInMemory {
     pub log: BuiltText,
     /// The sizes of both.
     pub sizes: RecordedSizes,
+    /// The trace of its events.
+    pub trace: SessionTrace,
 }
 
 /// A recorder of a run into memory.
@@ -47,6 +55,7 @@ pub fn record_run<N: OutputNamer>(
 ) -> Result<RecordedInMemory, RecordExportError>
     ensures valid { OnOk result (lines_refusal (N.number namer.now) settings.now.max_output [] lines.entry ≡ None) }
     ensures run { IfOk result (λ r. IsRunOf (N.number namer.now) settings.now.max_output head.now (events_of lines.entry) r.store.bytes r.log.bytes r.sizes) }
+    ensures traced { IfOk result (λ r. IsTraceOf settings.now.group_by (session_history settings.now (events_of lines.entry)) r.trace) }
     ensures err { IfErr result (λ e. (e ≡ OutOfMemory)
         ⊎ (lines_refusal (N.number namer.now) settings.now.max_output [] lines.entry ≡ Some e)) }
 {
@@ -60,7 +69,8 @@ pub fn record_run<N: OutputNamer>(
     let Ok(()) = record_head(&mut recorder, head) else {
         return Err(RecordExportError::OutOfMemory);
     };
-    record_lines(alloc, lines, &mut recorder)?;
+    let mut trace = SessionTrace::new(alloc, settings.group_by);
+    record_lines(alloc, lines, &mut recorder, &mut trace)?;
     let end = recorder.finish();
     match end.result {
         Ok(sizes) => Ok(RecordedInMemory {
@@ -70,52 +80,64 @@ pub fn record_run<N: OutputNamer>(
                 log: sizes.log,
                 store: sizes.store,
             },
+            trace,
         }),
         Err(_) => Err(RecordExportError::OutOfMemory),
     }
 }
 
-/// Records the events of lines.
+/// Records the events of lines, and traces them.
 fn record_lines<N: OutputNamer>(
     alloc: Global,
     lines: Lines<'_>,
     recorder: &mut MemoryRecorder<'_, N>,
+    trace: &mut SessionTrace,
 ) -> Result<(), RecordExportError>
-    ensures { (head : SessionHead) (events : List LiveEvent)
+    ensures recorded { (head : SessionHead) (events : List LiveEvent)
         → HasRecorded N.number recorder.old.namer recorder.old.max_output head events recorder.old
         → RecordsLines N.number recorder.old.namer recorder.old.max_output head events lines.entry recorder.new result }
+    ensures traced { (g : ChromeTraceGroupBy) (history : List Happening) → IsTraceOf g history trace.old
+        → OnOk result (IsTraceOf g (history ++ map (happening g) (events_of lines.entry)) trace.new) }
 {
     for line in lines {
-        record_line(alloc, line, recorder)?;
+        record_line(alloc, line, recorder, trace)?;
     }
     Ok(())
 }
 
-/// Records the event of a line, if it has one.
+/// Records the event of a line, if it has one, and traces it.
 fn record_line<N: OutputNamer>(
     alloc: Global,
     line: Line<'_>,
     recorder: &mut MemoryRecorder<'_, N>,
+    trace: &mut SessionTrace,
 ) -> Result<(), RecordExportError>
-    ensures { (head : SessionHead) (events : List LiveEvent)
+    ensures recorded { (head : SessionHead) (events : List LiveEvent)
         → HasRecorded N.number recorder.old.namer recorder.old.max_output head events recorder.old
         → RecordsLine N.number recorder.old.namer recorder.old.max_output head events (line_view line.entry) recorder.new result }
+    ensures traced { (g : ChromeTraceGroupBy) (history : List Happening) → IsTraceOf g history trace.old
+        → OnOk result (IsTraceOf g (history ++ map (happening g) (option_to_list (event_at (line_view line.entry)))) trace.new) }
 {
     match read_line(alloc, line) {
         None => Ok(()),
-        Some(event) => record_event(event?, recorder),
+        Some(event) => record_event(alloc, event?, recorder, trace),
     }
 }
 
-/// Records an event.
+/// Records an event, and traces it.
 fn record_event<N: OutputNamer>(
+    alloc: Global,
     event: TestEventSummary<LiveSpec>,
     recorder: &mut MemoryRecorder<'_, N>,
+    trace: &mut SessionTrace,
 ) -> Result<(), RecordExportError>
-    ensures { (head : SessionHead) (events : List LiveEvent)
+    ensures recorded { (head : SessionHead) (events : List LiveEvent)
         → HasRecorded N.number recorder.old.namer recorder.old.max_output head events recorder.old
         → RecordsEvent N.number recorder.old.namer recorder.old.max_output head events event recorder.new result }
+    ensures traced { (g : ChromeTraceGroupBy) (history : List Happening) → IsTraceOf g history trace.old
+        → OnOk result (IsTraceOf g (history ++ happening g event ∷ []) trace.new) }
 {
+    trace.add(alloc, &event)?;
     match recorder.write_event(event) {
         Ok(()) => Ok(()),
         Err(RunStoreError::NameCollision { file_name }) => {

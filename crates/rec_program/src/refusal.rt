@@ -3,12 +3,14 @@ ghost use Rattle.std.specs.Prelude.{◌≡◌};
 ghost use Rattle.rec_program.specs.declared.refusal.RecordExportError.TheVariants.{OutOfMemory};
 
 use rec_codec::LineError;
-use rec_events::Text;
+use rec_events::{RustBinaryId, TestCaseName, Text};
+use rec_trace::{ChromeTraceError, SpanKey};
 use std::alloc::AllocError;
 use thiserror::Error;
 
-/// Why a session isn't exported. Where several causes hold, the first of this list is answered, but
-/// for want of memory, which may come at any time before the first byte is written.
+/// Why a session isn't exported. The source is judged first, then the session's length, the head, the
+/// lines from the first on, the sum of all sizes, each size, and then the trace from the first event
+/// on. Want of memory may come at any time before the first byte is written.
 #[derive(Debug, PartialEq, Drop, Error)]
 pub enum RecordExportError {
     /// The source failed.
@@ -53,9 +55,42 @@ pub enum RecordExportError {
         size: u64,
         limit: u64,
     },
+    /// The event ends an attempt of a test of which none is open. Events are numbered from 1.
+    #[error("event {event} ends a test that isn't running")]
+    MissingTestStart {
+        event: u64,
+        binary_id: RustBinaryId,
+        test_name: TestCaseName,
+    },
+    /// The event starts what is open already.
+    #[error("event {event} starts what is running already")]
+    SpanAlreadyOpen {
+        event: u64,
+        span: SpanKey,
+    },
+    /// The event starts an attempt on a slot on which another runs.
+    #[error("event {event} starts a test on slot {slot}, on which another runs")]
+    SlotBusy {
+        event: u64,
+        slot: u64,
+    },
+    /// The event's instant is no i64 in microseconds.
+    #[error("the instant of event {event} is out of range")]
+    TimestampOutOfRange {
+        event: u64,
+    },
+    /// The number of a row of the trace is no u64. `number` is the slot from which it is made.
+    #[error("event {event} needs a row that is out of range, by its number {number}")]
+    RowOutOfRange {
+        event: u64,
+        number: u64,
+    },
     /// The sink of the bundle failed.
     #[error("writing the bundle failed")]
     BundleFault,
+    /// The sink of the trace failed.
+    #[error("writing the trace failed")]
+    TraceFault,
     /// There was no memory.
     #[error("out of memory")]
     OutOfMemory,
@@ -79,6 +114,43 @@ impl From<LineError> for RecordExportError {
             LineError::ReadRunLog { line_number } => RecordExportError::ReadRunLog { line_number },
             LineError::ParseEvent { line_number } => RecordExportError::ParseEvent { line_number },
             LineError::OutOfMemory => RecordExportError::OutOfMemory,
+        }
+    }
+}
+
+impl From<ChromeTraceError> for RecordExportError {
+    ghost use Rattle.rec_program.specs.TraceFaults.{trace_fault};
+
+    ghost from_gives = { λ refusal e. e ≡ trace_fault refusal };
+
+    fn from(error: ChromeTraceError) -> Self {
+        match error {
+            ChromeTraceError::ReadError(fault) => RecordExportError::from(fault),
+            ChromeTraceError::MissingTestStart {
+                event,
+                binary_id,
+                test_name,
+            } => RecordExportError::MissingTestStart {
+                event,
+                binary_id,
+                test_name,
+            },
+            ChromeTraceError::SpanAlreadyOpen { event, span } => {
+                RecordExportError::SpanAlreadyOpen { event, span }
+            }
+            ChromeTraceError::SlotBusy { event, slot } => {
+                RecordExportError::SlotBusy { event, slot }
+            }
+            ChromeTraceError::TimestampOutOfRange { event } => {
+                RecordExportError::TimestampOutOfRange { event }
+            }
+            ChromeTraceError::RowOutOfRange { event, number } => {
+                RecordExportError::RowOutOfRange { event, number }
+            }
+            ChromeTraceError::CountOutOfRange { event } => {
+                RecordExportError::CountOutOfRange { event: Some(event) }
+            }
+            ChromeTraceError::OutOfMemory => RecordExportError::OutOfMemory,
         }
     }
 }

@@ -1,9 +1,15 @@
-//! The limits of a recording.
+//! The settings of a recording.
 ghost use Rattle.std.specs.Prelude.{◌≡◌};
 
-/// The limits of a recording, in bytes.
+use rec_trace::{ChromeTraceGroupBy, ChromeTraceMessageFormat};
+
+/// How the trace of a recording is drawn and written, and the recording's limits in bytes.
 #[derive(Clone, Copy, Debug, PartialEq, Eq)]
 pub struct Settings {
+    /// Which process and thread a test is drawn as.
+    pub group_by: ChromeTraceGroupBy,
+    /// In which form the trace is written.
+    pub message_format: ChromeTraceMessageFormat,
     /// The most bytes of an output that are kept. A longer output is cut.
     pub max_output: u64,
     /// The most bytes of the manifest, the log or an entry of the store, so that a reader with this
@@ -21,6 +27,8 @@ impl Default for Settings {
 
     fn default() -> Settings {
         Settings {
+            group_by: ChromeTraceGroupBy::Slot,
+            message_format: ChromeTraceMessageFormat::Json,
             max_output: 10485760,
             read_limit: 268435456,
             session_limit: 268435456,

@@ -19,10 +19,10 @@ fn told_with(
 fn the_session_limit_is_the_most_that_is_read(rt: HostRuntime) -> Result<(), Fail> {
     let alloc = rt.alloc();
     for (value, expected) in [
-        ("341", "0 bundle "),
+        ("341", "0 bundle out "),
         ("340", "4 SessionTooLarge limit=340\n"),
         ("0", "4 SessionTooLarge limit=0\n"),
-        ("18446744073709551615", "0 bundle "),
+        ("18446744073709551615", "0 bundle out "),
     ] {
         assert_eq!(rt;
             told_with(alloc, head(), "--session-limit", value)?.as_str(),
@@ -46,7 +46,7 @@ fn the_session_limit_is_the_most_that_is_read(rt: HostRuntime) -> Result<(), Fai
 fn the_read_limit_is_the_most_of_an_entry(rt: HostRuntime) -> Result<(), Fail> {
     let alloc = rt.alloc();
     for (value, expected) in [
-        ("462", "0 bundle "),
+        ("462", "0 bundle out "),
         (
             "461",
             "7 FileTooLarge file_name=manifest.json size=462 limit=461\n",
@@ -70,7 +70,7 @@ fn the_log_is_judged_before_the_store(rt: HostRuntime) -> Result<(), Fail> {
     let test = finished(alloc, abc())?;
     let session = session_of(alloc, &[run_started(), test_started(), test.as_str()])?;
     for (value, expected) in [
-        ("1915", "0 bundle "),
+        ("1915", "0 bundle out "),
         (
             "1914",
             "7 FileTooLarge file_name=run.log.zst size=1915 limit=1914\n",
@@ -92,7 +92,7 @@ fn large_output(alloc: Global) -> Result<String, AllocError> {
     }
     outputs.push_str("\"}}")?;
     let test = finished(alloc, outputs.as_str())?;
-    session_of(alloc, &[test.as_str()])
+    session_of(alloc, &[test_started(), test.as_str()])
 }
 
 #[test]
@@ -101,7 +101,7 @@ fn an_output_is_judged_by_what_is_kept(rt: HostRuntime) -> Result<(), Fail> {
     let session = large_output(alloc)?;
     assert_eq!(rt;
         told_with(alloc, session.as_str(), "--read-limit", "4000")?.as_str(),
-        "0 bundle "
+        "0 bundle out "
     );
     assert_eq!(rt;
         told_with(alloc, session.as_str(), "--read-limit", "3999")?.as_str(),
@@ -116,7 +116,7 @@ fn an_output_is_judged_by_what_is_kept(rt: HostRuntime) -> Result<(), Fail> {
         "--read-limit",
         "3999",
     ];
-    assert_eq!(rt; told(alloc, &words, &mut source)?.as_str(), "0 bundle ");
+    assert_eq!(rt; told(alloc, &words, &mut source)?.as_str(), "0 bundle out ");
     Ok(())
 }
 
@@ -124,7 +124,7 @@ fn an_output_is_judged_by_what_is_kept(rt: HostRuntime) -> Result<(), Fail> {
 fn outputs_are_cut_at_the_limit(rt: HostRuntime) -> Result<(), Fail> {
     let alloc = rt.alloc();
     let test = finished(alloc, abc())?;
-    let session = session_of(alloc, &[test.as_str()])?;
+    let session = session_of(alloc, &[test_started(), test.as_str()])?;
     for (value, whole, cut) in [("3", true, false), ("2", false, true), ("0", false, true)] {
         let words = ["record", "b", "--max-output", value];
         let bundle = bundled_by(alloc, &words, session.as_bytes())?;

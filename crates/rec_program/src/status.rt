@@ -24,8 +24,14 @@ pub fn export_status(error: &RecordExportError) -> u8
         | RecordExportError::ParseEvent { .. } => 5,
         RecordExportError::NameCollision { .. } => 6,
         RecordExportError::FileTooLarge { .. } => 7,
-        RecordExportError::CountOutOfRange { .. } => 9,
+        RecordExportError::MissingTestStart { .. }
+        | RecordExportError::SpanAlreadyOpen { .. }
+        | RecordExportError::SlotBusy { .. } => 8,
+        RecordExportError::TimestampOutOfRange { .. }
+        | RecordExportError::RowOutOfRange { .. }
+        | RecordExportError::CountOutOfRange { .. } => 9,
         RecordExportError::BundleFault => 10,
+        RecordExportError::TraceFault => OUTPUT_FAILED,
         RecordExportError::OutOfMemory => OUT_OF_MEMORY,
     }
 }

@@ -65,11 +65,11 @@ pub(crate) fn path_of(alloc: Global, words: &[&str]) -> Result<String, AllocErro
 fn sessions(rt: HostRuntime) -> Result<(), Fail> {
     // What stands before the head, what stands behind it, and what the program does.
     let cases: [(&[u8], &[u8], &str); 15] = [
-        (b"", b"", "0 bundle "),
-        (b"", b"\n", "0 bundle "),
-        (b" \t", b"\r\n", "0 bundle "),
-        (b"\xc2\xa0", b"\xe2\x80\xa8\n", "0 bundle "),
-        (b"", b"\n\n \t\r\n\xc2\xa0\n\xe3\x80\x80", "0 bundle "),
+        (b"", b"", "0 bundle out "),
+        (b"", b"\n", "0 bundle out "),
+        (b" \t", b"\r\n", "0 bundle out "),
+        (b"\xc2\xa0", b"\xe2\x80\xa8\n", "0 bundle out "),
+        (b"", b"\n\n \t\r\n\xc2\xa0\n\xe3\x80\x80", "0 bundle out "),
         (b"\n", b"\n", "5 ParseHead\n"),
         (b"\xff", b"\n", "5 ParseHead\n"),
         (b"\xef\xbb\xbf", b"\n", "5 ParseHead\n"),
@@ -112,9 +112,11 @@ fn exported<S: Source>(
         max_output: 0,
         read_limit: u64::MAX,
         session_limit,
+        ..Settings::default()
     };
     let mut bundle = BuiltText::new(alloc);
     let mut trace = MemorySink::new(alloc);
+    trace.reserve(100)?;
     match record_and_export(
         alloc,
         &settings,
@@ -191,7 +193,7 @@ fn faults_of_sources(rt: HostRuntime) -> Result<(), Fail> {
     let mut source = FailingSource::new(head().as_bytes(), 1, &[]);
     assert_eq!(rt;
         told(rt.alloc(), &["record", "b"], &mut source)?.as_str(),
-        "0 bundle "
+        "0 bundle out "
     );
     Ok(())
 }
@@ -213,7 +215,7 @@ fn faults_of_sinks(rt: HostRuntime) -> Result<(), Fail> {
     }
     assert_eq!(rt;
         faulted(rt.alloc(), &["record", "b"], 1, 0)?.as_str(),
-        "0 1052 0 "
+        "0 1052 83 "
     );
     // `diag` fails at its fourth call, which changes no status.
     assert_eq!(rt;

@@ -5,7 +5,8 @@ pub const USAGE: &str = "\
 Usage: rezovamy record BUNDLE [OPTION VALUE]..
 
 Reads the session of a test run from standard input, and writes it into the
-file BUNDLE, a portable recording.
+file BUNDLE, a portable recording. Its trace, a timeline for trace viewers,
+goes to standard output.
 
 Options of record, each at most once, with a number of bytes as its value:
   --max-output     the most of an output that is kept (10485760)
@@ -19,10 +20,11 @@ Other words, each of them alone:
 
 The status is 0 on success, 2 for faulty words, 3 if the session can't be
 read, 4 if it is too long, 5 for a faulty line, 6 for other bytes under the
-name of an output, 7 for what is above the read limit, 9 for a count out of
-range, 10 if the bundle can't be written, 11 if standard output fails, and 70
-if memory runs out. With a status other than 0, one line on standard error
-tells the cause.
+name of an output, 7 for what is above the read limit, 8 for an event that
+ends what isn't open, starts what is, or takes a slot that is held, 9 for a
+number out of range, 10 if the bundle can't be written, 11 if standard output
+fails, and 70 if memory runs out. With a status other than 0, one line on
+standard error tells the cause.
 ";
 
 /// The version of the program, and those of the formats that it writes.

@@ -20,9 +20,9 @@ fn words(rt: HostRuntime) -> Result<(), Fail> {
             "none",
             "2 UnknownOption at=2\n",
         ),
-        (&["record", "b"], "b", "0 bundle "),
-        (&["record", ""], "", "0 bundle "),
-        (&["record", "--help"], "--help", "0 bundle "),
+        (&["record", "b"], "b", "0 bundle out "),
+        (&["record", ""], "", "0 bundle out "),
+        (&["record", "--help"], "--help", "0 bundle out "),
         (
             &["record", "b", "--session-limit", "9"],
             "b",

@@ -6,16 +6,19 @@ use Rattle.rec_store.specs.Bundle.{outputs_stored, run_bundle}
 use Rattle.rec_store.specs.Reading.{IsReading, recorded}
 use Rattle.rec_program.specs.Bundle.{head_in, refusal_behind, session_events}
 use Rattle.rec_program.specs.Session.{event_lines, events_of, head_text}
+use Rattle.rec_trace.specs.Refusals as traces
+use Rattle.rec_trace.proofs.Timelines.{timeline}
+use Rattle.rec_program.specs.SessionTraces.{run_trace, session_history}
 use Rattle.rec_program.specs.declared.prepare.Prepared.{Prepared}
 use Rattle.rec_program.specs.declared.refusal.RecordExportError.{RecordExportError}
 use Rattle.rec_program.specs.declared.refusal.RecordExportError.TheVariants.{OutOfMemory}
 use Rattle.rec_program.proofs.Judging.{behind_head, events_behind, refused_head}
 use Rattle.rec_program.proofs.prepare.prepare.Goals as goal
 
--- three facts of an answer make a fourth
-joined : {T E V : Type 0} {P Q R : T → Type 0} (r : Result T E) → ((x : T) → P x → Q x → V → R x) → IfOk r P → IfOk r Q → OnOk r V → IfOk r R
-joined (Ok x) f p q v = f x p q v
-joined (Err e) f p q v = tt
+-- five facts of an answer make a sixth
+joined : {T E V W : Type 0} {P Q A R : T → Type 0} (r : Result T E) → ((x : T) → P x → Q x → A x → V → W → R x) → IfOk r P → IfOk r Q → IfOk r A → OnOk r V → OnOk r W → IfOk r R
+joined (Ok x) f p q a v w = f x p q a v w
+joined (Err e) f p q a v w = tt
 
 pub returns-in_err-head-clause-err : goal.returns-in_err-head-clause-err
 returns-in_err-head-clause-err g c =
@@ -26,8 +29,8 @@ returns-in_err-head-clause-err g c =
       | inr h ↦ inr (refused_head (g.N.OutputNamer.number c.args.namer.now) c.args.settings.now c.args.session.now (ap head_in (sym text) ∙ h.1) ∙ ap Some (sym h.0))
     ])
 
-pub returns-clause-bundle : goal.returns-clause-bundle
-returns-clause-bundle g c =
+pub returns-clause-texts : goal.returns-clause-texts
+returns-clause-texts g c =
     let number = g.N.OutputNamer.number c.args.namer.now in
     let settings = c.args.settings.now in
     let session = c.args.session.now in
@@ -36,13 +39,16 @@ returns-clause-bundle g c =
     let has_head = ap head_in (sym text) ∙ c.in_ok-head.ensures.head in
     let lines = c.take_head.ensures.others ∙ ap event_lines c.new-lines.ensures in
     let events = ap events_of lines ∙ events_behind session in
-    joined c.bundle_run.result (λ prepared spelled reads valid. record {
+    joined c.bundle_run.result (λ prepared spelled reads traced valid accepted. record {
       head = head;
       has_head = has_head;
       valid = behind_head number settings session head has_head ∙ ap (refusal_behind number settings (Some head)) (sym lines) ∙ valid;
       spelled = spelled ∙ ap (run_bundle number settings.max_output head) events;
       reads = subst (λ (es : List LiveEvent). IsReading prepared.bundle.bytes (recorded number settings.max_output head es)) events reads;
-    }) c.bundle_run.ensures.bundle c.bundle_run.ensures.reads c.bundle_run.ensures.valid
+      traced = traced ∙ ap (run_trace settings head) events;
+      timeline = timeline settings.group_by (session_events session)
+          (subst (λ (es : List LiveEvent). traces.refusal (session_history settings es) ≡ None) events accepted);
+    }) c.bundle_run.ensures.bundle c.bundle_run.ensures.reads c.bundle_run.ensures.trace c.bundle_run.ensures.valid c.bundle_run.ensures.accepted
 
 pub returns-clause-events : goal.returns-clause-events
 returns-clause-events g c =

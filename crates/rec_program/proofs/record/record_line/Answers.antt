@@ -1,5 +1,6 @@
-use Rattle.std.proofs.Common.{Result, Some, subst}
+use Rattle.std.proofs.Common.{[], ◌++◌, map, Option, Result, Some, OnOk, subst, sym}
 use Rattle.std.proofs.lemmas.Result.{err_from_is_err_and}
+use Rattle.std.specs.Option.{option_to_list}
 use Rattle.rec_codec.specs.Event.{LiveEvent}
 use Rattle.rec_codec.specs.EventForms.{event_form}
 use Rattle.rec_codec.specs.LineEvents.{Answers}
@@ -8,11 +9,13 @@ use Rattle.rec_codec.specs.LineView.{line_view}
 use Rattle.rec_codec.specs.Live.{live_form}
 use Rattle.rec_codec.specs.declared.line_events.LineError.{LineError}
 use Rattle.rec_store.specs.Bundle.{outputs_stored}
+use Rattle.rec_trace.specs.Kinds.{happening}
+use Rattle.rec_program.specs.SessionTraces.{IsTraceOf}
 use Rattle.rec_program.proofs.RecordedLines.{line_of_event, line_of_fault, line_recorded}
 use Rattle.rec_program.proofs.record.record_line.Goals as goal
 
-pub returns-in_err-event-in-Some : goal.returns-in_err-event-in-Some
-returns-in_err-event-in-Some g c = λ head events has.
+pub returns-in_err-event-in-Some-clause-recorded : goal.returns-in_err-event-in-Some-clause-recorded
+returns-in_err-event-in-Some-clause-recorded g c = λ head events has.
     let number = g.N.OutputNamer.number c.args.recorder.now.namer in
     let m = c.args.recorder.now.max_output in
     let text = text_of c.args.line.bytes.now in
@@ -20,8 +23,8 @@ returns-in_err-event-in-Some g c = λ head events has.
     let p = err_from_is_err_and c.from_residual.result c.from_residual.ensures.1 in
     rw (p.1, p.2) (line_of_fault number m (outputs_stored number m events) c.args.line.number c.in_err-event-in-Some.field-0.0 text told.0 told.1)
 
-pub returns-in_ok-event-in-Some : goal.returns-in_ok-event-in-Some
-returns-in_ok-event-in-Some g c = λ head events has.
+pub returns-in_ok-event-in-Some-clause-recorded : goal.returns-in_ok-event-in-Some-clause-recorded
+returns-in_ok-event-in-Some-clause-recorded g c = λ head events has.
     let number = g.N.OutputNamer.number c.args.recorder.now.namer in
     let m = c.args.recorder.now.max_output in
     let text = text_of c.args.line.bytes.now in
@@ -29,4 +32,15 @@ returns-in_ok-event-in-Some g c = λ head events has.
     let told = subst (λ (r : Result LiveEvent LineError). Answers (event_form live_form) (Some r) c.args.line.number text) c.in_ok-event-in-Some.was c.in-Some.ensures in
     let line = line_of_event number m (outputs_stored number m events) c.args.line.number text event told.0 told.1 in
     line_recorded g.N.OutputNamer.number c.args.recorder.now.namer m head events event (line_view c.args.line) c.record_event.new.recorder line.0 line.1 c.record_event.result
-    (c.record_event.ensures head events has)
+    (c.record_event.ensures.recorded head events has)
+
+pub returns-in_ok-event-in-Some-clause-traced : goal.returns-in_ok-event-in-Some-clause-traced
+returns-in_ok-event-in-Some-clause-traced g c = λ group history had.
+    let number = g.N.OutputNamer.number c.args.recorder.now.namer in
+    let m = c.args.recorder.now.max_output in
+    let text = text_of c.args.line.bytes.now in
+    let event = c.in_ok-event-in-Some.field-0 in
+    let told = subst (λ (r : Result LiveEvent LineError). Answers (event_form live_form) (Some r) c.args.line.number text) c.in_ok-event-in-Some.was c.in-Some.ensures in
+    let line = line_of_event number m [] c.args.line.number text event told.0 told.1 in
+    subst (λ (o : Option LiveEvent). OnOk c.record_event.result (IsTraceOf group (history ++ map (happening group) (option_to_list o)) c.record_event.new.trace))
+    (sym line.1) (c.record_event.ensures.traced group history had)

@@ -1,10 +1,15 @@
-use Rattle.std.proofs.Common.{List, Result}
+use Rattle.std.proofs.Common.{◌≡◌, List, ◌++◌, map, Result}
 use Rattle.std.specs.Bool.{⊤}
 use Rattle.rec_codec.specs.Event.{LiveEvent}
 use Rattle.rec_format.specs.declared.head.SessionHead.{SessionHead}
 use Rattle.rec_store.specs.Recording.{Recording}
 use Rattle.rec_program.specs.Built.{Built}
 use Rattle.rec_program.specs.Recorded.{HasRecorded, RecordsLines}
+use Rattle.rec_trace.specs.Kinds.{happening}
+use Rattle.rec_trace.specs.Past.{Happening}
+use Rattle.rec_trace.specs.declared.settings.ChromeTraceGroupBy.{ChromeTraceGroupBy}
+use Rattle.rec_program.specs.Session.{events_of}
+use Rattle.rec_program.specs.SessionTraces.{IsTraceOf}
 use Rattle.rec_program.specs.declared.refusal.RecordExportError.{RecordExportError}
 use Rattle.rec_program.proofs.record.record_lines.Given as goal
 
@@ -14,6 +19,11 @@ invariant-loop-line g l =
     let number = g.N.OutputNamer.number in
     let namer = l.fn.recorder.namer in
     let m = l.fn.recorder.max_output in
-    (head : SessionHead) (events : List LiveEvent) → HasRecorded number namer m head events l.fn.recorder
-    → (so_far : List LiveEvent) × HasRecorded number namer m head so_far l.recorder
-    × ((r : Result ⊤ RecordExportError) (new : Recording Built Built _) → RecordsLines number namer m head so_far l.line-iterator new r → RecordsLines number namer m head events l.fn.lines new r)
+    record {
+      recorded : (head : SessionHead) (events : List LiveEvent) → HasRecorded number namer m head events l.fn.recorder
+          → (so_far : List LiveEvent) × HasRecorded number namer m head so_far l.recorder
+          × ((r : Result ⊤ RecordExportError) (new : Recording Built Built _) → RecordsLines number namer m head so_far l.line-iterator new r → RecordsLines number namer m head events l.fn.lines new r);
+      traced : (group : ChromeTraceGroupBy) (history : List Happening) → IsTraceOf group history l.fn.trace
+          → (so_far : List Happening) × IsTraceOf group so_far l.trace
+          × (history ++ map (happening group) (events_of l.fn.lines) ≡ so_far ++ map (happening group) (events_of l.line-iterator));
+    }

@@ -19,7 +19,7 @@ returns-in_err-record_lines-clause-err g c =
     let stored = subst (λ (r : Recording Built Built g.row.N.Denot). Stores text_taken (λ (b : Built). b.faults) r start (store_entries head)) c.new-recorder.ensures c.in-Ok.ensures.ok in
     let has = begun number (λ (b : Built). b.faults) head namer m c.new.result c.new-2.result start c.new.ensures.bytes c.new-2.ensures.bytes stored in
     let e = c.in_err-record_lines.field-0.0 in
-    let refused = lines_with number namer m head [] c.args.lines start c.record_lines.new.recorder (Err e) has (c.in_err-record_lines.ensures head [] (made_with number namer m head [] start has)) in
+    let refused = lines_with number namer m head [] c.args.lines start c.record_lines.new.recorder (Err e) has (c.in_err-record_lines.ensures.recorded head [] (made_with number namer m head [] start has)) in
     let p = err_from_is_err_and c.from_residual.result c.from_residual.ensures.1 in
     rw (p.1, p.2) refused
 
@@ -32,7 +32,7 @@ returns-in-Ok-result-clause-valid g c =
     let start = c.record_head.new.recorder in
     let stored = subst (λ (r : Recording Built Built g.row.N.Denot). Stores text_taken (λ (b : Built). b.faults) r start (store_entries head)) c.new-recorder.ensures c.in-Ok.ensures.ok in
     let has = begun number (λ (b : Built). b.faults) head namer m c.new.result c.new-2.result start c.new.ensures.bytes c.new-2.ensures.bytes stored in
-    let recorded = lines_with number namer m head [] c.args.lines start c.record_lines.new.recorder (Ok tt) has (c.in_ok-record_lines.ensures head [] (made_with number namer m head [] start has)) in
+    let recorded = lines_with number namer m head [] c.args.lines start c.record_lines.new.recorder (Ok tt) has (c.in_ok-record_lines.ensures.recorded head [] (made_with number namer m head [] start has)) in
     recorded.0
 
 pub returns-in-Ok-result-clause-run : goal.returns-in-Ok-result-clause-run
@@ -45,7 +45,10 @@ returns-in-Ok-result-clause-run g c =
     let now = c.record_lines.new.recorder in
     let stored = subst (λ (r : Recording Built Built g.row.N.Denot). Stores text_taken (λ (b : Built). b.faults) r start (store_entries head)) c.new-recorder.ensures c.in-Ok.ensures.ok in
     let has = begun number (λ (b : Built). b.faults) head namer m c.new.result c.new-2.result start c.new.ensures.bytes c.new-2.ensures.bytes stored in
-    let recorded = lines_with number namer m head [] c.args.lines start now (Ok tt) has (c.in_ok-record_lines.ensures head [] (made_with number namer m head [] start has)) in
+    let recorded = lines_with number namer m head [] c.args.lines start now (Ok tt) has (c.in_ok-record_lines.ensures.recorded head [] (made_with number namer m head [] start has)) in
     let finished = rw c.in-Ok-result.is at c.finish-end.ensures.ok in
     let run = ended number (λ (b : Built). b.faults) head namer m (events_of c.args.lines) now c.finish-end.result.store c.in-Ok-result.sizes recorded.1 c.in-Ok.ensures.read c.finish-end.ensures.sound finished.2 finished.1 in
     subst (λ (log : Built). IsRunOf (number namer) m head (events_of c.args.lines) c.finish-end.result.store.bytes log.bytes (record { log = c.in-Ok-result.sizes.log; store = c.in-Ok-result.sizes.store })) (sym c.finish-end.ensures.log) run
+
+pub returns-in-Ok-result-clause-traced : goal.returns-in-Ok-result-clause-traced
+returns-in-Ok-result-clause-traced g c = let n = c.new-trace.ensures in c.in_ok-record_lines.ensures.traced c.args.settings.now.group_by [] n

@@ -1,0 +1,46 @@
+-- The trace of a session's events.
+use Rattle.std.specs.Prelude.{◌≡◌, ◌⊎◌, List, ℕ, Option, None, Some, option_map, Result, Ok, Err, String, string_bytes}
+use Rattle.std.specs.declared.alloc.Global.{Global}
+use Rattle.rec_codec.specs.Event.{LiveEvent}
+use Rattle.rec_events.specs.Versions.{IsVersion}
+use Rattle.rec_format.specs.declared.head.SessionHead.{SessionHead}
+use Rattle.rec_trace.specs.Drawing.{trace_text}
+use Rattle.rec_trace.specs.History.{trace_marks}
+use Rattle.rec_trace.specs.Kinds.{history}
+use Rattle.rec_trace.specs.Past.{Happening}
+use Rattle.rec_trace.specs.Refusals as traces
+use Rattle.rec_trace.specs.Traces.{HasTraced}
+use Rattle.rec_trace.specs.declared.builder.TraceBuilder.{TraceBuilder}
+use Rattle.rec_trace.specs.declared.errors.ChromeTraceError.{ChromeTraceError}
+use Rattle.rec_trace.specs.declared.settings.ChromeTraceGroupBy.{ChromeTraceGroupBy}
+use Rattle.rec_program.specs.TraceFaults.{trace_fault}
+use Rattle.rec_program.specs.declared.refusal.RecordExportError.{RecordExportError}
+use Rattle.rec_program.specs.declared.refusal.RecordExportError.TheVariants.{OutOfMemory}
+use Rattle.rec_program.specs.declared.settings.Settings.{Settings}
+use Rattle.rec_program.specs.declared.trace.SessionTrace.{SessionTrace}
+
+-- the events of a session as a history
+abbrev pub session_history : Settings → List LiveEvent → List Happening
+session_history settings events = history settings.group_by events
+
+-- why events have no trace, if they have none
+abbrev pub trace_refusal : Settings → List LiveEvent → Option RecordExportError
+trace_refusal settings events = option_map trace_fault (traces.refusal (session_history settings events))
+
+-- the text of the trace of a run with this head and these events
+unfoldable pub run_trace : Settings → SessionHead → List LiveEvent → List ℕ
+run_trace settings head events = trace_text settings.message_format head.nextest_version (trace_marks (session_history settings events))
+
+-- the builder has traced a history, or the history is refused
+abbrev pub IsTracedOr : ChromeTraceGroupBy → List Happening → TraceBuilder → Option ChromeTraceError → Type 0
+IsTracedOr g happenings builder None = HasTraced g happenings builder
+IsTracedOr g happenings builder (Some refusal) = traces.refusal happenings ≡ Some refusal
+
+-- this is the trace of a history, or it holds why there is none
+abbrev pub IsTraceOf : ChromeTraceGroupBy → List Happening → SessionTrace → Type 0
+IsTraceOf g happenings t = IsTracedOr g happenings t.builder t.refusal
+
+-- the text of the trace of a history is answered, or why there is none, or memory ran out
+abbrev pub TellsTrace : List Happening → List ℕ → Result (String Global) RecordExportError → Type 0
+TellsTrace happenings text (Ok t) = (traces.refusal happenings ≡ None) × (string_bytes t ≡ text)
+TellsTrace happenings text (Err e) = (e ≡ OutOfMemory) ⊎ (option_map trace_fault (traces.refusal happenings) ≡ Some e)

@@ -1,0 +1,72 @@
+//! The trace of a session's events.
+ghost use Rattle.std.specs.Prelude.{◌≡◌, List, [], ◌∷◌, ◌++◌, OnOk};
+ghost use Rattle.rec_trace.specs.Drawing.{trace_text};
+ghost use Rattle.rec_trace.specs.History.{trace_marks};
+ghost use Rattle.rec_trace.specs.Kinds.{happening};
+ghost use Rattle.rec_trace.specs.Past.{Happening};
+ghost use Rattle.rec_trace.specs.declared.settings.ChromeTraceGroupBy.{ChromeTraceGroupBy};
+ghost use Rattle.rec_program.specs.SessionTraces.{IsTraceOf, TellsTrace};
+
+use crate::refusal::RecordExportError;
+use rec_events::{LiveSpec, TestEventSummary, Version};
+use rec_trace::{ChromeTraceError, ChromeTraceGroupBy, ChromeTraceMessageFormat, TraceBuilder};
+use std::alloc::{AllocError, Global};
+
+/// The trace of the events so far, or why they have none. A refusal is kept while further lines are
+/// read, since a line that fails comes before it.
+#[derive(Drop)]
+pub struct SessionTrace {
+    builder: TraceBuilder,
+    refusal: Option<ChromeTraceError>,
+}
+
+impl SessionTrace {
+    /// The trace of no event.
+    pub fn new(alloc: Global, group_by: ChromeTraceGroupBy) -> SessionTrace
+        ensures { IsTraceOf group_by [] result }
+    {
+        SessionTrace {
+            builder: TraceBuilder::new(alloc, group_by),
+            refusal: None,
+        }
+    }
+
+    /// Adds what an event shows.
+    pub fn add(
+        &mut self,
+        alloc: Global,
+        event: &TestEventSummary<LiveSpec>,
+    ) -> Result<(), AllocError>
+        ensures { (g : ChromeTraceGroupBy) (history : List Happening) → IsTraceOf g history self.old
+            → OnOk result (IsTraceOf g (history ++ happening g event.now ∷ []) self.new) }
+    {
+        if self.refusal.is_some() {
+            return Ok(());
+        }
+        match self.builder.process_event(alloc, event) {
+            Ok(()) => Ok(()),
+            Err(ChromeTraceError::OutOfMemory) => Err(AllocError),
+            Err(refusal) => {
+                self.refusal = Some(refusal);
+                Ok(())
+            }
+        }
+    }
+
+    /// The text of the trace, for this version of the runner.
+    pub fn into_text(
+        self,
+        alloc: Global,
+        version: &Version,
+        format: ChromeTraceMessageFormat,
+    ) -> Result<String, RecordExportError>
+        ensures { (g : ChromeTraceGroupBy) (history : List Happening) → IsTraceOf g history self
+            → TellsTrace history (trace_text format version.now (trace_marks history)) result }
+    {
+        let SessionTrace { builder, refusal } = self;
+        match refusal {
+            None => Ok(builder.into_text(alloc, version, format)?),
+            Some(refusal) => Err(RecordExportError::from(refusal)),
+        }
+    }
+}
