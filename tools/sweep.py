@@ -44,13 +44,14 @@ def demand(condition, what):
 
 
 def sweep(tool, name, session, words):
-    status, whole, out, line, calls = tool.run(session, words)
-    demand((status, out, line) == (0, b"", b""), f"{name}: the run itself ends with {status}")
+    status, whole, trace, line, calls = tool.run(session, words)
+    demand((status, line) == (0, b""), f"{name}: the run itself ends with {status}")
+    demand(json.loads(trace)["traceEvents"] != [], f"{name}: the run itself draws nothing")
     smaller = 0
     for n in range(1, calls["allocation"] + 1):
         status, bundle, out, line, _ = tool.run(session, words, ("allocation", n))
         # A growth that was refused is tried once more with what is needed at least.
-        if (status, bundle, out, line) == (0, whole, b"", b""):
+        if (status, bundle, out, line) == (0, whole, trace, b""):
             smaller += 1
             continue
         demand(status == 70, f"{name}: allocation {n} gives status {status}")
@@ -62,8 +63,12 @@ def sweep(tool, name, session, words):
         demand(bundle == OLD and out == b"", f"{name}: read {n} changes a sink")
     for n in range(1, calls["write"] + 1):
         status, bundle, out, line, _ = tool.run(session, words, ("write", n))
-        demand((status, line) == (10, b"BundleFault\n"), f"{name}: write {n} gives {status} {line}")
-        demand(whole.startswith(bundle) and bundle != whole, f"{name}: write {n} leaves no front")
+        if bundle == whole:
+            demand((status, line) == (11, b"TraceFault\n"), f"{name}: write {n} gives {status} {line}")
+            demand(trace.startswith(out) and out != trace, f"{name}: write {n} leaves no front of the trace")
+        else:
+            demand((status, line) == (10, b"BundleFault\n"), f"{name}: write {n} gives {status} {line}")
+            demand(whole.startswith(bundle) and out == b"", f"{name}: write {n} leaves no front of the bundle")
     counts = f"{calls['allocation']} allocations ({smaller} done with less)"
     print(f"{name}: {counts}, {calls['read']} reads and {calls['write']} writes refused in turn")
 
