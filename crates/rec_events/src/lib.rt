@@ -16,7 +16,10 @@ mod outputs;
 mod recording;
 mod reporting;
 mod results;
+mod run_ends;
+mod script_statuses;
 mod selections;
+mod skipping;
 mod stats;
 mod statuses;
 mod stress;
@@ -48,12 +51,15 @@ pub use results::{
     ErrorSummary, ExecutionResultDescription, FailureDescription, FlakyResult, LeakTimeoutResult,
     OutputErrorSlice, SlowTimeoutResult,
 };
+pub use run_ends::{FinalRunStats, RunFinishedStats, StressRunStats, TestsNotSeenSummary};
+pub use script_statuses::SetupScriptExecuteStatus;
 pub use selections::{
     BuildScope, FeatureSelection, NamedTargets, PackageSelection, TargetSelection,
 };
+pub use skipping::{MismatchReason, ReportSkipPolicy};
 pub use stats::RunStats;
 pub use statuses::{ExecuteStatus, ExecutionDescription, ExecutionStatuses};
-pub use stress::StressConditionSummary;
+pub use stress::{StressConditionSummary, StressProgress};
 pub use test_names::TestNames;
 pub use text::Text;
 pub use text_map::TextMap;

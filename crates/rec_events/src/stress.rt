@@ -1,4 +1,4 @@
-// How long a stress run goes on.
+// How long a stress run goes on, and how far it got.
 use crate::Duration;
 
 /// What ends a stress run.
@@ -8,4 +8,22 @@ pub enum StressConditionSummary {
     Count { count: Option<u32> },
     /// So much time.
     Duration { duration: Duration },
+}
+
+/// How far a stress run got. `elapsed` is the time since it began, and `completed` the number of its
+/// runs that ended.
+#[derive(Clone, Copy, PartialEq, Eq, Debug, Drop)]
+pub enum StressProgress {
+    /// Of so many runs; without a total it goes on until it is stopped.
+    Count {
+        total: Option<u32>,
+        elapsed: Duration,
+        completed: u32,
+    },
+    /// Of so much time.
+    Time {
+        total: Duration,
+        elapsed: Duration,
+        completed: u32,
+    },
 }

@@ -1,5 +1,9 @@
 // A map from texts, seen as its pairs.
-ghost use Rattle.std.specs.Prelude.{◌≡◌, ℕ, List, [], OnOk, OnErr};
+ghost use Rattle.std.specs.Prelude.{◌≡◌, ◌==◌, ◌&&◌, ℕ, List, [], OnOk, OnErr};
+ghost use Rattle.std.specs.Cmp.{on_per, and_per};
+ghost use Rattle.std.specs.Cmp.Lexicographic.{pointwise, lists_per};
+ghost use Rattle.std.specs.Cmp.Rules.{comparing};
+ghost use Rattle.std.proofs.Common.{rules};
 ghost use Rattle.rec_events.specs.Pairs.{pairs, put_pair, keys, KeysRise};
 ghost use Rattle.rec_events.specs.Names.{AreTexts};
 
@@ -59,6 +63,16 @@ impl<V> TextMap<V> {
     {
         let _ordered = self.inner.len();
         &self.inner
+    }
+}
+
+impl<V: PartialEq> PartialEq for TextMap<V> {
+    ghost eq = { pointwise (λ p q. pointwise ◌==◌ p.0 q.0 && V.eq p.1 q.1) };
+
+    ghost laws = { lists_per (and_per (on_per (λ p. p.0) (Prim.search (comparing, rules))) (on_per (λ p. p.1) V.PartialEq.laws)) };
+
+    fn eq(&self, other: &TextMap<V>) -> bool {
+        self.inner == other.inner
     }
 }
 

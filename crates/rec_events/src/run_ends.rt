@@ -1,0 +1,38 @@
+// How a run ended.
+use crate::{Items, OwnedTestInstanceId, RunStats, StressIndexSummary};
+
+/// How a run ended, over all its tests.
+#[derive(Clone, Copy, PartialEq, Eq, Debug, Drop)]
+pub enum FinalRunStats {
+    Success,
+    NoTestsRun,
+    Failed,
+    Cancelled,
+}
+
+/// The counts of a stress run.
+#[derive(Clone, Copy, PartialEq, Eq, Debug, Drop)]
+pub struct StressRunStats {
+    /// The last of its runs.
+    pub completed: StressIndexSummary,
+    pub success_count: u32,
+    pub failed_count: u32,
+    /// How the last of its runs ended.
+    pub last_final_stats: FinalRunStats,
+}
+
+/// The counts of a run that ended.
+#[derive(Clone, Copy, PartialEq, Eq, Debug, Drop)]
+pub enum RunFinishedStats {
+    Single(RunStats),
+    Stress(StressRunStats),
+}
+
+/// Tests that a run didn't come to.
+#[derive(PartialEq, Eq, Debug, Drop)]
+pub struct TestsNotSeenSummary {
+    /// Some of them.
+    pub not_seen: Items<OwnedTestInstanceId>,
+    /// How many there are in all.
+    pub total_not_seen: usize,
+}

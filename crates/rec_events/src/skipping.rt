@@ -1,0 +1,29 @@
+// Why tests are skipped, and which of these a report names.
+
+/// Why a test doesn't run.
+#[derive(Clone, Copy, PartialEq, Eq, Debug, Drop)]
+pub enum MismatchReason {
+    /// It is no benchmark, and benchmarks are run.
+    NotBenchmark,
+    /// Ignored tests are left out, or are the only ones that run.
+    Ignored,
+    /// Its name doesn't match the texts that are asked for.
+    String,
+    /// It doesn't match the filter expressions.
+    Expression,
+    /// It belongs to another partition of the tests.
+    Partition,
+    /// It passed in the run that is run again.
+    RerunAlreadyPassed,
+    /// The default filter of the profile leaves it out.
+    DefaultFilter,
+}
+
+/// Which skipped tests a JUnit report names.
+#[derive(Clone, Copy, PartialEq, Eq, Debug, Drop)]
+pub enum ReportSkipPolicy {
+    None,
+    /// Only those that are ignored.
+    Ignored,
+    All,
+}
