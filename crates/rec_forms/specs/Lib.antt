@@ -26,9 +26,13 @@ pub mod Reporting
 pub mod ReportingLaws
 pub mod ResultLaws
 pub mod Results
+pub mod RunEndLaws
+pub mod RunEnds
 pub mod SelectionLaws
 pub mod Selections
 pub mod Shape
+pub mod Skipping
+pub mod SkippingLaws
 pub mod Stats
 pub mod StatsLaws
 pub mod Stress

@@ -20,7 +20,11 @@ mod reporting;
 #[cfg(test)]
 mod result_tests;
 mod results;
+#[cfg(test)]
+mod run_end_tests;
+mod run_ends;
 mod selections;
+mod skipping;
 mod stats;
 mod stress;
 mod test_names;

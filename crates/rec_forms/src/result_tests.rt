@@ -190,7 +190,7 @@ fn counts() -> &'static str {
 }
 
 // The text of all counts between these members.
-fn stats(alloc: Global, first: &str, last: &str) -> Result<String, AllocError> {
+pub(crate) fn stats(alloc: Global, first: &str, last: &str) -> Result<String, AllocError> {
     let mut text = String::from_str(alloc, "{")?;
     text.push_str(first)?;
     text.push_str(counts())?;

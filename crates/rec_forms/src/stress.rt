@@ -1,8 +1,13 @@
-// What ends a stress run.
-use crate::fields::{only_member, tagged};
+// What ends a stress run, and how far it got.
+ghost use Rattle.std.specs.Prelude.{◌≡◌};
+ghost use Rattle.serde_json.specs.View.{view};
+ghost use Rattle.rec_forms.specs.Gives.{Gives};
+ghost use Rattle.rec_forms.specs.Stress.{count_progress_form, time_progress_form};
+
+use crate::fields::{only_member, optional_field, put_field, put_optional, required_field, tagged};
 use crate::{Form, FromValueError};
-use rec_events::{Duration, StressConditionSummary};
-use serde_json::Value;
+use rec_events::{Duration, StressConditionSummary, StressProgress};
+use serde_json::{Map, Value};
 use std::alloc::{AllocError, Global};
 
 impl Form for StressConditionSummary {
@@ -49,4 +54,91 @@ impl Form for StressConditionSummary {
             _ => Err(FromValueError::NotAValue),
         }
     }
+}
+
+impl Form for StressProgress {
+    ghost use Rattle.rec_forms.specs.Stress.{stress_progress_value, stress_progress_form, IsStressProgress};
+    ghost use Rattle.rec_forms.specs.StressLaws.{stress_progress_back, stress_progress_writable};
+
+    ghost well_formed = { IsStressProgress };
+
+    ghost value_of = { stress_progress_value };
+
+    ghost form_of = { stress_progress_form };
+
+    ghost levels = { 3 };
+
+    ghost reads_back = { stress_progress_back };
+
+    ghost writable = { stress_progress_writable };
+
+    #[tactic(auto, unfolding(crate::specs::Shape::members_of))]
+    fn to_value(&self, alloc: Global) -> Result<Value, AllocError> {
+        match self {
+            StressProgress::Count {
+                total,
+                elapsed,
+                completed,
+            } => {
+                let mut object = Map::new(alloc);
+                put_optional(alloc, &mut object, "total", total)?;
+                put_field(alloc, &mut object, "elapsed", elapsed)?;
+                put_field(alloc, &mut object, "completed", completed)?;
+                tagged(alloc, "count", Value::from(object))
+            }
+            StressProgress::Time {
+                total,
+                elapsed,
+                completed,
+            } => {
+                let mut object = Map::new(alloc);
+                put_field(alloc, &mut object, "total", total)?;
+                put_field(alloc, &mut object, "elapsed", elapsed)?;
+                put_field(alloc, &mut object, "completed", completed)?;
+                tagged(alloc, "time", Value::from(object))
+            }
+        }
+    }
+
+    #[tactic(auto, unfolding(crate::specs::Stress::stress_progress_form))]
+    fn from_value(alloc: Global, value: &Value) -> Result<StressProgress, FromValueError> {
+        let Value::Object(object) = value else {
+            return Err(FromValueError::NotAValue);
+        };
+        match only_member(object) {
+            Some(("count", value)) => count_from(alloc, value),
+            Some(("time", value)) => time_from(alloc, value),
+            _ => Err(FromValueError::NotAValue),
+        }
+    }
+}
+
+/// How many of the runs ended.
+#[tactic(auto, unfolding(crate::specs::Stress::count_progress_form))]
+fn count_from(alloc: Global, value: &Value) -> Result<StressProgress, FromValueError>
+    ensures { Gives result (count_progress_form (view value.now)) }
+{
+    let Value::Object(fields) = value else {
+        return Err(FromValueError::NotAValue);
+    };
+    Ok(StressProgress::Count {
+        total: optional_field(alloc, fields, "total")?,
+        elapsed: required_field(alloc, fields, "elapsed")?,
+        completed: required_field(alloc, fields, "completed")?,
+    })
+}
+
+/// How much of the time went by.
+#[tactic(auto, unfolding(crate::specs::Stress::time_progress_form))]
+fn time_from(alloc: Global, value: &Value) -> Result<StressProgress, FromValueError>
+    ensures { Gives result (time_progress_form (view value.now)) }
+{
+    let Value::Object(fields) = value else {
+        return Err(FromValueError::NotAValue);
+    };
+    Ok(StressProgress::Time {
+        total: required_field(alloc, fields, "total")?,
+        elapsed: required_field(alloc, fields, "elapsed")?,
+        completed: required_field(alloc, fields, "completed")?,
+    })
 }

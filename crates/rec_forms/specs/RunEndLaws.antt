@@ -1,0 +1,64 @@
+-- How a run ended reads back, and is writable.
+use Rattle.std.specs.Prelude.{◌≡◌, Some, refl, codes}
+use Rattle.std.proofs.Common.{arith}
+use Rattle.rec_events.specs.declared.run_ends.FinalRunStats.{FinalRunStats}
+use Rattle.rec_events.specs.declared.run_ends.FinalRunStats.TheVariants.{Success, NoTestsRun, Failed, Cancelled}
+use Rattle.rec_events.specs.declared.run_ends.StressRunStats.{StressRunStats}
+use Rattle.rec_events.specs.declared.run_ends.RunFinishedStats.{RunFinishedStats}
+use Rattle.rec_events.specs.declared.run_ends.RunFinishedStats.TheVariants.{Single, Stress}
+use Rattle.rec_events.specs.declared.run_ends.TestsNotSeenSummary.{TestsNotSeenSummary}
+use Rattle.rec_forms.specs.InstanceLaws.{stress_index_back, stress_index_writable, test_instance_back, test_instance_writable}
+use Rattle.rec_forms.specs.Instances.{test_instance_value, test_instance_form, IsTestInstance}
+use Rattle.rec_forms.specs.ListLaws.{list_back}
+use Rattle.rec_forms.specs.Members.{get_member-members_of}
+use Rattle.rec_forms.specs.NumberLaws.{u32_back, u64_back}
+use Rattle.rec_forms.specs.RunEnds.{final_stats_name, final_stats_value, final_stats_form, stress_run_stats_value, stress_run_stats_form, IsStressRunStats, run_finished_stats_value, run_finished_stats_form, IsRunFinishedStats, tests_not_seen_value, tests_not_seen_form, IsTestsNotSeen}
+use Rattle.rec_forms.specs.StatsLaws.{run_stats_back, run_stats_writable}
+use Rattle.rec_forms.specs.Writable.{IsWritable, weaker, struct_writable, tagged_writable, list_writable, natural_writable, string_writable}
+
+pub final_stats_back : (x : FinalRunStats) → final_stats_form (final_stats_value x) ≡ Some x
+unfolding final_stats_form
+final_stats_back Success = refl
+final_stats_back NoTestsRun = refl
+final_stats_back Failed = refl
+final_stats_back Cancelled = refl
+
+pub final_stats_writable : (x : FinalRunStats) → IsWritable 0 (final_stats_value x)
+final_stats_writable x = string_writable (final_stats_name x)
+
+pub stress_run_stats_back : (s : StressRunStats) → IsStressRunStats s → stress_run_stats_form (stress_run_stats_value s) ≡ Some s
+unfolding stress_run_stats_form
+stress_run_stats_back s h =
+    simp (
+      get_member-members_of,
+      stress_index_back s.completed h.completed,
+      u32_back s.success_count h.success_count,
+      u32_back s.failed_count h.failed_count,
+      final_stats_back s.last_final_stats,
+    )
+
+pub stress_run_stats_writable : (s : StressRunStats) → IsWritable 2 (stress_run_stats_value s)
+stress_run_stats_writable s =
+    struct_writable _ (stress_index_writable s.completed, (natural_writable s.success_count, (natural_writable s.failed_count, (string_writable (final_stats_name s.last_final_stats), tt))))
+
+pub run_finished_stats_back : (s : RunFinishedStats) → IsRunFinishedStats s → run_finished_stats_form (run_finished_stats_value s) ≡ Some s
+unfolding run_finished_stats_form
+run_finished_stats_back (Single s) h = rw (run_stats_back s h)
+run_finished_stats_back (Stress s) h = rw (stress_run_stats_back s h)
+
+pub run_finished_stats_writable : (s : RunFinishedStats) → IsWritable 3 (run_finished_stats_value s)
+run_finished_stats_writable (Single s) = tagged_writable (codes "single") _ (weaker 1 2 (omega arith) (run_stats_writable s))
+run_finished_stats_writable (Stress s) = tagged_writable (codes "stress") _ (stress_run_stats_writable s)
+
+pub tests_not_seen_back : (t : TestsNotSeenSummary) → IsTestsNotSeen t → tests_not_seen_form (tests_not_seen_value t) ≡ Some t
+unfolding tests_not_seen_form
+tests_not_seen_back t h =
+    simp (
+      get_member-members_of,
+      list_back IsTestInstance test_instance_value test_instance_form test_instance_back t.not_seen h.not_seen,
+      u64_back t.total_not_seen h.total_not_seen,
+    )
+
+pub tests_not_seen_writable : (t : TestsNotSeenSummary) → IsWritable 3 (tests_not_seen_value t)
+tests_not_seen_writable t =
+    struct_writable _ (list_writable test_instance_value test_instance_writable t.not_seen, (natural_writable t.total_not_seen, tt))

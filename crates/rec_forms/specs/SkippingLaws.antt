@@ -1,0 +1,30 @@
+-- Why tests are skipped, and which of these a report names, reads back and is writable.
+use Rattle.std.specs.Prelude.{◌≡◌, Some, refl}
+use Rattle.rec_events.specs.declared.skipping.MismatchReason.{MismatchReason}
+use Rattle.rec_events.specs.declared.skipping.MismatchReason.TheVariants as reason
+use Rattle.rec_events.specs.declared.skipping.ReportSkipPolicy.{ReportSkipPolicy}
+use Rattle.rec_events.specs.declared.skipping.ReportSkipPolicy.TheVariants as policy
+use Rattle.rec_forms.specs.Skipping.{mismatch_reason_name, mismatch_reason_value, mismatch_reason_form, skip_policy_name, skip_policy_value, skip_policy_form}
+use Rattle.rec_forms.specs.Writable.{IsWritable, string_writable}
+
+pub mismatch_reason_back : (x : MismatchReason) → mismatch_reason_form (mismatch_reason_value x) ≡ Some x
+unfolding mismatch_reason_form
+mismatch_reason_back reason.NotBenchmark = refl
+mismatch_reason_back reason.Ignored = refl
+mismatch_reason_back reason.String = refl
+mismatch_reason_back reason.Expression = refl
+mismatch_reason_back reason.Partition = refl
+mismatch_reason_back reason.RerunAlreadyPassed = refl
+mismatch_reason_back reason.DefaultFilter = refl
+
+pub mismatch_reason_writable : (x : MismatchReason) → IsWritable 0 (mismatch_reason_value x)
+mismatch_reason_writable x = string_writable (mismatch_reason_name x)
+
+pub skip_policy_back : (x : ReportSkipPolicy) → skip_policy_form (skip_policy_value x) ≡ Some x
+unfolding skip_policy_form
+skip_policy_back policy.None = refl
+skip_policy_back policy.Ignored = refl
+skip_policy_back policy.All = refl
+
+pub skip_policy_writable : (x : ReportSkipPolicy) → IsWritable 0 (skip_policy_value x)
+skip_policy_writable x = string_writable (skip_policy_name x)

@@ -1,0 +1,165 @@
+// How a run ended.
+use crate::fields::{only_member, put_field, required_field, tagged};
+use crate::{Form, FromValueError};
+use rec_events::{FinalRunStats, RunFinishedStats, RunStats, StressRunStats, TestsNotSeenSummary};
+use serde_json::{Map, Value};
+use std::alloc::{AllocError, Global};
+
+impl Form for FinalRunStats {
+    ghost use Rattle.rec_forms.specs.RunEnds.{final_stats_value, final_stats_form};
+    ghost use Rattle.rec_forms.specs.RunEndLaws.{final_stats_back, final_stats_writable};
+
+    ghost well_formed = { λ _. Unit {0} };
+
+    ghost value_of = { final_stats_value };
+
+    ghost form_of = { final_stats_form };
+
+    ghost levels = { 0 };
+
+    ghost reads_back = { λ x _. final_stats_back x };
+
+    ghost writable = { final_stats_writable };
+
+    fn to_value(&self, alloc: Global) -> Result<Value, AllocError> {
+        let name = match self {
+            FinalRunStats::Success => "success",
+            FinalRunStats::NoTestsRun => "no-tests-run",
+            FinalRunStats::Failed => "failed",
+            FinalRunStats::Cancelled => "cancelled",
+        };
+        Value::try_from_str(alloc, name)
+    }
+
+    #[tactic(auto, unfolding(crate::specs::RunEnds::final_stats_form))]
+    fn from_value(_alloc: Global, value: &Value) -> Result<FinalRunStats, FromValueError> {
+        match value.as_str() {
+            Some("success") => Ok(FinalRunStats::Success),
+            Some("no-tests-run") => Ok(FinalRunStats::NoTestsRun),
+            Some("failed") => Ok(FinalRunStats::Failed),
+            Some("cancelled") => Ok(FinalRunStats::Cancelled),
+            _ => Err(FromValueError::NotAValue),
+        }
+    }
+}
+
+impl Form for StressRunStats {
+    ghost use Rattle.rec_forms.specs.RunEnds.{stress_run_stats_value, stress_run_stats_form, IsStressRunStats};
+    ghost use Rattle.rec_forms.specs.RunEndLaws.{stress_run_stats_back, stress_run_stats_writable};
+
+    ghost well_formed = { IsStressRunStats };
+
+    ghost value_of = { stress_run_stats_value };
+
+    ghost form_of = { stress_run_stats_form };
+
+    ghost levels = { 2 };
+
+    ghost reads_back = { stress_run_stats_back };
+
+    ghost writable = { stress_run_stats_writable };
+
+    #[tactic(auto, unfolding(crate::specs::Shape::members_of))]
+    fn to_value(&self, alloc: Global) -> Result<Value, AllocError> {
+        let mut object = Map::new(alloc);
+        put_field(alloc, &mut object, "completed", &self.completed)?;
+        put_field(alloc, &mut object, "success-count", &self.success_count)?;
+        put_field(alloc, &mut object, "failed-count", &self.failed_count)?;
+        put_field(
+            alloc,
+            &mut object,
+            "last-final-stats",
+            &self.last_final_stats,
+        )?;
+        Ok(Value::from(object))
+    }
+
+    #[tactic(auto, unfolding(crate::specs::RunEnds::stress_run_stats_form))]
+    fn from_value(alloc: Global, value: &Value) -> Result<StressRunStats, FromValueError> {
+        let Value::Object(object) = value else {
+            return Err(FromValueError::NotAValue);
+        };
+        Ok(StressRunStats {
+            completed: required_field(alloc, object, "completed")?,
+            success_count: required_field(alloc, object, "success-count")?,
+            failed_count: required_field(alloc, object, "failed-count")?,
+            last_final_stats: required_field(alloc, object, "last-final-stats")?,
+        })
+    }
+}
+
+impl Form for RunFinishedStats {
+    ghost use Rattle.rec_forms.specs.RunEnds.{run_finished_stats_value, run_finished_stats_form, IsRunFinishedStats};
+    ghost use Rattle.rec_forms.specs.RunEndLaws.{run_finished_stats_back, run_finished_stats_writable};
+
+    ghost well_formed = { IsRunFinishedStats };
+
+    ghost value_of = { run_finished_stats_value };
+
+    ghost form_of = { run_finished_stats_form };
+
+    ghost levels = { 3 };
+
+    ghost reads_back = { run_finished_stats_back };
+
+    ghost writable = { run_finished_stats_writable };
+
+    fn to_value(&self, alloc: Global) -> Result<Value, AllocError> {
+        match self {
+            RunFinishedStats::Single(stats) => tagged(alloc, "single", stats.to_value(alloc)?),
+            RunFinishedStats::Stress(stats) => tagged(alloc, "stress", stats.to_value(alloc)?),
+        }
+    }
+
+    #[tactic(auto, unfolding(crate::specs::RunEnds::run_finished_stats_form))]
+    fn from_value(alloc: Global, value: &Value) -> Result<RunFinishedStats, FromValueError> {
+        let Value::Object(object) = value else {
+            return Err(FromValueError::NotAValue);
+        };
+        match only_member(object) {
+            Some(("single", value)) => Ok(RunFinishedStats::Single(RunStats::from_value(
+                alloc, value,
+            )?)),
+            Some(("stress", value)) => Ok(RunFinishedStats::Stress(StressRunStats::from_value(
+                alloc, value,
+            )?)),
+            _ => Err(FromValueError::NotAValue),
+        }
+    }
+}
+
+impl Form for TestsNotSeenSummary {
+    ghost use Rattle.rec_forms.specs.RunEnds.{tests_not_seen_value, tests_not_seen_form, IsTestsNotSeen};
+    ghost use Rattle.rec_forms.specs.RunEndLaws.{tests_not_seen_back, tests_not_seen_writable};
+
+    ghost well_formed = { IsTestsNotSeen };
+
+    ghost value_of = { tests_not_seen_value };
+
+    ghost form_of = { tests_not_seen_form };
+
+    ghost levels = { 3 };
+
+    ghost reads_back = { tests_not_seen_back };
+
+    ghost writable = { tests_not_seen_writable };
+
+    #[tactic(auto, unfolding(crate::specs::Shape::members_of))]
+    fn to_value(&self, alloc: Global) -> Result<Value, AllocError> {
+        let mut object = Map::new(alloc);
+        put_field(alloc, &mut object, "not-seen", &self.not_seen)?;
+        put_field(alloc, &mut object, "total-not-seen", &self.total_not_seen)?;
+        Ok(Value::from(object))
+    }
+
+    #[tactic(auto, unfolding(crate::specs::RunEnds::tests_not_seen_form))]
+    fn from_value(alloc: Global, value: &Value) -> Result<TestsNotSeenSummary, FromValueError> {
+        let Value::Object(object) = value else {
+            return Err(FromValueError::NotAValue);
+        };
+        Ok(TestsNotSeenSummary {
+            not_seen: required_field(alloc, object, "not-seen")?,
+            total_not_seen: required_field(alloc, object, "total-not-seen")?,
+        })
+    }
+}

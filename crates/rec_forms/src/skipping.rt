@@ -1,0 +1,85 @@
+// Why tests are skipped, and which of these a report names.
+use crate::{Form, FromValueError};
+use rec_events::{MismatchReason, ReportSkipPolicy};
+use serde_json::Value;
+use std::alloc::{AllocError, Global};
+
+impl Form for MismatchReason {
+    ghost use Rattle.rec_forms.specs.Skipping.{mismatch_reason_value, mismatch_reason_form};
+    ghost use Rattle.rec_forms.specs.SkippingLaws.{mismatch_reason_back, mismatch_reason_writable};
+
+    ghost well_formed = { λ _. Unit {0} };
+
+    ghost value_of = { mismatch_reason_value };
+
+    ghost form_of = { mismatch_reason_form };
+
+    ghost levels = { 0 };
+
+    ghost reads_back = { λ x _. mismatch_reason_back x };
+
+    ghost writable = { mismatch_reason_writable };
+
+    fn to_value(&self, alloc: Global) -> Result<Value, AllocError> {
+        let name = match self {
+            MismatchReason::NotBenchmark => "not-benchmark",
+            MismatchReason::Ignored => "ignored",
+            MismatchReason::String => "string",
+            MismatchReason::Expression => "expression",
+            MismatchReason::Partition => "partition",
+            MismatchReason::RerunAlreadyPassed => "rerun-already-passed",
+            MismatchReason::DefaultFilter => "default-filter",
+        };
+        Value::try_from_str(alloc, name)
+    }
+
+    #[tactic(auto, unfolding(crate::specs::Skipping::mismatch_reason_form))]
+    fn from_value(_alloc: Global, value: &Value) -> Result<MismatchReason, FromValueError> {
+        match value.as_str() {
+            Some("not-benchmark") => Ok(MismatchReason::NotBenchmark),
+            Some("ignored") => Ok(MismatchReason::Ignored),
+            Some("string") => Ok(MismatchReason::String),
+            Some("expression") => Ok(MismatchReason::Expression),
+            Some("partition") => Ok(MismatchReason::Partition),
+            Some("rerun-already-passed") => Ok(MismatchReason::RerunAlreadyPassed),
+            Some("default-filter") => Ok(MismatchReason::DefaultFilter),
+            _ => Err(FromValueError::NotAValue),
+        }
+    }
+}
+
+impl Form for ReportSkipPolicy {
+    ghost use Rattle.rec_forms.specs.Skipping.{skip_policy_value, skip_policy_form};
+    ghost use Rattle.rec_forms.specs.SkippingLaws.{skip_policy_back, skip_policy_writable};
+
+    ghost well_formed = { λ _. Unit {0} };
+
+    ghost value_of = { skip_policy_value };
+
+    ghost form_of = { skip_policy_form };
+
+    ghost levels = { 0 };
+
+    ghost reads_back = { λ x _. skip_policy_back x };
+
+    ghost writable = { skip_policy_writable };
+
+    fn to_value(&self, alloc: Global) -> Result<Value, AllocError> {
+        let name = match self {
+            ReportSkipPolicy::None => "none",
+            ReportSkipPolicy::Ignored => "ignored",
+            ReportSkipPolicy::All => "all",
+        };
+        Value::try_from_str(alloc, name)
+    }
+
+    #[tactic(auto, unfolding(crate::specs::Skipping::skip_policy_form))]
+    fn from_value(_alloc: Global, value: &Value) -> Result<ReportSkipPolicy, FromValueError> {
+        match value.as_str() {
+            Some("none") => Ok(ReportSkipPolicy::None),
+            Some("ignored") => Ok(ReportSkipPolicy::Ignored),
+            Some("all") => Ok(ReportSkipPolicy::All),
+            _ => Err(FromValueError::NotAValue),
+        }
+    }
+}
