@@ -3,32 +3,39 @@ use Rattle.std.proofs.Common.{◌≡◌, ℕ, nat_lt, length, Bool, true, false,
 use Rattle.std.specs.List.{AllByRecursion}
 use Rattle.std.specs.Str.{bytes_eq}
 use Rattle.serde_json.specs.Data.{Data, null, boolean, number, string, array, object, Items, no_items, item, Members}
-use Rattle.serde_json.specs.Find.{as_object, as_array, as_str, get_member}
+use Rattle.serde_json.specs.Find.{as_object, as_array, as_bool, as_str, get_member}
 use Rattle.serde_json.specs.Read.{read}
 use Rattle.rec_events.specs.declared.outputs.ChildExecutionOutputDescription.{ChildExecutionOutputDescription}
 use Rattle.rec_events.specs.declared.outputs.ChildExecutionOutputDescription.TheVariants.{StartError}
 use Rattle.rec_events.specs.declared.outputs.ChildOutputDescription.{ChildOutputDescription}
 use Rattle.rec_events.specs.declared.outputs.ChildOutputDescription.TheVariants.{Combined}
+use Rattle.rec_events.specs.declared.events.CoreEventKind.{CoreEventKind}
 use Rattle.rec_events.specs.declared.events.OutputEventKind.{OutputEventKind}
 use Rattle.rec_events.specs.declared.events.TestEventKindSummary.{TestEventKindSummary}
 use Rattle.rec_events.specs.declared.events.TestEventKindSummary.TheVariants.{Core, Output}
 use Rattle.rec_events.specs.declared.events.TestEventSummary.{TestEventSummary}
 use Rattle.rec_events.specs.declared.outputs.LiveSpec.{LiveSpec}
+use Rattle.rec_events.specs.declared.script_statuses.SetupScriptExecuteStatus.{SetupScriptExecuteStatus}
 use Rattle.rec_events.specs.declared.statuses.ExecuteStatus.{ExecuteStatus}
 use Rattle.rec_events.specs.declared.statuses.ExecutionStatuses.{ExecutionStatuses}
 use Rattle.rec_forms.specs.ErrorTexts.{error_summary_form, error_slice_form}
 use Rattle.rec_forms.specs.Instances.{retry_data_form, test_instance_form, stress_index_form}
 use Rattle.rec_forms.specs.Lists.{each, list_form, some_form}
 use Rattle.rec_forms.specs.Numbers.{u64_form}
+use Rattle.rec_forms.specs.Maps.{map_form}
 use Rattle.rec_forms.specs.Outputs.{output_bytes_form}
+use Rattle.rec_forms.specs.Reporting.{output_display_form}
 use Rattle.rec_forms.specs.Results.{flaky_result_form, execution_result_form}
 use Rattle.rec_forms.specs.Shape.{◌>>=◌, only, required, maybe, text_of, named, cased, only_of, variant}
 use Rattle.rec_forms.specs.Stats.{run_stats_form}
 use Rattle.rec_forms.specs.TextForm.{text_form}
 use Rattle.rec_forms.specs.Times.{stamp_form, duration_form}
 use Rattle.rec_codec.specs.Event.{LiveEvent, live_event_of}
-use Rattle.rec_codec.specs.EventForms.{run_started_form, test_started_form, reporting_form, test_finished_form, output_loaded, kinds, kind_form, kind_loaded, event_form}
+use Rattle.rec_codec.specs.CoreKindForms.{run_started_form, stress_sub_run_started_form, setup_script_started_form, setup_script_slow_form, test_started_form, test_slow_form, test_retry_started_form, test_skipped_form, run_begin_cancel_form, run_paused_form, run_continued_form, stress_sub_run_finished_form, run_finished_form}
+use Rattle.rec_codec.specs.EventForms.{kinds, kind_named, kind_form, kind_loaded, event_form}
 use Rattle.rec_codec.specs.Live.{is_loaded, live_form, live_split_form, live_combined_form}
+use Rattle.rec_codec.specs.OutputKinds.{reporting_form, script_finished_form, attempt_failed_form, test_finished_form, output_loaded}
+use Rattle.rec_codec.specs.ScriptStatus.{script_status_form, script_status_loaded}
 use Rattle.rec_codec.specs.Status.{course_form, output_case_form, start_error_form, description_form, description_loaded, status_form, status_loaded, attempts_form, statuses_form, statuses_loaded}
 use Rattle.rec_codec.specs.Writes.{every}
 
@@ -161,6 +168,49 @@ module _ (S : Type 0) {O : Type 0} (output_form : Data → Option O) (loaded : O
       passes_at all (required (attempts_form output_form) (codes "statuses") ms) statuses e
       (required_passes all (attempts_form output_form) (codes "statuses") ms (some_passes (status_loaded loaded) (status_form output_form) status_passes)))))
 
+  script_status_passes : (d : Data) → Passes {T = SetupScriptExecuteStatus S O} (script_status_loaded loaded) (script_status_form output_form d)
+  unfolding script_status_form
+  script_status_passes d =
+      let p : SetupScriptExecuteStatus S O → Bool = script_status_loaded loaded in
+      then_passes p (as_object d) _ (λ ms _.
+      then_passes p (required (description_form output_form) (codes "output") ms) _ (λ output e.
+      then_passes p (required execution_result_form (codes "result") ms) _ (λ result _.
+      then_passes p (required stamp_form (codes "start-time") ms) _ (λ start_time _.
+      then_passes p (required duration_form (codes "time-taken") ms) _ (λ time_taken _.
+      then_passes p (required as_bool (codes "is-slow") ms) _ (λ is_slow _.
+      then_passes p (maybe (map_form text_of) (codes "env-map") ms) _ (λ env_map _.
+      then_passes p (maybe error_summary_form (codes "error-summary") ms) _ (λ summary _.
+      passes_at (description_loaded loaded) (required (description_form output_form) (codes "output") ms) output e
+      (required_passes (description_loaded loaded) (description_form output_form) (codes "output") ms description_passes)))))))))
+
+  script_finished_passes : (ms : Members) → Passes {T = OutputEventKind S O} (output_loaded loaded) (script_finished_form output_form ms)
+  unfolding script_finished_form
+  script_finished_passes ms =
+      let p : OutputEventKind S O → Bool = output_loaded loaded in
+      then_passes p (maybe stress_index_form (codes "stress-index") ms) _ (λ stress_index _.
+      then_passes p (required u64_form (codes "index") ms) _ (λ index _.
+      then_passes p (required u64_form (codes "total") ms) _ (λ total _.
+      then_passes p (required text_of (codes "script-id") ms) _ (λ script_id _.
+      then_passes p (required text_of (codes "program") ms) _ (λ program _.
+      then_passes p (required (list_form text_of) (codes "args") ms) _ (λ args _.
+      then_passes p (required as_bool (codes "no-capture") ms) _ (λ no_capture _.
+      then_passes p (required (script_status_form output_form) (codes "run-status") ms) _ (λ status e.
+      passes_at (script_status_loaded loaded) (required (script_status_form output_form) (codes "run-status") ms) status e
+      (required_passes (script_status_loaded loaded) (script_status_form output_form) (codes "run-status") ms script_status_passes)))))))))
+
+  attempt_failed_passes : (ms : Members) → Passes {T = OutputEventKind S O} (output_loaded loaded) (attempt_failed_form output_form ms)
+  unfolding attempt_failed_form
+  attempt_failed_passes ms =
+      let p : OutputEventKind S O → Bool = output_loaded loaded in
+      then_passes p (maybe stress_index_form (codes "stress-index") ms) _ (λ stress_index _.
+      then_passes p (required test_instance_form (codes "test-instance") ms) _ (λ test _.
+      then_passes p (required (status_form output_form) (codes "run-status") ms) _ (λ status e.
+      then_passes p (required duration_form (codes "delay-before-next-attempt") ms) _ (λ delay _.
+      then_passes p (required output_display_form (codes "failure-output") ms) _ (λ failure _.
+      then_passes p (required u64_form (codes "running") ms) _ (λ running _.
+      passes_at (status_loaded loaded) (required (status_form output_form) (codes "run-status") ms) status e
+      (required_passes (status_loaded loaded) (status_form output_form) (codes "run-status") ms status_passes)))))))
+
   finished_passes : (ms : Members) → Passes {T = OutputEventKind S O} (output_loaded loaded) (test_finished_form output_form ms)
   unfolding test_finished_form
   finished_passes ms =
@@ -178,26 +228,28 @@ module _ (S : Type 0) {O : Type 0} (output_form : Data → Option O) (loaded : O
   abbrev KindPasses : (Members → Option Kind) → Type 0
   KindPasses form = (ms : Members) → Passes {T = Kind} (kind_loaded loaded) (form ms)
 
+  -- a kind without outputs
+  core_passes : (form : Members → Option CoreEventKind) → KindPasses (λ ms. form ms >>= λ k. Some (Core k))
+  core_passes form ms = then_passes {B = Kind} (kind_loaded loaded) (form ms) (λ k. Some (Core k)) (λ k _. refl)
+
+  -- one with outputs, where the outputs that its form gives pass
+  output_passes : (form : Members → Option (OutputEventKind S O)) → ((ms : Members) → Passes {T = OutputEventKind S O} (output_loaded loaded) (form ms))
+      → KindPasses (λ ms. form ms >>= λ k. Some (Output k))
+  output_passes form h ms = then_passes {B = Kind} (kind_loaded loaded) (form ms) (λ k. Some (Output k)) (λ k e. passes_at (output_loaded loaded) (form ms) k e (h ms))
+
   kinds_pass : AllByRecursion (λ k. KindPasses k.1) (kinds output_form)
-  kinds_pass = (
-    λ ms. then_passes {B = Kind} (kind_loaded loaded) (run_started_form ms) (λ k. Some (Core k)) (λ k _. refl),
-    (
-      λ ms. then_passes {B = Kind} (kind_loaded loaded) (test_started_form ms) (λ k. Some (Core k)) (λ k _. refl),
-      (
-        λ ms. then_passes {B = Kind} (kind_loaded loaded) (test_finished_form output_form ms) (λ k. Some (Output k)) (λ k e.
-            passes_at (output_loaded loaded) (test_finished_form output_form ms) k e (finished_passes ms)),
-        tt,
-      ),
-    ),
-  )
+  kinds_pass =
+      (core_passes run_started_form, (core_passes stress_sub_run_started_form, (core_passes setup_script_started_form, (core_passes setup_script_slow_form, (core_passes test_started_form, (core_passes test_slow_form, (core_passes test_retry_started_form, (core_passes test_skipped_form, (core_passes run_begin_cancel_form, (core_passes run_paused_form, (core_passes run_continued_form, (core_passes stress_sub_run_finished_form, (core_passes run_finished_form, (output_passes (script_finished_form output_form) script_finished_passes, (output_passes (attempt_failed_form output_form) attempt_failed_passes, (output_passes (test_finished_form output_form) finished_passes, tt))))))))))))))))
+
+  named_passes : (name : List ℕ) → KindPasses (kind_named output_form name)
+  unfolding kind_named
+  named_passes name ms =
+      then_passes {B = Kind} (kind_loaded loaded) (named (kinds output_form) name) (λ form. form ms) (λ form e.
+      holds_at KindPasses (named (kinds output_form) name) form e (named_holds KindPasses (kinds output_form) kinds_pass name) ms)
 
   kind_passes : KindPasses (kind_form output_form)
   unfolding kind_form
-  kind_passes ms =
-      let p : Kind → Bool = kind_loaded loaded in
-      then_passes p (required as_str (codes "kind") ms) _ (λ name _.
-      then_passes p (named (kinds output_form) name) (λ form. form ms) (λ form e.
-      holds_at KindPasses (named (kinds output_form) name) form e (named_holds KindPasses (kinds output_form) kinds_pass name) ms))
+  kind_passes ms = then_passes {B = Kind} (kind_loaded loaded) (required as_str (codes "kind") ms) _ (λ name _. named_passes name ms)
 
   event_passes : (d : Data) → Passes {T = TestEventSummary S O} (λ e. kind_loaded loaded e.kind) (event_form output_form d)
   unfolding event_form

@@ -6,6 +6,13 @@ pub mod Live
 pub mod LiveLaws
 pub mod Status
 pub mod StatusLaws
+pub mod ScriptStatus
+pub mod ScriptStatusLaws
+pub mod CoreKinds
+pub mod CoreKindForms
+pub mod CoreKindLaws
+pub mod OutputKinds
+pub mod OutputKindLaws
 pub mod EventForms
 pub mod EventFormLaws
 pub mod LineEvents

@@ -1,12 +1,19 @@
 // The kinds of events that hold no outputs.
 ghost use Rattle.std.specs.Prelude.{◌≡◌, OnOk, [], ◌∷◌};
 ghost use Rattle.serde_json.specs.View.{members_view};
-ghost use Rattle.rec_forms.specs.Gives.{Gives};
 ghost use Rattle.rec_forms.specs.Shape.{with_members};
-ghost use Rattle.rec_codec.specs.EventForms.{kind_field, core_fields, run_started_form, test_started_form, IsCore};
+ghost use Rattle.rec_codec.specs.CoreKinds.{kind_field, core_name, core_fields, IsCore};
 
+use crate::run_kinds::{
+    put_run_begin_cancel, put_run_finished, put_run_started, put_running,
+    put_stress_sub_run_finished, put_stress_sub_run_started,
+};
+use crate::script_kinds::{put_setup_script_slow, put_setup_script_started};
+use crate::test_kinds::{
+    put_test_retry_started, put_test_skipped, put_test_slow, put_test_started,
+};
 use rec_events::CoreEventKind;
-use rec_forms::{FromValueError, Object, optional_field, put_field, put_optional, required_field};
+use rec_forms::Object;
 use serde_json::Value;
 use std::alloc::{AllocError, Global};
 
@@ -19,70 +26,57 @@ pub fn put_kind_name(alloc: Global, object: &mut Object, name: &str) -> Result<(
     serde_json::put(object, alloc, "kind", name)
 }
 
+// The name of a kind.
+fn core_name(kind: &CoreEventKind) -> &'static str
+    ensures { result.now ≡ core_name kind.now }
+{
+    match kind {
+        CoreEventKind::RunStarted { .. } => "run-started",
+        CoreEventKind::StressSubRunStarted { .. } => "stress-sub-run-started",
+        CoreEventKind::SetupScriptStarted { .. } => "setup-script-started",
+        CoreEventKind::SetupScriptSlow { .. } => "setup-script-slow",
+        CoreEventKind::TestStarted { .. } => "test-started",
+        CoreEventKind::TestSlow { .. } => "test-slow",
+        CoreEventKind::TestRetryStarted { .. } => "test-retry-started",
+        CoreEventKind::TestSkipped { .. } => "test-skipped",
+        CoreEventKind::RunBeginCancel { .. } => "run-begin-cancel",
+        CoreEventKind::RunPaused { .. } => "run-paused",
+        CoreEventKind::RunContinued { .. } => "run-continued",
+        CoreEventKind::StressSubRunFinished { .. } => "stress-sub-run-finished",
+        CoreEventKind::RunFinished { .. } => "run-finished",
+    }
+}
+
 /// Writes a kind and its members.
 pub fn put_core(alloc: Global, object: &mut Object, kind: &CoreEventKind) -> Result<(), AllocError>
     ensures written { OnOk result (members_view object.new.entries
         ≡ with_members (members_view object.old.entries) (core_fields kind.now)) }
     ensures known { OnOk result (IsCore kind.now) }
 {
+    put_kind_name(alloc, object, core_name(kind))?;
     match kind {
-        CoreEventKind::RunStarted {
-            run_id,
-            profile_name,
-            cli_args,
-            stress_condition,
-        } => {
-            put_kind_name(alloc, object, "run-started")?;
-            put_field(alloc, object, "run-id", run_id)?;
-            put_field(alloc, object, "profile-name", profile_name)?;
-            put_field(alloc, object, "cli-args", cli_args)?;
-            put_optional(alloc, object, "stress-condition", stress_condition)?;
-            Ok(())
-        }
-        CoreEventKind::TestStarted {
-            stress_index,
-            test_instance,
-            slot_assignment,
-            current_stats,
+        CoreEventKind::RunStarted { .. } => put_run_started(alloc, object, kind),
+        CoreEventKind::StressSubRunStarted { .. } => put_stress_sub_run_started(
+            alloc, object, kind,
+        ),
+        CoreEventKind::SetupScriptStarted { .. } => put_setup_script_started(alloc, object, kind),
+        CoreEventKind::SetupScriptSlow { .. } => put_setup_script_slow(alloc, object, kind),
+        CoreEventKind::TestStarted { .. } => put_test_started(alloc, object, kind),
+        CoreEventKind::TestSlow { .. } => put_test_slow(alloc, object, kind),
+        CoreEventKind::TestRetryStarted { .. } => put_test_retry_started(alloc, object, kind),
+        CoreEventKind::TestSkipped { .. } => put_test_skipped(alloc, object, kind),
+        CoreEventKind::RunBeginCancel { .. } => put_run_begin_cancel(alloc, object, kind),
+        CoreEventKind::RunPaused {
+            setup_scripts_running,
             running,
-            command_line,
-        } => {
-            put_kind_name(alloc, object, "test-started")?;
-            put_optional(alloc, object, "stress-index", stress_index)?;
-            put_field(alloc, object, "test-instance", test_instance)?;
-            put_field(alloc, object, "slot-assignment", slot_assignment)?;
-            put_field(alloc, object, "current-stats", current_stats)?;
-            put_field(alloc, object, "running", running)?;
-            put_field(alloc, object, "command-line", command_line)?;
-            Ok(())
         }
+        | CoreEventKind::RunContinued {
+            setup_scripts_running,
+            running,
+        } => put_running(alloc, object, *setup_scripts_running, *running),
+        CoreEventKind::StressSubRunFinished { .. } => put_stress_sub_run_finished(
+            alloc, object, kind,
+        ),
+        CoreEventKind::RunFinished { .. } => put_run_finished(alloc, object, kind),
     }
-}
-
-/// Reads the members of a run's start.
-#[tactic(auto, unfolding(crate::specs::EventForms::run_started_form))]
-pub fn run_started_from(alloc: Global, object: &Object) -> Result<CoreEventKind, FromValueError>
-    ensures { Gives result (run_started_form (members_view object.now.entries)) }
-{
-    Ok(CoreEventKind::RunStarted {
-        run_id: required_field(alloc, object, "run-id")?,
-        profile_name: required_field(alloc, object, "profile-name")?,
-        cli_args: required_field(alloc, object, "cli-args")?,
-        stress_condition: optional_field(alloc, object, "stress-condition")?,
-    })
-}
-
-/// Reads the members of a test's start.
-#[tactic(auto, unfolding(crate::specs::EventForms::test_started_form))]
-pub fn test_started_from(alloc: Global, object: &Object) -> Result<CoreEventKind, FromValueError>
-    ensures { Gives result (test_started_form (members_view object.now.entries)) }
-{
-    Ok(CoreEventKind::TestStarted {
-        stress_index: optional_field(alloc, object, "stress-index")?,
-        test_instance: required_field(alloc, object, "test-instance")?,
-        slot_assignment: required_field(alloc, object, "slot-assignment")?,
-        current_stats: required_field(alloc, object, "current-stats")?,
-        running: required_field(alloc, object, "running")?,
-        command_line: required_field(alloc, object, "command-line")?,
-    })
 }

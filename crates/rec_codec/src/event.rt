@@ -4,10 +4,20 @@ ghost use Rattle.serde_json.specs.View.{view, members_view};
 ghost use Rattle.rec_forms.specs.Gives.{Gives};
 ghost use Rattle.rec_forms.specs.Shape.{with_members};
 ghost use Rattle.rec_codec.specs.Writes.{Writes, Refuses};
-ghost use Rattle.rec_codec.specs.EventForms.{kind_fields, kind_form, kind_loaded, IsKind, event_value, event_form, IsEvent};
+ghost use Rattle.rec_codec.specs.EventForms.{kind_fields, kind_named, kind_form, kind_loaded, IsKind, event_value, event_form, IsEvent};
 
-use crate::core_kinds::{put_core, run_started_from, test_started_from};
-use crate::output_kinds::{put_output, test_finished_from};
+use crate::core_kinds::put_core;
+use crate::output_kinds::{
+    attempt_failed_from, put_output, script_finished_from, test_finished_from,
+};
+use crate::run_kinds::{
+    run_begin_cancel_from, run_continued_from, run_finished_from, run_paused_from,
+    run_started_from, stress_sub_run_finished_from, stress_sub_run_started_from,
+};
+use crate::script_kinds::{setup_script_slow_from, setup_script_started_from};
+use crate::test_kinds::{
+    test_retry_started_from, test_skipped_from, test_slow_from, test_started_from,
+};
 use crate::{OutputForm, ToValueError};
 use rec_events::{TestEventKindSummary, TestEventSummary};
 use rec_forms::{FromValueError, Object, member, put_field, required_field};
@@ -61,6 +71,50 @@ pub fn event_to_value<S: OutputForm>(
     Ok(value)
 }
 
+// Reads the members of the kind of this name.
+#[tactic(auto, unfolding(crate::specs::EventForms::kind_named))]
+fn kind_named<S: OutputForm>(
+    alloc: Global,
+    object: &Object,
+    name: &str,
+) -> Result<TestEventKindSummary<S>, FromValueError>
+    ensures { Gives result (kind_named S.output_form name.now (members_view object.now.entries)) }
+{
+    match name {
+        "run-started" => Ok(TestEventKindSummary::Core(run_started_from(alloc, object)?)),
+        "stress-sub-run-started" => Ok(TestEventKindSummary::Core(stress_sub_run_started_from(
+            alloc, object,
+        )?)),
+        "setup-script-started" => Ok(TestEventKindSummary::Core(setup_script_started_from(
+            alloc, object,
+        )?)),
+        "setup-script-slow" => Ok(TestEventKindSummary::Core(setup_script_slow_from(
+            alloc, object,
+        )?)),
+        "test-started" => Ok(TestEventKindSummary::Core(test_started_from(alloc, object)?)),
+        "test-slow" => Ok(TestEventKindSummary::Core(test_slow_from(alloc, object)?)),
+        "test-retry-started" => Ok(TestEventKindSummary::Core(test_retry_started_from(
+            alloc, object,
+        )?)),
+        "test-skipped" => Ok(TestEventKindSummary::Core(test_skipped_from(alloc, object)?)),
+        "run-begin-cancel" => Ok(TestEventKindSummary::Core(run_begin_cancel_from(alloc, object)?)),
+        "run-paused" => Ok(TestEventKindSummary::Core(run_paused_from(alloc, object)?)),
+        "run-continued" => Ok(TestEventKindSummary::Core(run_continued_from(alloc, object)?)),
+        "stress-sub-run-finished" => Ok(TestEventKindSummary::Core(stress_sub_run_finished_from(
+            alloc, object,
+        )?)),
+        "run-finished" => Ok(TestEventKindSummary::Core(run_finished_from(alloc, object)?)),
+        "setup-script-finished" => Ok(TestEventKindSummary::Output(script_finished_from(
+            alloc, object,
+        )?)),
+        "test-attempt-failed-will-retry" => Ok(TestEventKindSummary::Output(attempt_failed_from(
+            alloc, object,
+        )?)),
+        "test-finished" => Ok(TestEventKindSummary::Output(test_finished_from(alloc, object)?)),
+        _ => Err(FromValueError::NotAValue),
+    }
+}
+
 // Reads a kind by its name.
 #[tactic(auto, unfolding(crate::specs::EventForms::kind_form))]
 fn kind_from<S: OutputForm>(
@@ -70,12 +124,7 @@ fn kind_from<S: OutputForm>(
     ensures { Gives result (kind_form S.output_form (members_view object.now.entries)) }
 {
     match member(object, "kind") {
-        Some(Value::String(name)) => match name.as_str() {
-            "run-started" => Ok(TestEventKindSummary::Core(run_started_from(alloc, object)?)),
-            "test-started" => Ok(TestEventKindSummary::Core(test_started_from(alloc, object)?)),
-            "test-finished" => Ok(TestEventKindSummary::Output(test_finished_from(alloc, object)?)),
-            _ => Err(FromValueError::NotAValue),
-        },
+        Some(Value::String(name)) => kind_named(alloc, object, name.as_str()),
         _ => Err(FromValueError::NotAValue),
     }
 }

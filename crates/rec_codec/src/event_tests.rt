@@ -1,52 +1,8 @@
-use crate::{OutputForm, ToValueError, event_from_value, event_to_value};
+use crate::test_helpers::{MISSING, check_refused, rewritten};
+use crate::{OutputForm, ToValueError};
 use rec_events::{ChildOutputDescription, LiveSpec, RecordingSpec};
-use rec_forms::FromValueError;
-use serde_json::Value;
 use std::alloc::Global;
-use std::process::Abort;
 use std::test::Fail;
-
-// What an event is written as once it was read, or `refused`.
-fn rewritten<S: OutputForm>(alloc: Global, text: &str) -> Result<String, Fail> {
-    let value = Value::from_str(alloc, text)?;
-    match event_from_value::<S>(alloc, &value) {
-        Ok(event) => Ok(event_to_value(alloc, &event)?.to_string(alloc)?),
-        Err(FromValueError::NotAValue) => Ok(String::from_str(alloc, "refused")?),
-        Err(error) => Err(error.into()),
-    }
-}
-
-// The object of these members, with another in the place of the one at `at`.
-fn object(alloc: Global, members: &[&str], at: usize, other: &str) -> Result<String, Fail> {
-    let mut text = String::from_str(alloc, "{\"x\":0")?;
-    for (i, member) in members.iter().enumerate() {
-        text.push_str(",")?;
-        text.push_str(if i == at { other } else { member })?;
-    }
-    text.push_str("}")?;
-    Ok(text)
-}
-
-// With each of these members in the place of another one, the object is no event.
-fn check_refused<S: OutputForm>(
-    rt: &impl Abort,
-    alloc: Global,
-    members: &[&str],
-    others: &[(usize, &str)],
-) -> Result<(), Fail> {
-    let whole = object(alloc, members, members.len(), "")?;
-    let got = rewritten::<S>(alloc, whole.as_str())?;
-    assert!(rt; got.as_str() != "refused", "{whole}");
-    for (at, other) in others {
-        let text = object(alloc, members, *at, other)?;
-        let got = rewritten::<S>(alloc, text.as_str())?;
-        assert!(rt; got.as_str() == "refused", "{text} was written as {got}");
-    }
-    Ok(())
-}
-
-// What stands for a missing member: one that is ignored.
-const MISSING: &str = "\"y\":0";
 
 pub fn run_start() -> &'static str {
     r#"{"timestamp":{"secs":1000,"nanos":0,"offset":0},"elapsed":{"secs":0,"nanos":0},"kind":"run-started","run-id":"550e8400-e29b-41d4-a716-446655440000","profile-name":"default","cli-args":[]}"#

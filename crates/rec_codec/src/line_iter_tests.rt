@@ -2,8 +2,8 @@ ghost use Rattle.std.specs.Prelude.{◌+◌, ◌<◌, ◌^◌, length};
 
 use crate::event_tests::{attempt, finished, run_start};
 use crate::{LineIter, OutputForm, has_all_outputs, log_line};
-use rec_events::{LiveSpec, RecordingSpec};
-use std::alloc::Global;
+use rec_events::{LiveSpec, RecordingSpec, TestEventSummary};
+use std::alloc::{AllocError, Global};
 use std::test::Fail;
 
 // What the lines of a log give.
@@ -12,9 +12,9 @@ fn told<S: OutputForm>(alloc: Global, log: &[u8], first_line: u64) -> Result<Str
 {
     let mut seen = String::new(alloc);
     for item in LineIter::<S>::new(alloc, log, first_line) {
-        match item {
-            Ok(_) => seen.push_str("event;")?,
-            Err(error) => seen.push_str(format!(in alloc; "{error};")?.as_str())?,
+        match item.err() {
+            None => seen.push_str("event;")?,
+            Some(error) => seen.push_str(format!(in alloc; "{error};")?.as_str())?,
         }
     }
     Ok(seen)
@@ -103,11 +103,16 @@ fn run_start_line() -> &'static str {
     "{\"cli-args\":[],\"elapsed\":{\"nanos\":0,\"secs\":0},\"kind\":\"run-started\",\"profile-name\":\"default\",\"run-id\":\"550e8400-e29b-41d4-a716-446655440000\",\"timestamp\":{\"nanos\":0,\"offset\":0,\"secs\":1000}}\n"
 }
 
+// The line of an event, which ends here.
+fn logged(alloc: Global, event: TestEventSummary<RecordingSpec>) -> Result<Vec<u8>, AllocError> {
+    log_line(alloc, &event)
+}
+
 #[test]
 fn the_line_of_an_event(rt: HostRuntime) -> Result<(), Fail> {
     let alloc = rt.alloc();
     for item in LineIter::<RecordingSpec>::new(alloc, run_start().as_bytes(), 1) {
-        let line = log_line(alloc, &item?)?;
+        let line = logged(alloc, item?)?;
         assert!(rt; line.as_slice() == run_start_line().as_bytes());
     }
     Ok(())

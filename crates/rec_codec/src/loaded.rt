@@ -1,8 +1,9 @@
 // Whether the outputs of an event are there.
 ghost use Rattle.std.specs.Prelude.{◌≡◌};
-ghost use Rattle.rec_codec.specs.EventForms.{kind_loaded, output_loaded};
+ghost use Rattle.rec_codec.specs.EventForms.{kind_loaded};
 ghost use Rattle.rec_codec.specs.Live.{is_loaded};
-ghost use Rattle.rec_codec.specs.Status.{status_loaded};
+ghost use Rattle.rec_codec.specs.OutputKinds.{output_loaded};
+ghost use Rattle.rec_codec.specs.Status.{description_loaded, status_loaded};
 ghost use Rattle.rec_codec.specs.Writes.{every};
 
 use rec_events::{
@@ -19,13 +20,19 @@ fn has_output(output: &ChildOutputDescription) -> bool
     }
 }
 
-fn attempt_has_output(attempt: &ExecuteStatus<LiveSpec>) -> bool
-    ensures { result ≡ status_loaded is_loaded attempt.now }
+fn execution_has_output(output: &ChildExecutionOutputDescription<LiveSpec>) -> bool
+    ensures { result ≡ description_loaded is_loaded output.now }
 {
-    match &attempt.output {
+    match output {
         ChildExecutionOutputDescription::Output { output, .. } => has_output(output),
         ChildExecutionOutputDescription::StartError { .. } => true,
     }
+}
+
+fn attempt_has_output(attempt: &ExecuteStatus<LiveSpec>) -> bool
+    ensures { result ≡ status_loaded is_loaded attempt.now }
+{
+    execution_has_output(&attempt.output)
 }
 
 fn all_have_output(attempts: &[ExecuteStatus<LiveSpec>]) -> bool
@@ -43,6 +50,12 @@ fn kind_has_outputs(kind: &OutputEventKind<LiveSpec>) -> bool
     ensures { result ≡ output_loaded is_loaded kind.now }
 {
     match kind {
+        OutputEventKind::SetupScriptFinished { run_status, .. } => {
+            execution_has_output(&run_status.output)
+        }
+        OutputEventKind::TestAttemptFailedWillRetry { run_status, .. } => {
+            attempt_has_output(run_status)
+        }
         OutputEventKind::TestFinished { run_statuses, .. } => {
             all_have_output(run_statuses.statuses.as_slice())
         }

@@ -1,19 +1,15 @@
 // The kinds of events that hold outputs.
-ghost use Rattle.std.specs.Prelude.{◌≡◌, OnOk};
+ghost use Rattle.std.specs.Prelude.{◌≡◌, OnOk, codes};
 ghost use Rattle.serde_json.specs.View.{members_view};
 ghost use Rattle.rec_forms.specs.Gives.{Gives};
 ghost use Rattle.rec_forms.specs.Shape.{with_members};
 ghost use Rattle.rec_codec.specs.Writes.{Refuses};
-ghost use Rattle.rec_codec.specs.Status.{statuses_loaded};
-ghost use Rattle.rec_codec.specs.EventForms.{reporting_fields, reporting_form, finished_fields, IsTestFinished, output_fields, output_loaded, IsOutput, test_finished_form};
+ghost use Rattle.rec_codec.specs.OutputKinds.{output_name, reporting_fields, reporting_form, output_members, output_fields, output_loaded, IsOutput, script_finished_form, attempt_failed_form, test_finished_form};
 
 use crate::core_kinds::put_kind_name;
 use crate::part::{put_part, required_part};
 use crate::{OutputForm, ToValueError};
-use rec_events::{
-    ExecutionStatuses, JunitFlakyFailStatus, OutputEventKind, OwnedTestInstanceId, RunStats,
-    StressIndexSummary, TestOutputDisplay,
-};
+use rec_events::{JunitFlakyFailStatus, OutputEventKind, TestOutputDisplay};
 use rec_forms::{FromValueError, Object, optional_field, put_field, put_optional, required_field};
 use std::alloc::{AllocError, Global};
 
@@ -54,7 +50,7 @@ impl Reporting {
         )
     }
 
-    #[tactic(auto, unfolding(crate::specs::EventForms::reporting_form))]
+    #[tactic(auto, unfolding(crate::specs::OutputKinds::reporting_form))]
     fn read(alloc: Global, object: &Object) -> Result<Reporting, FromValueError>
         ensures { Gives result (reporting_form (members_view object.now.entries)) }
     {
@@ -76,24 +72,124 @@ impl Reporting {
     }
 }
 
-// Writes a finished test.
-fn put_finished<S: OutputForm>(
+// The name of a kind.
+fn output_name<S: OutputForm>(kind: &OutputEventKind<S>) -> &'static str
+    ensures { result.now ≡ output_name kind.now }
+{
+    match kind {
+        OutputEventKind::SetupScriptFinished { .. } => "setup-script-finished",
+        OutputEventKind::TestAttemptFailedWillRetry { .. } => "test-attempt-failed-will-retry",
+        OutputEventKind::TestFinished { .. } => "test-finished",
+    }
+}
+
+// Writes the members of a setup script's end.
+fn put_script_finished<S: OutputForm>(
     alloc: Global,
     object: &mut Object,
-    stress_index: &Option<StressIndexSummary>,
-    test_instance: &OwnedTestInstanceId,
-    reporting: &Reporting,
-    run_statuses: &ExecutionStatuses<S>,
-    current_stats: &RunStats,
-    running: &usize,
+    kind: &OutputEventKind<S>,
 ) -> Result<(), ToValueError>
-    ensures written { OnOk result (members_view object.new.entries ≡ with_members (members_view object.old.entries)
-        (finished_fields S.output_value stress_index.now test_instance.now reporting.now run_statuses.now current_stats.now running.now)) }
-    ensures loaded { Refuses result (statuses_loaded S.loaded run_statuses.now) }
-    ensures known { OnOk result
-        (IsTestFinished S.output_well_formed stress_index.now test_instance.now run_statuses.now current_stats.now running.now) }
+    requires named { output_name kind.now ≡ codes "setup-script-finished" }
+    ensures written { OnOk result (members_view object.new.entries
+        ≡ with_members (members_view object.old.entries) (output_members S.output_value kind.now)) }
+    ensures loaded { Refuses result (output_loaded S.loaded kind.now) }
+    ensures known { OnOk result (IsOutput S.output_well_formed kind.now) }
 {
-    put_kind_name(alloc, object, "test-finished")?;
+    let OutputEventKind::SetupScriptFinished {
+        stress_index,
+        index,
+        total,
+        script_id,
+        program,
+        args,
+        no_capture,
+        run_status,
+    } = kind
+    else {
+        unreachable!()
+    };
+    put_optional(alloc, object, "stress-index", stress_index)?;
+    put_field(alloc, object, "index", index)?;
+    put_field(alloc, object, "total", total)?;
+    put_field(alloc, object, "script-id", script_id)?;
+    put_field(alloc, object, "program", program)?;
+    put_field(alloc, object, "args", args)?;
+    put_field(alloc, object, "no-capture", no_capture)?;
+    put_part(alloc, object, "run-status", run_status)?;
+    Ok(())
+}
+
+// Writes the members of a failed attempt.
+fn put_attempt_failed<S: OutputForm>(
+    alloc: Global,
+    object: &mut Object,
+    kind: &OutputEventKind<S>,
+) -> Result<(), ToValueError>
+    requires named { output_name kind.now ≡ codes "test-attempt-failed-will-retry" }
+    ensures written { OnOk result (members_view object.new.entries
+        ≡ with_members (members_view object.old.entries) (output_members S.output_value kind.now)) }
+    ensures loaded { Refuses result (output_loaded S.loaded kind.now) }
+    ensures known { OnOk result (IsOutput S.output_well_formed kind.now) }
+{
+    let OutputEventKind::TestAttemptFailedWillRetry {
+        stress_index,
+        test_instance,
+        run_status,
+        delay_before_next_attempt,
+        failure_output,
+        running,
+    } = kind
+    else {
+        unreachable!()
+    };
+    put_optional(alloc, object, "stress-index", stress_index)?;
+    put_field(alloc, object, "test-instance", test_instance)?;
+    put_part(alloc, object, "run-status", run_status)?;
+    put_field(
+        alloc,
+        object,
+        "delay-before-next-attempt",
+        delay_before_next_attempt,
+    )?;
+    put_field(alloc, object, "failure-output", failure_output)?;
+    put_field(alloc, object, "running", running)?;
+    Ok(())
+}
+
+// Writes the members of a finished test.
+fn put_test_finished<S: OutputForm>(
+    alloc: Global,
+    object: &mut Object,
+    kind: &OutputEventKind<S>,
+) -> Result<(), ToValueError>
+    requires named { output_name kind.now ≡ codes "test-finished" }
+    ensures written { OnOk result (members_view object.new.entries
+        ≡ with_members (members_view object.old.entries) (output_members S.output_value kind.now)) }
+    ensures loaded { Refuses result (output_loaded S.loaded kind.now) }
+    ensures known { OnOk result (IsOutput S.output_well_formed kind.now) }
+{
+    let OutputEventKind::TestFinished {
+        stress_index,
+        test_instance,
+        success_output,
+        failure_output,
+        junit_store_success_output,
+        junit_store_failure_output,
+        junit_flaky_fail_status,
+        run_statuses,
+        current_stats,
+        running,
+    } = kind
+    else {
+        unreachable!()
+    };
+    let reporting = Reporting {
+        success_output: *success_output,
+        failure_output: *failure_output,
+        junit_store_success_output: *junit_store_success_output,
+        junit_store_failure_output: *junit_store_failure_output,
+        junit_flaky_fail_status: *junit_flaky_fail_status,
+    };
     put_optional(alloc, object, "stress-index", stress_index)?;
     put_field(alloc, object, "test-instance", test_instance)?;
     reporting.put(alloc, object)?;
@@ -114,39 +210,56 @@ pub fn put_output<S: OutputForm>(
     ensures loaded { Refuses result (output_loaded S.loaded kind.now) }
     ensures known { OnOk result (IsOutput S.output_well_formed kind.now) }
 {
-    let OutputEventKind::TestFinished {
-        stress_index,
-        test_instance,
-        success_output,
-        failure_output,
-        junit_store_success_output,
-        junit_store_failure_output,
-        junit_flaky_fail_status,
-        run_statuses,
-        current_stats,
-        running,
-    } = kind;
-    let reporting = Reporting {
-        success_output: *success_output,
-        failure_output: *failure_output,
-        junit_store_success_output: *junit_store_success_output,
-        junit_store_failure_output: *junit_store_failure_output,
-        junit_flaky_fail_status: *junit_flaky_fail_status,
-    };
-    put_finished(
-        alloc,
-        object,
-        stress_index,
-        test_instance,
-        &reporting,
-        run_statuses,
-        current_stats,
-        running,
-    )
+    put_kind_name(alloc, object, output_name(kind))?;
+    match kind {
+        OutputEventKind::SetupScriptFinished { .. } => put_script_finished(alloc, object, kind),
+        OutputEventKind::TestAttemptFailedWillRetry { .. } => put_attempt_failed(
+            alloc, object, kind,
+        ),
+        OutputEventKind::TestFinished { .. } => put_test_finished(alloc, object, kind),
+    }
+}
+
+/// Reads the members of a setup script's end.
+#[tactic(auto, unfolding(crate::specs::OutputKinds::script_finished_form))]
+pub fn script_finished_from<S: OutputForm>(
+    alloc: Global,
+    object: &Object,
+) -> Result<OutputEventKind<S>, FromValueError>
+    ensures { Gives result (script_finished_form S.output_form (members_view object.now.entries)) }
+{
+    Ok(OutputEventKind::SetupScriptFinished {
+        stress_index: optional_field(alloc, object, "stress-index")?,
+        index: required_field(alloc, object, "index")?,
+        total: required_field(alloc, object, "total")?,
+        script_id: required_field(alloc, object, "script-id")?,
+        program: required_field(alloc, object, "program")?,
+        args: required_field(alloc, object, "args")?,
+        no_capture: required_field(alloc, object, "no-capture")?,
+        run_status: required_part(alloc, object, "run-status")?,
+    })
+}
+
+/// Reads the members of a failed attempt.
+#[tactic(auto, unfolding(crate::specs::OutputKinds::attempt_failed_form))]
+pub fn attempt_failed_from<S: OutputForm>(
+    alloc: Global,
+    object: &Object,
+) -> Result<OutputEventKind<S>, FromValueError>
+    ensures { Gives result (attempt_failed_form S.output_form (members_view object.now.entries)) }
+{
+    Ok(OutputEventKind::TestAttemptFailedWillRetry {
+        stress_index: optional_field(alloc, object, "stress-index")?,
+        test_instance: required_field(alloc, object, "test-instance")?,
+        run_status: required_part(alloc, object, "run-status")?,
+        delay_before_next_attempt: required_field(alloc, object, "delay-before-next-attempt")?,
+        failure_output: required_field(alloc, object, "failure-output")?,
+        running: required_field(alloc, object, "running")?,
+    })
 }
 
 /// Reads the members of a finished test.
-#[tactic(auto, unfolding(crate::specs::EventForms::test_finished_form))]
+#[tactic(auto, unfolding(crate::specs::OutputKinds::test_finished_form))]
 pub fn test_finished_from<S: OutputForm>(
     alloc: Global,
     object: &Object,

@@ -30,10 +30,17 @@ fn a_text_by_its_lines(rt: HostRuntime) -> Result<(), Fail> {
 fn told(alloc: Global, bytes: &[u8]) -> &'static str {
     match read_line::<RecordingSpec>(alloc, Line { number: 4, bytes }) {
         None => "nothing",
-        Some(Ok(_)) => "an event",
-        Some(Err(LineError::ReadRunLog { line_number: 4 })) => "ReadRunLog",
-        Some(Err(LineError::ParseEvent { line_number: 4 })) => "ParseEvent",
-        Some(Err(_)) => "another fault",
+        Some(item) => told_fault(item.err()),
+    }
+}
+
+// What the fault of a line is, if it has one.
+fn told_fault(fault: Option<LineError>) -> &'static str {
+    match fault {
+        None => "an event",
+        Some(LineError::ReadRunLog { line_number: 4 }) => "ReadRunLog",
+        Some(LineError::ParseEvent { line_number: 4 }) => "ParseEvent",
+        Some(_) => "another fault",
     }
 }
 

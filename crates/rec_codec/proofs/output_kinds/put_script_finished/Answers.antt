@@ -1,0 +1,16 @@
+use Rattle.rec_codec.proofs.output_kinds.put_script_finished.Goals as goal
+
+-- which kind it is, and then what each call put, from the last one back
+pub returns-clause-written : goal.returns-clause-written
+returns-clause-written g c =
+    rw (
+      c.in-SetupScriptFinished.is,
+      c.in_ok-put_part.ensures.written,
+      c.in_ok-put_field-6.ensures.written,
+      c.in_ok-put_field-5.ensures.written,
+      c.in_ok-put_field-4.ensures.written,
+      c.in_ok-put_field-3.ensures.written,
+      c.in_ok-put_field-2.ensures.written,
+      c.in_ok-put_field.ensures.written,
+      c.in_ok-put_optional.ensures.written,
+    )

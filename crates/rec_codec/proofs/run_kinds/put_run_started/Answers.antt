@@ -1,0 +1,12 @@
+use Rattle.rec_codec.proofs.run_kinds.put_run_started.Goals as goal
+
+-- which kind it is, and then what each call put, from the last one back
+pub returns-clause-written : goal.returns-clause-written
+returns-clause-written c =
+    rw (
+      c.in-RunStarted.is,
+      c.in_ok-put_optional.ensures.written,
+      c.in_ok-put_field-3.ensures.written,
+      c.in_ok-put_field-2.ensures.written,
+      c.in_ok-put_field.ensures.written,
+    )

@@ -1,0 +1,14 @@
+use Rattle.rec_codec.proofs.script_kinds.put_setup_script_slow.Goals as goal
+
+-- which kind it is, and then what each call put, from the last one back
+pub returns-clause-written : goal.returns-clause-written
+returns-clause-written c =
+    rw (
+      c.in-SetupScriptSlow.is,
+      c.in_ok-put_field-5.ensures.written,
+      c.in_ok-put_field-4.ensures.written,
+      c.in_ok-put_field-3.ensures.written,
+      c.in_ok-put_field-2.ensures.written,
+      c.in_ok-put_field.ensures.written,
+      c.in_ok-put_optional.ensures.written,
+    )

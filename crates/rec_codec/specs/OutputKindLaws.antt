@@ -1,0 +1,82 @@
+-- The kinds of events that hold outputs read back where these do, and are writable where these are.
+use Rattle.std.specs.Prelude.{◌≡◌, ℕ, ◌+◌, Option, Some, codes}
+use Rattle.std.proofs.Common.{arith}
+use Rattle.serde_json.specs.Data.{Data, string}
+use Rattle.rec_events.specs.Names.{IsText}
+use Rattle.rec_events.specs.Times.{Span, Moment}
+use Rattle.rec_events.specs.declared.events.OutputEventKind.{OutputEventKind}
+use Rattle.rec_events.specs.declared.events.OutputEventKind.TheVariants.{SetupScriptFinished, TestAttemptFailedWillRetry, TestFinished}
+use Rattle.rec_events.specs.declared.events.TestEventKindSummary.TheVariants.{Output}
+use Rattle.rec_events.specs.declared.events.TestEventSummary.{TestEventSummary}
+use Rattle.rec_forms.specs.Instances.{stress_index_value, stress_index_form, IsStressIndex}
+use Rattle.rec_forms.specs.InstanceLaws.{test_instance_back, test_instance_writable, stress_index_back, stress_index_writable}
+use Rattle.rec_forms.specs.ListLaws.{list_back, maybe_back}
+use Rattle.rec_forms.specs.Members.{get_member-members_of}
+use Rattle.rec_forms.specs.NumberLaws.{u64_back, text_back}
+use Rattle.rec_forms.specs.ReportingLaws.{output_display_back, output_display_writable, flaky_fail_status_back, flaky_fail_status_writable}
+use Rattle.rec_forms.specs.Shape.{text_of}
+use Rattle.rec_forms.specs.StatsLaws.{run_stats_back, run_stats_writable}
+use Rattle.rec_forms.specs.TimeLaws.{stamp_back, stamp_writable, duration_back, duration_writable}
+use Rattle.rec_forms.specs.Times.{IsStamp, IsDuration}
+use Rattle.rec_forms.specs.Writable.{IsWritable, EachWritten, weaker, natural_writable, string_writable, boolean_writable, list_writable, optional_writable}
+use Rattle.rec_codec.specs.EventForms.{kind_named, kind_form, event_value, event_form}
+use Rattle.rec_codec.specs.OutputKinds.{reporting_form, output_fields, script_finished_form, attempt_failed_form, test_finished_form, IsOutput}
+use Rattle.rec_codec.specs.ScriptStatusLaws.{script_status_back, script_status_writable}
+use Rattle.rec_codec.specs.StatusLaws.{status_back, status_writable, statuses_back, statuses_writable}
+
+-- ---- read back
+
+module _ {S O : Type 0} (P : O → Type 0) (output_value : O → Data) (output_form : Data → Option O) (back : (o : O) → P o → output_form (output_value o) ≡ Some o) where
+  pub output_back : (t : Moment) (e : Span) (k : OutputEventKind S O) → IsStamp t → IsDuration e → IsOutput P k
+      → event_form output_form (event_value output_value (record { timestamp = t; elapsed = e; kind = Output k })) ≡ Some (record { timestamp = t; elapsed = e; kind = Output k })
+  unfolding event_form kind_form kind_named script_finished_form attempt_failed_form reporting_form test_finished_form
+  output_back t e (SetupScriptFinished stress_index index total script_id program args no_capture run_status) ht he h =
+      simp (
+        get_member-members_of,
+        stamp_back t ht,
+        duration_back e he,
+        maybe_back IsStressIndex stress_index_value stress_index_form stress_index_back stress_index_writable stress_index h.0,
+        u64_back index h.1,
+        u64_back total h.2,
+        text_back script_id h.3,
+        text_back program h.4,
+        list_back IsText string text_of text_back args h.5,
+        script_status_back P output_value output_form back run_status h.6,
+      )
+  output_back t e (TestAttemptFailedWillRetry stress_index test_instance run_status delay_before_next_attempt failure_output running) ht he h =
+      simp (
+        get_member-members_of,
+        stamp_back t ht,
+        duration_back e he,
+        maybe_back IsStressIndex stress_index_value stress_index_form stress_index_back stress_index_writable stress_index h.0,
+        test_instance_back test_instance h.1,
+        status_back P output_value output_form back run_status h.2,
+        duration_back delay_before_next_attempt h.3,
+        output_display_back failure_output,
+        u64_back running h.4,
+      )
+  output_back t e (TestFinished stress_index test_instance success_output failure_output store_success store_failure flaky_fail_status run_statuses current_stats running) ht he h =
+      simp (
+        get_member-members_of,
+        stamp_back t ht,
+        duration_back e he,
+        output_display_back success_output,
+        output_display_back failure_output,
+        flaky_fail_status_back flaky_fail_status,
+        maybe_back IsStressIndex stress_index_value stress_index_form stress_index_back stress_index_writable stress_index h.0,
+        test_instance_back test_instance h.1,
+        statuses_back P output_value output_form back run_statuses h.2,
+        run_stats_back current_stats h.3,
+        u64_back running h.4,
+      )
+
+-- ---- writable
+
+module _ {S O : Type 0} (n : ℕ) (output_value : O → Data) (writable : (o : O) → IsWritable n (output_value o)) where
+  pub output_written : (k : OutputEventKind S O) → EachWritten (n + 9) (output_fields output_value k)
+  output_written (SetupScriptFinished stress_index index total script_id program args no_capture run_status) =
+      (string_writable (codes "setup-script-finished"), (optional_writable stress_index_value (λ i. weaker 1 (n + 9) (omega arith) (stress_index_writable i)) stress_index, (natural_writable index, (natural_writable total, (string_writable script_id, (string_writable program, (weaker 1 (n + 9) (omega arith) (list_writable string string_writable args), (boolean_writable no_capture, (weaker (n + 7) (n + 9) (omega arith) (script_status_writable n output_value writable run_status), tt)))))))))
+  output_written (TestAttemptFailedWillRetry stress_index test_instance run_status delay_before_next_attempt failure_output running) =
+      (string_writable (codes "test-attempt-failed-will-retry"), (optional_writable stress_index_value (λ i. weaker 1 (n + 9) (omega arith) (stress_index_writable i)) stress_index, (weaker 1 (n + 9) (omega arith) (test_instance_writable test_instance), (weaker (n + 7) (n + 9) (omega arith) (status_writable n output_value writable run_status), (weaker 1 (n + 9) (omega arith) (duration_writable delay_before_next_attempt), (weaker 0 (n + 9) (omega arith) (output_display_writable failure_output), (natural_writable running, tt)))))))
+  output_written (TestFinished stress_index test_instance success_output failure_output store_success store_failure flaky_fail_status run_statuses current_stats running) =
+      (string_writable (codes "test-finished"), (optional_writable stress_index_value (λ i. weaker 1 (n + 9) (omega arith) (stress_index_writable i)) stress_index, (weaker 1 (n + 9) (omega arith) (test_instance_writable test_instance), (weaker 0 (n + 9) (omega arith) (output_display_writable success_output), (weaker 0 (n + 9) (omega arith) (output_display_writable failure_output), (boolean_writable store_success, (boolean_writable store_failure, (weaker 0 (n + 9) (omega arith) (flaky_fail_status_writable flaky_fail_status), (statuses_writable n output_value writable run_statuses, (weaker 1 (n + 9) (omega arith) (run_stats_writable current_stats), (natural_writable running, tt)))))))))))
