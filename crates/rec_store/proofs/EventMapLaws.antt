@@ -5,11 +5,12 @@ use Rattle.std.proofs.lemmas.List.{map-append}
 use Rattle.rec_events.specs.declared.outputs.ChildExecutionOutputDescription.{ChildExecutionOutputDescription}
 use Rattle.rec_events.specs.declared.outputs.ChildExecutionOutputDescription.TheVariants.{Output, StartError}
 use Rattle.rec_events.specs.declared.statuses.ExecuteStatus.{ExecuteStatus}
-use Rattle.rec_events.specs.declared.events.OutputEventKind.TheVariants.{TestFinished}
+use Rattle.rec_events.specs.declared.script_statuses.SetupScriptExecuteStatus.{SetupScriptExecuteStatus}
+use Rattle.rec_events.specs.declared.events.OutputEventKind.TheVariants.{SetupScriptFinished, TestAttemptFailedWillRetry, TestFinished}
 use Rattle.rec_events.specs.declared.events.TestEventKindSummary.{TestEventKindSummary}
 use Rattle.rec_events.specs.declared.events.TestEventKindSummary.TheVariants as event
 use Rattle.rec_events.specs.declared.events.TestEventSummary.{TestEventSummary}
-use Rattle.rec_events.specs.EventMaps.{execution_with, status_with, kind_with, event_with, of_execution, of_status, of_kind, of_event}
+use Rattle.rec_events.specs.EventMaps.{execution_with, status_with, script_status_with, kind_with, event_with, of_execution, of_status, of_kind, of_event}
 use Rattle.rec_store.proofs.Held.{all_append, all_front, all_back}
 
 -- ---- what holds of all that is gathered of each output
@@ -25,6 +26,8 @@ module _ {S O A : Type 0} (P : A → Type 0) (f : O → List A) (each : (o : O) 
 
   all_of_kind : (k : TestEventKindSummary S O) → AllByRecursion P (of_kind f k)
   all_of_kind (event.Core kind) = tt
+  all_of_kind (event.Output (SetupScriptFinished index number total script program args no_capture status)) = all_of_execution status.output
+  all_of_kind (event.Output (TestAttemptFailedWillRetry index test status delay failure running)) = all_of_execution status.output
   all_of_kind (event.Output (TestFinished index test success failure store_success store_failure flaky statuses stats running)) = all_of_statuses statuses.statuses
 
   -- holds of all that is gathered
@@ -48,6 +51,8 @@ module _ (T : Type 0) {S O P A B : Type 0} (replaced : O → P) (gathered : P �
 
   of_kind-with : (k : TestEventKindSummary S O) → of_kind {S = T} gathered (kind_with replaced k) ≡ map h (of_kind before k)
   of_kind-with (event.Core kind) = refl
+  of_kind-with (event.Output (SetupScriptFinished index number total script program args no_capture status)) = of_execution-with status.output
+  of_kind-with (event.Output (TestAttemptFailedWillRetry index test status delay failure running)) = of_execution-with status.output
   of_kind-with (event.Output (TestFinished index test success failure store_success store_failure flaky statuses stats running)) = of_statuses-with statuses.statuses
 
   -- is what h makes of what was gathered before
@@ -73,8 +78,16 @@ module _ (T U : Type 0) {S O P Q A : Type 0} (first : O → P) (then : P → Q) 
       ap (λ x. x ∷ map (status_with {T = U} then) (map (status_with {T = T} first) l)) (status_twice s (all_front F (of_status gathered s) (flat_map (of_status gathered) l) h))
       ∙ ap (λ rest. status_with {T = U} once s ∷ rest) (statuses_twice l (all_back F (of_status gathered s) (flat_map (of_status gathered) l) h))
 
+  script_status_twice : (s : SetupScriptExecuteStatus S O) → AllByRecursion F (of_execution gathered s.output)
+      → script_status_with then (script_status_with {T = T} first s) ≡ script_status_with {T = U} once s
+  script_status_twice s h = ap (λ (o : ChildExecutionOutputDescription U Q). record (script_status_with {T = U} once s) { output = o }) (execution_twice s.output h)
+
   kind_twice : (k : TestEventKindSummary S O) → AllByRecursion F (of_kind gathered k) → kind_with then (kind_with {T = T} first k) ≡ kind_with {T = U} once k
   kind_twice (event.Core kind) h = refl
+  kind_twice (event.Output (SetupScriptFinished index number total script program args no_capture status)) h =
+      ap (λ (s : SetupScriptExecuteStatus U Q). event.Output (SetupScriptFinished index number total script program args no_capture s)) (script_status_twice status h)
+  kind_twice (event.Output (TestAttemptFailedWillRetry index test status delay failure running)) h =
+      ap (λ (s : ExecuteStatus U Q). event.Output (TestAttemptFailedWillRetry index test s delay failure running)) (status_twice status h)
   kind_twice (event.Output (TestFinished index test success failure store_success store_failure flaky statuses stats running)) h =
       ap (λ (l : List (ExecuteStatus U Q)). event.Output (TestFinished index test success failure store_success store_failure flaky (record { statuses = l; flaky_result = statuses.flaky_result }) stats running))
       (statuses_twice statuses.statuses h)

@@ -1,5 +1,5 @@
 -- What is stored of an event's outputs, and what the event is recorded as.
-use Rattle.std.specs.Prelude.{ℕ, List, [], ◌∷◌, ◌++◌, length, nat_le, ◌==◌, Option, Some, None, option_map, if◌then◌else◌}
+use Rattle.std.specs.Prelude.{ℕ, List, [], ◌∷◌, ◌++◌, length, nat_le, ◌==◌, Bool, false, true, Option, Some, None, option_map, if◌then◌else◌}
 use Rattle.rec_container.specs.Container.{Entry}
 use Rattle.rec_container.specs.Writing.{named}
 use Rattle.rec_events.specs.declared.output_names.OutputKind.{OutputKind}
@@ -16,8 +16,11 @@ use Rattle.rec_events.specs.declared.outputs.ZipStoreOutputDescription.TheVarian
 use Rattle.rec_events.specs.declared.outputs.ChildExecutionOutputDescription.{ChildExecutionOutputDescription}
 use Rattle.rec_events.specs.declared.statuses.ExecuteStatus.{ExecuteStatus}
 use Rattle.rec_events.specs.declared.statuses.ExecutionStatuses.{ExecutionStatuses}
+use Rattle.rec_events.specs.declared.script_statuses.SetupScriptExecuteStatus.{SetupScriptExecuteStatus}
+use Rattle.rec_events.specs.declared.events.OutputEventKind.{OutputEventKind}
+use Rattle.rec_events.specs.declared.events.OutputEventKind.TheVariants.{SetupScriptFinished, TestAttemptFailedWillRetry, TestFinished}
 use Rattle.rec_events.specs.declared.events.TestEventKindSummary.{TestEventKindSummary}
-use Rattle.rec_events.specs.EventMaps.{execution_with, status_with, statuses_with, kind_with, event_with, of_execution, of_status, of_kind, of_event}
+use Rattle.rec_events.specs.EventMaps.{execution_with, status_with, statuses_with, script_status_with, output_kind_with, kind_with, event_with, of_execution, of_status, of_output_kind, of_kind, of_event}
 use Rattle.rec_codec.specs.Event.{LiveEvent, RecordedEvent}
 use Rattle.rec_store.specs.Cut.{cut}
 use Rattle.rec_store.specs.OutputPaths.{output_path}
@@ -28,6 +31,19 @@ Live T = T LiveSpec ChildOutputDescription
 
 abbrev pub Recorded : (Type 0 → Type 0 → Type 0) → Type 0
 Recorded T = T RecordingSpec ZipStoreOutputDescription
+
+-- which of the kinds with outputs it is
+abbrev pub is_script_finished : Live OutputEventKind → Bool
+is_script_finished (SetupScriptFinished stress index total script program args no_capture status) = true
+is_script_finished kind = false
+
+abbrev pub is_failed_attempt : Live OutputEventKind → Bool
+is_failed_attempt (TestAttemptFailedWillRetry stress test status delay failure running) = true
+is_failed_attempt kind = false
+
+abbrev pub is_finished : Live OutputEventKind → Bool
+is_finished (TestFinished stress test success failure store_success store_failure flaky statuses stats running) = true
+is_finished kind = false
 
 -- outputs are numbered by their bytes, and cut at m bytes
 module _ (number : List ℕ → ℕ) (m : ℕ) where
@@ -60,6 +76,12 @@ module _ (number : List ℕ → ℕ) (m : ℕ) where
   abbrev pub status_entries : Live ExecuteStatus → List Entry
   status_entries s = of_status description_entries s
 
+  abbrev pub script_status_entries : Live SetupScriptExecuteStatus → List Entry
+  script_status_entries s = execution_entries s.output
+
+  abbrev pub output_kind_entries : Live OutputEventKind → List Entry
+  output_kind_entries k = of_output_kind description_entries k
+
   abbrev pub kind_entries : Live TestEventKindSummary → List Entry
   kind_entries k = of_kind description_entries k
 
@@ -88,6 +110,12 @@ module _ (number : List ℕ → ℕ) (m : ℕ) where
 
   abbrev pub statuses_recorded : Live ExecutionStatuses → Recorded ExecutionStatuses
   statuses_recorded s = statuses_with description_recorded s
+
+  abbrev pub script_status_recorded : Live SetupScriptExecuteStatus → Recorded SetupScriptExecuteStatus
+  script_status_recorded s = script_status_with description_recorded s
+
+  abbrev pub output_kind_recorded : Live OutputEventKind → Recorded OutputEventKind
+  output_kind_recorded k = output_kind_with description_recorded k
 
   abbrev pub kind_recorded : Live TestEventKindSummary → Recorded TestEventKindSummary
   kind_recorded k = kind_with description_recorded k

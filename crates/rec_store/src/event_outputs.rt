@@ -1,7 +1,7 @@
-//! The outputs of an event's attempts, as they are stored.
+//! The outputs of an event's scripts and attempts, as they are stored.
 ghost use Rattle.std.specs.Prelude.{◌≡◌, false, true, Err};
 ghost use Rattle.rec_store.specs.declared.error.RunStoreError.TheVariants.{Failed};
-ghost use Rattle.rec_store.specs.EventOutputs.{status_entries, status_recorded, kind_entries, kind_recorded, event_entries, event_recorded, statuses_recorded};
+ghost use Rattle.rec_store.specs.EventOutputs.{status_entries, status_recorded, statuses_recorded, script_status_entries, script_status_recorded, is_script_finished, is_failed_attempt, is_finished, output_kind_entries, output_kind_recorded, kind_entries, kind_recorded, event_entries, event_recorded};
 ghost use Rattle.std.specs.List.{flat_map};
 ghost use Rattle.rec_store.specs.Stopping.{StoresAs};
 
@@ -11,7 +11,7 @@ use crate::outputs::OutputRules;
 use rec_container::{ContainerWriter, Sink};
 use rec_events::{
     ExecuteStatus, ExecutionStatuses, LiveSpec, OutputEventKind, RecordingSpec,
-    TestEventKindSummary, TestEventSummary,
+    SetupScriptExecuteStatus, TestEventKindSummary, TestEventSummary,
 };
 
 impl<'n, N: OutputNamer> OutputRules<'n, N> {
@@ -70,6 +70,37 @@ impl<'n, N: OutputNamer> OutputRules<'n, N> {
         Ok(ExecutionStatuses::new(recorded, statuses.flaky_result))
     }
 
+    /// Stores the output of a run of a setup script.
+    fn store_script_status<S: Sink>(
+        &self,
+        store: &mut ContainerWriter<S>,
+        status: SetupScriptExecuteStatus<LiveSpec>,
+    ) -> Result<SetupScriptExecuteStatus<RecordingSpec>, RunStoreError>
+        requires sound { store.old.failed ≡ false }
+        ensures { StoresAs S.taken S.faults store.old store.new
+            (script_status_entries (N.number self.now.namer.now) self.now.max_size status)
+            (script_status_recorded (N.number self.now.namer.now) self.now.max_size status) result }
+    {
+        let SetupScriptExecuteStatus {
+            output,
+            result,
+            start_time,
+            time_taken,
+            is_slow,
+            env_map,
+            error_summary,
+        } = status;
+        Ok(SetupScriptExecuteStatus {
+            output: self.store_execution(store, output)?,
+            result,
+            start_time,
+            time_taken,
+            is_slow,
+            env_map,
+            error_summary,
+        })
+    }
+
     /// Stores the outputs of what happened.
     fn store_kind<S: Sink>(
         &self,
@@ -83,35 +114,145 @@ impl<'n, N: OutputNamer> OutputRules<'n, N> {
     {
         match kind {
             TestEventKindSummary::Core(kind) => Ok(TestEventKindSummary::Core(kind)),
-            TestEventKindSummary::Output(
-                OutputEventKind::TestFinished {
-                    stress_index,
-                    test_instance,
-                    success_output,
-                    failure_output,
-                    junit_store_success_output,
-                    junit_store_failure_output,
-                    junit_flaky_fail_status,
-                    run_statuses,
-                    current_stats,
-                    running,
-                },
-            ) => {
-                let run_statuses = self.store_statuses(store, run_statuses)?;
-                Ok(TestEventKindSummary::Output(OutputEventKind::TestFinished {
-                    stress_index,
-                    test_instance,
-                    success_output,
-                    failure_output,
-                    junit_store_success_output,
-                    junit_store_failure_output,
-                    junit_flaky_fail_status,
-                    run_statuses,
-                    current_stats,
-                    running,
-                }))
+            TestEventKindSummary::Output(kind) => {
+                let kind = self.store_output_kind(store, kind)?;
+                Ok(TestEventKindSummary::Output(kind))
             }
         }
+    }
+
+    /// Stores the outputs of a script, of one attempt or of all attempts.
+    fn store_output_kind<S: Sink>(
+        &self,
+        store: &mut ContainerWriter<S>,
+        kind: OutputEventKind<LiveSpec>,
+    ) -> Result<OutputEventKind<RecordingSpec>, RunStoreError>
+        requires sound { store.old.failed ≡ false }
+        ensures { StoresAs S.taken S.faults store.old store.new
+            (output_kind_entries (N.number self.now.namer.now) self.now.max_size kind)
+            (output_kind_recorded (N.number self.now.namer.now) self.now.max_size kind) result }
+    {
+        match &kind {
+            OutputEventKind::SetupScriptFinished { .. } => self.store_script_finished(store, kind),
+            OutputEventKind::TestAttemptFailedWillRetry { .. } => {
+                self.store_failed_attempt(store, kind)
+            }
+            OutputEventKind::TestFinished { .. } => self.store_finished(store, kind),
+        }
+    }
+
+    /// Stores the output of a setup script that ended.
+    fn store_script_finished<S: Sink>(
+        &self,
+        store: &mut ContainerWriter<S>,
+        kind: OutputEventKind<LiveSpec>,
+    ) -> Result<OutputEventKind<RecordingSpec>, RunStoreError>
+        requires sound { store.old.failed ≡ false }
+        requires script { is_script_finished kind ≡ true }
+        ensures { StoresAs S.taken S.faults store.old store.new
+            (output_kind_entries (N.number self.now.namer.now) self.now.max_size kind)
+            (output_kind_recorded (N.number self.now.namer.now) self.now.max_size kind) result }
+    {
+        let OutputEventKind::SetupScriptFinished {
+            stress_index,
+            index,
+            total,
+            script_id,
+            program,
+            args,
+            no_capture,
+            run_status,
+        } = kind
+        else {
+            unreachable!()
+        };
+        let run_status = self.store_script_status(store, run_status)?;
+        Ok(OutputEventKind::SetupScriptFinished {
+            stress_index,
+            index,
+            total,
+            script_id,
+            program,
+            args,
+            no_capture,
+            run_status,
+        })
+    }
+
+    /// Stores the outputs of an attempt that another one follows.
+    fn store_failed_attempt<S: Sink>(
+        &self,
+        store: &mut ContainerWriter<S>,
+        kind: OutputEventKind<LiveSpec>,
+    ) -> Result<OutputEventKind<RecordingSpec>, RunStoreError>
+        requires sound { store.old.failed ≡ false }
+        requires attempt { is_failed_attempt kind ≡ true }
+        ensures { StoresAs S.taken S.faults store.old store.new
+            (output_kind_entries (N.number self.now.namer.now) self.now.max_size kind)
+            (output_kind_recorded (N.number self.now.namer.now) self.now.max_size kind) result }
+    {
+        let OutputEventKind::TestAttemptFailedWillRetry {
+            stress_index,
+            test_instance,
+            run_status,
+            delay_before_next_attempt,
+            failure_output,
+            running,
+        } = kind
+        else {
+            unreachable!()
+        };
+        let run_status = self.store_status(store, run_status)?;
+        Ok(OutputEventKind::TestAttemptFailedWillRetry {
+            stress_index,
+            test_instance,
+            run_status,
+            delay_before_next_attempt,
+            failure_output,
+            running,
+        })
+    }
+
+    /// Stores the outputs of all attempts of a test that ended.
+    fn store_finished<S: Sink>(
+        &self,
+        store: &mut ContainerWriter<S>,
+        kind: OutputEventKind<LiveSpec>,
+    ) -> Result<OutputEventKind<RecordingSpec>, RunStoreError>
+        requires sound { store.old.failed ≡ false }
+        requires finished { is_finished kind ≡ true }
+        ensures { StoresAs S.taken S.faults store.old store.new
+            (output_kind_entries (N.number self.now.namer.now) self.now.max_size kind)
+            (output_kind_recorded (N.number self.now.namer.now) self.now.max_size kind) result }
+    {
+        let OutputEventKind::TestFinished {
+            stress_index,
+            test_instance,
+            success_output,
+            failure_output,
+            junit_store_success_output,
+            junit_store_failure_output,
+            junit_flaky_fail_status,
+            run_statuses,
+            current_stats,
+            running,
+        } = kind
+        else {
+            unreachable!()
+        };
+        let run_statuses = self.store_statuses(store, run_statuses)?;
+        Ok(OutputEventKind::TestFinished {
+            stress_index,
+            test_instance,
+            success_output,
+            failure_output,
+            junit_store_success_output,
+            junit_store_failure_output,
+            junit_flaky_fail_status,
+            run_statuses,
+            current_stats,
+            running,
+        })
     }
 
     /// Stores the outputs of an event, and gives the event as it is recorded.

@@ -7,6 +7,8 @@ mod cut_tests;
 mod entries;
 mod error;
 mod event_outputs;
+#[cfg(test)]
+mod kind_tests;
 pub mod laws;
 mod namer;
 mod output_paths;

@@ -226,10 +226,13 @@ impl<'n, S: Sink, L: Sink, N: OutputNamer> RunRecorder<'n, S, L, N> {
         ensures logged { OnOk result (IsLogged (event_recorded (N.number self.old.namer) self.old.max_output event)) }
         ensures err { IfErr result (Unlogged S.taken S.faults L.taken L.faults N.number self.old self.new event) }
     {
+        // An event is let go of by a call: in place, each of its kinds would be a case of the proof.
         if self.is_failed() {
+            drop(event);
             return Err(RunStoreError::Failed);
         }
         if !has_all_outputs(&event) {
+            drop(event);
             return Err(RunStoreError::NotLoadedOutput);
         }
         self.write_loaded(event)

@@ -60,14 +60,14 @@ fn abc_under_zero() -> &'static str {
 }
 
 /// A sink with room.
-fn room(alloc: Global) -> Result<MemorySink, Fail> {
+pub(crate) fn room(alloc: Global) -> Result<MemorySink, Fail> {
     let mut sink = MemorySink::new(alloc);
     sink.reserve(4096)?;
     Ok(sink)
 }
 
 /// The event of a session's line.
-fn event(alloc: Global, text: &str) -> Result<TestEventSummary<LiveSpec>, Fail> {
+pub(crate) fn event(alloc: Global, text: &str) -> Result<TestEventSummary<LiveSpec>, Fail> {
     let value = Value::from_str(alloc, text)?;
     Ok(event_from_value(alloc, &value)?)
 }
@@ -84,7 +84,7 @@ fn lines(alloc: Global, outputs: &[&str]) -> Result<String, Fail> {
 }
 
 /// Records an event, and tells what came of it.
-fn record<L: Sink, N: OutputNamer>(
+pub(crate) fn record<L: Sink, N: OutputNamer>(
     alloc: Global,
     recorder: &mut RunRecorder<'_, MemorySink, L, N>,
     event: TestEventSummary<LiveSpec>,
