@@ -6,7 +6,7 @@ use Rattle.rec_trace.specs.History.{behind, Known, known}
 use Rattle.rec_trace.specs.Kinds.{history}
 use Rattle.rec_trace.specs.Past.{Change, Happening, of_key, in_place, is_paused, pause_after, open_after, open_spans}
 use Rattle.rec_trace.specs.Past.Change.{Start, Stop, Pause, Resume, Other}
-use Rattle.rec_trace.specs.Refusals.{is_none_open, number_refusal, instant_refusal, missing_refusal, open_refusal, busy, slot_refusal, row_refusal, count_refusal, refusal_of, refusal_behind, refusal}
+use Rattle.rec_trace.specs.Refusals.{is_none_open, number_refusal, kind_refusal, instant_refusal, missing_refusal, open_refusal, busy, slot_refusal, row_refusal, count_refusal, change_refusal, event_refusal, refusal_of, refusal_behind, refusal}
 use Rattle.rec_trace.specs.declared.errors.ChromeTraceError.TheVariants.{SpanAlreadyOpen}
 use Rattle.rec_trace.specs.declared.settings.ChromeTraceGroupBy.{ChromeTraceGroupBy}
 use Rattle.rec_trace.specs.declared.spans.Place.{Place}
@@ -64,11 +64,12 @@ accepted-prefix xs ys ok = (or-none (refusal xs) (refusal_behind (known (behind 
 pub refusal_of-none : (k : Known) (h : Happening) → refusal_of k h ≡ None → (open_refusal (suc k.number) k.spans h.change ≡ None) × (slot_refusal (suc k.number) k.spans h.change ≡ None)
 refusal_of-none k h e =
     let n = suc k.number in
-    let a = or-none (number_refusal n) (option_or (instant_refusal n h.at) (option_or (missing_refusal n k.spans h.change) (option_or (open_refusal n k.spans h.change) (option_or (slot_refusal n k.spans h.change) (option_or (row_refusal n h.change) (count_refusal n h.failures)))))) e in
-    let b = or-none (instant_refusal n h.at) (option_or (missing_refusal n k.spans h.change) (option_or (open_refusal n k.spans h.change) (option_or (slot_refusal n k.spans h.change) (option_or (row_refusal n h.change) (count_refusal n h.failures))))) a.1 in
-    let c = or-none (missing_refusal n k.spans h.change) (option_or (open_refusal n k.spans h.change) (option_or (slot_refusal n k.spans h.change) (option_or (row_refusal n h.change) (count_refusal n h.failures)))) b.1 in
-    let d = or-none (open_refusal n k.spans h.change) (option_or (slot_refusal n k.spans h.change) (option_or (row_refusal n h.change) (count_refusal n h.failures))) c.1 in
-    (d.0, (or-none (slot_refusal n k.spans h.change) (option_or (row_refusal n h.change) (count_refusal n h.failures)) d.1).0)
+    let a = or-none (number_refusal n) (event_refusal n k.spans h) e in
+    let b = or-none (kind_refusal n h.drawn) (option_or (instant_refusal n h.at) (change_refusal n k.spans h.change h.failures)) a.1 in
+    let c = or-none (instant_refusal n h.at) (change_refusal n k.spans h.change h.failures) b.1 in
+    let d = or-none (missing_refusal n k.spans h.change) (option_or (open_refusal n k.spans h.change) (option_or (slot_refusal n k.spans h.change) (option_or (row_refusal n h.change) (count_refusal n h.failures)))) c.1 in
+    let f = or-none (open_refusal n k.spans h.change) (option_or (slot_refusal n k.spans h.change) (option_or (row_refusal n h.change) (count_refusal n h.failures))) d.1 in
+    (f.0, (or-none (slot_refusal n k.spans h.change) (option_or (row_refusal n h.change) (count_refusal n h.failures)) f.1).0)
 
 -- ---- room
 

@@ -173,10 +173,12 @@ StartsFit-behind past (h ∷ hs) f g = StartsFit-behind (h ∷ past) hs (g.0, f)
 core-fits : (g : ChromeTraceGroupBy) (k : CoreEventKind) → StartFits (core_change g k)
 core-fits g (RunStarted run_id profile_name cli_args stress_condition) = (refl, refl, refl)
 core-fits Slot (TestStarted stress_index test slot_assignment current_stats running command_line) = (slot_assignment.global_slot, refl, omega arith, refl)
+core-fits g _ = tt
 
 module _ {S O : Type 0} where
   output-fits : (k : OutputEventKind S O) → StartFits (output_change k)
   output-fits (TestFinished index test success failure store_success store_failure flaky statuses current_stats running) = tt
+  output-fits _ = tt
 
   change-fits : (g : ChromeTraceGroupBy) (k : TestEventKindSummary S O) → StartFits (change_of g k)
   change-fits g (Core kind) = core-fits g kind

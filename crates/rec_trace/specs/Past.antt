@@ -17,9 +17,11 @@ pub data Change : Type 0 where
   Resume : Change
   Other : Change
 
--- an event as a trace sees it: its instant in microseconds, what it does, and how many tests it tells as failed
+-- an event as a trace sees it: its instant in microseconds, whether its kind is drawn yet, what it does, and how many tests it tells
+-- as failed
 pub record Happening : Type 0 where
   pub at : ℤ
+  pub drawn : Bool
   pub change : Change
   pub failures : ℕ
 

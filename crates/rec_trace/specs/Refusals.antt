@@ -7,7 +7,7 @@ use Rattle.rec_trace.specs.Past.{Change, Happening, in_place, of_key}
 use Rattle.rec_trace.specs.Past.Change.{Start, Stop, Pause, Resume, Other}
 use Rattle.rec_trace.specs.Places.{number}
 use Rattle.rec_trace.specs.declared.errors.ChromeTraceError.{ChromeTraceError}
-use Rattle.rec_trace.specs.declared.errors.ChromeTraceError.TheVariants.{CountOutOfRange, MissingTestStart, OutOfMemory, RowOutOfRange, SlotBusy, SpanAlreadyOpen, TimestampOutOfRange}
+use Rattle.rec_trace.specs.declared.errors.ChromeTraceError.TheVariants.{CountOutOfRange, KindNotBuilt, MissingTestStart, OutOfMemory, RowOutOfRange, SlotBusy, SpanAlreadyOpen, TimestampOutOfRange}
 use Rattle.rec_trace.specs.declared.spans.Place.{Place}
 use Rattle.rec_trace.specs.declared.spans.Place.TheVariants as places
 use Rattle.rec_trace.specs.declared.spans.Span.{Span}
@@ -23,6 +23,10 @@ is_none_open (s ∷ spans) = false
 -- it has a number past u64
 abbrev pub number_refusal : ℕ → Option ChromeTraceError
 number_refusal n = if nat_lt n (2 ^ 64) then None else Some (CountOutOfRange 18446744073709551615)
+
+-- its kind is not drawn yet
+abbrev pub kind_refusal : ℕ → Bool → Option ChromeTraceError
+kind_refusal n drawn = if drawn then None else Some (KindNotBuilt n)
 
 -- its instant is no i64
 abbrev pub instant_refusal : ℕ → ℤ → Option ChromeTraceError
@@ -87,12 +91,18 @@ change_refusal n spans change failures =
     (option_or (row_refusal n change)
     (count_refusal n failures))))
 
+-- the first cause of an event but for its number
+abbrev pub event_refusal : ℕ → List Span → Happening → Option ChromeTraceError
+event_refusal n spans h =
+    option_or (kind_refusal n h.drawn)
+    (option_or (instant_refusal n h.at)
+    (change_refusal n spans h.change h.failures))
+
 -- the first cause of an event, if it has one, behind what is known
 abbrev pub refusal_of : Known → Happening → Option ChromeTraceError
 refusal_of k h =
     option_or (number_refusal (suc k.number))
-    (option_or (instant_refusal (suc k.number) h.at)
-    (change_refusal (suc k.number) k.spans h.change h.failures))
+    (event_refusal (suc k.number) k.spans h)
 
 -- the cause of the first event that has one
 abbrev pub refusal_behind : Known → List Happening → Option ChromeTraceError

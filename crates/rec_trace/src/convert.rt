@@ -1,7 +1,10 @@
 //! The trace of a history that comes event by event.
-ghost use Rattle.std.specs.Prelude.{IfOk, IfErr};
+ghost use Rattle.std.specs.Prelude.{List, IfOk, IfErr};
 ghost use Rattle.std.specs.Iterator.{IsFinite};
 ghost use Rattle.rec_trace.specs.Converting.{Converts, HasNoTrace};
+ghost use Rattle.rec_trace.specs.Kinds.{happening};
+ghost use Rattle.rec_trace.specs.Past.{Happening};
+ghost use Rattle.rec_trace.specs.Traces.{HasTraced, Traces};
 
 use crate::builder::TraceBuilder;
 use crate::errors::ChromeTraceError;
@@ -14,6 +17,7 @@ use std::alloc::Global;
 /// to end. The first item that can't be drawn says why there is no trace:
 ///
 /// - `ReadError`: it is a fault of the reader.
+/// - `KindNotBuilt`: it is of a kind that isn't drawn yet.
 /// - `MissingTestStart`: it ends a test that isn't running.
 /// - `SpanAlreadyOpen`: it starts what is running already.
 /// - `SlotBusy`: it starts a test on a slot on which another runs.
@@ -38,11 +42,24 @@ where
     let mut builder = TraceBuilder::new(alloc, group_by);
     for item in events {
         let event = item?;
-        builder.process_event(alloc, &event)?;
+        add_event(alloc, &mut builder, event)?;
     }
     Ok(
         builder
             .into_text(alloc, version, message_format)?
             .into_bytes(),
     )
+}
+
+/// Adds what an event shows. The event ends here, since to drop one of that many kinds inside the loop is
+/// too much for a proof.
+pub(crate) fn add_event(
+    alloc: Global,
+    builder: &mut TraceBuilder,
+    event: TestEventSummary<RecordingSpec>,
+) -> Result<(), ChromeTraceError>
+    ensures { (history : List Happening) → HasTraced builder.old.group_by history builder.old
+        → Traces builder.old.group_by history (happening builder.old.group_by event) builder.old builder.new result }
+{
+    builder.process_event(alloc, &event)
 }

@@ -1,9 +1,12 @@
+use crate::convert::add_event;
 use crate::{
-    ChromeTraceError, ChromeTraceGroupBy, ChromeTraceMessageFormat, SpanKey,
+    ChromeTraceError, ChromeTraceGroupBy, ChromeTraceMessageFormat, SpanKey, TraceBuilder,
     convert_to_chrome_trace,
 };
 use rec_codec::{LineError, LineIter};
-use rec_events::{RecordingSpec, Version};
+use rec_events::{
+    CoreEventKind, Duration, RecordingSpec, Stamp, TestEventKindSummary, TestEventSummary, Version,
+};
 use std::alloc::Global;
 use std::test::Fail;
 
@@ -133,6 +136,7 @@ fn traces_by_their_texts(rt: HostRuntime) -> Result<(), Fail> {
 fn told(alloc: Global, error: &ChromeTraceError) -> Result<String, Fail> {
     Ok(match error {
         ChromeTraceError::ReadError(fault) => format!(in alloc; "ReadError: {fault}")?,
+        ChromeTraceError::KindNotBuilt { event } => format!(in alloc; "KindNotBuilt {event}")?,
         ChromeTraceError::MissingTestStart {
             event,
             binary_id,
@@ -227,6 +231,83 @@ fn faulty_lines(rt: HostRuntime) -> Result<(), Fail> {
         let got = refused(alloc, lines)?;
         assert!(rt; got.as_str() == want, "{got}");
     }
+    Ok(())
+}
+
+// The run is paused, at this second.
+fn paused(secs: i64) -> TestEventSummary<RecordingSpec> {
+    TestEventSummary {
+        timestamp: Stamp {
+            secs,
+            nanos: 0,
+            offset: 0,
+        },
+        elapsed: Duration { secs: 2, nanos: 0 },
+        kind: TestEventKindSummary::Core(CoreEventKind::RunPaused {
+            setup_scripts_running: 0,
+            running: 1,
+        }),
+    }
+}
+
+// The builder takes the events of these lines, and tells the first that it refuses.
+fn added(
+    alloc: Global,
+    builder: &mut TraceBuilder,
+    lines: &[Line],
+) -> Result<Option<String>, Fail> {
+    let log = log(alloc, lines)?;
+    for event in LineIter::<RecordingSpec>::new(alloc, log.as_str().as_bytes(), 1) {
+        if let Err(error) = add_event(alloc, builder, event?) {
+            return Ok(Some(told(alloc, &error)?));
+        }
+    }
+    Ok(None)
+}
+
+// What a builder with the events of these lines answers to a pause at this second.
+fn told_pause(alloc: Global, lines: &[Line], secs: i64) -> Result<String, Fail> {
+    let mut builder = TraceBuilder::new(alloc, ChromeTraceGroupBy::Slot);
+    if let Some(refusal) = added(alloc, &mut builder, lines)? {
+        return Ok(refusal);
+    }
+    match add_event(alloc, &mut builder, paused(secs)) {
+        Ok(()) => Ok(String::from_str(alloc, "taken")?),
+        Err(error) => told(alloc, &error),
+    }
+}
+
+#[test]
+fn kinds_that_are_not_drawn(rt: HostRuntime) -> Result<(), Fail> {
+    let alloc = rt.alloc();
+    let run = Line::Run(1000, 0);
+    for (lines, secs, want) in [
+        ([].as_slice(), 1002, "KindNotBuilt 1"),
+        (&[run], 1002, "KindNotBuilt 2"),
+        (&[run], 9223372036855, "KindNotBuilt 2"),
+        (&[run, run], 1002, "SpanAlreadyOpen 2 Run"),
+    ] {
+        let got = told_pause(alloc, lines, secs)?;
+        assert!(rt; got.as_str() == want, "{got}");
+    }
+    Ok(())
+}
+
+#[test]
+fn a_refused_kind_leaves_the_builder(rt: HostRuntime) -> Result<(), Fail> {
+    let alloc = rt.alloc();
+    let version = Version::parse(alloc, "0.9.111")?;
+    let mut builder = TraceBuilder::new(alloc, ChromeTraceGroupBy::Slot);
+    let first = added(alloc, &mut builder, &[Line::Run(1000, 0)])?;
+    let refused = add_event(alloc, &mut builder, paused(1000)).is_err();
+    let rest = added(
+        alloc,
+        &mut builder,
+        &[Line::Start(1001, 1, 0), Line::End(1002, 1, 0)],
+    )?;
+    assert!(rt; first.is_none() && refused && rest.is_none());
+    let text = builder.into_text(alloc, &version, ChromeTraceMessageFormat::Json)?;
+    assert!(rt; text.as_str() == one_test());
     Ok(())
 }
 

@@ -10,13 +10,20 @@ use std::alloc::AllocError;
 use thiserror::Error;
 
 /// Why there is no trace of a history. Events are numbered from 1. Of the first event that fails, the
-/// first cause is answered in the order number, instant, start that is missing, span that is open, slot
-/// that is busy, row, count; but want of memory may come at any time.
+/// first cause is answered in the order number, kind, instant, start that is missing, span that is open,
+/// slot that is busy, row, count; but want of memory may come at any time.
 #[derive(PartialEq, Debug, Drop, Error)]
 pub enum ChromeTraceError {
     /// The history could not be read.
     #[error("an event can't be read: {0}")]
     ReadError(LineError),
+    /// The event is of a kind that isn't drawn yet: any but the run's start, a test's start and its end.
+    /// No earlier event is refused, and of this one nothing is judged before its kind but that its number
+    /// is a u64.
+    #[error("the kind of event {event} isn't drawn yet")]
+    KindNotBuilt {
+        event: u64,
+    },
     /// The event ends an attempt of a test of which none is open.
     #[error("event {event} ends a test that isn't running")]
     MissingTestStart {

@@ -5,11 +5,11 @@ ghost use Rattle.rec_events.specs.Stats as stats;
 ghost use Rattle.rec_events.specs.Times.{micros};
 ghost use Rattle.rec_trace.specs.Drawing.{mark_value};
 ghost use Rattle.rec_trace.specs.History.{nothing_known};
-ghost use Rattle.rec_trace.specs.Kinds.{core_change, happening, output_change, output_failures, run_span, test_name, test_row, test_span};
+ghost use Rattle.rec_trace.specs.Kinds.{core_happening, happening, output_happening, run_span, test_name, test_row, test_span};
 ghost use Rattle.rec_trace.specs.Machine.{Takes};
 ghost use Rattle.rec_trace.specs.Past.{in_place, mark, marks, of_key};
 ghost use Rattle.rec_trace.specs.Past.Change.{Start, Stop};
-ghost use Rattle.rec_trace.specs.Refusals.{Judges, change_refusal, count_refusal, instant_refusal, number_refusal, refusal_of};
+ghost use Rattle.rec_trace.specs.Refusals.{Judges, change_refusal, count_refusal, event_refusal, instant_refusal, number_refusal, refusal_of};
 ghost use Rattle.rec_trace.specs.declared.spans.Phase.TheVariants as phases;
 ghost use Rattle.rec_trace.specs.declared.spans.Place.TheVariants as places;
 ghost use Rattle.rec_trace.specs.declared.spans.SpanKey.TheVariants as keys;
@@ -27,12 +27,12 @@ use serde_json::Value;
 use std::alloc::{AllocError, Global};
 use std::marker::Model;
 
-/// What is known of the events so far. No kind of event that is recorded yet pauses a run.
+/// What is known of the events so far. No kind of event that is drawn yet pauses a run.
 #[derive(Drop)]
 pub struct Machine {
     /// How many events there were.
     number: u64,
-    open: OpenSpans,
+    open_spans: OpenSpans,
 }
 
 impl Model for Machine {
@@ -41,7 +41,7 @@ impl Model for Machine {
 
     ghost Value = { Known };
 
-    ghost view = { λ m. record { number = m.number; in_pause = false; spans = m.open } };
+    ghost view = { λ m. record { number = m.number; in_pause = false; spans = m.open_spans } };
 }
 
 impl Machine {
@@ -51,7 +51,7 @@ impl Machine {
     {
         Machine {
             number: 0,
-            open: OpenSpans::new(alloc),
+            open_spans: OpenSpans::new(alloc),
         }
     }
 
@@ -66,10 +66,12 @@ impl Machine {
         ensures { Takes (refusal_of self.old (happening group_by event.now)) (happening group_by event.now) self.old self.new result }
     {
         let number = self.next_number()?;
-        let at = instant(number, &event.timestamp)?;
+        let timestamp = &event.timestamp;
         match &event.kind {
-            TestEventKindSummary::Core(kind) => self.take_core(alloc, group_by, number, at, kind),
-            TestEventKindSummary::Output(kind) => self.take_output(alloc, number, at, kind),
+            TestEventKindSummary::Core(kind) => {
+                self.take_core(alloc, group_by, number, timestamp, kind)
+            }
+            TestEventKindSummary::Output(kind) => self.take_output(alloc, number, timestamp, kind),
         }
     }
 
@@ -136,54 +138,59 @@ fn one_event(alloc: Global, phase: Phase, span: &Span, at: i64) -> Result<Vec<Va
 }
 
 impl Machine {
-    /// Takes an event without outputs.
+    /// Takes an event without outputs. Its kind is judged before its instant.
     fn take_core(
         &mut self,
         alloc: Global,
         group_by: ChromeTraceGroupBy,
         number: u64,
-        at: i64,
+        timestamp: &Stamp,
         kind: &CoreEventKind,
     ) -> Result<Vec<Value>, ChromeTraceError>
         requires { number ≡ suc self.old.number }
-        ensures { Takes (change_refusal number self.old.spans (core_change group_by kind.now) 0)
-            (record { at = at; change = core_change group_by kind.now; failures = 0 }) self.old self.new result }
+        ensures { Takes (event_refusal number self.old.spans (core_happening group_by (micros timestamp.now) kind.now))
+            (core_happening group_by (micros timestamp.now) kind.now) self.old self.new result }
     {
         match kind {
-            CoreEventKind::RunStarted { .. } => self.start_run(alloc, number, at),
+            CoreEventKind::RunStarted { .. } => {
+                let at = instant(number, timestamp)?;
+                self.start_run(alloc, number, at)
+            }
             CoreEventKind::TestStarted {
                 test_instance,
                 slot_assignment,
                 ..
-            } => self.start_test(
-                alloc,
-                group_by,
-                number,
-                at,
-                test_instance,
-                slot_assignment.global_slot,
-            ),
+            } => {
+                let at = instant(number, timestamp)?;
+                let slot = slot_assignment.global_slot;
+                self.start_test(alloc, group_by, number, at, test_instance, slot)
+            }
+            _ => Err(ChromeTraceError::KindNotBuilt { event: number }),
         }
     }
 
-    /// Takes an event with outputs.
+    /// Takes an event with outputs. Its kind is judged before its instant.
     fn take_output<S: OutputSpec>(
         &mut self,
         alloc: Global,
         number: u64,
-        at: i64,
+        timestamp: &Stamp,
         kind: &OutputEventKind<S>,
     ) -> Result<Vec<Value>, ChromeTraceError>
         requires { number ≡ suc self.old.number }
-        ensures { Takes (change_refusal number self.old.spans (output_change kind.now) (output_failures kind.now))
-            (record { at = at; change = output_change kind.now; failures = output_failures kind.now }) self.old self.new result }
+        ensures { Takes (event_refusal number self.old.spans (output_happening (micros timestamp.now) kind.now))
+            (output_happening (micros timestamp.now) kind.now) self.old self.new result }
     {
         match kind {
             OutputEventKind::TestFinished {
                 test_instance,
                 current_stats,
                 ..
-            } => self.finish_test(alloc, number, at, test_instance, current_stats),
+            } => {
+                let at = instant(number, timestamp)?;
+                self.finish_test(alloc, number, at, test_instance, current_stats)
+            }
+            _ => Err(ChromeTraceError::KindNotBuilt { event: number }),
         }
     }
 
@@ -196,9 +203,9 @@ impl Machine {
     ) -> Result<Vec<Value>, ChromeTraceError>
         requires { number ≡ suc self.old.number }
         ensures { Takes (change_refusal number self.old.spans (Start run_span) 0)
-            (record { at = at; change = Start run_span; failures = 0 }) self.old self.new result }
+            (record { at = at; drawn = true; change = Start run_span; failures = 0 }) self.old self.new result }
     {
-        if self.open.run().is_some() {
+        if self.open_spans.run().is_some() {
             return Err(ChromeTraceError::SpanAlreadyOpen {
                 event: number,
                 span: SpanKey::Run,
@@ -211,7 +218,7 @@ impl Machine {
             name: Text::from_str(alloc, "test run")?,
         };
         let events = one_event(alloc, Phase::Begin, &span, at)?;
-        self.open.open(span)?;
+        self.open_spans.open(span)?;
         self.number = number;
         Ok(events)
     }
@@ -228,7 +235,7 @@ impl Machine {
     ) -> Result<Vec<Value>, ChromeTraceError>
         requires { number ≡ suc self.old.number }
         ensures { Takes (change_refusal number self.old.spans (Start (test_span group_by test.now slot)) 0)
-            (record { at = at; change = Start (test_span group_by test.now slot); failures = 0 }) self.old self.new result }
+            (record { at = at; drawn = true; change = Start (test_span group_by test.now slot); failures = 0 }) self.old self.new result }
     {
         let row = self.row_of_start(alloc, group_by, number, test, slot)?;
         let span = Span {
@@ -238,7 +245,7 @@ impl Machine {
             name: test_name(alloc, group_by, test)?,
         };
         let events = one_event(alloc, Phase::Begin, &span, at)?;
-        self.open.open_test(alloc, test, slot, span)?;
+        self.open_spans.open_test(alloc, test, slot, span)?;
         self.number = number;
         Ok(events)
     }
@@ -257,13 +264,13 @@ impl Machine {
         ensures place_free { OnOk result (in_place (places.Slot slot) self.now.spans ≡ []) }
         ensures judged { Judges result (change_refusal number self.now.spans (Start (test_span group_by test.now slot)) 0) }
     {
-        if self.open.test(test).is_some() {
+        if self.open_spans.test(test).is_some() {
             return Err(ChromeTraceError::SpanAlreadyOpen {
                 event: number,
                 span: SpanKey::Test(test.try_clone(alloc)?),
             });
         }
-        if self.open.on_slot(slot).is_some() {
+        if self.open_spans.on_slot(slot).is_some() {
             return Err(ChromeTraceError::SlotBusy {
                 event: number,
                 slot,
@@ -289,10 +296,10 @@ impl Machine {
     ) -> Result<Vec<Value>, ChromeTraceError>
         requires { number ≡ suc self.old.number }
         ensures { Takes (change_refusal number self.old.spans (Stop (keys.Test test.now)) (stats.failures current_stats.now))
-            (record { at = at; change = Stop (keys.Test test.now); failures = stats.failures current_stats.now }) self.old self.new result }
+            (record { at = at; drawn = true; change = Stop (keys.Test test.now); failures = stats.failures current_stats.now }) self.old self.new result }
     {
         let events = self.end_of_test(alloc, number, at, test, current_stats)?;
-        let _closed = self.open.close_test(test);
+        let _closed = self.open_spans.close_test(test);
         self.number = number;
         Ok(events)
     }
@@ -310,7 +317,7 @@ impl Machine {
             ≡ map mark_value (marks phases.End at (of_key (keys.Test test.now) self.now.spans))) }
         ensures judged { Judges result (change_refusal number self.now.spans (Stop (keys.Test test.now)) (stats.failures current_stats.now)) }
     {
-        let Some(span) = self.open.test(test) else {
+        let Some(span) = self.open_spans.test(test) else {
             return Err(ChromeTraceError::MissingTestStart {
                 event: number,
                 binary_id: test.binary_id.try_clone(alloc)?,

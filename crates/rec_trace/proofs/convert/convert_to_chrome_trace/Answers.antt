@@ -9,19 +9,7 @@ loop-item-init g c = record { converted = ([], refl, c.new-builder.ensures) }
 pub loop-item-preserved : goal.loop-item-preserved
 loop-item-preserved g c = record {
   converted = converted-push c.args.group_by c.loop-item.builder c.loop-item.yielded c.loop-item.invariant.converted
-      c.process_event.new.self c.in-Some.item c.in_ok-event.event c.in_ok-event.was c.in_ok-process_event.ensures;
-}
-
-pub loop-item-preserved-in_ok-process_event : goal.loop-item-preserved-in_ok-process_event
-loop-item-preserved-in_ok-process_event g c = record {
-  converted = converted-push c.args.group_by c.loop-item.builder c.loop-item.yielded c.loop-item.invariant.converted
-      c.process_event.new.self c.in-Some.item c.in_ok-event.event c.in_ok-event.was c.in_ok-process_event.ensures;
-}
-
-pub loop-item-preserved-in_ok-process_event-2 : goal.loop-item-preserved-in_ok-process_event-2
-loop-item-preserved-in_ok-process_event-2 g c = record {
-  converted = converted-push c.args.group_by c.loop-item.builder c.loop-item.yielded c.loop-item.invariant.converted
-      c.process_event.new.self c.in-Some.item c.in_ok-event.event c.in_ok-event.was c.in_ok-process_event.ensures;
+      c.add_event.new.builder c.in-Some.item c.in_ok-event.event c.in_ok-event.was c.in_ok-add_event.ensures;
 }
 
 pub returns-in_err-event-clause-no_trace : goal.returns-in_err-event-clause-no_trace
@@ -32,13 +20,13 @@ returns-in_err-event-clause-no_trace g c =
     g.I.Iterator.next_gives c.args.events c.into_iter-item-iterator.result c.loop-item.item-iterator c.next.new.self c.into_iter-item-iterator.ensures.into_iter_gives c.loop-item.yielded_by
     c.in-Some.item c.in_err-event.field-0.0 p.0 c.in_err-event.was c.in-Some.ensures.steps p.2)
 
-pub returns-in_err-process_event-clause-no_trace : goal.returns-in_err-process_event-clause-no_trace
-returns-in_err-process_event-clause-no_trace g c =
-    let p = err_from_is_err_and c.from_residual-in_err-process_event.result c.from_residual-in_err-process_event.ensures.1 in
+pub returns-in_err-add_event-clause-no_trace : goal.returns-in_err-add_event-clause-no_trace
+returns-in_err-add_event-clause-no_trace g c =
+    let p = err_from_is_err_and c.from_residual-in_err-add_event.result c.from_residual-in_err-add_event.ensures.1 in
     rw (p.1, p.2)
     (refused-event c.args.group_by c.loop-item.builder c.loop-item.yielded c.loop-item.invariant.converted
     g.I.Iterator.next_gives c.args.events c.into_iter-item-iterator.result c.loop-item.item-iterator c.next.new.self c.into_iter-item-iterator.ensures.into_iter_gives c.loop-item.yielded_by
-    c.process_event.new.self c.in-Some.item c.in_ok-event.event c.in_err-process_event.field-0.0 c.in_ok-event.was c.in-Some.ensures.steps c.in_err-process_event.ensures)
+    c.add_event.new.builder c.in-Some.item c.in_ok-event.event c.in_err-add_event.field-0.0 c.in_ok-event.was c.in-Some.ensures.steps c.in_err-add_event.ensures)
 
 pub returns-clause-trace : goal.returns-clause-trace
 returns-clause-trace g c =
