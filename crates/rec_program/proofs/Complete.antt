@@ -7,7 +7,7 @@ use Rattle.rec_program.specs.Reading.{Unread}
 use Rattle.rec_program.specs.Export.{Undelivered, Fails}
 use Rattle.rec_program.specs.declared.settings.Settings.{Settings}
 use Rattle.rec_program.specs.declared.refusal.RecordExportError.{RecordExportError}
-use Rattle.rec_program.specs.declared.refusal.RecordExportError.TheVariants.{SourceFault, SessionTooLarge, ParseHead, ReadRunLog, ParseEvent, NameCollision, CountOutOfRange, FileTooLarge, MissingTestStart, SpanAlreadyOpen, SlotBusy, TimestampOutOfRange, RowOutOfRange, BundleFault, TraceFault, OutOfMemory}
+use Rattle.rec_program.specs.declared.refusal.RecordExportError.TheVariants.{SourceFault, SessionTooLarge, ParseHead, ReadRunLog, ParseEvent, NameCollision, CountOutOfRange, FileTooLarge, KindNotBuilt, MissingTestStart, SpanAlreadyOpen, SlotBusy, TimestampOutOfRange, RowOutOfRange, BundleFault, TraceFault, OutOfMemory}
 
 -- what a source gave to its end is what it had
 same_session : (a b : Option (List ℕ)) (session given : List ℕ) → a ≡ Some session → Consumes a b given → IsAtEnd b → given ≡ session
@@ -36,6 +36,7 @@ module _ {S B T : Type 0} (left : S → Option (List ℕ)) (source_faults : S �
   unread (NameCollision file_name) u = absurd u
   unread (CountOutOfRange event) u = absurd u
   unread (FileTooLarge file_name size most) u = absurd u
+  unread (KindNotBuilt event) u = absurd u
   unread (MissingTestStart event binary_id test_name) u = absurd u
   unread (SpanAlreadyOpen event span) u = absurd u
   unread (SlotBusy event slot) u = absurd u
@@ -54,6 +55,7 @@ module _ {S B T : Type 0} (left : S → Option (List ℕ)) (source_faults : S �
   undelivered bytes text (NameCollision file_name) u = absurd u
   undelivered bytes text (CountOutOfRange event) u = absurd u
   undelivered bytes text (FileTooLarge file_name size most) u = absurd u
+  undelivered bytes text (KindNotBuilt event) u = absurd u
   undelivered bytes text (MissingTestStart event binary_id test_name) u = absurd u
   undelivered bytes text (SpanAlreadyOpen event span) u = absurd u
   undelivered bytes text (SlotBusy event slot) u = absurd u

@@ -2,7 +2,7 @@
 use Rattle.std.specs.Prelude.{ℕ, List, [], ◌∷◌, ◌++◌, Option, Some, None, codes}
 use Rattle.std.specs.Fmt.{decimal}
 use Rattle.rec_program.specs.declared.refusal.RecordExportError.{RecordExportError}
-use Rattle.rec_program.specs.declared.refusal.RecordExportError.TheVariants.{SourceFault, SessionTooLarge, ParseHead, ReadRunLog, ParseEvent, NameCollision, CountOutOfRange, FileTooLarge, MissingTestStart, SpanAlreadyOpen, SlotBusy, TimestampOutOfRange, RowOutOfRange, BundleFault, TraceFault, OutOfMemory}
+use Rattle.rec_program.specs.declared.refusal.RecordExportError.TheVariants.{SourceFault, SessionTooLarge, ParseHead, ReadRunLog, ParseEvent, NameCollision, CountOutOfRange, FileTooLarge, KindNotBuilt, MissingTestStart, SpanAlreadyOpen, SlotBusy, TimestampOutOfRange, RowOutOfRange, BundleFault, TraceFault, OutOfMemory}
 use Rattle.rec_trace.specs.declared.spans.SpanKey.{SpanKey}
 use Rattle.rec_trace.specs.declared.spans.SpanKey.TheVariants as spans
 use Rattle.rec_program.specs.declared.words.WordsError.{WordsError}
@@ -48,6 +48,7 @@ export_line (NameCollision file_name) = fault_line (codes "NameCollision") ((cod
 export_line (CountOutOfRange event) = fault_line (codes "CountOutOfRange") ((codes "event", optional_number event) ∷ [])
 export_line (FileTooLarge file_name size limit) =
     fault_line (codes "FileTooLarge") ((codes "file_name", file_name) ∷ (codes "size", decimal size) ∷ (codes "limit", decimal limit) ∷ [])
+export_line (KindNotBuilt event) = fault_line (codes "KindNotBuilt") ((codes "event", decimal event) ∷ [])
 export_line (MissingTestStart event binary_id test_name) =
     fault_line (codes "MissingTestStart") ((codes "event", decimal event) ∷ (codes "binary_id", binary_id) ∷ (codes "test_name", test_name) ∷ [])
 export_line (SpanAlreadyOpen event span) = fault_line (codes "SpanAlreadyOpen") ((codes "event", decimal event) ∷ (codes "span", span_text span) ∷ [])

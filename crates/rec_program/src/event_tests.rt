@@ -20,6 +20,10 @@ pub(crate) fn test_started() -> &'static str {
     r#"{"timestamp":{"secs":1001,"nanos":0,"offset":0},"elapsed":{"secs":1,"nanos":0},"kind":"test-started","test-instance":{"binary-id":"alpha::a","test-name":"t1"},"slot-assignment":{"global-slot":0,"test-group":"@global"},"current-stats":{"initial-run-count":1,"finished-count":0,"setup-scripts-initial-count":0,"setup-scripts-finished-count":0,"setup-scripts-passed":0,"setup-scripts-failed":0,"setup-scripts-exec-failed":0,"setup-scripts-timed-out":0,"passed":0,"passed-slow":0,"passed-timed-out":0,"flaky":0,"failed":0,"failed-slow":0,"failed-timed-out":0,"leaky":0,"leaky-failed":0,"exec-failed":0,"skipped":0},"running":1,"command-line":[]}"#
 }
 
+pub(crate) fn run_paused() -> &'static str {
+    r#"{"timestamp":{"secs":1002,"nanos":0,"offset":0},"elapsed":{"secs":2,"nanos":0},"kind":"run-paused","setup-scripts-running":0,"running":1}"#
+}
+
 /// A finished test, up to its outputs.
 fn before_outputs() -> &'static str {
     r#"{"timestamp":{"secs":1002,"nanos":0,"offset":0},"elapsed":{"secs":2,"nanos":0},"kind":"test-finished","test-instance":{"binary-id":"alpha::a","test-name":"t1"},"success-output":"never","failure-output":"immediate","junit-store-success-output":false,"junit-store-failure-output":true,"junit-flaky-fail-status":"failure","run-statuses":{"statuses":[{"retry-data":{"attempt":1,"total-attempts":1},"output":{"output":{"output":"#
@@ -140,11 +144,24 @@ fn exported<N: OutputNamer>(
     first: &str,
     second: &str,
 ) -> Result<String, Fail> {
-    let settings = Settings::default();
     let first = finished(alloc, first)?;
     let second = finished(alloc, second)?;
     let start = test_started();
-    let session = session_of(alloc, &[start, first.as_str(), start, second.as_str()])?;
+    exported_lines(
+        alloc,
+        namer,
+        &[start, first.as_str(), start, second.as_str()],
+    )
+}
+
+/// What comes of these lines behind a head, and whether both sinks took nothing.
+fn exported_lines<N: OutputNamer>(
+    alloc: Global,
+    namer: &N,
+    lines: &[&str],
+) -> Result<String, Fail> {
+    let settings = Settings::default();
+    let session = session_of(alloc, lines)?;
     let mut source = SliceSource::new(session.as_bytes());
     let mut bundle = MemorySink::new(alloc);
     bundle.reserve(16384)?;
@@ -191,5 +208,15 @@ fn outputs_clash(rt: HostRuntime) -> Result<(), Fail> {
         file_name: Text::from_str(alloc, "out/0000000000000000-stdout")?,
     };
     assert_eq!(rt; export_status(&clash), 6);
+    Ok(())
+}
+
+#[test]
+fn a_kind_that_is_not_drawn_is_refused(rt: HostRuntime) -> Result<(), Fail> {
+    let alloc = rt.alloc();
+    assert_eq!(rt;
+        exported_lines(alloc, &Sha256Namer, &[run_started(), run_paused()])?.as_str(),
+        "KindNotBuilt event=2\n true true"
+    );
     Ok(())
 }

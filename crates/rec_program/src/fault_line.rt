@@ -73,6 +73,9 @@ impl FaultLine for RecordExportError {
                 let file_name = file_name.as_str();
                 format!(in alloc; "FileTooLarge file_name={file_name} size={size} limit={limit}\n")
             }
+            RecordExportError::KindNotBuilt { event } => {
+                format!(in alloc; "KindNotBuilt event={event}\n")
+            }
             RecordExportError::MissingTestStart {
                 event,
                 binary_id,

@@ -55,7 +55,12 @@ pub enum RecordExportError {
         size: u64,
         limit: u64,
     },
-    /// The event ends an attempt of a test of which none is open. Events are numbered from 1.
+    /// The event is of a kind that the trace doesn't draw yet. Events are numbered from 1.
+    #[error("the kind of event {event} isn't drawn yet")]
+    KindNotBuilt {
+        event: u64,
+    },
+    /// The event ends an attempt of a test of which none is open.
     #[error("event {event} ends a test that isn't running")]
     MissingTestStart {
         event: u64,
@@ -126,6 +131,7 @@ impl From<ChromeTraceError> for RecordExportError {
     fn from(error: ChromeTraceError) -> Self {
         match error {
             ChromeTraceError::ReadError(fault) => RecordExportError::from(fault),
+            ChromeTraceError::KindNotBuilt { event } => RecordExportError::KindNotBuilt { event },
             ChromeTraceError::MissingTestStart {
                 event,
                 binary_id,

@@ -9,6 +9,8 @@ pub const SUCCESS: u8 = 0;
 pub const FAULTY_WORDS: u8 = 2;
 /// Standard output failed.
 pub const OUTPUT_FAILED: u8 = 11;
+/// An event is of a kind that the trace doesn't draw yet.
+pub const KIND_NOT_BUILT: u8 = 20;
 
 pub const OUT_OF_MEMORY: u8 = 70;
 
@@ -32,6 +34,7 @@ pub fn export_status(error: &RecordExportError) -> u8
         | RecordExportError::CountOutOfRange { .. } => 9,
         RecordExportError::BundleFault => 10,
         RecordExportError::TraceFault => OUTPUT_FAILED,
+        RecordExportError::KindNotBuilt { .. } => KIND_NOT_BUILT,
         RecordExportError::OutOfMemory => OUT_OF_MEMORY,
     }
 }

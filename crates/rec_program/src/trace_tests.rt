@@ -1,5 +1,5 @@
 use crate::built::BuiltText;
-use crate::event_tests::{abc, finished, run_started, session_of, test_started};
+use crate::event_tests::{abc, finished, run_paused, run_started, session_of, test_started};
 use crate::program::run_program;
 use crate::tests::{told, words_of};
 use rec_container::{FailingSink, SliceSource};
@@ -156,6 +156,20 @@ fn numbers_out_of_range_are_told(rt: HostRuntime) -> Result<(), Fail> {
     assert_eq!(rt;
         told_two(alloc, test_started(), more.as_str(), "65536")?.as_str(),
         "9 CountOutOfRange event=2\n"
+    );
+    Ok(())
+}
+
+#[test]
+fn kinds_that_are_not_drawn_are_told(rt: HostRuntime) -> Result<(), Fail> {
+    let alloc = rt.alloc();
+    assert_eq!(rt;
+        told_two(alloc, run_started(), run_paused(), "65536")?.as_str(),
+        "20 KindNotBuilt event=2\n"
+    );
+    assert_eq!(rt;
+        told_two(alloc, run_paused(), "{}", "65536")?.as_str(),
+        "5 ParseEvent line_number=3\n"
     );
     Ok(())
 }
