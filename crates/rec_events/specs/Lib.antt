@@ -10,5 +10,7 @@ pub mod Groups
 pub mod OutputNames
 pub mod OutputNameLaws
 pub mod Results
+pub mod Skipping
 pub mod Stats
+pub mod Summaries
 pub mod EventMaps

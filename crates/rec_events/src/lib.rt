@@ -23,6 +23,8 @@ mod skipping;
 mod stats;
 mod statuses;
 mod stress;
+#[cfg(test)]
+mod summary_tests;
 mod test_names;
 #[cfg(test)]
 mod tests;
@@ -51,7 +53,9 @@ pub use results::{
     ErrorSummary, ExecutionResultDescription, FailureDescription, FlakyResult, LeakTimeoutResult,
     OutputErrorSlice, SlowTimeoutResult,
 };
-pub use run_ends::{FinalRunStats, RunFinishedStats, StressRunStats, TestsNotSeenSummary};
+pub use run_ends::{
+    FinalRunStats, RunFinishedStats, StressFinalRunStats, StressRunStats, TestsNotSeenSummary,
+};
 pub use script_statuses::SetupScriptExecuteStatus;
 pub use selections::{
     BuildScope, FeatureSelection, NamedTargets, PackageSelection, TargetSelection,

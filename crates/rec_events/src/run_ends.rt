@@ -1,9 +1,21 @@
 // How a run ended.
+ghost use Rattle.std.specs.Prelude.{◌≡◌};
+ghost use Rattle.rec_events.specs.Summaries.{stress_summary};
+
 use crate::{Items, OwnedTestInstanceId, RunStats, StressIndexSummary};
 
 /// How a run ended, over all its tests.
 #[derive(Clone, Copy, PartialEq, Eq, Debug, Drop)]
 pub enum FinalRunStats {
+    Success,
+    NoTestsRun,
+    Failed,
+    Cancelled,
+}
+
+/// How a stress run ended, over all its runs.
+#[derive(Clone, Copy, PartialEq, Eq, Debug, Drop)]
+pub enum StressFinalRunStats {
     Success,
     NoTestsRun,
     Failed,
@@ -19,6 +31,23 @@ pub struct StressRunStats {
     pub failed_count: u32,
     /// How the last of its runs ended.
     pub last_final_stats: FinalRunStats,
+}
+
+impl StressRunStats {
+    /// How the stress run ended: it failed where one of its runs did, and else ended as the last of
+    /// them.
+    pub fn summarize_final(&self) -> StressFinalRunStats
+        ensures { result ≡ stress_summary self.now }
+    {
+        if self.failed_count > 0 {
+            return StressFinalRunStats::Failed;
+        }
+        match self.last_final_stats {
+            FinalRunStats::Cancelled => StressFinalRunStats::Cancelled,
+            FinalRunStats::NoTestsRun => StressFinalRunStats::NoTestsRun,
+            FinalRunStats::Success | FinalRunStats::Failed => StressFinalRunStats::Success,
+        }
+    }
 }
 
 /// The counts of a run that ended.

@@ -1,4 +1,6 @@
 // Why tests are skipped, and which of these a report names.
+ghost use Rattle.std.specs.Prelude.{◌≡◌};
+ghost use Rattle.rec_events.specs.Skipping.{reports};
 
 /// Why a test doesn't run.
 #[derive(Clone, Copy, PartialEq, Eq, Debug, Drop)]
@@ -26,4 +28,17 @@ pub enum ReportSkipPolicy {
     /// Only those that are ignored.
     Ignored,
     All,
+}
+
+impl ReportSkipPolicy {
+    /// Whether a report names a test that is skipped for this reason.
+    pub fn should_report(&self, reason: MismatchReason) -> bool
+        ensures { result ≡ reports self.now reason }
+    {
+        match self {
+            ReportSkipPolicy::None => false,
+            ReportSkipPolicy::Ignored => reason == MismatchReason::Ignored,
+            ReportSkipPolicy::All => true,
+        }
+    }
 }

@@ -1,8 +1,9 @@
 // The counts of a run.
 ghost use Rattle.std.specs.Prelude.{◌≡◌, ◌↔◌, ◌<◌, ◌^◌, IsSome, IfSome};
 ghost use Rattle.rec_events.specs.Stats.{no_stats, failures};
+ghost use Rattle.rec_events.specs.Summaries.{failed_or_cancelled, has_failed_script, has_failed_test, summary};
 
-use crate::CancelReason;
+use crate::{CancelReason, FinalRunStats};
 
 /// How many tests and setup scripts ran, and how they ended.
 #[derive(Clone, Copy, PartialEq, Eq, Debug, Drop)]
@@ -67,5 +68,54 @@ impl RunStats {
         self.failed
             .checked_add(self.exec_failed)?
             .checked_add(self.failed_timed_out)
+    }
+
+    /// How the run ended. A setup script decides before the tests do, and what failed before what is
+    /// missing. A failure counts as cancelled where it ended the run for a graver reason than a
+    /// failed test.
+    pub fn summarize_final(&self) -> FinalRunStats
+        ensures { result ≡ summary self.now }
+    {
+        if self.has_failed_script() {
+            self.failed_or_cancelled()
+        } else if self.setup_scripts_initial_count > self.setup_scripts_finished_count {
+            FinalRunStats::Cancelled
+        } else if self.has_failed_test() {
+            self.failed_or_cancelled()
+        } else if self.initial_run_count > self.finished_count {
+            FinalRunStats::Cancelled
+        } else if self.finished_count == 0 {
+            FinalRunStats::NoTestsRun
+        } else {
+            FinalRunStats::Success
+        }
+    }
+
+    // Whether a setup script failed, could not be started, or was stopped for its time.
+    fn has_failed_script(&self) -> bool
+        ensures { result ≡ has_failed_script self.now }
+    {
+        self.setup_scripts_failed > 0
+            || self.setup_scripts_exec_failed > 0
+            || self.setup_scripts_timed_out > 0
+    }
+
+    // Whether a test failed, could not be started, or failed for its time.
+    fn has_failed_test(&self) -> bool
+        ensures { result ≡ has_failed_test self.now }
+    {
+        self.failed > 0 || self.exec_failed > 0 || self.failed_timed_out > 0
+    }
+
+    // How a run ended in which something failed.
+    fn failed_or_cancelled(&self) -> FinalRunStats
+        ensures { result ≡ failed_or_cancelled self.now.cancel_reason }
+    {
+        match self.cancel_reason {
+            None | Some(CancelReason::SetupScriptFailure | CancelReason::TestFailure) => {
+                FinalRunStats::Failed
+            }
+            Some(_) => FinalRunStats::Cancelled,
+        }
     }
 }

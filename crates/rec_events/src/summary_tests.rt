@@ -1,0 +1,202 @@
+// How runs are summed up, and which skipped tests are reported.
+use crate::{
+    CancelReason, FinalRunStats, MismatchReason, ReportSkipPolicy, RunStats, StressFinalRunStats,
+    StressIndexSummary, StressRunStats,
+};
+
+// A run of ten tests and two scripts, all of which finished and passed.
+fn passed() -> RunStats {
+    RunStats {
+        initial_run_count: 10,
+        finished_count: 10,
+        setup_scripts_initial_count: 2,
+        setup_scripts_finished_count: 2,
+        setup_scripts_passed: 2,
+        passed: 10,
+        ..RunStats::zero()
+    }
+}
+
+#[test]
+fn runs_by_what_failed(rt: HostRuntime) {
+    let stats = passed();
+    for (stats, want) in [
+        (stats, FinalRunStats::Success),
+        (RunStats::zero(), FinalRunStats::NoTestsRun),
+        (RunStats { failed: 1, ..stats }, FinalRunStats::Failed),
+        (
+            RunStats {
+                exec_failed: 1,
+                ..stats
+            },
+            FinalRunStats::Failed,
+        ),
+        (
+            RunStats {
+                failed_timed_out: 1,
+                ..stats
+            },
+            FinalRunStats::Failed,
+        ),
+        (
+            RunStats {
+                setup_scripts_failed: 1,
+                ..stats
+            },
+            FinalRunStats::Failed,
+        ),
+        (
+            RunStats {
+                setup_scripts_exec_failed: 1,
+                ..stats
+            },
+            FinalRunStats::Failed,
+        ),
+        (
+            RunStats {
+                setup_scripts_timed_out: 1,
+                ..stats
+            },
+            FinalRunStats::Failed,
+        ),
+        // What is slow, leaked or was skipped failed nothing.
+        (
+            RunStats {
+                failed_slow: 1,
+                leaky: 1,
+                skipped: 1,
+                ..stats
+            },
+            FinalRunStats::Success,
+        ),
+    ] {
+        assert_eq!(rt; stats.summarize_final(), want);
+    }
+}
+
+#[test]
+fn runs_by_what_is_missing(rt: HostRuntime) {
+    let stats = passed();
+    for (stats, want) in [
+        (
+            RunStats {
+                finished_count: 9,
+                ..stats
+            },
+            FinalRunStats::Cancelled,
+        ),
+        (
+            RunStats {
+                setup_scripts_finished_count: 1,
+                ..stats
+            },
+            FinalRunStats::Cancelled,
+        ),
+        // A failed test counts before a missing one, and a missing script before a failed test.
+        (
+            RunStats {
+                finished_count: 9,
+                failed: 1,
+                ..stats
+            },
+            FinalRunStats::Failed,
+        ),
+        (
+            RunStats {
+                setup_scripts_finished_count: 1,
+                failed: 1,
+                ..stats
+            },
+            FinalRunStats::Cancelled,
+        ),
+        (
+            RunStats {
+                setup_scripts_finished_count: 1,
+                setup_scripts_failed: 1,
+                ..stats
+            },
+            FinalRunStats::Failed,
+        ),
+    ] {
+        assert_eq!(rt; stats.summarize_final(), want);
+    }
+}
+
+#[test]
+fn failed_runs_by_what_cancelled_them(rt: HostRuntime) {
+    for (reason, want) in [
+        (CancelReason::SetupScriptFailure, FinalRunStats::Failed),
+        (CancelReason::TestFailure, FinalRunStats::Failed),
+        (CancelReason::ReportError, FinalRunStats::Cancelled),
+        (CancelReason::GlobalTimeout, FinalRunStats::Cancelled),
+        (CancelReason::TestFailureImmediate, FinalRunStats::Cancelled),
+        (CancelReason::Signal, FinalRunStats::Cancelled),
+        (CancelReason::Interrupt, FinalRunStats::Cancelled),
+        (CancelReason::SecondSignal, FinalRunStats::Cancelled),
+    ] {
+        let cancelled = RunStats {
+            cancel_reason: Some(reason),
+            ..passed()
+        };
+        assert_eq!(rt; cancelled.summarize_final(), FinalRunStats::Success);
+        let test = RunStats {
+            failed: 1,
+            ..cancelled
+        };
+        assert_eq!(rt; test.summarize_final(), want);
+        let script = RunStats {
+            setup_scripts_failed: 1,
+            ..cancelled
+        };
+        assert_eq!(rt; script.summarize_final(), want);
+    }
+}
+
+#[test]
+fn stress_runs(rt: HostRuntime) {
+    for (failed_count, last_final_stats, want) in [
+        (0, FinalRunStats::Success, StressFinalRunStats::Success),
+        (0, FinalRunStats::Failed, StressFinalRunStats::Success),
+        (0, FinalRunStats::Cancelled, StressFinalRunStats::Cancelled),
+        (
+            0,
+            FinalRunStats::NoTestsRun,
+            StressFinalRunStats::NoTestsRun,
+        ),
+        (1, FinalRunStats::Cancelled, StressFinalRunStats::Failed),
+        (
+            u32::MAX,
+            FinalRunStats::Success,
+            StressFinalRunStats::Failed,
+        ),
+    ] {
+        let stats = StressRunStats {
+            completed: StressIndexSummary {
+                current: 2,
+                total: None,
+            },
+            success_count: 1,
+            failed_count,
+            last_final_stats,
+        };
+        assert_eq!(rt; stats.summarize_final(), want);
+    }
+}
+
+#[test]
+fn reported_skips(rt: HostRuntime) {
+    for reason in [
+        MismatchReason::NotBenchmark,
+        MismatchReason::Ignored,
+        MismatchReason::String,
+        MismatchReason::Expression,
+        MismatchReason::Partition,
+        MismatchReason::RerunAlreadyPassed,
+        MismatchReason::DefaultFilter,
+    ] {
+        let ignored = matches!(reason, MismatchReason::Ignored);
+        assert!(rt; !ReportSkipPolicy::None.should_report(reason));
+        assert_eq!(rt; ReportSkipPolicy::Ignored.should_report(reason), ignored);
+        assert!(rt; ReportSkipPolicy::All.should_report(reason));
+    }
+}
