@@ -1,11 +1,15 @@
 -- What is said of errors reads back, and is writable.
-use Rattle.std.specs.Prelude.{◌≡◌, Some}
+use Rattle.std.specs.Prelude.{◌≡◌, Some, codes}
 use Rattle.rec_events.specs.declared.results.ErrorSummary.{ErrorSummary}
 use Rattle.rec_events.specs.declared.results.OutputErrorSlice.{OutputErrorSlice}
 use Rattle.rec_forms.specs.ErrorTexts.{error_summary_value, error_summary_form, IsErrorSummary, error_slice_value, error_slice_form, IsErrorSlice}
 use Rattle.rec_forms.specs.Members.{get_member-members_of}
-use Rattle.rec_forms.specs.NumberLaws.{u64_back, text_back}
+use Rattle.rec_forms.specs.NumberLaws.{u64_back, text_back, text_known, u64_known}
 use Rattle.rec_forms.specs.Writable.{IsWritable, struct_writable, string_writable, natural_writable}
+use Rattle.rec_forms.specs.Known.{Known}
+use Rattle.rec_forms.specs.KnownLaws.{object_then, required_then}
+use Rattle.rec_forms.specs.Numbers.{u64_form}
+use Rattle.rec_forms.specs.Shape.{text_of}
 
 pub error_summary_back : (s : ErrorSummary) → IsErrorSummary s → error_summary_form (error_summary_value s) ≡ Some s
 unfolding error_summary_form
@@ -20,3 +24,25 @@ error_slice_back s h = simp (get_member-members_of, text_back _ h.slice, u64_bac
 
 pub error_slice_writable : (s : OutputErrorSlice) → IsWritable 1 (error_slice_value s)
 error_slice_writable s = struct_writable _ (string_writable s.slice, (natural_writable s.start, tt))
+
+-- ---- what is read is well-formed
+
+pub error_summary_known : Known IsErrorSummary error_summary_form
+unfolding error_summary_form
+error_summary_known = record {
+  each = λ d.
+      object_then d _ (λ ms.
+      required_then text_of (codes "short-message") ms _ text_known (λ short_message short_message_is.
+      required_then text_of (codes "description") ms _ text_known (λ description description_is.
+      record { is = record { short_message = short_message_is; description = description_is } })));
+}
+
+pub error_slice_known : Known IsErrorSlice error_slice_form
+unfolding error_slice_form
+error_slice_known = record {
+  each = λ d.
+      object_then d _ (λ ms.
+      required_then text_of (codes "slice") ms _ text_known (λ slice slice_is.
+      required_then u64_form (codes "start") ms _ u64_known (λ start start_is.
+      record { is = record { slice = slice_is; start = start_is } })));
+}

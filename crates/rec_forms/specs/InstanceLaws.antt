@@ -1,17 +1,20 @@
 -- Which test ran, where, and which time, reads back and is writable.
-use Rattle.std.specs.Prelude.{◌≡◌, ◌<◌, ◌^◌, Some}
+use Rattle.std.specs.Prelude.{◌≡◌, ◌<◌, ◌^◌, Some, codes}
 use Rattle.rec_events.specs.declared.instances.OwnedTestInstanceId.{OwnedTestInstanceId}
 use Rattle.rec_events.specs.declared.instances.TestSlotAssignment.{TestSlotAssignment}
 use Rattle.rec_events.specs.declared.instances.RetryData.{RetryData}
 use Rattle.rec_events.specs.declared.instances.StressIndexSummary.{StressIndexSummary}
-use Rattle.rec_forms.specs.GroupLaws.{test_group_back, test_group_writable}
+use Rattle.rec_forms.specs.GroupLaws.{test_group_back, test_group_writable, test_group_known}
 use Rattle.rec_forms.specs.Instances.{test_instance_value, test_instance_form, IsTestInstance, slot_assignment_value, slot_assignment_form, IsSlotAssignment, retry_data_value, retry_data_form, IsRetryData, stress_index_value, stress_index_form, IsStressIndex}
 use Rattle.rec_forms.specs.Members.{get_member-members_of}
-use Rattle.rec_forms.specs.NumberLaws.{u32_back, u64_back, count_back, text_back}
-use Rattle.rec_forms.specs.Numbers.{u64_form, count_form, IsCount}
+use Rattle.rec_forms.specs.NumberLaws.{u32_back, u64_back, count_back, text_back, count_known, text_known, u32_known, u64_known}
+use Rattle.rec_forms.specs.Numbers.{u64_form, count_form, IsCount, u32_form}
 use Rattle.rec_forms.specs.ListLaws.{maybe_back}
-use Rattle.rec_forms.specs.Shape.{natural}
+use Rattle.rec_forms.specs.Shape.{natural, text_of}
 use Rattle.rec_forms.specs.Writable.{IsWritable, struct_writable, natural_writable, string_writable, optional_writable}
+use Rattle.rec_forms.specs.Known.{Known}
+use Rattle.rec_forms.specs.KnownLaws.{object_then, required_then, maybe_then}
+use Rattle.rec_forms.specs.Groups.{test_group_form}
 
 pub test_instance_back : (t : OwnedTestInstanceId) → IsTestInstance t → test_instance_form (test_instance_value t) ≡ Some t
 unfolding test_instance_form
@@ -48,3 +51,46 @@ stress_index_back s h =
 
 pub stress_index_writable : (s : StressIndexSummary) → IsWritable 1 (stress_index_value s)
 stress_index_writable s = struct_writable _ (natural_writable s.current, (optional_writable natural natural_writable s.total, tt))
+
+-- ---- what is read is well-formed
+
+pub test_instance_known : Known IsTestInstance test_instance_form
+unfolding test_instance_form
+test_instance_known = record {
+  each = λ d.
+      object_then d _ (λ ms.
+      required_then text_of (codes "binary-id") ms _ text_known (λ binary_id binary_id_is.
+      required_then text_of (codes "test-name") ms _ text_known (λ test_name test_name_is.
+      record { is = record { binary_id = binary_id_is; test_name = test_name_is } })));
+}
+
+pub slot_assignment_known : Known IsSlotAssignment slot_assignment_form
+unfolding slot_assignment_form
+slot_assignment_known = record {
+  each = λ d.
+      object_then d _ (λ ms.
+      required_then u64_form (codes "global-slot") ms _ u64_known (λ global_slot global_slot_is.
+      maybe_then u64_form (codes "group-slot") ms _ u64_known (λ group_slot group_slot_is.
+      required_then test_group_form (codes "test-group") ms _ test_group_known (λ test_group test_group_is.
+      record { is = record { global_slot = global_slot_is; group_slot = group_slot_is; test_group = test_group_is } }))));
+}
+
+pub retry_data_known : Known IsRetryData retry_data_form
+unfolding retry_data_form
+retry_data_known = record {
+  each = λ d.
+      object_then d _ (λ ms.
+      required_then u32_form (codes "attempt") ms _ u32_known (λ attempt attempt_is.
+      required_then u32_form (codes "total-attempts") ms _ u32_known (λ total_attempts total_attempts_is.
+      record { is = record { attempt = attempt_is; total_attempts = total_attempts_is } })));
+}
+
+pub stress_index_known : Known IsStressIndex stress_index_form
+unfolding stress_index_form
+stress_index_known = record {
+  each = λ d.
+      object_then d _ (λ ms.
+      required_then u32_form (codes "current") ms _ u32_known (λ current current_is.
+      maybe_then count_form (codes "total") ms _ count_known (λ total total_is.
+      record { is = record { current = current_is; total = total_is } })));
+}

@@ -7,6 +7,8 @@ pub mod IdLaws
 pub mod Ids
 pub mod InstanceLaws
 pub mod Instances
+pub mod Known
+pub mod KnownLaws
 pub mod ListLaws
 pub mod Lists
 pub mod MapLaws

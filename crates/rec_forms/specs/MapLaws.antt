@@ -1,14 +1,23 @@
 -- A map reads back, and is writable.
-use Rattle.std.specs.Prelude.{◌≡◌, ℕ, suc, List, [], ◌∷◌, ◌++◌, Option, Some, refl}
+use Rattle.std.specs.Prelude.{◌≡◌, ℕ, suc, List, [], ◌∷◌, ◌++◌, Option, Some, refl, None, option_and_then}
 use Rattle.std.proofs.Common.{append_assoc, ap, ◌∙◌}
 use Rattle.std.specs.List.{AllByRecursion}
 use Rattle.serde_json.specs.Data.{Data, Members, no_members, member, put}
-use Rattle.rec_events.specs.Names.{AreTexts}
-use Rattle.rec_events.specs.Pairs.{keys, KeysRise}
+use Rattle.rec_events.specs.Names.{AreTexts, IsText, with_name}
+use Rattle.rec_events.specs.Pairs.{keys, KeysRise, put_pair}
 use Rattle.rec_events.specs.PairLaws.{above_before, KeysRise-tail, put_pair-last}
 use Rattle.rec_forms.specs.Shape.{with_members, members_of}
 use Rattle.rec_forms.specs.Maps.{map_fields, map_value, pairs_form, map_form, each_value, IsMap}
 use Rattle.rec_forms.specs.Writable.{IsWritable, EachWritten, struct_writable}
+use Rattle.rec_forms.specs.Known.{Holds, Known}
+use Rattle.rec_forms.specs.KnownLaws.{anything, and_then_holds, choice_holds}
+use Rattle.std.proofs.Common.{Ordering, Less, Equal, Greater}
+use Rattle.std.specs.Ordering.{nat_cmp, match_ordering}
+use Rattle.std.specs.Cmp.Lexicographic.{slice_cmp}
+use Rattle.std.specs.Str.{is_utf8}
+use Rattle.serde_json.specs.Find.{as_object}
+use Rattle.rec_forms.specs.NameLaws.{match_holds, AreTexts-with_name, Rise-with_name}
+use Rattle.std.specs.List.Sorted.{IsStrictlySortedBy}
 
 -- the members of the pairs, as they stand
 abbrev members_in : {V : Type 0} → (V → Data) → List (List ℕ × V) → Members
@@ -49,3 +58,39 @@ fields_written value writable (p ∷ ps) = (writable p.1, fields_written value w
 
 pub map_writable : {V : Type 0} {n : ℕ} (value : V → Data) → ((x : V) → IsWritable n (value x)) → (ps : List (List ℕ × V)) → IsWritable (suc n) (map_value value ps)
 map_writable value writable ps = struct_writable (map_fields value ps) (fields_written value writable ps)
+
+-- ---- what is read is well-formed
+
+keys-match_ordering : {V : Type 0} (o : Ordering) (a b c : List (List ℕ × V)) → keys (match_ordering o a b c) ≡ match_ordering o (keys a) (keys b) (keys c)
+keys-match_ordering Less a b c = refl
+keys-match_ordering Equal a b c = refl
+keys-match_ordering Greater a b c = refl
+
+-- a pair put into a map puts its key among the keys
+keys-put_pair : {V : Type 0} (k : List ℕ) (x : V) (ps : List (List ℕ × V)) → keys (put_pair k x ps) ≡ with_name (keys ps) k
+keys-put_pair k x [] = refl
+keys-put_pair k x (p ∷ ps) = keys-match_ordering (slice_cmp nat_cmp k p.0) _ _ _ ∙ rw (keys-put_pair k x ps)
+
+values_hold : {V : Type 0} (P : V → Type 0) (k : List ℕ) (x : V) (ps : List (List ℕ × V)) → P x → AllByRecursion P (each_value ps) → AllByRecursion P (each_value (put_pair k x ps))
+values_hold P k x [] h all = (h, tt)
+values_hold P k x (p ∷ ps) h all =
+    match_holds (λ qs. AllByRecursion P (each_value qs)) (slice_cmp nat_cmp k p.0) _ _ _ (h, all) (h, all.1) (all.0, values_hold P k x ps h all.1)
+
+put_known : {V : Type 0} (P : V → Type 0) (k : List ℕ) (x : V) (ps : List (List ℕ × V)) → IsText k → P x → IsMap P ps → IsMap P (put_pair k x ps)
+put_known P k x ps text h map = record {
+  texts = rw (keys-put_pair k x ps) (AreTexts-with_name (keys ps) k map.texts text);
+  rise = rw (keys-put_pair k x ps) (Rise-with_name (keys ps) k map.rise);
+  values = values_hold P k x ps h map.values;
+}
+
+module _ {V : Type 0} {P : V → Type 0} (form : Data → Option V) (h : Known P form) where
+  pairs_known : (ms : Members) (ps : List (List ℕ × V)) → IsMap P ps → Holds (IsMap P) (pairs_form form ps ms)
+  pairs_known no_members ps map = record { is = map }
+  pairs_known (member k d ms) ps map =
+      choice_holds (λ o. Holds (IsMap P) o) (is_utf8 k) (option_and_then (λ x. pairs_form form (put_pair k x ps) ms) (form d)) None
+      (λ text. and_then_holds (λ x. pairs_form form (put_pair k x ps) ms) (form d) (h.each d) (λ x y. pairs_known ms (put_pair k x ps) (put_known P k x ps text y map)))
+      (λ _. record { is = tt })
+
+  pub map_known : Known (IsMap P) (map_form form)
+  unfolding IsStrictlySortedBy
+  map_known = record { each = λ d. and_then_holds (pairs_form form []) (as_object d) (anything (as_object d)) (λ ms _. pairs_known ms [] (record { texts = tt; rise = tt; values = tt })) }

@@ -1,7 +1,7 @@
 -- Outputs read back, and are writable.
-use Rattle.std.specs.Prelude.{◌≡◌, ℕ, List, Some, refl, codes}
-use Rattle.hex.specs.Hex.{encode_lower, IsBytes}
-use Rattle.hex.proofs.HexLemmas.{decode_of-encode_lower}
+use Rattle.std.specs.Prelude.{◌≡◌, ℕ, List, Some, refl, codes, Err, Ok, Result, [], ◌∷◌}
+use Rattle.hex.proofs.HexLemmas.{decode_of-encode_lower, decode_of-ok}
+use Rattle.hex.specs.Hex.{encode_lower, IsBytes, decode_of}
 use Rattle.std.proofs.Common.{arith}
 use Rattle.rec_events.specs.declared.outputs.ZipStoreOutput.{ZipStoreOutput}
 use Rattle.rec_events.specs.declared.outputs.ZipStoreOutput.TheVariants as output
@@ -9,10 +9,17 @@ use Rattle.rec_events.specs.declared.outputs.ZipStoreOutputDescription.{ZipStore
 use Rattle.rec_events.specs.declared.outputs.ZipStoreOutputDescription.TheVariants as outputs
 use Rattle.rec_forms.specs.ListLaws.{maybe_back}
 use Rattle.rec_forms.specs.Members.{get_member-members_of}
-use Rattle.rec_forms.specs.NumberLaws.{u64_back}
-use Rattle.rec_forms.specs.OutputNameLaws.{file_name_back, file_name_writable}
-use Rattle.rec_forms.specs.Outputs.{output_bytes_value, output_bytes_form, stored_output_value, stored_output_form, truncated_form, IsStoredOutput, stored_outputs_value, stored_outputs_form, split_form, IsStoredOutputs}
+use Rattle.rec_forms.specs.NumberLaws.{u64_back, u64_known}
+use Rattle.rec_forms.specs.OutputNameLaws.{file_name_back, file_name_writable, file_name_known}
+use Rattle.rec_forms.specs.Outputs.{output_bytes_value, output_bytes_form, stored_output_value, stored_output_form, truncated_form, IsStoredOutput, stored_outputs_value, stored_outputs_form, split_form, IsStoredOutputs, combined_form, full_form}
 use Rattle.rec_forms.specs.Writable.{IsWritable, struct_writable, tagged_writable, natural_writable, string_writable, optional_writable, weaker}
+use Rattle.rec_forms.specs.Known.{Holds, Known}
+use Rattle.rec_forms.specs.KnownLaws.{anything, and_then_holds, map_holds, object_then, required_then, maybe_then, variant_known}
+use Rattle.hex.specs.declared.error.FromHexError.{FromHexError}
+use Rattle.rec_forms.specs.Numbers.{u64_form}
+use Rattle.rec_forms.specs.OutputNames.{file_name_form}
+use Rattle.serde_json.specs.Find.{as_str}
+use Rattle.std.specs.Result.{result_ok}
 
 pub output_bytes_back : (bytes : List ℕ) → IsBytes bytes → output_bytes_form (output_bytes_value bytes) ≡ Some bytes
 unfolding output_bytes_form
@@ -49,3 +56,48 @@ stored_outputs_writable (outputs.Split out err) =
       (optional_writable stored_output_value stored_output_writable err, tt),
     ))
 stored_outputs_writable (outputs.Combined o) = tagged_writable (codes "combined") _ (weaker 2 3 (omega arith) (stored_output_writable o))
+
+-- ---- what is read is well-formed
+
+decoded : (s : List ℕ) (r : Result (List ℕ) FromHexError) → decode_of s ≡ r → Holds IsBytes (result_ok r)
+decoded s (Ok bytes) e = record { is = (decode_of-ok s bytes e).3 }
+decoded s (Err e) h = record { is = tt }
+
+pub output_bytes_known : Known IsBytes output_bytes_form
+unfolding output_bytes_form
+output_bytes_known = record { each = λ d. and_then_holds (λ s. result_ok (decode_of s)) (as_str d) (anything (as_str d)) (λ s _. decoded s (decode_of s) refl) }
+
+full_known : Known IsStoredOutput full_form
+full_known = record { each = λ d. map_holds output.Full (file_name_form d) (file_name_known.each d) (λ name is. is) }
+
+truncated_known : Known IsStoredOutput truncated_form
+unfolding truncated_form
+truncated_known = record {
+  each = λ d.
+      object_then d _ (λ ms.
+      required_then file_name_form (codes "file-name") ms _ file_name_known (λ name name_is.
+      required_then u64_form (codes "original-size") ms _ u64_known (λ size size_is.
+      record { is = (name_is, size_is) })));
+}
+
+pub stored_output_known : Known IsStoredOutput stored_output_form
+unfolding stored_output_form
+stored_output_known =
+    variant_known IsStoredOutput ((codes "empty", output.Empty) ∷ []) ((codes "full", full_form) ∷ (codes "truncated", truncated_form) ∷ []) (tt, tt) (full_known, (truncated_known, tt))
+
+split_known : Known IsStoredOutputs split_form
+unfolding split_form
+split_known = record {
+  each = λ d.
+      object_then d _ (λ ms.
+      maybe_then stored_output_form (codes "stdout") ms _ stored_output_known (λ out out_is.
+      maybe_then stored_output_form (codes "stderr") ms _ stored_output_known (λ err err_is.
+      record { is = (out_is, err_is) })));
+}
+
+combined_known : Known IsStoredOutputs combined_form
+combined_known = record { each = λ d. map_holds outputs.Combined (stored_output_form d) (stored_output_known.each d) (λ o is. is) }
+
+pub stored_outputs_known : Known IsStoredOutputs stored_outputs_form
+unfolding stored_outputs_form
+stored_outputs_known = variant_known IsStoredOutputs [] ((codes "split", split_form) ∷ (codes "combined", combined_form) ∷ []) tt (split_known, (combined_known, tt))

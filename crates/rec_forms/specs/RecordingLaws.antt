@@ -1,5 +1,5 @@
 -- What a recording says of the whole run reads back, and is writable.
-use Rattle.std.specs.Prelude.{◌≡◌, Some, refl}
+use Rattle.std.specs.Prelude.{◌≡◌, Some, refl, codes}
 use Rattle.serde_json.specs.Data.{string}
 use Rattle.rec_events.specs.Names.{IsText, AreTexts}
 use Rattle.rec_events.specs.declared.recording.NextestRunMode.{NextestRunMode}
@@ -10,10 +10,13 @@ use Rattle.rec_forms.specs.Shape.{text_of}
 use Rattle.rec_forms.specs.Lists.{list_value, list_form}
 use Rattle.rec_forms.specs.Recording.{run_mode_name, run_mode_value, run_mode_form, record_opts_value, record_opts_form, test_list_value, test_list_form, IsTestList}
 use Rattle.rec_forms.specs.Members.{get_member-members_of}
-use Rattle.rec_forms.specs.NumberLaws.{text_back}
+use Rattle.rec_forms.specs.NumberLaws.{text_back, text_known}
 use Rattle.rec_forms.specs.ListLaws.{list_back}
-use Rattle.rec_forms.specs.MapLaws.{map_back, map_writable}
+use Rattle.rec_forms.specs.MapLaws.{map_back, map_writable, map_known}
 use Rattle.rec_forms.specs.Writable.{IsWritable, struct_writable, string_writable, list_writable}
+use Rattle.rec_forms.specs.Known.{Known}
+use Rattle.rec_forms.specs.KnownLaws.{object_then, required_then, list_known}
+use Rattle.rec_forms.specs.Maps.{map_form}
 
 pub run_mode_back : (m : NextestRunMode) → run_mode_form (run_mode_value m) ≡ Some m
 unfolding run_mode_form
@@ -36,3 +39,14 @@ test_list_back t h = simp (get_member-members_of, map_back AreTexts (list_value 
 
 pub test_list_writable : (t : TestListSummary) → IsWritable 3 (test_list_value t)
 test_list_writable t = struct_writable _ (map_writable (list_value string) (list_writable string string_writable) t.suites, tt)
+
+-- ---- what is read is well-formed
+
+pub test_list_known : Known IsTestList test_list_form
+unfolding test_list_form
+test_list_known = record {
+  each = λ d.
+      object_then d _ (λ ms.
+      required_then (map_form (list_form text_of)) (codes "suites") ms _ (map_known (list_form text_of) (list_known text_of text_known)) (λ suites suites_is.
+      record { is = record { suites = suites_is } }));
+}

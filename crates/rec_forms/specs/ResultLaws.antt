@@ -1,5 +1,5 @@
 -- How tests, scripts and attempts ended reads back, and is writable.
-use Rattle.std.specs.Prelude.{◌≡◌, Some, codes, refl}
+use Rattle.std.specs.Prelude.{◌≡◌, Some, codes, refl, [], ◌∷◌}
 use Rattle.serde_json.specs.Data.{string}
 use Rattle.rec_events.specs.Names.{IsText}
 use Rattle.rec_events.specs.declared.results.FlakyResult.{FlakyResult}
@@ -13,11 +13,15 @@ use Rattle.rec_events.specs.declared.results.FailureDescription.TheVariants as f
 use Rattle.rec_events.specs.declared.results.ExecutionResultDescription.{ExecutionResultDescription}
 use Rattle.rec_events.specs.declared.results.ExecutionResultDescription.TheVariants as result
 use Rattle.rec_forms.specs.Shape.{text_of}
-use Rattle.rec_forms.specs.Results.{flaky_result_name, flaky_result_value, flaky_result_form, leak_result_name, leak_result_value, leak_result_form, slow_result_name, slow_result_value, slow_result_form, failure_value, failure_form, abort_form, IsFailure, execution_result_value, execution_result_form, fail_form, IsExecutionResult}
+use Rattle.rec_forms.specs.Results.{flaky_result_name, flaky_result_value, flaky_result_form, leak_result_name, leak_result_value, leak_result_form, slow_result_name, slow_result_value, slow_result_form, failure_value, failure_form, abort_form, IsFailure, execution_result_value, execution_result_form, fail_form, IsExecutionResult, exit_code_form, leak_form, timeout_form}
 use Rattle.rec_forms.specs.Members.{get_member-members_of}
-use Rattle.rec_forms.specs.NumberLaws.{i32_back, text_back}
+use Rattle.rec_forms.specs.NumberLaws.{i32_back, text_back, i32_known, text_known}
 use Rattle.rec_forms.specs.ListLaws.{maybe_back}
 use Rattle.rec_forms.specs.Writable.{IsWritable, struct_writable, tagged_writable, optional_writable, string_writable, integer_writable, boolean_writable}
+use Rattle.rec_forms.specs.Known.{Known}
+use Rattle.rec_forms.specs.KnownLaws.{anything, any_known, map_holds, object_then, required_then, maybe_then, variant_known}
+use Rattle.rec_forms.specs.Numbers.{i32_form}
+use Rattle.serde_json.specs.Find.{as_bool}
 
 pub flaky_result_back : (x : FlakyResult) → flaky_result_form (flaky_result_value x) ≡ Some x
 unfolding flaky_result_form
@@ -69,3 +73,47 @@ execution_result_writable (result.Fail f leaked) =
     tagged_writable (codes "fail") _ (struct_writable _ (failure_writable f, (boolean_writable leaked, tt)))
 execution_result_writable result.ExecFail = string_writable (codes "exec-fail")
 execution_result_writable (result.Timeout r) = tagged_writable (codes "timeout") _ (string_writable (slow_result_name r))
+
+-- ---- what is read is well-formed
+
+abort_known : Known IsFailure abort_form
+unfolding abort_form
+abort_known = record {
+  each = λ d.
+      object_then d _ (λ ms.
+      required_then i32_form (codes "signal") ms _ i32_known (λ signal signal_is.
+      maybe_then text_of (codes "name") ms _ text_known (λ name name_is.
+      record { is = (signal_is, name_is) })));
+}
+
+exit_code_known : Known IsFailure exit_code_form
+exit_code_known = record { each = λ d. map_holds failure.ExitCode (i32_form d) (i32_known.each d) (λ code fits. fits) }
+
+pub failure_known : Known IsFailure failure_form
+unfolding failure_form
+failure_known = variant_known IsFailure [] ((codes "exit-code", exit_code_form) ∷ (codes "abort", abort_form) ∷ []) tt (exit_code_known, (abort_known, tt))
+
+leak_known : Known IsExecutionResult leak_form
+leak_known = record { each = λ d. map_holds result.Leak (leak_result_form d) (anything (leak_result_form d)) (λ r _. tt) }
+
+timeout_known : Known IsExecutionResult timeout_form
+timeout_known = record { each = λ d. map_holds result.Timeout (slow_result_form d) (anything (slow_result_form d)) (λ r _. tt) }
+
+fail_known : Known IsExecutionResult fail_form
+unfolding fail_form
+fail_known = record {
+  each = λ d.
+      object_then d _ (λ ms.
+      required_then failure_form (codes "failure") ms _ failure_known (λ failure failure_is.
+      required_then as_bool (codes "leaked") ms _ (any_known as_bool) (λ leaked leaked_is.
+      record { is = failure_is })));
+}
+
+pub execution_result_known : Known IsExecutionResult execution_result_form
+unfolding execution_result_form
+execution_result_known =
+    variant_known IsExecutionResult
+    ((codes "pass", result.Pass) ∷ (codes "exec-fail", result.ExecFail) ∷ [])
+    ((codes "leak", leak_form) ∷ (codes "fail", fail_form) ∷ (codes "timeout", timeout_form) ∷ [])
+    (tt, (tt, tt))
+    (leak_known, (fail_known, (timeout_known, tt)))

@@ -1,20 +1,27 @@
 -- How a run ended reads back, and is writable.
-use Rattle.std.specs.Prelude.{◌≡◌, Some, refl, codes}
+use Rattle.std.specs.Prelude.{◌≡◌, Some, refl, codes, [], ◌∷◌}
 use Rattle.std.proofs.Common.{arith}
 use Rattle.rec_events.specs.declared.run_ends.FinalRunStats.{FinalRunStats}
 use Rattle.rec_events.specs.declared.run_ends.FinalRunStats.TheVariants.{Success, NoTestsRun, Failed, Cancelled}
+use Rattle.rec_events.specs.declared.run_ends.StressFinalRunStats.{StressFinalRunStats}
+use Rattle.rec_events.specs.declared.run_ends.StressFinalRunStats.TheVariants as stress
 use Rattle.rec_events.specs.declared.run_ends.StressRunStats.{StressRunStats}
 use Rattle.rec_events.specs.declared.run_ends.RunFinishedStats.{RunFinishedStats}
 use Rattle.rec_events.specs.declared.run_ends.RunFinishedStats.TheVariants.{Single, Stress}
 use Rattle.rec_events.specs.declared.run_ends.TestsNotSeenSummary.{TestsNotSeenSummary}
-use Rattle.rec_forms.specs.InstanceLaws.{stress_index_back, stress_index_writable, test_instance_back, test_instance_writable}
-use Rattle.rec_forms.specs.Instances.{test_instance_value, test_instance_form, IsTestInstance}
+use Rattle.rec_forms.specs.InstanceLaws.{stress_index_back, stress_index_writable, test_instance_back, test_instance_writable, stress_index_known, test_instance_known}
+use Rattle.rec_forms.specs.Instances.{test_instance_value, test_instance_form, IsTestInstance, stress_index_form}
 use Rattle.rec_forms.specs.ListLaws.{list_back}
 use Rattle.rec_forms.specs.Members.{get_member-members_of}
-use Rattle.rec_forms.specs.NumberLaws.{u32_back, u64_back}
-use Rattle.rec_forms.specs.RunEnds.{final_stats_name, final_stats_value, final_stats_form, stress_run_stats_value, stress_run_stats_form, IsStressRunStats, run_finished_stats_value, run_finished_stats_form, IsRunFinishedStats, tests_not_seen_value, tests_not_seen_form, IsTestsNotSeen}
-use Rattle.rec_forms.specs.StatsLaws.{run_stats_back, run_stats_writable}
+use Rattle.rec_forms.specs.NumberLaws.{u32_back, u64_back, u32_known, u64_known}
+use Rattle.rec_forms.specs.RunEnds.{stress_final_stats_name, stress_final_stats_value, stress_final_stats_form, final_stats_name, final_stats_value, final_stats_form, stress_run_stats_value, stress_run_stats_form, IsStressRunStats, run_finished_stats_value, run_finished_stats_form, IsRunFinishedStats, tests_not_seen_value, tests_not_seen_form, IsTestsNotSeen, single_stats_form, stress_stats_form}
+use Rattle.rec_forms.specs.StatsLaws.{run_stats_back, run_stats_writable, run_stats_known}
 use Rattle.rec_forms.specs.Writable.{IsWritable, weaker, struct_writable, tagged_writable, list_writable, natural_writable, string_writable}
+use Rattle.rec_forms.specs.Known.{Known}
+use Rattle.rec_forms.specs.KnownLaws.{any_known, map_holds, object_then, required_then, list_known, variant_known}
+use Rattle.rec_forms.specs.Lists.{list_form}
+use Rattle.rec_forms.specs.Numbers.{u32_form, u64_form}
+use Rattle.rec_forms.specs.Stats.{run_stats_form}
 
 pub final_stats_back : (x : FinalRunStats) → final_stats_form (final_stats_value x) ≡ Some x
 unfolding final_stats_form
@@ -25,6 +32,16 @@ final_stats_back Cancelled = refl
 
 pub final_stats_writable : (x : FinalRunStats) → IsWritable 0 (final_stats_value x)
 final_stats_writable x = string_writable (final_stats_name x)
+
+pub stress_final_stats_back : (x : StressFinalRunStats) → stress_final_stats_form (stress_final_stats_value x) ≡ Some x
+unfolding stress_final_stats_form
+stress_final_stats_back stress.Success = refl
+stress_final_stats_back stress.NoTestsRun = refl
+stress_final_stats_back stress.Failed = refl
+stress_final_stats_back stress.Cancelled = refl
+
+pub stress_final_stats_writable : (x : StressFinalRunStats) → IsWritable 0 (stress_final_stats_value x)
+stress_final_stats_writable x = string_writable (stress_final_stats_name x)
 
 pub stress_run_stats_back : (s : StressRunStats) → IsStressRunStats s → stress_run_stats_form (stress_run_stats_value s) ≡ Some s
 unfolding stress_run_stats_form
@@ -62,3 +79,38 @@ tests_not_seen_back t h =
 pub tests_not_seen_writable : (t : TestsNotSeenSummary) → IsWritable 3 (tests_not_seen_value t)
 tests_not_seen_writable t =
     struct_writable _ (list_writable test_instance_value test_instance_writable t.not_seen, (natural_writable t.total_not_seen, tt))
+
+-- ---- what is read is well-formed
+
+pub stress_run_stats_known : Known IsStressRunStats stress_run_stats_form
+unfolding stress_run_stats_form
+stress_run_stats_known = record {
+  each = λ d.
+      object_then d _ (λ ms.
+      required_then stress_index_form (codes "completed") ms _ stress_index_known (λ completed completed_is.
+      required_then u32_form (codes "success-count") ms _ u32_known (λ success_count success_count_is.
+      required_then u32_form (codes "failed-count") ms _ u32_known (λ failed_count failed_count_is.
+      required_then final_stats_form (codes "last-final-stats") ms _ (any_known final_stats_form) (λ last_final_stats last_final_stats_is.
+      record { is = record { completed = completed_is; success_count = success_count_is; failed_count = failed_count_is } })))));
+}
+
+single_stats_known : Known IsRunFinishedStats single_stats_form
+single_stats_known = record { each = λ d. map_holds Single (run_stats_form d) (run_stats_known.each d) (λ stats is. is) }
+
+stress_stats_known : Known IsRunFinishedStats stress_stats_form
+stress_stats_known = record { each = λ d. map_holds Stress (stress_run_stats_form d) (stress_run_stats_known.each d) (λ stats is. is) }
+
+pub run_finished_stats_known : Known IsRunFinishedStats run_finished_stats_form
+unfolding run_finished_stats_form
+run_finished_stats_known =
+    variant_known IsRunFinishedStats [] ((codes "single", single_stats_form) ∷ (codes "stress", stress_stats_form) ∷ []) tt (single_stats_known, (stress_stats_known, tt))
+
+pub tests_not_seen_known : Known IsTestsNotSeen tests_not_seen_form
+unfolding tests_not_seen_form
+tests_not_seen_known = record {
+  each = λ d.
+      object_then d _ (λ ms.
+      required_then (list_form test_instance_form) (codes "not-seen") ms _ (list_known test_instance_form test_instance_known) (λ not_seen not_seen_is.
+      required_then u64_form (codes "total-not-seen") ms _ u64_known (λ total_not_seen total_not_seen_is.
+      record { is = record { not_seen = not_seen_is; total_not_seen = total_not_seen_is } })));
+}

@@ -5,6 +5,8 @@ use Rattle.serde_json.specs.Data.{Data, string}
 use Rattle.serde_json.specs.Find.{as_object, as_str}
 use Rattle.rec_events.specs.declared.run_ends.FinalRunStats.{FinalRunStats}
 use Rattle.rec_events.specs.declared.run_ends.FinalRunStats.TheVariants.{Success, NoTestsRun, Failed, Cancelled}
+use Rattle.rec_events.specs.declared.run_ends.StressFinalRunStats.{StressFinalRunStats}
+use Rattle.rec_events.specs.declared.run_ends.StressFinalRunStats.TheVariants as stress
 use Rattle.rec_events.specs.declared.run_ends.StressRunStats.{StressRunStats}
 use Rattle.rec_events.specs.declared.run_ends.RunFinishedStats.{RunFinishedStats}
 use Rattle.rec_events.specs.declared.run_ends.RunFinishedStats.TheVariants.{Single, Stress}
@@ -35,6 +37,27 @@ final_stats =
 
 unfoldable pub final_stats_form : Data → Option FinalRunStats
 final_stats_form d = option_and_then (named final_stats) (as_str d)
+
+-- StressFinalRunStats
+abbrev pub stress_final_stats_name : StressFinalRunStats → List ℕ
+stress_final_stats_name stress.Success = codes "success"
+stress_final_stats_name stress.NoTestsRun = codes "no-tests-run"
+stress_final_stats_name stress.Failed = codes "failed"
+stress_final_stats_name stress.Cancelled = codes "cancelled"
+
+abbrev pub stress_final_stats_value : StressFinalRunStats → Data
+stress_final_stats_value x = string (stress_final_stats_name x)
+
+abbrev pub stress_final_stats : List (List ℕ × StressFinalRunStats)
+stress_final_stats =
+    (codes "success", stress.Success)
+    ∷ (codes "no-tests-run", stress.NoTestsRun)
+    ∷ (codes "failed", stress.Failed)
+    ∷ (codes "cancelled", stress.Cancelled)
+    ∷ []
+
+unfoldable pub stress_final_stats_form : Data → Option StressFinalRunStats
+stress_final_stats_form d = option_and_then (named stress_final_stats) (as_str d)
 
 -- StressRunStats
 abbrev pub stress_run_stats_value : StressRunStats → Data

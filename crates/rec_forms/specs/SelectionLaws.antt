@@ -1,5 +1,5 @@
 -- What is built reads back, and is writable.
-use Rattle.std.specs.Prelude.{◌≡◌, ℕ, List, Some}
+use Rattle.std.specs.Prelude.{◌≡◌, ℕ, List, Some, [], codes, false}
 use Rattle.std.proofs.Common.{arith}
 use Rattle.serde_json.specs.Data.{string}
 use Rattle.rec_events.specs.Names.{IsText}
@@ -9,12 +9,16 @@ use Rattle.rec_events.specs.declared.selections.TargetSelection.{TargetSelection
 use Rattle.rec_events.specs.declared.selections.FeatureSelection.{FeatureSelection}
 use Rattle.rec_events.specs.declared.selections.BuildScope.{BuildScope}
 use Rattle.rec_forms.specs.Shape.{text_of}
-use Rattle.rec_forms.specs.Lists.{list_value}
+use Rattle.rec_forms.specs.Lists.{list_value, list_form}
 use Rattle.rec_forms.specs.Selections.{named_targets_value, named_targets_form, IsNamedTargets, package_selection_value, package_selection_form, IsPackageSelection, target_selection_value, target_selection_form, IsTargetSelection, feature_selection_value, feature_selection_form, IsFeatureSelection, build_scope_value, build_scope_form, IsBuildScope}
 use Rattle.rec_forms.specs.Members.{get_member-members_of}
-use Rattle.rec_forms.specs.NumberLaws.{text_back}
+use Rattle.rec_forms.specs.NumberLaws.{text_back, text_known}
 use Rattle.rec_forms.specs.ListLaws.{each_back}
 use Rattle.rec_forms.specs.Writable.{IsWritable, weaker, struct_writable, string_writable, boolean_writable, list_writable}
+use Rattle.rec_forms.specs.Known.{Known}
+use Rattle.rec_forms.specs.KnownLaws.{any_known, object_then, defaulted_then, list_known}
+use Rattle.rec_events.specs.Selections.{no_feature_selection, no_named_targets, no_package_selection, no_target_selection}
+use Rattle.serde_json.specs.Find.{as_bool}
 
 pub named_targets_back : (t : NamedTargets) → IsNamedTargets t → named_targets_form (named_targets_value t) ≡ Some t
 unfolding named_targets_form
@@ -60,3 +64,74 @@ pub build_scope_writable : (s : BuildScope) → IsWritable 4 (build_scope_value 
 build_scope_writable s =
     struct_writable _
     (weaker 2 3 (omega arith) (package_selection_writable s.packages), (target_selection_writable s.targets, (weaker 2 3 (omega arith) (feature_selection_writable s.features), tt)))
+
+-- ---- what is read is well-formed
+
+no_named_targets_is : IsNamedTargets no_named_targets
+no_named_targets_is = record { names = tt }
+
+no_package_selection_is : IsPackageSelection no_package_selection
+no_package_selection_is = record { specs = tt; exclude = tt }
+
+no_target_selection_is : IsTargetSelection no_target_selection
+no_target_selection_is = record { bins = no_named_targets_is; examples = no_named_targets_is; tests = no_named_targets_is; benches = no_named_targets_is }
+
+no_feature_selection_is : IsFeatureSelection no_feature_selection
+no_feature_selection_is = record { features = tt }
+
+pub named_targets_known : Known IsNamedTargets named_targets_form
+unfolding named_targets_form
+named_targets_known = record {
+  each = λ d.
+      object_then d _ (λ ms.
+      defaulted_then (list_form text_of) (codes "names") ms [] _ tt (list_known text_of text_known) (λ names names_is.
+      defaulted_then as_bool (codes "all") ms false _ tt (any_known as_bool) (λ all all_is.
+      record { is = record { names = names_is } })));
+}
+
+pub package_selection_known : Known IsPackageSelection package_selection_form
+unfolding package_selection_form
+package_selection_known = record {
+  each = λ d.
+      object_then d _ (λ ms.
+      defaulted_then (list_form text_of) (codes "specs") ms [] _ tt (list_known text_of text_known) (λ specs specs_is.
+      defaulted_then as_bool (codes "workspace") ms false _ tt (any_known as_bool) (λ workspace workspace_is.
+      defaulted_then (list_form text_of) (codes "exclude") ms [] _ tt (list_known text_of text_known) (λ exclude exclude_is.
+      record { is = record { specs = specs_is; exclude = exclude_is } }))));
+}
+
+pub target_selection_known : Known IsTargetSelection target_selection_form
+unfolding target_selection_form
+target_selection_known = record {
+  each = λ d.
+      object_then d _ (λ ms.
+      defaulted_then as_bool (codes "lib") ms false _ tt (any_known as_bool) (λ lib lib_is.
+      defaulted_then named_targets_form (codes "bins") ms no_named_targets _ no_named_targets_is named_targets_known (λ bins bins_is.
+      defaulted_then named_targets_form (codes "examples") ms no_named_targets _ no_named_targets_is named_targets_known (λ examples examples_is.
+      defaulted_then named_targets_form (codes "tests") ms no_named_targets _ no_named_targets_is named_targets_known (λ tests tests_is.
+      defaulted_then named_targets_form (codes "benches") ms no_named_targets _ no_named_targets_is named_targets_known (λ benches benches_is.
+      defaulted_then as_bool (codes "all-targets") ms false _ tt (any_known as_bool) (λ all_targets all_targets_is.
+      record { is = record { bins = bins_is; examples = examples_is; tests = tests_is; benches = benches_is } })))))));
+}
+
+pub feature_selection_known : Known IsFeatureSelection feature_selection_form
+unfolding feature_selection_form
+feature_selection_known = record {
+  each = λ d.
+      object_then d _ (λ ms.
+      defaulted_then (list_form text_of) (codes "features") ms [] _ tt (list_known text_of text_known) (λ features features_is.
+      defaulted_then as_bool (codes "all-features") ms false _ tt (any_known as_bool) (λ all_features all_features_is.
+      defaulted_then as_bool (codes "no-default-features") ms false _ tt (any_known as_bool) (λ no_default_features no_default_features_is.
+      record { is = record { features = features_is } }))));
+}
+
+pub build_scope_known : Known IsBuildScope build_scope_form
+unfolding build_scope_form
+build_scope_known = record {
+  each = λ d.
+      object_then d _ (λ ms.
+      defaulted_then package_selection_form (codes "packages") ms no_package_selection _ no_package_selection_is package_selection_known (λ packages packages_is.
+      defaulted_then target_selection_form (codes "targets") ms no_target_selection _ no_target_selection_is target_selection_known (λ targets targets_is.
+      defaulted_then feature_selection_form (codes "features") ms no_feature_selection _ no_feature_selection_is feature_selection_known (λ features features_is.
+      record { is = record { packages = packages_is; targets = targets_is; features = features_is } }))));
+}

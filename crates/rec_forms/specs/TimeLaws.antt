@@ -1,12 +1,15 @@
 -- Instants and spans of time read back, and are writable.
-use Rattle.std.specs.Prelude.{◌≡◌, ℕ, ◌<◌, true, nat_lt, Some}
+use Rattle.std.specs.Prelude.{◌≡◌, ℕ, ◌<◌, true, nat_lt, Some, codes}
 use Rattle.std.proofs.Common.{arith}
 use Rattle.std.proofs.lemmas.Bool.Decides.{nat_tests}
 use Rattle.rec_events.specs.Times.{Span, Moment}
 use Rattle.rec_forms.specs.Times.{stamp_value, stamp_form, IsStamp, duration_value, duration_form, IsDuration}
+use Rattle.rec_forms.specs.Numbers.{u32_form, u64_form, i32_form, i64_form}
 use Rattle.rec_forms.specs.Members.{get_member-members_of}
-use Rattle.rec_forms.specs.NumberLaws.{u32_back, u64_back, i32_back, i64_back}
+use Rattle.rec_forms.specs.NumberLaws.{u32_back, u64_back, i32_back, i64_back, below_tells, u32_known, u64_known, i32_known, i64_known}
 use Rattle.rec_forms.specs.Writable.{IsWritable, struct_writable, natural_writable, integer_writable}
+use Rattle.rec_forms.specs.Known.{Known}
+use Rattle.rec_forms.specs.KnownLaws.{object_then, required_then, only_holds}
 
 below : (n : ℕ) → n < 1000000000 → nat_lt n 1000000000 ≡ true
 below n h = grind (arith, nat_tests)
@@ -24,3 +27,26 @@ duration_back s h = simp (get_member-members_of, u64_back _ h.secs, u32_back s.n
 
 pub duration_writable : (s : Span) → IsWritable 1 (duration_value s)
 duration_writable s = struct_writable _ (natural_writable s.secs, (natural_writable s.nanos, tt))
+
+-- ---- what is read is well-formed
+
+pub stamp_known : Known IsStamp stamp_form
+unfolding stamp_form
+stamp_known = record {
+  each = λ d.
+      object_then d _ (λ ms.
+      required_then i64_form (codes "secs") ms _ i64_known (λ secs secs_is.
+      required_then u32_form (codes "nanos") ms _ u32_known (λ nanos nanos_is.
+      required_then i32_form (codes "offset") ms _ i32_known (λ offset offset_is.
+      only_holds (nat_lt nanos 1000000000) _ (λ passed. record { secs = secs_is; nanos = below_tells nanos 1000000000 passed; offset = offset_is })))));
+}
+
+pub duration_known : Known IsDuration duration_form
+unfolding duration_form
+duration_known = record {
+  each = λ d.
+      object_then d _ (λ ms.
+      required_then u64_form (codes "secs") ms _ u64_known (λ secs secs_is.
+      required_then u32_form (codes "nanos") ms _ u32_known (λ nanos nanos_is.
+      only_holds (nat_lt nanos 1000000000) _ (λ passed. record { secs = secs_is; nanos = below_tells nanos 1000000000 passed }))));
+}

@@ -7,7 +7,7 @@ use std::alloc::{AllocError, Global};
 
 impl Form for ErrorSummary {
     ghost use Rattle.rec_forms.specs.ErrorTexts.{error_summary_value, error_summary_form, IsErrorSummary};
-    ghost use Rattle.rec_forms.specs.ErrorTextLaws.{error_summary_back, error_summary_writable};
+    ghost use Rattle.rec_forms.specs.ErrorTextLaws.{error_summary_back, error_summary_writable, error_summary_known};
 
     ghost well_formed = { IsErrorSummary };
 
@@ -18,6 +18,8 @@ impl Form for ErrorSummary {
     ghost levels = { 1 };
 
     ghost reads_back = { error_summary_back };
+
+    ghost reads_known = { error_summary_known };
 
     ghost writable = { error_summary_writable };
 
@@ -43,7 +45,7 @@ impl Form for ErrorSummary {
 
 impl Form for OutputErrorSlice {
     ghost use Rattle.rec_forms.specs.ErrorTexts.{error_slice_value, error_slice_form, IsErrorSlice};
-    ghost use Rattle.rec_forms.specs.ErrorTextLaws.{error_slice_back, error_slice_writable};
+    ghost use Rattle.rec_forms.specs.ErrorTextLaws.{error_slice_back, error_slice_writable, error_slice_known};
 
     ghost well_formed = { IsErrorSlice };
 
@@ -54,6 +56,8 @@ impl Form for OutputErrorSlice {
     ghost levels = { 1 };
 
     ghost reads_back = { error_slice_back };
+
+    ghost reads_known = { error_slice_known };
 
     ghost writable = { error_slice_writable };
 

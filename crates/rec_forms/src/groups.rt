@@ -6,7 +6,7 @@ use std::alloc::{AllocError, Global};
 
 impl Form for TestGroup {
     ghost use Rattle.rec_forms.specs.Groups.{test_group_value, test_group_form, IsTestGroup};
-    ghost use Rattle.rec_forms.specs.GroupLaws.{test_group_back, test_group_writable};
+    ghost use Rattle.rec_forms.specs.GroupLaws.{test_group_back, test_group_writable, test_group_known};
 
     ghost well_formed = { IsTestGroup };
 
@@ -17,6 +17,8 @@ impl Form for TestGroup {
     ghost levels = { 0 };
 
     ghost reads_back = { test_group_back };
+
+    ghost reads_known = { test_group_known };
 
     ghost writable = { test_group_writable };
 

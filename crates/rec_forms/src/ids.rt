@@ -12,7 +12,7 @@ impl Form for RustBinaryId {
     ghost use Rattle.serde_json.specs.Data.{string};
     ghost use Rattle.rec_events.specs.Names.{IsText};
     ghost use Rattle.rec_forms.specs.Shape.{text_of};
-    ghost use Rattle.rec_forms.specs.NumberLaws.{text_back};
+    ghost use Rattle.rec_forms.specs.NumberLaws.{text_back, text_known};
     ghost use Rattle.rec_forms.specs.Writable.{string_writable};
 
     ghost well_formed = { IsText };
@@ -24,6 +24,8 @@ impl Form for RustBinaryId {
     ghost levels = { 0 };
 
     ghost reads_back = { text_back };
+
+    ghost reads_known = { text_known };
 
     ghost writable = { λ s. string_writable s };
 
@@ -41,7 +43,7 @@ impl Form for TestCaseName {
     ghost use Rattle.serde_json.specs.Data.{string};
     ghost use Rattle.rec_events.specs.Names.{IsText};
     ghost use Rattle.rec_forms.specs.Shape.{text_of};
-    ghost use Rattle.rec_forms.specs.NumberLaws.{text_back};
+    ghost use Rattle.rec_forms.specs.NumberLaws.{text_back, text_known};
     ghost use Rattle.rec_forms.specs.Writable.{string_writable};
 
     ghost well_formed = { IsText };
@@ -53,6 +55,8 @@ impl Form for TestCaseName {
     ghost levels = { 0 };
 
     ghost reads_back = { text_back };
+
+    ghost reads_known = { text_known };
 
     ghost writable = { λ s. string_writable s };
 
@@ -70,7 +74,7 @@ impl Form for ScriptId {
     ghost use Rattle.serde_json.specs.Data.{string};
     ghost use Rattle.rec_events.specs.Names.{IsText};
     ghost use Rattle.rec_forms.specs.Shape.{text_of};
-    ghost use Rattle.rec_forms.specs.NumberLaws.{text_back};
+    ghost use Rattle.rec_forms.specs.NumberLaws.{text_back, text_known};
     ghost use Rattle.rec_forms.specs.Writable.{string_writable};
 
     ghost well_formed = { IsText };
@@ -82,6 +86,8 @@ impl Form for ScriptId {
     ghost levels = { 0 };
 
     ghost reads_back = { text_back };
+
+    ghost reads_known = { text_known };
 
     ghost writable = { λ s. string_writable s };
 
@@ -109,7 +115,7 @@ impl Form for ReportUuid {
     ghost use Rattle.std.specs.Prelude.{List, ℕ};
     ghost use Rattle.uuid.specs.Text.{lower, hyphenated_text};
     ghost use Rattle.rec_forms.specs.Ids.{uuid_value, uuid_form, IsUuid};
-    ghost use Rattle.rec_forms.specs.IdLaws.{uuid_back};
+    ghost use Rattle.rec_forms.specs.IdLaws.{uuid_back, uuid_known};
     ghost use Rattle.rec_forms.specs.Writable.{string_writable};
 
     ghost well_formed = { IsUuid };
@@ -121,6 +127,8 @@ impl Form for ReportUuid {
     ghost levels = { 0 };
 
     ghost reads_back = { uuid_back };
+
+    ghost reads_known = { uuid_known };
 
     ghost writable = { λ u. string_writable (hyphenated_text lower u) };
 
@@ -143,7 +151,7 @@ impl Form for Version {
     ghost use Rattle.semver.specs.Identifiers.{parts_text};
     ghost use Rattle.rec_events.specs.Versions.{IsVersion};
     ghost use Rattle.rec_forms.specs.Ids.{version_value, version_form};
-    ghost use Rattle.rec_forms.specs.IdLaws.{version_back};
+    ghost use Rattle.rec_forms.specs.IdLaws.{version_back, version_known};
     ghost use Rattle.rec_forms.specs.Writable.{string_writable};
 
     ghost well_formed = { IsVersion };
@@ -155,6 +163,8 @@ impl Form for Version {
     ghost levels = { 0 };
 
     ghost reads_back = { version_back };
+
+    ghost reads_known = { version_known };
 
     ghost writable = { λ p. string_writable (parts_text p) };
 

@@ -7,7 +7,7 @@ use std::alloc::{AllocError, Global};
 
 impl Form for OwnedTestInstanceId {
     ghost use Rattle.rec_forms.specs.Instances.{test_instance_value, test_instance_form, IsTestInstance};
-    ghost use Rattle.rec_forms.specs.InstanceLaws.{test_instance_back, test_instance_writable};
+    ghost use Rattle.rec_forms.specs.InstanceLaws.{test_instance_back, test_instance_writable, test_instance_known};
 
     ghost well_formed = { IsTestInstance };
 
@@ -18,6 +18,8 @@ impl Form for OwnedTestInstanceId {
     ghost levels = { 1 };
 
     ghost reads_back = { test_instance_back };
+
+    ghost reads_known = { test_instance_known };
 
     ghost writable = { test_instance_writable };
 
@@ -43,7 +45,7 @@ impl Form for OwnedTestInstanceId {
 
 impl Form for TestSlotAssignment {
     ghost use Rattle.rec_forms.specs.Instances.{slot_assignment_value, slot_assignment_form, IsSlotAssignment};
-    ghost use Rattle.rec_forms.specs.InstanceLaws.{slot_assignment_back, slot_assignment_writable};
+    ghost use Rattle.rec_forms.specs.InstanceLaws.{slot_assignment_back, slot_assignment_writable, slot_assignment_known};
 
     ghost well_formed = { IsSlotAssignment };
 
@@ -54,6 +56,8 @@ impl Form for TestSlotAssignment {
     ghost levels = { 1 };
 
     ghost reads_back = { slot_assignment_back };
+
+    ghost reads_known = { slot_assignment_known };
 
     ghost writable = { slot_assignment_writable };
 
@@ -81,7 +85,7 @@ impl Form for TestSlotAssignment {
 
 impl Form for RetryData {
     ghost use Rattle.rec_forms.specs.Instances.{retry_data_value, retry_data_form, IsRetryData};
-    ghost use Rattle.rec_forms.specs.InstanceLaws.{retry_data_back, retry_data_writable};
+    ghost use Rattle.rec_forms.specs.InstanceLaws.{retry_data_back, retry_data_writable, retry_data_known};
 
     ghost well_formed = { IsRetryData };
 
@@ -92,6 +96,8 @@ impl Form for RetryData {
     ghost levels = { 1 };
 
     ghost reads_back = { retry_data_back };
+
+    ghost reads_known = { retry_data_known };
 
     ghost writable = { retry_data_writable };
 
@@ -117,7 +123,7 @@ impl Form for RetryData {
 
 impl Form for StressIndexSummary {
     ghost use Rattle.rec_forms.specs.Instances.{stress_index_value, stress_index_form, IsStressIndex};
-    ghost use Rattle.rec_forms.specs.InstanceLaws.{stress_index_back, stress_index_writable};
+    ghost use Rattle.rec_forms.specs.InstanceLaws.{stress_index_back, stress_index_writable, stress_index_known};
 
     ghost well_formed = { IsStressIndex };
 
@@ -128,6 +134,8 @@ impl Form for StressIndexSummary {
     ghost levels = { 1 };
 
     ghost reads_back = { stress_index_back };
+
+    ghost reads_known = { stress_index_known };
 
     ghost writable = { stress_index_writable };
 

@@ -11,7 +11,7 @@ impl Form for u32 {
     ghost use Rattle.rec_forms.specs.Shape.{natural};
     ghost use Rattle.rec_forms.specs.Writable.{natural_writable};
     ghost use Rattle.rec_forms.specs.Numbers.{u32_form};
-    ghost use Rattle.rec_forms.specs.NumberLaws.{u32_back};
+    ghost use Rattle.rec_forms.specs.NumberLaws.{u32_back, u32_known};
 
     ghost well_formed = { λ n. n < 2 ^ 32 };
 
@@ -22,6 +22,8 @@ impl Form for u32 {
     ghost levels = { 0 };
 
     ghost reads_back = { u32_back };
+
+    ghost reads_known = { u32_known };
 
     ghost writable = { λ n. natural_writable n };
 
@@ -41,7 +43,7 @@ impl Form for u64 {
     ghost use Rattle.rec_forms.specs.Shape.{natural};
     ghost use Rattle.rec_forms.specs.Writable.{natural_writable};
     ghost use Rattle.rec_forms.specs.Numbers.{u64_form};
-    ghost use Rattle.rec_forms.specs.NumberLaws.{u64_back};
+    ghost use Rattle.rec_forms.specs.NumberLaws.{u64_back, u64_known};
 
     ghost well_formed = { λ n. n < 2 ^ 64 };
 
@@ -52,6 +54,8 @@ impl Form for u64 {
     ghost levels = { 0 };
 
     ghost reads_back = { u64_back };
+
+    ghost reads_known = { u64_known };
 
     ghost writable = { λ n. natural_writable n };
 
@@ -71,7 +75,7 @@ impl Form for usize {
     ghost use Rattle.rec_forms.specs.Shape.{natural};
     ghost use Rattle.rec_forms.specs.Writable.{natural_writable};
     ghost use Rattle.rec_forms.specs.Numbers.{u64_form};
-    ghost use Rattle.rec_forms.specs.NumberLaws.{u64_back};
+    ghost use Rattle.rec_forms.specs.NumberLaws.{u64_back, u64_known};
 
     ghost well_formed = { λ n. n < 2 ^ 64 };
 
@@ -82,6 +86,8 @@ impl Form for usize {
     ghost levels = { 0 };
 
     ghost reads_back = { u64_back };
+
+    ghost reads_known = { u64_known };
 
     ghost writable = { λ n. natural_writable n };
 
@@ -101,7 +107,7 @@ impl Form for i64 {
     ghost use Rattle.rec_forms.specs.Shape.{integer};
     ghost use Rattle.rec_forms.specs.Writable.{integer_writable};
     ghost use Rattle.rec_forms.specs.Numbers.{i64_form};
-    ghost use Rattle.rec_forms.specs.NumberLaws.{i64_back};
+    ghost use Rattle.rec_forms.specs.NumberLaws.{i64_back, i64_known};
 
     ghost well_formed = { FitsSigned w64 };
 
@@ -112,6 +118,8 @@ impl Form for i64 {
     ghost levels = { 0 };
 
     ghost reads_back = { i64_back };
+
+    ghost reads_known = { i64_known };
 
     ghost writable = { λ z. integer_writable z };
 
@@ -131,7 +139,7 @@ impl Form for i32 {
     ghost use Rattle.rec_forms.specs.Shape.{integer};
     ghost use Rattle.rec_forms.specs.Writable.{integer_writable};
     ghost use Rattle.rec_forms.specs.Numbers.{i32_form};
-    ghost use Rattle.rec_forms.specs.NumberLaws.{i32_back};
+    ghost use Rattle.rec_forms.specs.NumberLaws.{i32_back, i32_known};
 
     ghost well_formed = { FitsSigned w32 };
 
@@ -142,6 +150,8 @@ impl Form for i32 {
     ghost levels = { 0 };
 
     ghost reads_back = { i32_back };
+
+    ghost reads_known = { i32_known };
 
     ghost writable = { λ z. integer_writable z };
 
@@ -162,6 +172,7 @@ impl Form for bool {
     ghost use Rattle.serde_json.specs.Data.{boolean};
     ghost use Rattle.serde_json.specs.Find.{as_bool};
     ghost use Rattle.rec_forms.specs.Writable.{boolean_writable};
+    ghost use Rattle.rec_forms.specs.KnownLaws.{any_known};
 
     ghost well_formed = { λ _. Unit {0} };
 
@@ -172,6 +183,8 @@ impl Form for bool {
     ghost levels = { 0 };
 
     ghost reads_back = { λ x _. refl };
+
+    ghost reads_known = { any_known as_bool };
 
     ghost writable = { λ b. boolean_writable b };
 
@@ -190,7 +203,7 @@ impl Form for bool {
 impl Form for NonZeroCount {
     ghost use Rattle.rec_forms.specs.Shape.{natural};
     ghost use Rattle.rec_forms.specs.Numbers.{count_form, IsCount};
-    ghost use Rattle.rec_forms.specs.NumberLaws.{count_back};
+    ghost use Rattle.rec_forms.specs.NumberLaws.{count_back, count_known};
     ghost use Rattle.rec_forms.specs.Writable.{natural_writable};
 
     ghost well_formed = { IsCount };
@@ -202,6 +215,8 @@ impl Form for NonZeroCount {
     ghost levels = { 0 };
 
     ghost reads_back = { count_back };
+
+    ghost reads_known = { count_known };
 
     ghost writable = { λ n. natural_writable n };
 

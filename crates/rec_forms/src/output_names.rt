@@ -1,12 +1,51 @@
-// The names of outputs' files.
+// Kinds of outputs, and the names of their files.
 use crate::{Form, FromValueError};
-use rec_events::OutputFileName;
+use rec_events::{OutputFileName, OutputKind};
 use serde_json::Value;
 use std::alloc::{AllocError, Global};
 
+impl Form for OutputKind {
+    ghost use Rattle.rec_forms.specs.OutputNames.{output_kind_value, output_kind_form};
+    ghost use Rattle.rec_forms.specs.OutputNameLaws.{output_kind_back, output_kind_writable};
+    ghost use Rattle.rec_forms.specs.KnownLaws.{any_known};
+
+    ghost well_formed = { λ _. Unit {0} };
+
+    ghost value_of = { output_kind_value };
+
+    ghost form_of = { output_kind_form };
+
+    ghost levels = { 0 };
+
+    ghost reads_back = { λ x _. output_kind_back x };
+
+    ghost reads_known = { any_known output_kind_form };
+
+    ghost writable = { output_kind_writable };
+
+    fn to_value(&self, alloc: Global) -> Result<Value, AllocError> {
+        let name = match self {
+            OutputKind::Stdout => "stdout",
+            OutputKind::Stderr => "stderr",
+            OutputKind::Combined => "combined",
+        };
+        Value::try_from_str(alloc, name)
+    }
+
+    #[tactic(auto, unfolding(crate::specs::OutputNames::output_kind_form))]
+    fn from_value(_alloc: Global, value: &Value) -> Result<OutputKind, FromValueError> {
+        match value.as_str() {
+            Some("stdout") => Ok(OutputKind::Stdout),
+            Some("stderr") => Ok(OutputKind::Stderr),
+            Some("combined") => Ok(OutputKind::Combined),
+            _ => Err(FromValueError::NotAValue),
+        }
+    }
+}
+
 impl Form for OutputFileName {
     ghost use Rattle.rec_forms.specs.OutputNames.{file_name_value, file_name_form, IsFileName};
-    ghost use Rattle.rec_forms.specs.OutputNameLaws.{file_name_back, file_name_writable};
+    ghost use Rattle.rec_forms.specs.OutputNameLaws.{file_name_back, file_name_writable, file_name_known};
 
     ghost well_formed = { IsFileName };
 
@@ -17,6 +56,8 @@ impl Form for OutputFileName {
     ghost levels = { 0 };
 
     ghost reads_back = { file_name_back };
+
+    ghost reads_known = { file_name_known };
 
     ghost writable = { file_name_writable };
 

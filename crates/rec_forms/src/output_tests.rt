@@ -1,7 +1,8 @@
 use crate::tests::check;
 use rec_events::{
-    ChildSingleOutput, OutputFileName, OwnedTestInstanceId, RetryData, StressConditionSummary,
-    StressIndexSummary, TestGroup, TestSlotAssignment, ZipStoreOutput, ZipStoreOutputDescription,
+    ChildSingleOutput, OutputFileName, OutputKind, OwnedTestInstanceId, RetryData,
+    StressConditionSummary, StressIndexSummary, TestGroup, TestSlotAssignment, ZipStoreOutput,
+    ZipStoreOutputDescription,
 };
 use std::test::Fail;
 
@@ -19,6 +20,23 @@ fn output_bytes(rt: HostRuntime) -> Result<(), Fail> {
         ("null", "refused"),
     ];
     check::<ChildSingleOutput>(&rt, rt.alloc(), &cases)
+}
+
+#[test]
+fn output_kinds(rt: HostRuntime) -> Result<(), Fail> {
+    let cases = [
+        ("\"stdout\"", "\"stdout\""),
+        ("\"stderr\"", "\"stderr\""),
+        ("\"combined\"", "\"combined\""),
+        ("\"Stdout\"", "refused"),
+        ("\"-stdout\"", "refused"),
+        ("\"\"", "refused"),
+        ("{\"stdout\":null}", "refused"),
+        ("[\"stderr\"]", "refused"),
+        ("null", "refused"),
+        ("0", "refused"),
+    ];
+    check::<OutputKind>(&rt, rt.alloc(), &cases)
 }
 
 #[test]
@@ -105,6 +123,9 @@ fn slots_and_groups(rt: HostRuntime) -> Result<(), Fail> {
         ("\"\"", "\"\""),
         ("\"serial\"", "\"serial\""),
         ("null", "refused"),
+        ("0", "refused"),
+        ("{\"custom\":\"serial\"}", "refused"),
+        ("[\"@global\"]", "refused"),
     ];
     check::<TestGroup>(&rt, alloc, &groups)?;
     let slots = [

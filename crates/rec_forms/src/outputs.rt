@@ -14,7 +14,7 @@ use std::alloc::{AllocError, Global};
 impl Form for ChildSingleOutput {
     ghost use Rattle.hex.specs.Hex.{IsBytes};
     ghost use Rattle.rec_forms.specs.Outputs.{output_bytes_value, output_bytes_form};
-    ghost use Rattle.rec_forms.specs.OutputLaws.{output_bytes_back, output_bytes_writable};
+    ghost use Rattle.rec_forms.specs.OutputLaws.{output_bytes_back, output_bytes_writable, output_bytes_known};
 
     ghost well_formed = { IsBytes };
 
@@ -25,6 +25,8 @@ impl Form for ChildSingleOutput {
     ghost levels = { 0 };
 
     ghost reads_back = { output_bytes_back };
+
+    ghost reads_known = { output_bytes_known };
 
     ghost writable = { output_bytes_writable };
 
@@ -73,7 +75,7 @@ fn split_from(alloc: Global, value: &Value) -> Result<ZipStoreOutputDescription,
 
 impl Form for ZipStoreOutput {
     ghost use Rattle.rec_forms.specs.Outputs.{stored_output_value, stored_output_form, IsStoredOutput};
-    ghost use Rattle.rec_forms.specs.OutputLaws.{stored_output_back, stored_output_writable};
+    ghost use Rattle.rec_forms.specs.OutputLaws.{stored_output_back, stored_output_writable, stored_output_known};
 
     ghost well_formed = { IsStoredOutput };
 
@@ -84,6 +86,8 @@ impl Form for ZipStoreOutput {
     ghost levels = { 2 };
 
     ghost reads_back = { stored_output_back };
+
+    ghost reads_known = { stored_output_known };
 
     ghost writable = { stored_output_writable };
 
@@ -125,7 +129,7 @@ impl Form for ZipStoreOutput {
 
 impl Form for ZipStoreOutputDescription {
     ghost use Rattle.rec_forms.specs.Outputs.{stored_outputs_value, stored_outputs_form, IsStoredOutputs};
-    ghost use Rattle.rec_forms.specs.OutputLaws.{stored_outputs_back, stored_outputs_writable};
+    ghost use Rattle.rec_forms.specs.OutputLaws.{stored_outputs_back, stored_outputs_writable, stored_outputs_known};
 
     ghost well_formed = { IsStoredOutputs };
 
@@ -136,6 +140,8 @@ impl Form for ZipStoreOutputDescription {
     ghost levels = { 4 };
 
     ghost reads_back = { stored_outputs_back };
+
+    ghost reads_known = { stored_outputs_known };
 
     ghost writable = { stored_outputs_writable };
 

@@ -8,6 +8,7 @@ use std::alloc::{AllocError, Global};
 impl Form for NextestRunMode {
     ghost use Rattle.rec_forms.specs.Recording.{run_mode_value, run_mode_form};
     ghost use Rattle.rec_forms.specs.RecordingLaws.{run_mode_back, run_mode_writable};
+    ghost use Rattle.rec_forms.specs.KnownLaws.{any_known};
 
     ghost well_formed = { λ _. Unit {0} };
 
@@ -18,6 +19,8 @@ impl Form for NextestRunMode {
     ghost levels = { 0 };
 
     ghost reads_back = { λ m _. run_mode_back m };
+
+    ghost reads_known = { any_known run_mode_form };
 
     ghost writable = { run_mode_writable };
 
@@ -42,6 +45,7 @@ impl Form for NextestRunMode {
 impl Form for RecordOpts {
     ghost use Rattle.rec_forms.specs.Recording.{record_opts_value, record_opts_form};
     ghost use Rattle.rec_forms.specs.RecordingLaws.{record_opts_back, record_opts_writable};
+    ghost use Rattle.rec_forms.specs.KnownLaws.{any_known};
 
     ghost well_formed = { λ _. Unit {0} };
 
@@ -52,6 +56,8 @@ impl Form for RecordOpts {
     ghost levels = { 1 };
 
     ghost reads_back = { λ x _. record_opts_back x };
+
+    ghost reads_known = { any_known record_opts_form };
 
     ghost writable = { record_opts_writable };
 
@@ -75,7 +81,7 @@ impl Form for RecordOpts {
 
 impl Form for TestListSummary {
     ghost use Rattle.rec_forms.specs.Recording.{test_list_value, test_list_form, IsTestList};
-    ghost use Rattle.rec_forms.specs.RecordingLaws.{test_list_back, test_list_writable};
+    ghost use Rattle.rec_forms.specs.RecordingLaws.{test_list_back, test_list_writable, test_list_known};
 
     ghost well_formed = { IsTestList };
 
@@ -86,6 +92,8 @@ impl Form for TestListSummary {
     ghost levels = { 3 };
 
     ghost reads_back = { test_list_back };
+
+    ghost reads_known = { test_list_known };
 
     ghost writable = { test_list_writable };
 

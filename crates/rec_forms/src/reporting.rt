@@ -7,6 +7,7 @@ use std::alloc::{AllocError, Global};
 impl Form for TestOutputDisplay {
     ghost use Rattle.rec_forms.specs.Reporting.{output_display_value, output_display_form};
     ghost use Rattle.rec_forms.specs.ReportingLaws.{output_display_back, output_display_writable};
+    ghost use Rattle.rec_forms.specs.KnownLaws.{any_known};
 
     ghost well_formed = { λ _. Unit {0} };
 
@@ -17,6 +18,8 @@ impl Form for TestOutputDisplay {
     ghost levels = { 0 };
 
     ghost reads_back = { λ x _. output_display_back x };
+
+    ghost reads_known = { any_known output_display_form };
 
     ghost writable = { output_display_writable };
 
@@ -45,6 +48,7 @@ impl Form for TestOutputDisplay {
 impl Form for JunitFlakyFailStatus {
     ghost use Rattle.rec_forms.specs.Reporting.{flaky_fail_status_value, flaky_fail_status_form};
     ghost use Rattle.rec_forms.specs.ReportingLaws.{flaky_fail_status_back, flaky_fail_status_writable};
+    ghost use Rattle.rec_forms.specs.KnownLaws.{any_known};
 
     ghost well_formed = { λ _. Unit {0} };
 
@@ -55,6 +59,8 @@ impl Form for JunitFlakyFailStatus {
     ghost levels = { 0 };
 
     ghost reads_back = { λ x _. flaky_fail_status_back x };
+
+    ghost reads_known = { any_known flaky_fail_status_form };
 
     ghost writable = { flaky_fail_status_writable };
 
@@ -79,6 +85,7 @@ impl Form for JunitFlakyFailStatus {
 impl Form for CancelReason {
     ghost use Rattle.rec_forms.specs.Reporting.{cancel_reason_value, cancel_reason_form};
     ghost use Rattle.rec_forms.specs.ReportingLaws.{cancel_reason_back, cancel_reason_writable};
+    ghost use Rattle.rec_forms.specs.KnownLaws.{any_known};
 
     ghost well_formed = { λ _. Unit {0} };
 
@@ -89,6 +96,8 @@ impl Form for CancelReason {
     ghost levels = { 0 };
 
     ghost reads_back = { λ x _. cancel_reason_back x };
+
+    ghost reads_known = { any_known cancel_reason_form };
 
     ghost writable = { cancel_reason_writable };
 

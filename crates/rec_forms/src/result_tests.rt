@@ -74,6 +74,8 @@ fn passes_or_fails(rt: HostRuntime) -> Result<(), Fail> {
             ("\"pass\"", "\"pass\""),
             ("\"fail\"", "\"fail\""),
             ("\"Pass\"", "refused"),
+            ("{\"pass\":null}", "refused"),
+            ("true", "refused"),
         ],
     )?;
     check::<LeakTimeoutResult>(
@@ -83,6 +85,8 @@ fn passes_or_fails(rt: HostRuntime) -> Result<(), Fail> {
             ("\"pass\"", "\"pass\""),
             ("\"fail\"", "\"fail\""),
             ("\"leak\"", "refused"),
+            ("{\"pass\":null}", "refused"),
+            ("true", "refused"),
         ],
     )?;
     check::<SlowTimeoutResult>(
@@ -92,6 +96,8 @@ fn passes_or_fails(rt: HostRuntime) -> Result<(), Fail> {
             ("\"pass\"", "\"pass\""),
             ("\"fail\"", "\"fail\""),
             ("null", "refused"),
+            ("{\"pass\":null}", "refused"),
+            ("true", "refused"),
         ],
     )
 }

@@ -16,6 +16,7 @@ use std::alloc::{AllocError, Global};
 impl Form for FlakyResult {
     ghost use Rattle.rec_forms.specs.Results.{flaky_result_value, flaky_result_form};
     ghost use Rattle.rec_forms.specs.ResultLaws.{flaky_result_back, flaky_result_writable};
+    ghost use Rattle.rec_forms.specs.KnownLaws.{any_known};
 
     ghost well_formed = { λ _. Unit {0} };
 
@@ -26,6 +27,8 @@ impl Form for FlakyResult {
     ghost levels = { 0 };
 
     ghost reads_back = { λ x _. flaky_result_back x };
+
+    ghost reads_known = { any_known flaky_result_form };
 
     ghost writable = { flaky_result_writable };
 
@@ -50,6 +53,7 @@ impl Form for FlakyResult {
 impl Form for LeakTimeoutResult {
     ghost use Rattle.rec_forms.specs.Results.{leak_result_value, leak_result_form};
     ghost use Rattle.rec_forms.specs.ResultLaws.{leak_result_back, leak_result_writable};
+    ghost use Rattle.rec_forms.specs.KnownLaws.{any_known};
 
     ghost well_formed = { λ _. Unit {0} };
 
@@ -60,6 +64,8 @@ impl Form for LeakTimeoutResult {
     ghost levels = { 0 };
 
     ghost reads_back = { λ x _. leak_result_back x };
+
+    ghost reads_known = { any_known leak_result_form };
 
     ghost writable = { leak_result_writable };
 
@@ -84,6 +90,7 @@ impl Form for LeakTimeoutResult {
 impl Form for SlowTimeoutResult {
     ghost use Rattle.rec_forms.specs.Results.{slow_result_value, slow_result_form};
     ghost use Rattle.rec_forms.specs.ResultLaws.{slow_result_back, slow_result_writable};
+    ghost use Rattle.rec_forms.specs.KnownLaws.{any_known};
 
     ghost well_formed = { λ _. Unit {0} };
 
@@ -94,6 +101,8 @@ impl Form for SlowTimeoutResult {
     ghost levels = { 0 };
 
     ghost reads_back = { λ x _. slow_result_back x };
+
+    ghost reads_known = { any_known slow_result_form };
 
     ghost writable = { slow_result_writable };
 
@@ -117,7 +126,7 @@ impl Form for SlowTimeoutResult {
 
 impl Form for FailureDescription {
     ghost use Rattle.rec_forms.specs.Results.{failure_value, failure_form, IsFailure};
-    ghost use Rattle.rec_forms.specs.ResultLaws.{failure_back, failure_writable};
+    ghost use Rattle.rec_forms.specs.ResultLaws.{failure_back, failure_writable, failure_known};
 
     ghost well_formed = { IsFailure };
 
@@ -128,6 +137,8 @@ impl Form for FailureDescription {
     ghost levels = { 2 };
 
     ghost reads_back = { failure_back };
+
+    ghost reads_known = { failure_known };
 
     ghost writable = { failure_writable };
 
@@ -177,7 +188,7 @@ fn abort_from(alloc: Global, value: &Value) -> Result<FailureDescription, FromVa
 
 impl Form for ExecutionResultDescription {
     ghost use Rattle.rec_forms.specs.Results.{execution_result_value, execution_result_form, IsExecutionResult};
-    ghost use Rattle.rec_forms.specs.ResultLaws.{execution_result_back, execution_result_writable};
+    ghost use Rattle.rec_forms.specs.ResultLaws.{execution_result_back, execution_result_writable, execution_result_known};
 
     ghost well_formed = { IsExecutionResult };
 
@@ -188,6 +199,8 @@ impl Form for ExecutionResultDescription {
     ghost levels = { 4 };
 
     ghost reads_back = { execution_result_back };
+
+    ghost reads_known = { execution_result_known };
 
     ghost writable = { execution_result_writable };
 

@@ -3,7 +3,8 @@ use crate::tests::{check, rewritten};
 use crate::{Form, read_text, write_text};
 use rec_events::{
     Duration, FinalRunStats, MismatchReason, NonZeroCount, ReportSkipPolicy, RunFinishedStats,
-    RunStats, StressIndexSummary, StressProgress, StressRunStats, TestsNotSeenSummary,
+    RunStats, StressFinalRunStats, StressIndexSummary, StressProgress, StressRunStats,
+    TestsNotSeenSummary,
 };
 use std::alloc::Global;
 use std::process::Abort;
@@ -212,6 +213,29 @@ fn final_stats(rt: HostRuntime) -> Result<(), Fail> {
         "1",
     ];
     refuse::<FinalRunStats>(&rt, alloc, &refused)
+}
+
+#[test]
+fn stress_final_stats(rt: HostRuntime) -> Result<(), Fail> {
+    let alloc = rt.alloc();
+    let table = [
+        (StressFinalRunStats::Success, r#""success""#),
+        (StressFinalRunStats::NoTestsRun, r#""no-tests-run""#),
+        (StressFinalRunStats::Failed, r#""failed""#),
+        (StressFinalRunStats::Cancelled, r#""cancelled""#),
+    ];
+    match_up(&rt, alloc, &table)?;
+    let refused = [
+        r#""no_tests_run""#,
+        r#""Failed""#,
+        r#""canceled""#,
+        r#"{"success":null}"#,
+        r#"["failed"]"#,
+        "null",
+        "false",
+        "3",
+    ];
+    refuse::<StressFinalRunStats>(&rt, alloc, &refused)
 }
 
 // What the counts of a stress run are written as, with these members behind the first.

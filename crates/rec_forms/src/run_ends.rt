@@ -1,13 +1,17 @@
 // How a run ended.
 use crate::fields::{only_member, put_field, required_field, tagged};
 use crate::{Form, FromValueError};
-use rec_events::{FinalRunStats, RunFinishedStats, RunStats, StressRunStats, TestsNotSeenSummary};
+use rec_events::{
+    FinalRunStats, RunFinishedStats, RunStats, StressFinalRunStats, StressRunStats,
+    TestsNotSeenSummary,
+};
 use serde_json::{Map, Value};
 use std::alloc::{AllocError, Global};
 
 impl Form for FinalRunStats {
     ghost use Rattle.rec_forms.specs.RunEnds.{final_stats_value, final_stats_form};
     ghost use Rattle.rec_forms.specs.RunEndLaws.{final_stats_back, final_stats_writable};
+    ghost use Rattle.rec_forms.specs.KnownLaws.{any_known};
 
     ghost well_formed = { λ _. Unit {0} };
 
@@ -18,6 +22,8 @@ impl Form for FinalRunStats {
     ghost levels = { 0 };
 
     ghost reads_back = { λ x _. final_stats_back x };
+
+    ghost reads_known = { any_known final_stats_form };
 
     ghost writable = { final_stats_writable };
 
@@ -43,9 +49,50 @@ impl Form for FinalRunStats {
     }
 }
 
+impl Form for StressFinalRunStats {
+    ghost use Rattle.rec_forms.specs.RunEnds.{stress_final_stats_value, stress_final_stats_form};
+    ghost use Rattle.rec_forms.specs.RunEndLaws.{stress_final_stats_back, stress_final_stats_writable};
+    ghost use Rattle.rec_forms.specs.KnownLaws.{any_known};
+
+    ghost well_formed = { λ _. Unit {0} };
+
+    ghost value_of = { stress_final_stats_value };
+
+    ghost form_of = { stress_final_stats_form };
+
+    ghost levels = { 0 };
+
+    ghost reads_back = { λ x _. stress_final_stats_back x };
+
+    ghost reads_known = { any_known stress_final_stats_form };
+
+    ghost writable = { stress_final_stats_writable };
+
+    fn to_value(&self, alloc: Global) -> Result<Value, AllocError> {
+        let name = match self {
+            StressFinalRunStats::Success => "success",
+            StressFinalRunStats::NoTestsRun => "no-tests-run",
+            StressFinalRunStats::Failed => "failed",
+            StressFinalRunStats::Cancelled => "cancelled",
+        };
+        Value::try_from_str(alloc, name)
+    }
+
+    #[tactic(auto, unfolding(crate::specs::RunEnds::stress_final_stats_form))]
+    fn from_value(_alloc: Global, value: &Value) -> Result<StressFinalRunStats, FromValueError> {
+        match value.as_str() {
+            Some("success") => Ok(StressFinalRunStats::Success),
+            Some("no-tests-run") => Ok(StressFinalRunStats::NoTestsRun),
+            Some("failed") => Ok(StressFinalRunStats::Failed),
+            Some("cancelled") => Ok(StressFinalRunStats::Cancelled),
+            _ => Err(FromValueError::NotAValue),
+        }
+    }
+}
+
 impl Form for StressRunStats {
     ghost use Rattle.rec_forms.specs.RunEnds.{stress_run_stats_value, stress_run_stats_form, IsStressRunStats};
-    ghost use Rattle.rec_forms.specs.RunEndLaws.{stress_run_stats_back, stress_run_stats_writable};
+    ghost use Rattle.rec_forms.specs.RunEndLaws.{stress_run_stats_back, stress_run_stats_writable, stress_run_stats_known};
 
     ghost well_formed = { IsStressRunStats };
 
@@ -56,6 +103,8 @@ impl Form for StressRunStats {
     ghost levels = { 2 };
 
     ghost reads_back = { stress_run_stats_back };
+
+    ghost reads_known = { stress_run_stats_known };
 
     ghost writable = { stress_run_stats_writable };
 
@@ -90,7 +139,7 @@ impl Form for StressRunStats {
 
 impl Form for RunFinishedStats {
     ghost use Rattle.rec_forms.specs.RunEnds.{run_finished_stats_value, run_finished_stats_form, IsRunFinishedStats};
-    ghost use Rattle.rec_forms.specs.RunEndLaws.{run_finished_stats_back, run_finished_stats_writable};
+    ghost use Rattle.rec_forms.specs.RunEndLaws.{run_finished_stats_back, run_finished_stats_writable, run_finished_stats_known};
 
     ghost well_formed = { IsRunFinishedStats };
 
@@ -101,6 +150,8 @@ impl Form for RunFinishedStats {
     ghost levels = { 3 };
 
     ghost reads_back = { run_finished_stats_back };
+
+    ghost reads_known = { run_finished_stats_known };
 
     ghost writable = { run_finished_stats_writable };
 
@@ -130,7 +181,7 @@ impl Form for RunFinishedStats {
 
 impl Form for TestsNotSeenSummary {
     ghost use Rattle.rec_forms.specs.RunEnds.{tests_not_seen_value, tests_not_seen_form, IsTestsNotSeen};
-    ghost use Rattle.rec_forms.specs.RunEndLaws.{tests_not_seen_back, tests_not_seen_writable};
+    ghost use Rattle.rec_forms.specs.RunEndLaws.{tests_not_seen_back, tests_not_seen_writable, tests_not_seen_known};
 
     ghost well_formed = { IsTestsNotSeen };
 
@@ -141,6 +192,8 @@ impl Form for TestsNotSeenSummary {
     ghost levels = { 3 };
 
     ghost reads_back = { tests_not_seen_back };
+
+    ghost reads_known = { tests_not_seen_known };
 
     ghost writable = { tests_not_seen_writable };
 

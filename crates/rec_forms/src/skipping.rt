@@ -7,6 +7,7 @@ use std::alloc::{AllocError, Global};
 impl Form for MismatchReason {
     ghost use Rattle.rec_forms.specs.Skipping.{mismatch_reason_value, mismatch_reason_form};
     ghost use Rattle.rec_forms.specs.SkippingLaws.{mismatch_reason_back, mismatch_reason_writable};
+    ghost use Rattle.rec_forms.specs.KnownLaws.{any_known};
 
     ghost well_formed = { λ _. Unit {0} };
 
@@ -17,6 +18,8 @@ impl Form for MismatchReason {
     ghost levels = { 0 };
 
     ghost reads_back = { λ x _. mismatch_reason_back x };
+
+    ghost reads_known = { any_known mismatch_reason_form };
 
     ghost writable = { mismatch_reason_writable };
 
@@ -51,6 +54,7 @@ impl Form for MismatchReason {
 impl Form for ReportSkipPolicy {
     ghost use Rattle.rec_forms.specs.Skipping.{skip_policy_value, skip_policy_form};
     ghost use Rattle.rec_forms.specs.SkippingLaws.{skip_policy_back, skip_policy_writable};
+    ghost use Rattle.rec_forms.specs.KnownLaws.{any_known};
 
     ghost well_formed = { λ _. Unit {0} };
 
@@ -61,6 +65,8 @@ impl Form for ReportSkipPolicy {
     ghost levels = { 0 };
 
     ghost reads_back = { λ x _. skip_policy_back x };
+
+    ghost reads_known = { any_known skip_policy_form };
 
     ghost writable = { skip_policy_writable };
 

@@ -188,7 +188,7 @@ impl Failures {
 
 impl Form for RunStats {
     ghost use Rattle.rec_forms.specs.Stats.{run_stats_value, run_stats_form, IsRunStats};
-    ghost use Rattle.rec_forms.specs.StatsLaws.{run_stats_back, run_stats_writable};
+    ghost use Rattle.rec_forms.specs.StatsLaws.{run_stats_back, run_stats_writable, run_stats_known};
 
     ghost well_formed = { IsRunStats };
 
@@ -199,6 +199,8 @@ impl Form for RunStats {
     ghost levels = { 1 };
 
     ghost reads_back = { run_stats_back };
+
+    ghost reads_known = { run_stats_known };
 
     ghost writable = { run_stats_writable };
 

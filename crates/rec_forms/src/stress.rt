@@ -12,7 +12,7 @@ use std::alloc::{AllocError, Global};
 
 impl Form for StressConditionSummary {
     ghost use Rattle.rec_forms.specs.Stress.{stress_condition_value, stress_condition_form, IsStressCondition};
-    ghost use Rattle.rec_forms.specs.StressLaws.{stress_condition_back, stress_condition_writable};
+    ghost use Rattle.rec_forms.specs.StressLaws.{stress_condition_back, stress_condition_writable, stress_condition_known};
 
     ghost well_formed = { IsStressCondition };
 
@@ -23,6 +23,8 @@ impl Form for StressConditionSummary {
     ghost levels = { 2 };
 
     ghost reads_back = { stress_condition_back };
+
+    ghost reads_known = { stress_condition_known };
 
     ghost writable = { stress_condition_writable };
 
@@ -58,7 +60,7 @@ impl Form for StressConditionSummary {
 
 impl Form for StressProgress {
     ghost use Rattle.rec_forms.specs.Stress.{stress_progress_value, stress_progress_form, IsStressProgress};
-    ghost use Rattle.rec_forms.specs.StressLaws.{stress_progress_back, stress_progress_writable};
+    ghost use Rattle.rec_forms.specs.StressLaws.{stress_progress_back, stress_progress_writable, stress_progress_known};
 
     ghost well_formed = { IsStressProgress };
 
@@ -69,6 +71,8 @@ impl Form for StressProgress {
     ghost levels = { 3 };
 
     ghost reads_back = { stress_progress_back };
+
+    ghost reads_known = { stress_progress_known };
 
     ghost writable = { stress_progress_writable };
 

@@ -6,7 +6,7 @@ use std::alloc::{AllocError, Global};
 
 impl Form for TestNames {
     ghost use Rattle.rec_forms.specs.Names.{names_value, names_form, AreNames};
-    ghost use Rattle.rec_forms.specs.NameLaws.{names_back, names_writable};
+    ghost use Rattle.rec_forms.specs.NameLaws.{names_back, names_writable, names_known};
 
     ghost well_formed = { AreNames };
 
@@ -17,6 +17,8 @@ impl Form for TestNames {
     ghost levels = { 1 };
 
     ghost reads_back = { names_back };
+
+    ghost reads_known = { names_known };
 
     ghost writable = { names_writable };
 

@@ -71,7 +71,12 @@ fn natural_numbers(rt: HostRuntime) -> Result<(), Fail> {
     check::<usize>(
         &rt,
         alloc,
-        &[("18446744073709551615", "18446744073709551615")],
+        &[
+            ("18446744073709551615", "18446744073709551615"),
+            ("18446744073709551616", "refused"),
+            ("-1", "refused"),
+            ("0.0", "refused"),
+        ],
     )?;
     Ok(())
 }
@@ -130,12 +135,29 @@ fn texts(rt: HostRuntime) -> Result<(), Fail> {
     Ok(())
 }
 
+// What is no text.
+fn no_texts() -> [(&'static str, &'static str); 7] {
+    [
+        ("1", "refused"),
+        ("null", "refused"),
+        ("true", "refused"),
+        ("[\"a\"]", "refused"),
+        ("{\"a\":\"b\"}", "refused"),
+        ("a", "refused"),
+        ("\"\\udc00\"", "refused"),
+    ]
+}
+
 #[test]
 fn names(rt: HostRuntime) -> Result<(), Fail> {
     let alloc = rt.alloc();
+    let refused = no_texts();
     check::<RustBinaryId>(&rt, alloc, &[("\"\"", "\"\""), ("\"a::b\"", "\"a::b\"")])?;
-    check::<TestCaseName>(&rt, alloc, &[("\"t 1\"", "\"t 1\""), ("1", "refused")])?;
+    check::<RustBinaryId>(&rt, alloc, &refused)?;
+    check::<TestCaseName>(&rt, alloc, &[("\"t 1\"", "\"t 1\"")])?;
+    check::<TestCaseName>(&rt, alloc, &refused)?;
     check::<ScriptId>(&rt, alloc, &[("\"@tool:x\"", "\"@tool:x\"")])?;
+    check::<ScriptId>(&rt, alloc, &refused)?;
     Ok(())
 }
 

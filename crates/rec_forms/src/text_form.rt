@@ -14,7 +14,8 @@ use std::alloc::{AllocError, Global};
 /// Reads an item from its JSON text. `NotAValue` comes exactly where `bytes` are no UTF-8, are not
 /// the text of a JSON value, or are that of a value which stands for no item.
 pub fn read_text<T: Form>(alloc: Global, bytes: &[u8]) -> Result<T, FromValueError>
-    ensures { Gives result (bytes_form T.form_of bytes.now) }
+    ensures read { Gives result (bytes_form T.form_of bytes.now) }
+    ensures known { IfOk result T.well_formed }
 {
     let value = read_value(alloc, bytes)?;
     T::from_value(alloc, &value)

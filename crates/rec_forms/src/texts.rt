@@ -9,7 +9,7 @@ use std::alloc::{AllocError, Global};
 
 impl Form for Text {
     ghost use Rattle.rec_events.specs.Names.{IsText};
-    ghost use Rattle.rec_forms.specs.NumberLaws.{text_back};
+    ghost use Rattle.rec_forms.specs.NumberLaws.{text_back, text_known};
     ghost use Rattle.rec_forms.specs.Writable.{string_writable};
 
     ghost well_formed = { IsText };
@@ -21,6 +21,8 @@ impl Form for Text {
     ghost levels = { 0 };
 
     ghost reads_back = { text_back };
+
+    ghost reads_known = { text_known };
 
     ghost writable = { λ s. string_writable s };
 

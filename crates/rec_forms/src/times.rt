@@ -7,7 +7,7 @@ use std::alloc::{AllocError, Global};
 
 impl Form for Stamp {
     ghost use Rattle.rec_forms.specs.Times.{stamp_value, stamp_form, IsStamp};
-    ghost use Rattle.rec_forms.specs.TimeLaws.{stamp_back, stamp_writable};
+    ghost use Rattle.rec_forms.specs.TimeLaws.{stamp_back, stamp_writable, stamp_known};
 
     ghost well_formed = { IsStamp };
 
@@ -18,6 +18,8 @@ impl Form for Stamp {
     ghost levels = { 1 };
 
     ghost reads_back = { stamp_back };
+
+    ghost reads_known = { stamp_known };
 
     ghost writable = { stamp_writable };
 
@@ -44,7 +46,7 @@ impl Form for Stamp {
 
 impl Form for Duration {
     ghost use Rattle.rec_forms.specs.Times.{duration_value, duration_form, IsDuration};
-    ghost use Rattle.rec_forms.specs.TimeLaws.{duration_back, duration_writable};
+    ghost use Rattle.rec_forms.specs.TimeLaws.{duration_back, duration_writable, duration_known};
 
     ghost well_formed = { IsDuration };
 
@@ -55,6 +57,8 @@ impl Form for Duration {
     ghost levels = { 1 };
 
     ghost reads_back = { duration_back };
+
+    ghost reads_known = { duration_known };
 
     ghost writable = { duration_writable };
 
