@@ -1,26 +1,32 @@
 -- A head reads back, and is writable.
-use Rattle.std.specs.Prelude.{◌≡◌, Some}
+use Rattle.std.specs.Prelude.{◌≡◌, Some, codes}
 use Rattle.std.proofs.Common.{arith}
-use Rattle.serde_json.specs.Data.{string}
+use Rattle.serde_json.specs.Data.{string, Members}
 use Rattle.rec_events.specs.Names.{IsText}
 use Rattle.rec_forms.specs.Members.{get_member-members_of}
 use Rattle.rec_forms.specs.IdLaws.{uuid_back, version_back}
 use Rattle.rec_forms.specs.Ids.{uuid_value, uuid_form, IsUuid}
 use Rattle.rec_forms.specs.ListLaws.{each_back, maybe_back}
 use Rattle.rec_forms.specs.MapLaws.{map_back, map_writable}
-use Rattle.rec_forms.specs.NumberLaws.{text_back}
-use Rattle.rec_forms.specs.RecordingLaws.{test_list_back, test_list_writable, record_opts_back, record_opts_writable}
+use Rattle.rec_forms.specs.NumberLaws.{text_back, text_known}
+use Rattle.rec_forms.specs.RecordingLaws.{test_list_back, test_list_writable, record_opts_back, record_opts_writable, test_list_known}
 use Rattle.rec_forms.specs.Shape.{text_of}
 use Rattle.rec_forms.specs.TimeLaws.{stamp_back, stamp_writable, duration_back, duration_writable}
 use Rattle.rec_forms.specs.Times.{duration_value, duration_form, IsDuration}
 use Rattle.rec_forms.specs.Writable.{IsWritable, weaker, struct_writable, string_writable, list_writable, optional_writable}
 use Rattle.rec_format.specs.declared.head.SessionHead.{SessionHead}
 use Rattle.rec_format.specs.PartForms.{identity_form, invocation_form}
-use Rattle.rec_format.specs.HeadForms.{head_value, head_form, contents_form, IsHead}
+use Rattle.rec_format.specs.HeadForms.{head_value, head_form, contents_form, IsHead, AreContents}
 use Rattle.rec_format.specs.RerunForms.{rerun_info_value, rerun_info_form, IsRerunInfo}
-use Rattle.rec_format.specs.RerunFormLaws.{rerun_info_back, rerun_info_writable}
-use Rattle.rec_format.specs.ScopeFormLaws.{recorded_scope_back, recorded_scope_writable}
-use Rattle.rec_format.specs.StatusFormLaws.{status_back, status_writable}
+use Rattle.rec_format.specs.RerunFormLaws.{rerun_info_back, rerun_info_writable, rerun_info_known}
+use Rattle.rec_format.specs.ScopeFormLaws.{recorded_scope_back, recorded_scope_writable, recorded_scope_known}
+use Rattle.rec_format.specs.StatusFormLaws.{status_back, status_writable, status_known}
+use Rattle.rec_forms.specs.Known.{Holds, Known}
+use Rattle.rec_forms.specs.KnownLaws.{any_known, then_holds, object_then, required_then, maybe_then}
+use Rattle.rec_format.specs.PartFormLaws.{identity_known, invocation_known}
+use Rattle.rec_format.specs.StatusForms.{status_form}
+use Rattle.rec_format.specs.ScopeForms.{recorded_scope_form}
+use Rattle.rec_forms.specs.Recording.{record_opts_form, test_list_form}
 
 pub head_back : (h : SessionHead) → IsHead h → head_form (head_value h) ≡ Some h
 unfolding head_form identity_form invocation_form contents_form
@@ -85,3 +91,27 @@ head_writable h =
         ),
       ),
     )
+
+-- ---- what is read is well-formed
+
+contents_known : (ms : Members) → Holds AreContents (contents_form ms)
+unfolding contents_form
+contents_known ms =
+    required_then status_form (codes "status") ms _ status_known (λ status status_is.
+    required_then text_of (codes "cargo-metadata") ms _ text_known (λ cargo_metadata cargo_metadata_is.
+    required_then test_list_form (codes "test-list") ms _ test_list_known (λ test_list test_list_is.
+    required_then record_opts_form (codes "record-opts") ms _ (any_known record_opts_form) (λ record_opts record_opts_is.
+    required_then recorded_scope_form (codes "build-scope") ms _ recorded_scope_known (λ build_scope build_scope_is.
+    maybe_then rerun_info_form (codes "rerun-info") ms _ rerun_info_known (λ rerun_info rerun_info_is.
+    record { is = record { status = status_is; cargo_metadata = cargo_metadata_is; test_list = test_list_is; build_scope = build_scope_is; rerun_info = rerun_info_is } }))))))
+
+pub head_known : Known IsHead head_form
+unfolding head_form
+head_known = record {
+  each = λ d.
+      object_then d _ (λ ms.
+      then_holds (identity_form ms) _ (identity_known ms) (λ i i_is.
+      then_holds (invocation_form ms) _ (invocation_known ms) (λ v v_is.
+      then_holds (contents_form ms) _ (contents_known ms) (λ c c_is.
+      record { is = record { identity = i_is; invocation = v_is; contents = c_is } }))));
+}

@@ -20,6 +20,7 @@ pub mod SuiteFormLaws
 pub mod RerunForms
 pub mod RerunFormLaws
 pub mod PartForms
+pub mod PartFormLaws
 pub mod HeadForms
 pub mod HeadFormLaws
 pub mod RunForms

@@ -1,5 +1,5 @@
 -- A run's metadata and a manifest read back, and are writable.
-use Rattle.std.specs.Prelude.{◌≡◌, Some}
+use Rattle.std.specs.Prelude.{◌≡◌, Some, codes}
 use Rattle.std.proofs.Common.{arith}
 use Rattle.serde_json.specs.Data.{string}
 use Rattle.rec_events.specs.Names.{IsText}
@@ -8,7 +8,7 @@ use Rattle.rec_forms.specs.IdLaws.{uuid_back, version_back}
 use Rattle.rec_forms.specs.Ids.{uuid_value, uuid_form, IsUuid}
 use Rattle.rec_forms.specs.ListLaws.{each_back, maybe_back}
 use Rattle.rec_forms.specs.MapLaws.{map_back, map_writable}
-use Rattle.rec_forms.specs.NumberLaws.{text_back, u32_back}
+use Rattle.rec_forms.specs.NumberLaws.{text_back, u32_back, u32_known}
 use Rattle.rec_forms.specs.Shape.{text_of}
 use Rattle.rec_forms.specs.TimeLaws.{stamp_back, stamp_writable, duration_back, duration_writable}
 use Rattle.rec_forms.specs.Times.{duration_value, duration_form, IsDuration}
@@ -17,9 +17,16 @@ use Rattle.rec_format.specs.declared.run.RecordedRun.{RecordedRun}
 use Rattle.rec_format.specs.declared.manifest.PortableManifest.{PortableManifest}
 use Rattle.rec_format.specs.PartForms.{identity_form, invocation_form}
 use Rattle.rec_format.specs.RunForms.{run_value, run_form, IsRun, manifest_value, manifest_form, IsManifest}
-use Rattle.rec_format.specs.SizeFormLaws.{sizes_format_back, sizes_format_writable}
-use Rattle.rec_format.specs.StatusFormLaws.{status_format_back, status_format_writable}
-use Rattle.rec_format.specs.VersionFormLaws.{portable_version_back, portable_version_writable}
+use Rattle.rec_format.specs.SizeFormLaws.{sizes_format_back, sizes_format_writable, sizes_format_known}
+use Rattle.rec_format.specs.StatusFormLaws.{status_format_back, status_format_writable, status_format_known}
+use Rattle.rec_format.specs.VersionFormLaws.{portable_version_back, portable_version_writable, portable_version_known}
+use Rattle.rec_forms.specs.Known.{Known}
+use Rattle.rec_forms.specs.KnownLaws.{then_holds, object_then, required_then, defaulted_then}
+use Rattle.rec_format.specs.PartFormLaws.{identity_known, invocation_known}
+use Rattle.rec_format.specs.SizeForms.{sizes_format_form}
+use Rattle.rec_format.specs.StatusForms.{status_format_form}
+use Rattle.rec_format.specs.VersionForms.{portable_version_form}
+use Rattle.rec_forms.specs.Numbers.{u32_form}
 
 pub run_back : (r : RecordedRun) → IsRun r → run_form (run_value r) ≡ Some r
 unfolding run_form identity_form invocation_form
@@ -83,3 +90,38 @@ manifest_back m is = simp (get_member-members_of, portable_version_back _ is.for
 
 pub manifest_writable : (m : PortableManifest) → IsWritable 4 (manifest_value m)
 manifest_writable m = struct_writable _ (weaker 1 3 (omega arith) (portable_version_writable m.format_version), (run_writable m.run, tt))
+
+-- ---- what is read is well-formed
+
+pub run_known : Known IsRun run_form
+unfolding run_form
+run_known = record {
+  each = λ d.
+      object_then d _ (λ ms.
+      then_holds (identity_form ms) _ (identity_known ms) (λ i i_is.
+      then_holds (invocation_form ms) _ (invocation_known ms) (λ v v_is.
+      required_then u32_form (codes "store-format-version") ms _ u32_known (λ major major_is.
+      defaulted_then u32_form (codes "store-format-minor-version") ms 0 _ (omega arith) u32_known (λ minor minor_is.
+      required_then sizes_format_form (codes "sizes") ms _ sizes_format_known (λ sizes sizes_is.
+      required_then status_format_form (codes "status") ms _ status_format_known (λ status status_is.
+      record {
+        is = record {
+          identity = i_is;
+          invocation = v_is;
+          store_format_version = major_is;
+          store_format_minor_version = minor_is;
+          sizes = sizes_is;
+          status = status_is;
+        };
+      })))))));
+}
+
+pub manifest_known : Known IsManifest manifest_form
+unfolding manifest_form
+manifest_known = record {
+  each = λ d.
+      object_then d _ (λ ms.
+      required_then portable_version_form (codes "format-version") ms _ portable_version_known (λ format_version format_version_is.
+      required_then run_form (codes "run") ms _ run_known (λ run run_is.
+      record { is = record { format_version = format_version_is; run = run_is } })));
+}

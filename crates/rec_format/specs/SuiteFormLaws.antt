@@ -1,6 +1,6 @@
 -- Test suites read back, and are writable.
-use Rattle.std.specs.Prelude.{◌≡◌, List, [], ◌∷◌, ◌++◌, map, Some, None, false, refl}
-use Rattle.std.proofs.Common.{ap, sym, ◌∙◌, append_assoc, Less, Greater}
+use Rattle.std.specs.Prelude.{◌≡◌, ℕ, List, [], ◌∷◌, ◌++◌, map, Some, None, false, refl, Option, codes, option_and_then}
+use Rattle.std.proofs.Common.{ap, sym, ◌∙◌, append_assoc, Less, Greater, is_some}
 use Rattle.std.specs.List.{AllByRecursion}
 use Rattle.std.specs.List.Sorted.{IsStrictlySortedBy}
 use Rattle.std.specs.Ordering.{nat_cmp, ordering_reverse, is_eq}
@@ -9,12 +9,23 @@ use Rattle.std.specs.Str.{bytes_eq}
 use Rattle.std.proofs.lemmas.Map.Text.{is_eq-slice_cmp}
 use Rattle.serde_json.specs.View.{items_of}
 use Rattle.rec_forms.specs.Members.{get_member-members_of}
-use Rattle.rec_forms.specs.NumberLaws.{text_back}
+use Rattle.rec_forms.specs.NumberLaws.{text_back, text_known}
 use Rattle.rec_forms.specs.NameLaws.{names_back, names_writable}
 use Rattle.rec_forms.specs.Writable.{IsWritable, struct_writable, string_writable, list_writable}
 use Rattle.rec_format.specs.declared.suites.RerunTestSuiteInfo.{RerunTestSuiteInfo}
 use Rattle.rec_format.specs.Suites.{put_suite, suite_of, SuitesRise}
 use Rattle.rec_format.specs.SuiteForms.{suite_value, suite_form, IsSuite, suites_value, joined_by, suites_from, suites_form, AreSuites}
+use Rattle.rec_forms.specs.Known.{Holds, Known}
+use Rattle.rec_forms.specs.KnownLaws.{anything, and_then_holds, choice_holds, object_then, required_then}
+use Rattle.rec_forms.specs.NameLaws.{match_holds, Rise-with_name, names_known}
+use Rattle.std.specs.Ordering.{match_ordering}
+use Rattle.std.proofs.lemmas.Slice.Eq.{bytes_eq-Decides}
+use Rattle.std.proofs.Common.{Ordering, Equal}
+use Rattle.rec_events.specs.Names.{with_name}
+use Rattle.rec_forms.specs.Names.{names_form}
+use Rattle.rec_forms.specs.Shape.{text_of}
+use Rattle.serde_json.specs.Data.{Items, no_items, item}
+use Rattle.serde_json.specs.Find.{as_array}
 
 pub suite_back : (s : RerunTestSuiteInfo) → IsSuite s → suite_form (suite_value s) ≡ Some s
 unfolding suite_form
@@ -79,3 +90,59 @@ suites_back suites h = each_back suites [] h.rise h.each
 
 pub suites_writable : (suites : List RerunTestSuiteInfo) → IsWritable 3 (suites_value suites)
 suites_writable suites = list_writable suite_value suite_writable suites
+
+-- ---- what is read is well-formed
+
+pub suite_known : Known IsSuite suite_form
+unfolding suite_form
+suite_known = record {
+  each = λ d.
+      object_then d _ (λ ms.
+      required_then text_of (codes "binary_id") ms _ text_known (λ binary_id binary_id_is.
+      required_then names_form (codes "passing") ms _ names_known (λ passing passing_is.
+      required_then names_form (codes "outstanding") ms _ names_known (λ outstanding outstanding_is.
+      record { is = record { binary_id = binary_id_is; passing = passing_is; outstanding = outstanding_is } }))));
+}
+
+-- ---- a suite among others
+
+suite_known_in : (s : RerunTestSuiteInfo) (suites : List RerunTestSuiteInfo) → IsSuite s → AllByRecursion IsSuite suites → AllByRecursion IsSuite (put_suite s suites)
+suite_known_in s [] h all = (h, tt)
+suite_known_in s (first ∷ more) h all =
+    match_holds (AllByRecursion IsSuite) (slice_cmp nat_cmp s.binary_id first.binary_id) _ _ _ (h, all) (h, all.1) (all.0, suite_known_in s more h all.1)
+
+abbrev ids : List RerunTestSuiteInfo → List (List ℕ)
+ids suites = map (λ suite. suite.binary_id) suites
+
+-- where no suite has the id, it is put as a name is
+ids-match : (o : Ordering) (a b c : List RerunTestSuiteInfo) (x y z : List (List ℕ)) → ids a ≡ x → (o ≡ Equal → ids b ≡ y) → ids c ≡ z
+    → ids (match_ordering o a b c) ≡ match_ordering o x y z
+ids-match Less a b c x y z e f g = e
+ids-match Equal a b c x y z e f g = f refl
+ids-match Greater a b c x y z e f g = g
+
+is_same : (s first : List ℕ) → slice_cmp nat_cmp s first ≡ Equal → s ≡ first
+is_same s first e = (bytes_eq-Decides s first).0 (sym (is_eq-slice_cmp s first) ∙ ap is_eq e)
+
+ids-put_suite : (s : RerunTestSuiteInfo) (suites : List RerunTestSuiteInfo) → ids (put_suite s suites) ≡ with_name (ids suites) s.binary_id
+ids-put_suite s [] = refl
+ids-put_suite s (first ∷ more) =
+    ids-match (slice_cmp nat_cmp s.binary_id first.binary_id) _ _ _ _ _ _ refl
+    (λ e. ap (λ id. id ∷ ids more) (is_same s.binary_id first.binary_id e))
+    (ap (λ names. first.binary_id ∷ names) (ids-put_suite s more))
+
+joined_known : (suites : List RerunTestSuiteInfo) (s : RerunTestSuiteInfo) → IsSuite s → AreSuites suites → Holds AreSuites (joined_by suites s)
+joined_known suites s h are =
+    choice_holds (λ (o : Option (List RerunTestSuiteInfo)). Holds AreSuites o) (is_some (suite_of s.binary_id suites)) None (Some (put_suite s suites))
+    (λ _. record { is = tt })
+    (λ _. record { is = record { rise = rw (ids-put_suite s suites) (Rise-with_name (ids suites) s.binary_id are.rise); each = suite_known_in s suites h are.each } })
+
+suites_in_known : (ds : Items) (suites : List RerunTestSuiteInfo) → AreSuites suites → Holds AreSuites (suites_from suites ds)
+suites_in_known no_items suites are = record { is = are }
+suites_in_known (item d ds) suites are =
+    and_then_holds (λ s. option_and_then (λ more. suites_from more ds) (joined_by suites s)) (suite_form d) (suite_known.each d) (λ s h.
+    and_then_holds (λ more. suites_from more ds) (joined_by suites s) (joined_known suites s h are) (λ more is. suites_in_known ds more is))
+
+pub suites_known : Known AreSuites suites_form
+unfolding suites_form IsStrictlySortedBy
+suites_known = record { each = λ d. and_then_holds (suites_from []) (as_array d) (anything (as_array d)) (λ ds _. suites_in_known ds [] (record { rise = tt; each = tt })) }

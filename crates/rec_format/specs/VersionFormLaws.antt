@@ -1,10 +1,13 @@
 -- Versions read back, and are writable.
-use Rattle.std.specs.Prelude.{◌≡◌, Some}
+use Rattle.std.specs.Prelude.{◌≡◌, Some, codes}
 use Rattle.rec_forms.specs.Members.{get_member-members_of}
-use Rattle.rec_forms.specs.NumberLaws.{u32_back}
+use Rattle.rec_forms.specs.NumberLaws.{u32_back, u32_known}
 use Rattle.rec_forms.specs.Writable.{IsWritable, struct_writable, natural_writable}
 use Rattle.rec_format.specs.declared.versions.PortableRecordingFormatVersion.{PortableRecordingFormatVersion}
 use Rattle.rec_format.specs.VersionForms.{portable_version_value, portable_version_form, IsPortableVersion}
+use Rattle.rec_forms.specs.Known.{Known}
+use Rattle.rec_forms.specs.KnownLaws.{object_then, required_then}
+use Rattle.rec_forms.specs.Numbers.{u32_form}
 
 pub portable_version_back : (v : PortableRecordingFormatVersion) → IsPortableVersion v → portable_version_form (portable_version_value v) ≡ Some v
 unfolding portable_version_form
@@ -12,3 +15,15 @@ portable_version_back v h = simp (get_member-members_of, u32_back _ h.major, u32
 
 pub portable_version_writable : (v : PortableRecordingFormatVersion) → IsWritable 1 (portable_version_value v)
 portable_version_writable v = struct_writable _ (natural_writable v.major, (natural_writable v.minor, tt))
+
+-- ---- what is read is well-formed
+
+pub portable_version_known : Known IsPortableVersion portable_version_form
+unfolding portable_version_form
+portable_version_known = record {
+  each = λ d.
+      object_then d _ (λ ms.
+      required_then u32_form (codes "major") ms _ u32_known (λ major major_is.
+      required_then u32_form (codes "minor") ms _ u32_known (λ minor minor_is.
+      record { is = record { major = major_is; minor = minor_is } })));
+}

@@ -56,7 +56,7 @@ impl Contents {
 
 impl Form for SessionHead {
     ghost use Rattle.rec_format.specs.HeadForms.{head_value, head_form, IsHead};
-    ghost use Rattle.rec_format.specs.HeadFormLaws.{head_back, head_writable};
+    ghost use Rattle.rec_format.specs.HeadFormLaws.{head_back, head_writable, head_known};
 
     ghost well_formed = { IsHead };
 
@@ -67,6 +67,8 @@ impl Form for SessionHead {
     ghost levels = { 8 };
 
     ghost reads_back = { head_back };
+
+    ghost reads_known = { head_known };
 
     ghost writable = { head_writable };
 

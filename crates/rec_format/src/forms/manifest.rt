@@ -6,7 +6,7 @@ use std::alloc::{AllocError, Global};
 
 impl Form for PortableManifest {
     ghost use Rattle.rec_format.specs.RunForms.{manifest_value, manifest_form, IsManifest};
-    ghost use Rattle.rec_format.specs.RunFormLaws.{manifest_back, manifest_writable};
+    ghost use Rattle.rec_format.specs.RunFormLaws.{manifest_back, manifest_writable, manifest_known};
 
     ghost well_formed = { IsManifest };
 
@@ -17,6 +17,8 @@ impl Form for PortableManifest {
     ghost levels = { 4 };
 
     ghost reads_back = { manifest_back };
+
+    ghost reads_known = { manifest_known };
 
     ghost writable = { manifest_writable };
 

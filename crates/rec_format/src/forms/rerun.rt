@@ -6,7 +6,7 @@ use std::alloc::{AllocError, Global};
 
 impl Form for RerunRootInfo {
     ghost use Rattle.rec_format.specs.RerunForms.{rerun_root_value, rerun_root_form, IsRerunRoot};
-    ghost use Rattle.rec_format.specs.RerunFormLaws.{rerun_root_back, rerun_root_writable};
+    ghost use Rattle.rec_format.specs.RerunFormLaws.{rerun_root_back, rerun_root_writable, rerun_root_known};
 
     ghost well_formed = { IsRerunRoot };
 
@@ -17,6 +17,8 @@ impl Form for RerunRootInfo {
     ghost levels = { 6 };
 
     ghost reads_back = { rerun_root_back };
+
+    ghost reads_known = { rerun_root_known };
 
     ghost writable = { rerun_root_writable };
 
@@ -42,7 +44,7 @@ impl Form for RerunRootInfo {
 
 impl Form for RerunInfo {
     ghost use Rattle.rec_format.specs.RerunForms.{rerun_info_value, rerun_info_form, IsRerunInfo};
-    ghost use Rattle.rec_format.specs.RerunFormLaws.{rerun_info_back, rerun_info_writable};
+    ghost use Rattle.rec_format.specs.RerunFormLaws.{rerun_info_back, rerun_info_writable, rerun_info_known};
 
     ghost well_formed = { IsRerunInfo };
 
@@ -53,6 +55,8 @@ impl Form for RerunInfo {
     ghost levels = { 7 };
 
     ghost reads_back = { rerun_info_back };
+
+    ghost reads_known = { rerun_info_known };
 
     ghost writable = { rerun_info_writable };
 

@@ -7,7 +7,7 @@ use std::alloc::{AllocError, Global};
 
 impl Form for RecordedRun {
     ghost use Rattle.rec_format.specs.RunForms.{run_value, run_form, IsRun};
-    ghost use Rattle.rec_format.specs.RunFormLaws.{run_back, run_writable};
+    ghost use Rattle.rec_format.specs.RunFormLaws.{run_back, run_writable, run_known};
 
     ghost well_formed = { IsRun };
 
@@ -18,6 +18,8 @@ impl Form for RecordedRun {
     ghost levels = { 3 };
 
     ghost reads_back = { run_back };
+
+    ghost reads_known = { run_known };
 
     ghost writable = { run_writable };
 

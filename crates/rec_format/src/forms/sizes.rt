@@ -6,7 +6,7 @@ use std::alloc::{AllocError, Global};
 
 impl Form for ComponentSizesFormat {
     ghost use Rattle.rec_format.specs.SizeForms.{component_format_value, component_format_form, IsComponentFormat};
-    ghost use Rattle.rec_format.specs.SizeFormLaws.{component_format_back, component_format_writable};
+    ghost use Rattle.rec_format.specs.SizeFormLaws.{component_format_back, component_format_writable, component_format_known};
 
     ghost well_formed = { IsComponentFormat };
 
@@ -17,6 +17,8 @@ impl Form for ComponentSizesFormat {
     ghost levels = { 1 };
 
     ghost reads_back = { component_format_back };
+
+    ghost reads_known = { component_format_known };
 
     ghost writable = { component_format_writable };
 
@@ -44,7 +46,7 @@ impl Form for ComponentSizesFormat {
 
 impl Form for RecordedSizesFormat {
     ghost use Rattle.rec_format.specs.SizeForms.{sizes_format_value, sizes_format_form, IsSizesFormat};
-    ghost use Rattle.rec_format.specs.SizeFormLaws.{sizes_format_back, sizes_format_writable};
+    ghost use Rattle.rec_format.specs.SizeFormLaws.{sizes_format_back, sizes_format_writable, sizes_format_known};
 
     ghost well_formed = { IsSizesFormat };
 
@@ -55,6 +57,8 @@ impl Form for RecordedSizesFormat {
     ghost levels = { 2 };
 
     ghost reads_back = { sizes_format_back };
+
+    ghost reads_known = { sizes_format_known };
 
     ghost writable = { sizes_format_writable };
 
@@ -80,7 +84,7 @@ impl Form for RecordedSizesFormat {
 
 impl Form for ComponentSizes {
     ghost use Rattle.rec_format.specs.SizeForms.{component_value, component_form, IsComponent};
-    ghost use Rattle.rec_format.specs.SizeFormLaws.{component_back, component_writable};
+    ghost use Rattle.rec_format.specs.SizeFormLaws.{component_back, component_writable, component_known};
 
     ghost well_formed = { IsComponent };
 
@@ -91,6 +95,8 @@ impl Form for ComponentSizes {
     ghost levels = { 1 };
 
     ghost reads_back = { component_back };
+
+    ghost reads_known = { component_known };
 
     ghost writable = { component_writable };
 
@@ -105,7 +111,7 @@ impl Form for ComponentSizes {
 
 impl Form for RecordedSizes {
     ghost use Rattle.rec_format.specs.SizeForms.{sizes_value, sizes_form, AreSizes};
-    ghost use Rattle.rec_format.specs.SizeFormLaws.{sizes_back, sizes_writable};
+    ghost use Rattle.rec_format.specs.SizeFormLaws.{sizes_back, sizes_writable, sizes_known};
 
     ghost well_formed = { AreSizes };
 
@@ -116,6 +122,8 @@ impl Form for RecordedSizes {
     ghost levels = { 2 };
 
     ghost reads_back = { sizes_back };
+
+    ghost reads_known = { sizes_known };
 
     ghost writable = { sizes_writable };
 

@@ -129,7 +129,7 @@ fn status_in(
 
 impl Form for RecordedRunStatus {
     ghost use Rattle.rec_format.specs.StatusForms.{status_value, status_form, IsStatus};
-    ghost use Rattle.rec_format.specs.StatusFormLaws.{status_back, status_writable};
+    ghost use Rattle.rec_format.specs.StatusFormLaws.{status_back, status_writable, status_known};
 
     ghost well_formed = { IsStatus };
 
@@ -140,6 +140,8 @@ impl Form for RecordedRunStatus {
     ghost levels = { 1 };
 
     ghost reads_back = { status_back };
+
+    ghost reads_known = { status_known };
 
     ghost writable = { status_writable };
 
@@ -168,7 +170,7 @@ impl Form for RecordedRunStatus {
 
 impl Form for RecordedRunStatusFormat {
     ghost use Rattle.rec_format.specs.StatusForms.{status_format_value, status_format_form, IsStatusFormat};
-    ghost use Rattle.rec_format.specs.StatusFormLaws.{status_format_back, status_format_writable};
+    ghost use Rattle.rec_format.specs.StatusFormLaws.{status_format_back, status_format_writable, status_format_known};
 
     ghost well_formed = { IsStatusFormat };
 
@@ -179,6 +181,8 @@ impl Form for RecordedRunStatusFormat {
     ghost levels = { 1 };
 
     ghost reads_back = { status_format_back };
+
+    ghost reads_known = { status_format_known };
 
     ghost writable = { status_format_writable };
 

@@ -6,7 +6,7 @@ use std::alloc::{AllocError, Global};
 
 impl Form for RerunTestSuiteInfo {
     ghost use Rattle.rec_format.specs.SuiteForms.{suite_value, suite_form, IsSuite};
-    ghost use Rattle.rec_format.specs.SuiteFormLaws.{suite_back, suite_writable};
+    ghost use Rattle.rec_format.specs.SuiteFormLaws.{suite_back, suite_writable, suite_known};
 
     ghost well_formed = { IsSuite };
 
@@ -17,6 +17,8 @@ impl Form for RerunTestSuiteInfo {
     ghost levels = { 2 };
 
     ghost reads_back = { suite_back };
+
+    ghost reads_known = { suite_known };
 
     ghost writable = { suite_writable };
 
@@ -44,7 +46,7 @@ impl Form for RerunTestSuiteInfo {
 
 impl Form for RerunSuites {
     ghost use Rattle.rec_format.specs.SuiteForms.{suites_value, suites_form, AreSuites};
-    ghost use Rattle.rec_format.specs.SuiteFormLaws.{suites_back, suites_writable};
+    ghost use Rattle.rec_format.specs.SuiteFormLaws.{suites_back, suites_writable, suites_known};
 
     ghost well_formed = { AreSuites };
 
@@ -55,6 +57,8 @@ impl Form for RerunSuites {
     ghost levels = { 3 };
 
     ghost reads_back = { suites_back };
+
+    ghost reads_known = { suites_known };
 
     ghost writable = { suites_writable };
 

@@ -9,7 +9,7 @@ use std::alloc::{AllocError, Global};
 
 impl Form for StoreFormatMajorVersion {
     ghost use Rattle.rec_forms.specs.Numbers.{u32_form};
-    ghost use Rattle.rec_forms.specs.NumberLaws.{u32_back};
+    ghost use Rattle.rec_forms.specs.NumberLaws.{u32_back, u32_known};
     ghost use Rattle.rec_forms.specs.Shape.{natural};
     ghost use Rattle.rec_forms.specs.Writable.{natural_writable};
     ghost use Rattle.rec_format.specs.VersionForms.{IsNumber};
@@ -23,6 +23,8 @@ impl Form for StoreFormatMajorVersion {
     ghost levels = { 0 };
 
     ghost reads_back = { u32_back };
+
+    ghost reads_known = { u32_known };
 
     ghost writable = { λ n. natural_writable n };
 
@@ -37,7 +39,7 @@ impl Form for StoreFormatMajorVersion {
 
 impl Form for StoreFormatMinorVersion {
     ghost use Rattle.rec_forms.specs.Numbers.{u32_form};
-    ghost use Rattle.rec_forms.specs.NumberLaws.{u32_back};
+    ghost use Rattle.rec_forms.specs.NumberLaws.{u32_back, u32_known};
     ghost use Rattle.rec_forms.specs.Shape.{natural};
     ghost use Rattle.rec_forms.specs.Writable.{natural_writable};
     ghost use Rattle.rec_format.specs.VersionForms.{IsNumber};
@@ -51,6 +53,8 @@ impl Form for StoreFormatMinorVersion {
     ghost levels = { 0 };
 
     ghost reads_back = { u32_back };
+
+    ghost reads_known = { u32_known };
 
     ghost writable = { λ n. natural_writable n };
 
@@ -65,7 +69,7 @@ impl Form for StoreFormatMinorVersion {
 
 impl Form for PortableRecordingFormatMajorVersion {
     ghost use Rattle.rec_forms.specs.Numbers.{u32_form};
-    ghost use Rattle.rec_forms.specs.NumberLaws.{u32_back};
+    ghost use Rattle.rec_forms.specs.NumberLaws.{u32_back, u32_known};
     ghost use Rattle.rec_forms.specs.Shape.{natural};
     ghost use Rattle.rec_forms.specs.Writable.{natural_writable};
     ghost use Rattle.rec_format.specs.VersionForms.{IsNumber};
@@ -79,6 +83,8 @@ impl Form for PortableRecordingFormatMajorVersion {
     ghost levels = { 0 };
 
     ghost reads_back = { u32_back };
+
+    ghost reads_known = { u32_known };
 
     ghost writable = { λ n. natural_writable n };
 
@@ -96,7 +102,7 @@ impl Form for PortableRecordingFormatMajorVersion {
 
 impl Form for PortableRecordingFormatMinorVersion {
     ghost use Rattle.rec_forms.specs.Numbers.{u32_form};
-    ghost use Rattle.rec_forms.specs.NumberLaws.{u32_back};
+    ghost use Rattle.rec_forms.specs.NumberLaws.{u32_back, u32_known};
     ghost use Rattle.rec_forms.specs.Shape.{natural};
     ghost use Rattle.rec_forms.specs.Writable.{natural_writable};
     ghost use Rattle.rec_format.specs.VersionForms.{IsNumber};
@@ -110,6 +116,8 @@ impl Form for PortableRecordingFormatMinorVersion {
     ghost levels = { 0 };
 
     ghost reads_back = { u32_back };
+
+    ghost reads_known = { u32_known };
 
     ghost writable = { λ n. natural_writable n };
 
@@ -127,7 +135,7 @@ impl Form for PortableRecordingFormatMinorVersion {
 
 impl Form for PortableRecordingFormatVersion {
     ghost use Rattle.rec_format.specs.VersionForms.{portable_version_value, portable_version_form, IsPortableVersion};
-    ghost use Rattle.rec_format.specs.VersionFormLaws.{portable_version_back, portable_version_writable};
+    ghost use Rattle.rec_format.specs.VersionFormLaws.{portable_version_back, portable_version_writable, portable_version_known};
 
     ghost well_formed = { IsPortableVersion };
 
@@ -138,6 +146,8 @@ impl Form for PortableRecordingFormatVersion {
     ghost levels = { 1 };
 
     ghost reads_back = { portable_version_back };
+
+    ghost reads_known = { portable_version_known };
 
     ghost writable = { portable_version_writable };
 
