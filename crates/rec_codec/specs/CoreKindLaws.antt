@@ -1,33 +1,41 @@
 -- The kinds of events that hold no outputs read back, and are writable.
 use Rattle.std.specs.Prelude.{◌≡◌, ℕ, ◌+◌, Option, Some, codes}
 use Rattle.std.proofs.Common.{arith}
-use Rattle.serde_json.specs.Data.{Data, string}
+use Rattle.serde_json.specs.Data.{Data, string, Members}
 use Rattle.rec_events.specs.Names.{IsText}
 use Rattle.rec_events.specs.Times.{Span, Moment}
 use Rattle.rec_events.specs.declared.events.CoreEventKind.{CoreEventKind}
 use Rattle.rec_events.specs.declared.events.CoreEventKind.TheVariants.{RunStarted, StressSubRunStarted, SetupScriptStarted, SetupScriptSlow, TestStarted, TestSlow, TestRetryStarted, TestSkipped, RunBeginCancel, RunPaused, RunContinued, StressSubRunFinished, RunFinished}
 use Rattle.rec_events.specs.declared.events.TestEventKindSummary.TheVariants.{Core}
-use Rattle.rec_events.specs.declared.events.TestEventSummary.{TestEventSummary}
-use Rattle.rec_forms.specs.IdLaws.{uuid_back}
-use Rattle.rec_forms.specs.Instances.{stress_index_value, stress_index_form, IsStressIndex}
-use Rattle.rec_forms.specs.InstanceLaws.{test_instance_back, test_instance_writable, slot_assignment_back, slot_assignment_writable, retry_data_back, retry_data_writable, stress_index_back, stress_index_writable}
+use Rattle.rec_forms.specs.IdLaws.{uuid_back, uuid_known}
+use Rattle.rec_forms.specs.Instances.{stress_index_value, stress_index_form, IsStressIndex, retry_data_form, slot_assignment_form, test_instance_form}
+use Rattle.rec_forms.specs.InstanceLaws.{test_instance_back, test_instance_writable, slot_assignment_back, slot_assignment_writable, retry_data_back, retry_data_writable, stress_index_back, stress_index_writable, retry_data_known, slot_assignment_known, stress_index_known, test_instance_known}
 use Rattle.rec_forms.specs.ListLaws.{list_back, maybe_back}
 use Rattle.rec_forms.specs.Members.{get_member-members_of}
-use Rattle.rec_forms.specs.NumberLaws.{u64_back, text_back}
+use Rattle.rec_forms.specs.NumberLaws.{u64_back, text_back, text_known, u64_known}
 use Rattle.rec_forms.specs.ReportingLaws.{cancel_reason_back, cancel_reason_writable}
-use Rattle.rec_forms.specs.RunEnds.{tests_not_seen_value, tests_not_seen_form, IsTestsNotSeen}
-use Rattle.rec_forms.specs.RunEndLaws.{run_finished_stats_back, run_finished_stats_writable, tests_not_seen_back, tests_not_seen_writable}
+use Rattle.rec_forms.specs.RunEnds.{tests_not_seen_value, tests_not_seen_form, IsTestsNotSeen, run_finished_stats_form}
+use Rattle.rec_forms.specs.RunEndLaws.{run_finished_stats_back, run_finished_stats_writable, tests_not_seen_back, tests_not_seen_writable, run_finished_stats_known, tests_not_seen_known}
 use Rattle.rec_forms.specs.Shape.{text_of}
 use Rattle.rec_forms.specs.SkippingLaws.{mismatch_reason_back, mismatch_reason_writable, skip_policy_back, skip_policy_writable}
-use Rattle.rec_forms.specs.StatsLaws.{run_stats_back, run_stats_writable}
-use Rattle.rec_forms.specs.Stress.{stress_condition_value, stress_condition_form, IsStressCondition}
-use Rattle.rec_forms.specs.StressLaws.{stress_condition_back, stress_condition_writable, stress_progress_back, stress_progress_writable}
-use Rattle.rec_forms.specs.TimeLaws.{stamp_back, stamp_writable, duration_back, duration_writable}
-use Rattle.rec_forms.specs.Times.{IsStamp, IsDuration}
+use Rattle.rec_forms.specs.StatsLaws.{run_stats_back, run_stats_writable, run_stats_known}
+use Rattle.rec_forms.specs.Stress.{stress_condition_value, stress_condition_form, IsStressCondition, stress_progress_form}
+use Rattle.rec_forms.specs.StressLaws.{stress_condition_back, stress_condition_writable, stress_progress_back, stress_progress_writable, stress_condition_known, stress_progress_known}
+use Rattle.rec_forms.specs.TimeLaws.{stamp_back, stamp_writable, duration_back, duration_writable, duration_known, stamp_known}
+use Rattle.rec_forms.specs.Times.{IsStamp, IsDuration, duration_form, stamp_form}
 use Rattle.rec_forms.specs.Writable.{EachWritten, weaker, natural_writable, string_writable, boolean_writable, list_writable, optional_writable}
 use Rattle.rec_codec.specs.CoreKinds.{core_fields, IsCore}
 use Rattle.rec_codec.specs.CoreKindForms.{run_started_form, stress_sub_run_started_form, setup_script_started_form, setup_script_slow_form, test_started_form, test_slow_form, test_retry_started_form, test_skipped_form, run_begin_cancel_form, run_paused_form, run_continued_form, stress_sub_run_finished_form, run_finished_form}
 use Rattle.rec_codec.specs.EventForms.{kind_named, kind_form, event_value, event_form}
+use Rattle.rec_forms.specs.Known.{Holds}
+use Rattle.rec_forms.specs.KnownLaws.{any_known, required_then, maybe_then, list_known}
+use Rattle.rec_forms.specs.Ids.{uuid_form}
+use Rattle.rec_forms.specs.Lists.{list_form}
+use Rattle.rec_forms.specs.Numbers.{u64_form}
+use Rattle.rec_forms.specs.Reporting.{cancel_reason_form}
+use Rattle.rec_forms.specs.Skipping.{mismatch_reason_form, skip_policy_form}
+use Rattle.rec_forms.specs.Stats.{run_stats_form}
+use Rattle.serde_json.specs.Find.{as_bool}
 
 -- ---- read back
 
@@ -194,3 +202,124 @@ core_written n (StressSubRunFinished progress sub_elapsed sub_stats) =
     (string_writable (codes "stress-sub-run-finished"), (weaker 3 (n + 9) (omega arith) (stress_progress_writable progress), (weaker 1 (n + 9) (omega arith) (duration_writable sub_elapsed), (weaker 1 (n + 9) (omega arith) (run_stats_writable sub_stats), tt))))
 core_written n (RunFinished run_id start_time elapsed run_stats outstanding_not_seen) =
     (string_writable (codes "run-finished"), (string_writable _, (weaker 1 (n + 9) (omega arith) (stamp_writable start_time), (weaker 1 (n + 9) (omega arith) (duration_writable elapsed), (weaker 3 (n + 9) (omega arith) (run_finished_stats_writable run_stats), (optional_writable tests_not_seen_value (λ x. weaker 3 (n + 9) (omega arith) (tests_not_seen_writable x)) outstanding_not_seen, tt))))))
+
+-- ---- what is read is well-formed
+
+pub run_started_known : (ms : Members) → Holds IsCore (run_started_form ms)
+unfolding run_started_form
+run_started_known ms =
+    required_then uuid_form (codes "run-id") ms _ uuid_known (λ run_id run_id_is.
+    required_then text_of (codes "profile-name") ms _ text_known (λ profile_name profile_name_is.
+    required_then (list_form text_of) (codes "cli-args") ms _ (list_known text_of text_known) (λ cli_args cli_args_is.
+    maybe_then stress_condition_form (codes "stress-condition") ms _ stress_condition_known (λ stress_condition stress_condition_is.
+    record { is = (run_id_is, profile_name_is, cli_args_is, stress_condition_is) }))))
+
+pub stress_sub_run_started_known : (ms : Members) → Holds IsCore (stress_sub_run_started_form ms)
+unfolding stress_sub_run_started_form
+stress_sub_run_started_known ms =
+    required_then stress_progress_form (codes "progress") ms _ stress_progress_known (λ progress progress_is.
+    record { is = progress_is })
+
+pub setup_script_started_known : (ms : Members) → Holds IsCore (setup_script_started_form ms)
+unfolding setup_script_started_form
+setup_script_started_known ms =
+    maybe_then stress_index_form (codes "stress-index") ms _ stress_index_known (λ stress_index stress_index_is.
+    required_then u64_form (codes "index") ms _ u64_known (λ index index_is.
+    required_then u64_form (codes "total") ms _ u64_known (λ total total_is.
+    required_then text_of (codes "script-id") ms _ text_known (λ script_id script_id_is.
+    required_then text_of (codes "program") ms _ text_known (λ program program_is.
+    required_then (list_form text_of) (codes "args") ms _ (list_known text_of text_known) (λ args args_is.
+    required_then as_bool (codes "no-capture") ms _ (any_known as_bool) (λ no_capture no_capture_is.
+    record { is = (stress_index_is, index_is, total_is, script_id_is, program_is, args_is) })))))))
+
+pub setup_script_slow_known : (ms : Members) → Holds IsCore (setup_script_slow_form ms)
+unfolding setup_script_slow_form
+setup_script_slow_known ms =
+    maybe_then stress_index_form (codes "stress-index") ms _ stress_index_known (λ stress_index stress_index_is.
+    required_then text_of (codes "script-id") ms _ text_known (λ script_id script_id_is.
+    required_then text_of (codes "program") ms _ text_known (λ program program_is.
+    required_then (list_form text_of) (codes "args") ms _ (list_known text_of text_known) (λ args args_is.
+    required_then duration_form (codes "slow-elapsed") ms _ duration_known (λ elapsed elapsed_is.
+    required_then as_bool (codes "will-terminate") ms _ (any_known as_bool) (λ will_terminate will_terminate_is.
+    record { is = (stress_index_is, script_id_is, program_is, args_is, elapsed_is) }))))))
+
+pub test_started_known : (ms : Members) → Holds IsCore (test_started_form ms)
+unfolding test_started_form
+test_started_known ms =
+    maybe_then stress_index_form (codes "stress-index") ms _ stress_index_known (λ stress_index stress_index_is.
+    required_then test_instance_form (codes "test-instance") ms _ test_instance_known (λ test_instance test_instance_is.
+    required_then slot_assignment_form (codes "slot-assignment") ms _ slot_assignment_known (λ slot_assignment slot_assignment_is.
+    required_then run_stats_form (codes "current-stats") ms _ run_stats_known (λ current_stats current_stats_is.
+    required_then u64_form (codes "running") ms _ u64_known (λ running running_is.
+    required_then (list_form text_of) (codes "command-line") ms _ (list_known text_of text_known) (λ command_line command_line_is.
+    record { is = (stress_index_is, test_instance_is, slot_assignment_is, current_stats_is, running_is, command_line_is) }))))))
+
+pub test_slow_known : (ms : Members) → Holds IsCore (test_slow_form ms)
+unfolding test_slow_form
+test_slow_known ms =
+    maybe_then stress_index_form (codes "stress-index") ms _ stress_index_known (λ stress_index stress_index_is.
+    required_then test_instance_form (codes "test-instance") ms _ test_instance_known (λ test_instance test_instance_is.
+    required_then retry_data_form (codes "retry-data") ms _ retry_data_known (λ retry_data retry_data_is.
+    required_then duration_form (codes "slow-elapsed") ms _ duration_known (λ elapsed elapsed_is.
+    required_then as_bool (codes "will-terminate") ms _ (any_known as_bool) (λ will_terminate will_terminate_is.
+    record { is = (stress_index_is, test_instance_is, retry_data_is, elapsed_is) })))))
+
+pub test_retry_started_known : (ms : Members) → Holds IsCore (test_retry_started_form ms)
+unfolding test_retry_started_form
+test_retry_started_known ms =
+    maybe_then stress_index_form (codes "stress-index") ms _ stress_index_known (λ stress_index stress_index_is.
+    required_then test_instance_form (codes "test-instance") ms _ test_instance_known (λ test_instance test_instance_is.
+    required_then slot_assignment_form (codes "slot-assignment") ms _ slot_assignment_known (λ slot_assignment slot_assignment_is.
+    required_then retry_data_form (codes "retry-data") ms _ retry_data_known (λ retry_data retry_data_is.
+    required_then u64_form (codes "running") ms _ u64_known (λ running running_is.
+    required_then (list_form text_of) (codes "command-line") ms _ (list_known text_of text_known) (λ command_line command_line_is.
+    record { is = (stress_index_is, test_instance_is, slot_assignment_is, retry_data_is, running_is, command_line_is) }))))))
+
+pub test_skipped_known : (ms : Members) → Holds IsCore (test_skipped_form ms)
+unfolding test_skipped_form
+test_skipped_known ms =
+    maybe_then stress_index_form (codes "stress-index") ms _ stress_index_known (λ stress_index stress_index_is.
+    required_then test_instance_form (codes "test-instance") ms _ test_instance_known (λ test_instance test_instance_is.
+    required_then mismatch_reason_form (codes "reason") ms _ (any_known mismatch_reason_form) (λ reason reason_is.
+    required_then skip_policy_form (codes "junit-report-skipped") ms _ (any_known skip_policy_form) (λ junit_report_skipped junit_report_skipped_is.
+    record { is = (stress_index_is, test_instance_is) }))))
+
+pub run_begin_cancel_known : (ms : Members) → Holds IsCore (run_begin_cancel_form ms)
+unfolding run_begin_cancel_form
+run_begin_cancel_known ms =
+    required_then u64_form (codes "setup-scripts-running") ms _ u64_known (λ setup_scripts_running setup_scripts_running_is.
+    required_then u64_form (codes "running") ms _ u64_known (λ running running_is.
+    required_then cancel_reason_form (codes "reason") ms _ (any_known cancel_reason_form) (λ reason reason_is.
+    record { is = (setup_scripts_running_is, running_is) })))
+
+pub run_paused_known : (ms : Members) → Holds IsCore (run_paused_form ms)
+unfolding run_paused_form
+run_paused_known ms =
+    required_then u64_form (codes "setup-scripts-running") ms _ u64_known (λ setup_scripts_running setup_scripts_running_is.
+    required_then u64_form (codes "running") ms _ u64_known (λ running running_is.
+    record { is = (setup_scripts_running_is, running_is) }))
+
+pub run_continued_known : (ms : Members) → Holds IsCore (run_continued_form ms)
+unfolding run_continued_form
+run_continued_known ms =
+    required_then u64_form (codes "setup-scripts-running") ms _ u64_known (λ setup_scripts_running setup_scripts_running_is.
+    required_then u64_form (codes "running") ms _ u64_known (λ running running_is.
+    record { is = (setup_scripts_running_is, running_is) }))
+
+pub stress_sub_run_finished_known : (ms : Members) → Holds IsCore (stress_sub_run_finished_form ms)
+unfolding stress_sub_run_finished_form
+stress_sub_run_finished_known ms =
+    required_then stress_progress_form (codes "progress") ms _ stress_progress_known (λ progress progress_is.
+    required_then duration_form (codes "sub-elapsed") ms _ duration_known (λ sub_elapsed sub_elapsed_is.
+    required_then run_stats_form (codes "sub-stats") ms _ run_stats_known (λ sub_stats sub_stats_is.
+    record { is = (progress_is, sub_elapsed_is, sub_stats_is) })))
+
+pub run_finished_known : (ms : Members) → Holds IsCore (run_finished_form ms)
+unfolding run_finished_form
+run_finished_known ms =
+    required_then uuid_form (codes "run-id") ms _ uuid_known (λ run_id run_id_is.
+    required_then stamp_form (codes "start-time") ms _ stamp_known (λ start_time start_time_is.
+    required_then duration_form (codes "run-elapsed") ms _ duration_known (λ elapsed elapsed_is.
+    required_then run_finished_stats_form (codes "run-stats") ms _ run_finished_stats_known (λ run_stats run_stats_is.
+    maybe_then tests_not_seen_form (codes "outstanding-not-seen") ms _ tests_not_seen_known (λ outstanding_not_seen outstanding_not_seen_is.
+    record { is = (run_id_is, start_time_is, elapsed_is, run_stats_is, outstanding_not_seen_is) })))))

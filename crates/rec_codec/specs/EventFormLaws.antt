@@ -1,17 +1,30 @@
 -- Events read back where their outputs do, and are writable where these are.
-use Rattle.std.specs.Prelude.{◌≡◌, ℕ, suc, ◌+◌, Option, Some}
+use Rattle.std.specs.Prelude.{◌≡◌, ℕ, suc, ◌+◌, Option, Some, List, codes}
 use Rattle.std.proofs.Common.{arith}
-use Rattle.serde_json.specs.Data.{Data}
+use Rattle.serde_json.specs.Data.{Data, Members}
 use Rattle.rec_events.specs.Times.{Span, Moment}
 use Rattle.rec_events.specs.declared.events.TestEventKindSummary.{TestEventKindSummary}
 use Rattle.rec_events.specs.declared.events.TestEventKindSummary.TheVariants.{Core, Output}
 use Rattle.rec_events.specs.declared.events.TestEventSummary.{TestEventSummary}
-use Rattle.rec_forms.specs.TimeLaws.{stamp_writable, duration_writable}
-use Rattle.rec_forms.specs.Times.{IsStamp, IsDuration}
+use Rattle.rec_forms.specs.TimeLaws.{stamp_writable, duration_writable, duration_known, stamp_known}
+use Rattle.rec_forms.specs.Times.{IsStamp, IsDuration, duration_form, stamp_form}
 use Rattle.rec_forms.specs.Writable.{IsWritable, EachWritten, weaker, struct_writable}
 use Rattle.rec_codec.specs.CoreKindLaws.{core_back, core_written}
 use Rattle.rec_codec.specs.EventForms.{kind_fields, IsKind, event_value, event_form, IsEvent}
 use Rattle.rec_codec.specs.OutputKindLaws.{output_back, output_written}
+use Rattle.rec_forms.specs.Known.{Holds, Known}
+use Rattle.rec_forms.specs.KnownLaws.{any_known, named_holds, object_then, required_then, then_holds}
+use Rattle.rec_codec.specs.CoreKindLaws.{run_started_known, stress_sub_run_started_known, setup_script_started_known, setup_script_slow_known, test_started_known, test_slow_known, test_retry_started_known, test_skipped_known, run_begin_cancel_known, run_paused_known, run_continued_known, stress_sub_run_finished_known, run_finished_known}
+use Rattle.rec_codec.specs.OutputKindLaws.{script_finished_known, attempt_failed_known, test_finished_known}
+use Rattle.rec_codec.specs.CoreKindForms.{run_started_form, stress_sub_run_started_form, setup_script_started_form, setup_script_slow_form, test_started_form, test_slow_form, test_retry_started_form, test_skipped_form, run_begin_cancel_form, run_paused_form, run_continued_form, stress_sub_run_finished_form, run_finished_form}
+use Rattle.rec_codec.specs.OutputKinds.{IsOutput, script_finished_form, attempt_failed_form, test_finished_form}
+use Rattle.rec_codec.specs.CoreKinds.{IsCore}
+use Rattle.rec_codec.specs.EventForms.{kinds, kind_named, kind_form}
+use Rattle.rec_forms.specs.Shape.{◌>>=◌, named}
+use Rattle.rec_events.specs.declared.events.CoreEventKind.{CoreEventKind}
+use Rattle.rec_events.specs.declared.events.OutputEventKind.{OutputEventKind}
+use Rattle.serde_json.specs.Find.{as_str}
+use Rattle.std.specs.List.{AllByRecursion}
 
 module _ {S O : Type 0} (P : O → Type 0) (output_value : O → Data) (output_form : Data → Option O) (back : (o : O) → P o → output_form (output_value o) ≡ Some o) where
   kind_back : (t : Moment) (e : Span) (k : TestEventKindSummary S O) → IsStamp t → IsDuration e → IsKind P k
@@ -33,3 +46,40 @@ module _ {S O : Type 0} (n : ℕ) (output_value : O → Data) (writable : (o : O
         weaker 1 (n + 9) (omega arith) (stamp_writable e.timestamp),
         (weaker 1 (n + 9) (omega arith) (duration_writable e.elapsed), kind_written e.kind),
       ))
+
+-- ---- what is read is well-formed
+
+module _ {S O : Type 0} (P : O → Type 0) (output_form : Data → Option O) (known : Known P output_form) where
+  -- what a kind's form gives is well-formed
+  abbrev KnownKind : (Members → Option (TestEventKindSummary S O)) → Type 0
+  KnownKind form = (ms : Members) → Holds (IsKind P) (form ms)
+
+  core_kind : (form : Members → Option CoreEventKind) → ((ms : Members) → Holds IsCore (form ms)) → KnownKind (λ ms. form ms >>= λ k. Some (Core k))
+  core_kind form h ms = then_holds (form ms) (λ k. Some (Core k)) (h ms) (λ k is. record { is = is })
+
+  output_kind : (form : Members → Option (OutputEventKind S O)) → ((ms : Members) → Holds (IsOutput P) (form ms)) → KnownKind (λ ms. form ms >>= λ k. Some (Output k))
+  output_kind form h ms = then_holds (form ms) (λ k. Some (Output k)) (h ms) (λ k is. record { is = is })
+
+  each_known : AllByRecursion (λ k. KnownKind k.1) (kinds output_form)
+  each_known =
+      (core_kind run_started_form run_started_known, (core_kind stress_sub_run_started_form stress_sub_run_started_known, (core_kind setup_script_started_form setup_script_started_known, (core_kind setup_script_slow_form setup_script_slow_known, (core_kind test_started_form test_started_known, (core_kind test_slow_form test_slow_known, (core_kind test_retry_started_form test_retry_started_known, (core_kind test_skipped_form test_skipped_known, (core_kind run_begin_cancel_form run_begin_cancel_known, (core_kind run_paused_form run_paused_known, (core_kind run_continued_form run_continued_known, (core_kind stress_sub_run_finished_form stress_sub_run_finished_known, (core_kind run_finished_form run_finished_known, (output_kind (script_finished_form output_form) (script_finished_known P output_form known), (output_kind (attempt_failed_form output_form) (attempt_failed_known P output_form known), (output_kind (test_finished_form output_form) (test_finished_known P output_form known), tt))))))))))))))))
+
+  named_known : (name : List ℕ) → KnownKind (kind_named output_form name)
+  unfolding kind_named
+  named_known name ms =
+      then_holds (named (kinds output_form) name) (λ form. form ms) (named_holds KnownKind (kinds output_form) each_known name) (λ form h. h ms)
+
+  kind_known : KnownKind (kind_form output_form)
+  unfolding kind_form
+  kind_known ms = required_then as_str (codes "kind") ms _ (any_known as_str) (λ name _. named_known name ms)
+
+  pub event_known : Known (IsEvent {S = S} P) (event_form output_form)
+  unfolding event_form
+  event_known = record {
+    each = λ d.
+        object_then d _ (λ ms.
+        required_then stamp_form (codes "timestamp") ms _ stamp_known (λ timestamp timestamp_is.
+        required_then duration_form (codes "elapsed") ms _ duration_known (λ elapsed elapsed_is.
+        then_holds (kind_form output_form ms) _ (kind_known ms) (λ kind kind_is.
+        record { is = record { timestamp = timestamp_is; elapsed = elapsed_is; kind = kind_is } }))));
+  }

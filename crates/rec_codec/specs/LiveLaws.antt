@@ -1,5 +1,5 @@
 -- Outputs as they are captured read back, and are writable.
-use Rattle.std.specs.Prelude.{◌≡◌, [], Some, codes}
+use Rattle.std.specs.Prelude.{◌≡◌, [], Some, codes, refl, true, ◌∷◌}
 use Rattle.hex.specs.Hex.{IsBytes}
 use Rattle.std.proofs.Common.{arith}
 use Rattle.rec_events.specs.declared.outputs.ChildOutputDescription.{ChildOutputDescription}
@@ -7,9 +7,12 @@ use Rattle.rec_events.specs.declared.outputs.ChildOutputDescription.TheVariants.
 use Rattle.rec_forms.specs.ListLaws.{maybe_back}
 use Rattle.rec_forms.specs.Members.{get_member-members_of}
 use Rattle.rec_forms.specs.Outputs.{output_bytes_value, output_bytes_form}
-use Rattle.rec_forms.specs.OutputLaws.{output_bytes_back, output_bytes_writable}
+use Rattle.rec_forms.specs.OutputLaws.{output_bytes_back, output_bytes_writable, output_bytes_known}
 use Rattle.rec_forms.specs.Writable.{IsWritable, weaker, struct_writable, tagged_writable, string_writable, optional_writable}
 use Rattle.rec_codec.specs.Live.{live_value, live_form, live_split_form, IsLive}
+use Rattle.rec_forms.specs.Known.{Known}
+use Rattle.rec_forms.specs.KnownLaws.{map_holds, object_then, maybe_then, variant_known}
+use Rattle.rec_codec.specs.Live.{is_loaded, live_combined_form}
 
 pub live_back : (o : ChildOutputDescription) → IsLive o → live_form (live_value o) ≡ Some o
 unfolding live_form live_split_form
@@ -30,3 +33,28 @@ live_writable (Split out err) =
     ))
 live_writable (Combined output) = tagged_writable (codes "combined") _ (weaker 0 1 (omega arith) (output_bytes_writable output))
 live_writable NotLoaded = string_writable []
+
+-- ---- what is read is well-formed
+
+live_split_known : Known IsLive live_split_form
+unfolding live_split_form
+live_split_known = record {
+  each = λ d.
+      object_then d _ (λ ms.
+      maybe_then output_bytes_form (codes "stdout") ms _ output_bytes_known (λ out out_is.
+      maybe_then output_bytes_form (codes "stderr") ms _ output_bytes_known (λ err err_is.
+      record { is = (out_is, err_is) })));
+}
+
+live_combined_known : Known IsLive live_combined_form
+live_combined_known = record { each = λ d. map_holds Combined (output_bytes_form d) (output_bytes_known.each d) (λ output is. is) }
+
+pub live_known : Known IsLive live_form
+unfolding live_form
+live_known = variant_known IsLive [] ((codes "split", live_split_form) ∷ (codes "combined", live_combined_form) ∷ []) tt (live_split_known, (live_combined_known, tt))
+
+-- what is well-formed was loaded
+pub live_loaded : (o : ChildOutputDescription) → IsLive o → is_loaded o ≡ true
+live_loaded (Split out err) h = refl
+live_loaded (Combined output) h = refl
+live_loaded NotLoaded h = absurd h

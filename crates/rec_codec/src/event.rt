@@ -130,8 +130,19 @@ fn kind_from<S: OutputForm>(
 }
 
 /// The event for which `value` stands; `NotAValue` exactly where it stands for none.
-#[tactic(auto, unfolding(crate::specs::EventForms::event_form))]
 pub fn event_from_value<S: OutputForm>(
+    alloc: Global,
+    value: &Value,
+) -> Result<TestEventSummary<S>, FromValueError>
+    ensures read { Gives result (event_form S.output_form (view value.now)) }
+    ensures known { IfOk result (IsEvent S.output_well_formed) }
+{
+    event_from(alloc, value)
+}
+
+// Reads an event.
+#[tactic(auto, unfolding(crate::specs::EventForms::event_form))]
+fn event_from<S: OutputForm>(
     alloc: Global,
     value: &Value,
 ) -> Result<TestEventSummary<S>, FromValueError>

@@ -1,14 +1,22 @@
 //! Laws of events. The functions do nothing: their contracts are what they are for.
 ghost use Rattle.std.specs.Prelude.{◌≡◌, List, ℕ, Some, true};
 ghost use Rattle.std.specs.List.{AllByRecursion};
-ghost use Rattle.rec_codec.specs.Event.{IsLogged, LiveEvent, RecordedEvent, live_event_of, log_events, log_text};
-ghost use Rattle.rec_codec.specs.EventForms.{kind_loaded};
+ghost use Rattle.rec_forms.specs.Outputs.{IsStoredOutputs};
+ghost use Rattle.rec_codec.specs.Event.{IsLogged, LiveEvent, RecordedEvent, live_event_of, recorded_event_of, log_events, log_text};
+ghost use Rattle.rec_codec.specs.EventForms.{kind_loaded, IsEvent};
 ghost use Rattle.rec_codec.specs.Lines.{lines};
-ghost use Rattle.rec_codec.specs.Live.{is_loaded};
+ghost use Rattle.rec_codec.specs.Live.{is_loaded, IsLive};
 
 /// A log is read as the events that it was made of, where the text of each is read as it.
 pub fn log_reads()
     ensures { (events : List RecordedEvent) → AllByRecursion IsLogged events → log_events (lines (log_text events)) ≡ Some events }
+{}
+
+/// An event that is read is well-formed: its numbers are in range, its texts are UTF-8, its lists of attempts
+/// have an item, and its outputs are there.
+pub fn read_events_are_well_formed()
+    ensures live { (text : List ℕ) (e : LiveEvent) → live_event_of text ≡ Some e → IsEvent IsLive e }
+    ensures recorded { (text : List ℕ) (e : RecordedEvent) → recorded_event_of text ≡ Some e → IsEvent IsStoredOutputs e }
 {}
 
 /// An event that is read from a session has its outputs: none of them is one that was not loaded.

@@ -3,6 +3,7 @@ ghost use Rattle.std.specs.Prelude.{◌≡◌, ℕ, Bool, Option, Some, OnOk};
 ghost use Rattle.serde_json.specs.Data.{Data};
 ghost use Rattle.serde_json.specs.View.{view};
 ghost use Rattle.rec_forms.specs.Gives.{Gives};
+ghost use Rattle.rec_forms.specs.Known.{Known};
 ghost use Rattle.rec_forms.specs.Writable.{IsWritable};
 ghost use Rattle.rec_codec.specs.Writes.{Writes};
 
@@ -41,6 +42,9 @@ pub trait OutputForm: OutputSpec {
     // What was written is read back.
     ghost output_reads_back: { (o : Self.ChildOutput) → output_well_formed o → output_form (output_value o) ≡ Some o };
 
+    // What is read is well-formed.
+    ghost output_reads_known: { Known output_well_formed output_form };
+
     // What is written is no null, has no float, and nests no deeper than `output_levels`.
     ghost output_writable: { (o : Self.ChildOutput) → IsWritable output_levels (output_value o) };
 }
@@ -48,7 +52,7 @@ pub trait OutputForm: OutputSpec {
 impl OutputForm for RecordingSpec {
     ghost use Rattle.std.specs.Prelude.{true};
     ghost use Rattle.rec_forms.specs.Outputs.{stored_outputs_value, stored_outputs_form, IsStoredOutputs};
-    ghost use Rattle.rec_forms.specs.OutputLaws.{stored_outputs_back, stored_outputs_writable};
+    ghost use Rattle.rec_forms.specs.OutputLaws.{stored_outputs_back, stored_outputs_writable, stored_outputs_known};
 
     ghost output_well_formed = { IsStoredOutputs };
 
@@ -61,6 +65,8 @@ impl OutputForm for RecordingSpec {
     ghost output_levels = { 4 };
 
     ghost output_reads_back = { stored_outputs_back };
+
+    ghost output_reads_known = { stored_outputs_known };
 
     ghost output_writable = { stored_outputs_writable };
 

@@ -12,7 +12,7 @@ use std::alloc::Global;
 impl<S: OutputForm> Part for SetupScriptExecuteStatus<S> {
     ghost use Rattle.std.specs.Prelude.{◌+◌};
     ghost use Rattle.rec_codec.specs.ScriptStatus.{script_status_value, script_status_form, script_status_loaded, IsScriptStatus};
-    ghost use Rattle.rec_codec.specs.ScriptStatusLaws.{script_status_back, script_status_writable};
+    ghost use Rattle.rec_codec.specs.ScriptStatusLaws.{script_status_back, script_status_writable, script_status_known};
 
     ghost well_formed = { IsScriptStatus S.output_well_formed };
 
@@ -25,6 +25,8 @@ impl<S: OutputForm> Part for SetupScriptExecuteStatus<S> {
     ghost levels = { S.output_levels + 7 };
 
     ghost reads_back = { script_status_back S.output_well_formed S.output_value S.output_form S.output_reads_back };
+
+    ghost reads_known = { script_status_known S.output_well_formed S.output_form S.output_reads_known };
 
     ghost writable = { script_status_writable S.output_levels S.output_value S.output_writable };
 

@@ -41,7 +41,7 @@ fn output_from<S: OutputForm>(
 impl<S: OutputForm> Part for ChildExecutionOutputDescription<S> {
     ghost use Rattle.std.specs.Prelude.{◌+◌};
     ghost use Rattle.rec_codec.specs.Status.{description_value, description_form, description_loaded, IsDescription};
-    ghost use Rattle.rec_codec.specs.StatusLaws.{description_back, description_writable};
+    ghost use Rattle.rec_codec.specs.StatusLaws.{description_back, description_writable, description_known};
 
     ghost well_formed = { IsDescription S.output_well_formed };
 
@@ -54,6 +54,8 @@ impl<S: OutputForm> Part for ChildExecutionOutputDescription<S> {
     ghost levels = { S.output_levels + 6 };
 
     ghost reads_back = { description_back S.output_well_formed S.output_value S.output_form S.output_reads_back };
+
+    ghost reads_known = { description_known S.output_well_formed S.output_form S.output_reads_known };
 
     ghost writable = { description_writable S.output_levels S.output_value S.output_writable };
 
@@ -139,7 +141,7 @@ impl Course {
 impl<S: OutputForm> Part for ExecuteStatus<S> {
     ghost use Rattle.std.specs.Prelude.{◌+◌};
     ghost use Rattle.rec_codec.specs.Status.{status_value, status_form, status_loaded, IsStatus};
-    ghost use Rattle.rec_codec.specs.StatusLaws.{status_back, status_writable};
+    ghost use Rattle.rec_codec.specs.StatusLaws.{status_back, status_writable, status_known};
 
     ghost well_formed = { IsStatus S.output_well_formed };
 
@@ -152,6 +154,8 @@ impl<S: OutputForm> Part for ExecuteStatus<S> {
     ghost levels = { S.output_levels + 7 };
 
     ghost reads_back = { status_back S.output_well_formed S.output_value S.output_form S.output_reads_back };
+
+    ghost reads_known = { status_known S.output_well_formed S.output_form S.output_reads_known };
 
     ghost writable = { status_writable S.output_levels S.output_value S.output_writable };
 
@@ -213,7 +217,7 @@ fn attempts_from<S: OutputForm>(
 impl<S: OutputForm> Part for ExecutionStatuses<S> {
     ghost use Rattle.std.specs.Prelude.{◌+◌};
     ghost use Rattle.rec_codec.specs.Status.{statuses_value, statuses_form, statuses_loaded, AreStatuses};
-    ghost use Rattle.rec_codec.specs.StatusLaws.{statuses_back, statuses_writable};
+    ghost use Rattle.rec_codec.specs.StatusLaws.{statuses_back, statuses_writable, statuses_known};
 
     ghost well_formed = { AreStatuses S.output_well_formed };
 
@@ -226,6 +230,8 @@ impl<S: OutputForm> Part for ExecutionStatuses<S> {
     ghost levels = { S.output_levels + 9 };
 
     ghost reads_back = { statuses_back S.output_well_formed S.output_value S.output_form S.output_reads_back };
+
+    ghost reads_known = { statuses_known S.output_well_formed S.output_form S.output_reads_known };
 
     ghost writable = { statuses_writable S.output_levels S.output_value S.output_writable };
 
