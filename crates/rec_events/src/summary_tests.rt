@@ -18,107 +18,97 @@ fn passed() -> RunStats {
 }
 
 #[test]
-fn runs_by_what_failed(rt: HostRuntime) {
+fn runs_without_failures(rt: HostRuntime) {
     let stats = passed();
+    // What is slow, leaked or was skipped failed nothing.
+    let skipped = RunStats {
+        failed_slow: 1,
+        leaky: 1,
+        skipped: 1,
+        ..stats
+    };
     for (stats, want) in [
         (stats, FinalRunStats::Success),
+        (skipped, FinalRunStats::Success),
         (RunStats::zero(), FinalRunStats::NoTestsRun),
-        (RunStats { failed: 1, ..stats }, FinalRunStats::Failed),
-        (
-            RunStats {
-                exec_failed: 1,
-                ..stats
-            },
-            FinalRunStats::Failed,
-        ),
-        (
-            RunStats {
-                failed_timed_out: 1,
-                ..stats
-            },
-            FinalRunStats::Failed,
-        ),
-        (
-            RunStats {
-                setup_scripts_failed: 1,
-                ..stats
-            },
-            FinalRunStats::Failed,
-        ),
-        (
-            RunStats {
-                setup_scripts_exec_failed: 1,
-                ..stats
-            },
-            FinalRunStats::Failed,
-        ),
-        (
-            RunStats {
-                setup_scripts_timed_out: 1,
-                ..stats
-            },
-            FinalRunStats::Failed,
-        ),
-        // What is slow, leaked or was skipped failed nothing.
-        (
-            RunStats {
-                failed_slow: 1,
-                leaky: 1,
-                skipped: 1,
-                ..stats
-            },
-            FinalRunStats::Success,
-        ),
     ] {
         assert_eq!(rt; stats.summarize_final(), want);
     }
 }
 
 #[test]
-fn runs_by_what_is_missing(rt: HostRuntime) {
+fn runs_by_failed_tests(rt: HostRuntime) {
     let stats = passed();
-    for (stats, want) in [
+    for stats in [
+        RunStats { failed: 1, ..stats },
+        RunStats {
+            exec_failed: 1,
+            ..stats
+        },
+        RunStats {
+            failed_timed_out: 1,
+            ..stats
+        },
+    ] {
+        assert_eq!(rt; stats.summarize_final(), FinalRunStats::Failed);
+    }
+}
+
+#[test]
+fn runs_by_failed_scripts(rt: HostRuntime) {
+    let stats = passed();
+    for stats in [
+        RunStats {
+            setup_scripts_failed: 1,
+            ..stats
+        },
+        RunStats {
+            setup_scripts_exec_failed: 1,
+            ..stats
+        },
+        RunStats {
+            setup_scripts_timed_out: 1,
+            ..stats
+        },
+    ] {
+        assert_eq!(rt; stats.summarize_final(), FinalRunStats::Failed);
+    }
+}
+
+// A failed script counts before a missing one, that before a failed test, and that before a
+// missing test.
+#[test]
+fn runs_by_what_is_missing(rt: HostRuntime) {
+    let missing_test = RunStats {
+        finished_count: 9,
+        ..passed()
+    };
+    let missing_script = RunStats {
+        setup_scripts_finished_count: 1,
+        ..passed()
+    };
+    for (stats, clean, failed_test, failed_script) in [
         (
-            RunStats {
-                finished_count: 9,
-                ..stats
-            },
+            missing_test,
             FinalRunStats::Cancelled,
-        ),
-        (
-            RunStats {
-                setup_scripts_finished_count: 1,
-                ..stats
-            },
-            FinalRunStats::Cancelled,
-        ),
-        // A failed test counts before a missing one, and a missing script before a failed test.
-        (
-            RunStats {
-                finished_count: 9,
-                failed: 1,
-                ..stats
-            },
+            FinalRunStats::Failed,
             FinalRunStats::Failed,
         ),
         (
-            RunStats {
-                setup_scripts_finished_count: 1,
-                failed: 1,
-                ..stats
-            },
+            missing_script,
             FinalRunStats::Cancelled,
-        ),
-        (
-            RunStats {
-                setup_scripts_finished_count: 1,
-                setup_scripts_failed: 1,
-                ..stats
-            },
+            FinalRunStats::Cancelled,
             FinalRunStats::Failed,
         ),
     ] {
-        assert_eq!(rt; stats.summarize_final(), want);
+        assert_eq!(rt; stats.summarize_final(), clean);
+        let test = RunStats { failed: 1, ..stats };
+        assert_eq!(rt; test.summarize_final(), failed_test);
+        let script = RunStats {
+            setup_scripts_failed: 1,
+            ..stats
+        };
+        assert_eq!(rt; script.summarize_final(), failed_script);
     }
 }
 
