@@ -2,5 +2,5 @@ pub mod LineLemmas
 pub mod CompactText
 pub mod Trims
 pub mod LogLaws
-pub mod LoadedLaws
+pub mod ReadEventLaws
 pub mod LineItemLemmas

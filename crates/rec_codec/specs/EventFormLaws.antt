@@ -9,17 +9,14 @@ use Rattle.rec_events.specs.declared.events.TestEventSummary.{TestEventSummary}
 use Rattle.rec_forms.specs.TimeLaws.{stamp_writable, duration_writable, duration_known, stamp_known}
 use Rattle.rec_forms.specs.Times.{IsStamp, IsDuration, duration_form, stamp_form}
 use Rattle.rec_forms.specs.Writable.{IsWritable, EachWritten, weaker, struct_writable}
-use Rattle.rec_codec.specs.CoreKindLaws.{core_back, core_written}
-use Rattle.rec_codec.specs.EventForms.{kind_fields, IsKind, event_value, event_form, IsEvent}
-use Rattle.rec_codec.specs.OutputKindLaws.{output_back, output_written}
+use Rattle.rec_codec.specs.CoreKindLaws.{core_back, core_written, run_started_known, stress_sub_run_started_known, setup_script_started_known, setup_script_slow_known, test_started_known, test_slow_known, test_retry_started_known, test_skipped_known, run_begin_cancel_known, run_paused_known, run_continued_known, stress_sub_run_finished_known, run_finished_known}
+use Rattle.rec_codec.specs.EventForms.{kind_fields, IsKind, event_value, event_form, IsEvent, kinds, kind_named, kind_form}
+use Rattle.rec_codec.specs.OutputKindLaws.{output_back, output_written, script_finished_known, attempt_failed_known, test_finished_known}
 use Rattle.rec_forms.specs.Known.{Holds, Known}
 use Rattle.rec_forms.specs.KnownLaws.{any_known, named_holds, object_then, required_then, then_holds}
-use Rattle.rec_codec.specs.CoreKindLaws.{run_started_known, stress_sub_run_started_known, setup_script_started_known, setup_script_slow_known, test_started_known, test_slow_known, test_retry_started_known, test_skipped_known, run_begin_cancel_known, run_paused_known, run_continued_known, stress_sub_run_finished_known, run_finished_known}
-use Rattle.rec_codec.specs.OutputKindLaws.{script_finished_known, attempt_failed_known, test_finished_known}
 use Rattle.rec_codec.specs.CoreKindForms.{run_started_form, stress_sub_run_started_form, setup_script_started_form, setup_script_slow_form, test_started_form, test_slow_form, test_retry_started_form, test_skipped_form, run_begin_cancel_form, run_paused_form, run_continued_form, stress_sub_run_finished_form, run_finished_form}
 use Rattle.rec_codec.specs.OutputKinds.{IsOutput, script_finished_form, attempt_failed_form, test_finished_form}
 use Rattle.rec_codec.specs.CoreKinds.{IsCore}
-use Rattle.rec_codec.specs.EventForms.{kinds, kind_named, kind_form}
 use Rattle.rec_forms.specs.Shape.{◌>>=◌, named}
 use Rattle.rec_events.specs.declared.events.CoreEventKind.{CoreEventKind}
 use Rattle.rec_events.specs.declared.events.OutputEventKind.{OutputEventKind}

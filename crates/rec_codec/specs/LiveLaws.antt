@@ -9,10 +9,9 @@ use Rattle.rec_forms.specs.Members.{get_member-members_of}
 use Rattle.rec_forms.specs.Outputs.{output_bytes_value, output_bytes_form}
 use Rattle.rec_forms.specs.OutputLaws.{output_bytes_back, output_bytes_writable, output_bytes_known}
 use Rattle.rec_forms.specs.Writable.{IsWritable, weaker, struct_writable, tagged_writable, string_writable, optional_writable}
-use Rattle.rec_codec.specs.Live.{live_value, live_form, live_split_form, IsLive}
+use Rattle.rec_codec.specs.Live.{live_value, live_form, live_split_form, IsLive, is_loaded, live_combined_form}
 use Rattle.rec_forms.specs.Known.{Known}
 use Rattle.rec_forms.specs.KnownLaws.{map_holds, object_then, maybe_then, variant_known}
-use Rattle.rec_codec.specs.Live.{is_loaded, live_combined_form}
 
 pub live_back : (o : ChildOutputDescription) → IsLive o → live_form (live_value o) ≡ Some o
 unfolding live_form live_split_form

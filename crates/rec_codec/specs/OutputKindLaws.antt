@@ -25,8 +25,7 @@ use Rattle.rec_codec.specs.StatusLaws.{status_known, status_back, status_writabl
 use Rattle.rec_forms.specs.Known.{Holds, Known}
 use Rattle.rec_forms.specs.KnownLaws.{any_known, anything, then_holds, required_then, maybe_then, list_known}
 use Rattle.rec_codec.specs.ScriptStatus.{script_status_form}
-use Rattle.rec_codec.specs.Status.{statuses_form}
-use Rattle.rec_codec.specs.Status.{status_form}
+use Rattle.rec_codec.specs.Status.{statuses_form, status_form}
 use Rattle.rec_forms.specs.Lists.{list_form}
 use Rattle.rec_forms.specs.Numbers.{u64_form}
 use Rattle.rec_forms.specs.Reporting.{output_display_form}

@@ -17,14 +17,12 @@ use Rattle.rec_forms.specs.Members.{get_member-members_of}
 use Rattle.rec_forms.specs.NumberLaws.{text_back, below_tells, text_known}
 use Rattle.rec_forms.specs.Results.{execution_result_value, execution_result_form, IsExecutionResult, flaky_result_form}
 use Rattle.rec_forms.specs.ResultLaws.{flaky_result_back, flaky_result_writable, execution_result_back, execution_result_writable, execution_result_known}
-use Rattle.rec_forms.specs.Shape.{text_of}
+use Rattle.rec_forms.specs.Shape.{text_of, only}
 use Rattle.rec_forms.specs.TimeLaws.{stamp_back, stamp_writable, duration_back, duration_writable, duration_known, stamp_known}
 use Rattle.rec_forms.specs.Writable.{IsWritable, weaker, struct_writable, tagged_writable, string_writable, boolean_writable, list_writable, optional_writable}
-use Rattle.rec_codec.specs.Status.{description_value, description_form, output_case_form, IsDescription, course_form, status_value, status_form, IsStatus, statuses_value, attempts_form, statuses_form, AreStatuses}
+use Rattle.rec_codec.specs.Status.{description_value, description_form, output_case_form, IsDescription, course_form, status_value, status_form, IsStatus, statuses_value, attempts_form, statuses_form, AreStatuses, IsCourse, start_error_form}
 use Rattle.rec_forms.specs.Known.{Holds, Known}
 use Rattle.rec_forms.specs.KnownLaws.{any_known, and_then_holds, map_holds, only_holds, object_then, required_then, maybe_then, then_holds, variant_known, list_known}
-use Rattle.rec_codec.specs.Status.{IsCourse, start_error_form}
-use Rattle.rec_forms.specs.Shape.{only}
 use Rattle.rec_forms.specs.Instances.{retry_data_form}
 use Rattle.rec_forms.specs.Times.{duration_form, stamp_form}
 use Rattle.serde_json.specs.Find.{as_bool}

@@ -85,14 +85,15 @@ fn what_is_no_object_is_no_event(rt: HostRuntime) -> Result<(), Fail> {
     Ok(())
 }
 
-fn no_stats() -> &'static str {
-    r#"{"exec-failed":0,"failed":0,"failed-slow":0,"failed-timed-out":0,"finished-count":0,"flaky":0,"initial-run-count":1,"leaky":0,"leaky-failed":0,"passed":0,"passed-slow":0,"passed-timed-out":0,"setup-scripts-exec-failed":0,"setup-scripts-failed":0,"setup-scripts-finished-count":0,"setup-scripts-initial-count":0,"setup-scripts-passed":0,"setup-scripts-timed-out":0,"skipped":0}"#
+// The counts of a run in which nothing happened.
+fn no_counts() -> &'static str {
+    r#""exec-failed":0,"failed":0,"failed-slow":0,"failed-timed-out":0,"finished-count":0,"flaky":0,"initial-run-count":1,"leaky":0,"leaky-failed":0,"passed":0,"passed-slow":0,"passed-timed-out":0,"setup-scripts-exec-failed":0,"setup-scripts-failed":0,"setup-scripts-finished-count":0,"setup-scripts-initial-count":0,"setup-scripts-passed":0,"setup-scripts-timed-out":0,"skipped":0"#
 }
 
 fn test_start(alloc: Global) -> Result<String, Fail> {
-    let stats = no_stats();
+    let counts = no_counts();
     Ok(format!(in alloc;
-        r#"{{"command-line":["t","--exact"],"current-stats":{stats},"elapsed":{{"nanos":0,"secs":0}},"kind":"test-started","running":1,"slot-assignment":{{"global-slot":0,"group-slot":1,"test-group":"serial"}},"stress-index":{{"current":0,"total":1}},"test-instance":{{"binary-id":"alpha::a","test-name":"t1"}},"timestamp":{{"nanos":0,"offset":0,"secs":1001}}}}"#
+        r#"{{"command-line":["t","--exact"],"current-stats":{{"cancel-reason":"test-failure",{counts}}},"elapsed":{{"nanos":0,"secs":0}},"kind":"test-started","running":1,"slot-assignment":{{"global-slot":0,"group-slot":1,"test-group":"serial"}},"stress-index":{{"current":0,"total":1}},"test-instance":{{"binary-id":"alpha::a","test-name":"t1"}},"timestamp":{{"nanos":0,"offset":0,"secs":1001}}}}"#
     )?)
 }
 
@@ -110,7 +111,7 @@ fn test_starts(rt: HostRuntime) -> Result<(), Fail> {
 #[test]
 fn other_values_are_no_test_starts(rt: HostRuntime) -> Result<(), Fail> {
     let alloc = rt.alloc();
-    let stats = format!(in alloc; "\"current-stats\":{}", no_stats())?;
+    let stats = format!(in alloc; "\"current-stats\":{{{}}}", no_counts())?;
     let members = [
         r#""timestamp":{"secs":1000,"nanos":0,"offset":0},"elapsed":{"secs":0,"nanos":0},"kind":"test-started""#,
         r#""test-instance":{"binary-id":"alpha::a","test-name":"t1"}"#,
@@ -141,9 +142,9 @@ fn other_values_are_no_test_starts(rt: HostRuntime) -> Result<(), Fail> {
 
 // A finished test with these attempts.
 pub fn finished(alloc: Global, statuses: &str) -> Result<String, Fail> {
-    let stats = no_stats();
+    let counts = no_counts();
     Ok(format!(in alloc;
-        r#"{{"current-stats":{stats},"elapsed":{{"nanos":0,"secs":3}},"failure-output":"immediate-final","junit-flaky-fail-status":"success","junit-store-failure-output":true,"junit-store-success-output":false,"kind":"test-finished","run-statuses":{{"flaky-result":"fail","statuses":[{statuses}]}},"running":0,"success-output":"never","test-instance":{{"binary-id":"alpha::a","test-name":"t1"}},"timestamp":{{"nanos":0,"offset":0,"secs":1002}}}}"#
+        r#"{{"current-stats":{{{counts}}},"elapsed":{{"nanos":0,"secs":3}},"failure-output":"immediate-final","junit-flaky-fail-status":"success","junit-store-failure-output":true,"junit-store-success-output":false,"kind":"test-finished","run-statuses":{{"flaky-result":"fail","statuses":[{statuses}]}},"running":0,"success-output":"never","test-instance":{{"binary-id":"alpha::a","test-name":"t1"}},"timestamp":{{"nanos":0,"offset":0,"secs":1002}}}}"#
     )?)
 }
 

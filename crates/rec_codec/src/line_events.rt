@@ -1,17 +1,14 @@
 // The events of a log, line by line.
 ghost use Rattle.std.specs.Prelude.{Some};
-ghost use Rattle.serde_json.specs.View.{view};
-ghost use Rattle.rec_forms.specs.Gives.{Gives, GivesBy};
+ghost use Rattle.rec_forms.specs.Gives.{Gives};
 ghost use Rattle.rec_forms.specs.TextForm.{text_form};
-ghost use Rattle.serde_json.specs.Read.{read};
 ghost use Rattle.rec_codec.specs.EventForms.{event_form};
 ghost use Rattle.rec_codec.specs.Lines.{text_of};
 ghost use Rattle.rec_codec.specs.LineEvents.{Answers, Tells};
 
 use crate::{Line, OutputForm, event_from_value};
 use rec_events::TestEventSummary;
-use rec_forms::FromValueError;
-use serde_json::Value;
+use rec_forms::{FromValueError, parse_value};
 use std::alloc::Global;
 use thiserror::Error;
 
@@ -29,22 +26,6 @@ pub enum LineError {
     OutOfMemory,
 }
 
-// The value of a text.
-fn value_from(alloc: Global, text: &str) -> Result<Value, FromValueError>
-    ensures { GivesBy view result (read text.now) }
-{
-    match Value::from_str(alloc, text) {
-        Ok(value) => Ok(value),
-        Err(error) => {
-            if error.is_memory() {
-                Err(FromValueError::OutOfMemory)
-            } else {
-                Err(FromValueError::NotAValue)
-            }
-        }
-    }
-}
-
 // The event of a text.
 fn event_from_text<S: OutputForm>(
     alloc: Global,
@@ -52,7 +33,7 @@ fn event_from_text<S: OutputForm>(
 ) -> Result<TestEventSummary<S>, FromValueError>
     ensures { Gives result (text_form (event_form S.output_form) text.now) }
 {
-    let value = value_from(alloc, text)?;
+    let value = parse_value(alloc, text)?;
     event_from_value(alloc, &value)
 }
 

@@ -7,11 +7,10 @@ use Rattle.rec_format.specs.declared.sizes.ComponentSizes.{ComponentSizes}
 use Rattle.rec_format.specs.declared.sizes.ComponentSizesFormat.{ComponentSizesFormat}
 use Rattle.rec_format.specs.declared.sizes.RecordedSizes.{RecordedSizes}
 use Rattle.rec_format.specs.declared.sizes.RecordedSizesFormat.{RecordedSizesFormat}
-use Rattle.rec_format.specs.Sizes.{component_format, sizes_format}
+use Rattle.rec_format.specs.Sizes.{component_format, sizes_format, component_of, sizes_of}
 use Rattle.rec_format.specs.SizeForms.{component_format_value, component_format_form, IsComponentFormat, sizes_format_value, sizes_format_form, IsSizesFormat, component_value, component_form, IsComponent, sizes_value, sizes_form, AreSizes}
 use Rattle.rec_forms.specs.Known.{Known}
 use Rattle.rec_forms.specs.KnownLaws.{map_holds, object_then, required_then, defaulted_then}
-use Rattle.rec_format.specs.Sizes.{component_of, sizes_of}
 use Rattle.std.proofs.Common.{arith}
 use Rattle.rec_forms.specs.Numbers.{u64_form}
 

@@ -14,11 +14,10 @@ use Rattle.rec_format.specs.declared.status.RecordedRunStatus.TheVariants.{Incom
 use Rattle.rec_format.specs.declared.status.RecordedRunStatusFormat.{RecordedRunStatusFormat}
 use Rattle.rec_format.specs.declared.status.RecordedRunStatusFormat.TheVariants as format
 use Rattle.rec_format.specs.Status.{status_format, status_of}
-use Rattle.rec_format.specs.StatusForms.{bare_value, completed_value, completed_form, stress_value, stress_form, status_value, status_form, IsStatus, status_format_value, status_format_form, IsStatusFormat, AreCompleted, AreStress}
+use Rattle.rec_format.specs.StatusForms.{bare_value, completed_value, completed_form, stress_value, stress_form, status_value, status_form, IsStatus, status_format_value, status_format_form, IsStatusFormat, AreCompleted, AreStress, statuses}
 use Rattle.rec_forms.specs.Known.{Holds, Known}
 use Rattle.rec_forms.specs.KnownLaws.{any_known, map_holds, object_then, required_then, maybe_then, named_holds}
 use Rattle.std.specs.Option.{option_map_or}
-use Rattle.rec_format.specs.StatusForms.{statuses}
 use Rattle.serde_json.specs.Data.{Members}
 use Rattle.serde_json.specs.Find.{as_str}
 use Rattle.std.specs.List.{AllByRecursion}

@@ -1,26 +1,23 @@
 -- Test suites read back, and are writable.
 use Rattle.std.specs.Prelude.{◌≡◌, ℕ, List, [], ◌∷◌, ◌++◌, map, Some, None, false, refl, Option, codes, option_and_then}
-use Rattle.std.proofs.Common.{ap, sym, ◌∙◌, append_assoc, Less, Greater, is_some}
+use Rattle.std.proofs.Common.{ap, sym, ◌∙◌, append_assoc, Less, Greater, is_some, Ordering, Equal}
 use Rattle.std.specs.List.{AllByRecursion}
 use Rattle.std.specs.List.Sorted.{IsStrictlySortedBy}
-use Rattle.std.specs.Ordering.{nat_cmp, ordering_reverse, is_eq}
+use Rattle.std.specs.Ordering.{nat_cmp, ordering_reverse, is_eq, match_ordering}
 use Rattle.std.specs.Cmp.Lexicographic.{slice_cmp, nat_list_cmp_total}
 use Rattle.std.specs.Str.{bytes_eq}
 use Rattle.std.proofs.lemmas.Map.Text.{is_eq-slice_cmp}
 use Rattle.serde_json.specs.View.{items_of}
 use Rattle.rec_forms.specs.Members.{get_member-members_of}
 use Rattle.rec_forms.specs.NumberLaws.{text_back, text_known}
-use Rattle.rec_forms.specs.NameLaws.{names_back, names_writable}
+use Rattle.rec_forms.specs.NameLaws.{names_back, names_writable, match_holds, Rise-with_name, names_known}
 use Rattle.rec_forms.specs.Writable.{IsWritable, struct_writable, string_writable, list_writable}
 use Rattle.rec_format.specs.declared.suites.RerunTestSuiteInfo.{RerunTestSuiteInfo}
 use Rattle.rec_format.specs.Suites.{put_suite, suite_of, SuitesRise}
 use Rattle.rec_format.specs.SuiteForms.{suite_value, suite_form, IsSuite, suites_value, joined_by, suites_from, suites_form, AreSuites}
 use Rattle.rec_forms.specs.Known.{Holds, Known}
 use Rattle.rec_forms.specs.KnownLaws.{anything, and_then_holds, choice_holds, object_then, required_then}
-use Rattle.rec_forms.specs.NameLaws.{match_holds, Rise-with_name, names_known}
-use Rattle.std.specs.Ordering.{match_ordering}
 use Rattle.std.proofs.lemmas.Slice.Eq.{bytes_eq-Decides}
-use Rattle.std.proofs.Common.{Ordering, Equal}
 use Rattle.rec_events.specs.Names.{with_name}
 use Rattle.rec_forms.specs.Names.{names_form}
 use Rattle.rec_forms.specs.Shape.{text_of}
@@ -114,7 +111,7 @@ suite_known_in s (first ∷ more) h all =
 abbrev ids : List RerunTestSuiteInfo → List (List ℕ)
 ids suites = map (λ suite. suite.binary_id) suites
 
--- where no suite has the id, it is put as a name is
+-- the ids of what a comparison chooses are what it chooses of the ids
 ids-match : (o : Ordering) (a b c : List RerunTestSuiteInfo) (x y z : List (List ℕ)) → ids a ≡ x → (o ≡ Equal → ids b ≡ y) → ids c ≡ z
     → ids (match_ordering o a b c) ≡ match_ordering o x y z
 ids-match Less a b c x y z e f g = e
@@ -124,6 +121,7 @@ ids-match Greater a b c x y z e f g = g
 is_same : (s first : List ℕ) → slice_cmp nat_cmp s first ≡ Equal → s ≡ first
 is_same s first e = (bytes_eq-Decides s first).0 (sym (is_eq-slice_cmp s first) ∙ ap is_eq e)
 
+-- a suite is put among the suites as its id is among their ids
 ids-put_suite : (s : RerunTestSuiteInfo) (suites : List RerunTestSuiteInfo) → ids (put_suite s suites) ≡ with_name (ids suites) s.binary_id
 ids-put_suite s [] = refl
 ids-put_suite s (first ∷ more) =

@@ -40,7 +40,6 @@ pub mod StatsLaws
 pub mod Stress
 pub mod StressLaws
 pub mod TextForm
-pub mod TextLaws
 pub mod TimeLaws
 pub mod Times
 pub mod Writable

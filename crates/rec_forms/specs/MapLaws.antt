@@ -1,6 +1,6 @@
 -- A map reads back, and is writable.
 use Rattle.std.specs.Prelude.{◌≡◌, ℕ, suc, List, [], ◌∷◌, ◌++◌, Option, Some, refl, None, option_and_then}
-use Rattle.std.proofs.Common.{append_assoc, ap, ◌∙◌}
+use Rattle.std.proofs.Common.{append_assoc, ap, ◌∙◌, Ordering, Less, Equal, Greater}
 use Rattle.std.specs.List.{AllByRecursion}
 use Rattle.serde_json.specs.Data.{Data, Members, no_members, member, put}
 use Rattle.rec_events.specs.Names.{AreTexts, IsText, with_name}
@@ -11,7 +11,6 @@ use Rattle.rec_forms.specs.Maps.{map_fields, map_value, pairs_form, map_form, ea
 use Rattle.rec_forms.specs.Writable.{IsWritable, EachWritten, struct_writable}
 use Rattle.rec_forms.specs.Known.{Holds, Known}
 use Rattle.rec_forms.specs.KnownLaws.{anything, and_then_holds, choice_holds}
-use Rattle.std.proofs.Common.{Ordering, Less, Equal, Greater}
 use Rattle.std.specs.Ordering.{nat_cmp, match_ordering}
 use Rattle.std.specs.Cmp.Lexicographic.{slice_cmp}
 use Rattle.std.specs.Str.{is_utf8}

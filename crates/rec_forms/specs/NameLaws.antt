@@ -1,6 +1,6 @@
 -- A set of names reads back.
 use Rattle.std.specs.Prelude.{◌≡◌, ℕ, List, [], ◌∷◌, ◌++◌, Some, refl}
-use Rattle.std.proofs.Common.{append_assoc, ap, ◌∙◌}
+use Rattle.std.proofs.Common.{append_assoc, ap, ◌∙◌, Ordering, Less, Equal, Greater}
 use Rattle.serde_json.specs.Data.{string}
 use Rattle.rec_events.specs.Names.{IsText, Rise, AreTexts, with_name}
 use Rattle.rec_events.specs.PairLaws.{with_name-last}
@@ -11,7 +11,6 @@ use Rattle.rec_forms.specs.ListLaws.{list_back}
 use Rattle.rec_forms.specs.Writable.{IsWritable, string_writable, list_writable}
 use Rattle.rec_forms.specs.Known.{Known}
 use Rattle.rec_forms.specs.KnownLaws.{map_holds, list_known}
-use Rattle.std.proofs.Common.{Ordering, Less, Equal, Greater}
 use Rattle.std.specs.List.{AllByRecursion}
 use Rattle.std.specs.List.Sorted.{IsStrictlySortedBy}
 use Rattle.std.specs.Ordering.{nat_cmp, match_ordering, ordering_reverse}

@@ -40,4 +40,4 @@ pub use fields::{
     required_field, tagged,
 };
 pub use form::Form;
-pub use text_form::{read_text, write_text};
+pub use text_form::{parse_value, read_text, write_text};

@@ -1,7 +1,7 @@
 // Items as the bytes of their JSON text.
 ghost use Rattle.std.specs.Prelude.{◌≡◌, ◌≤◌, Some, IfOk, IsTrue};
 ghost use Rattle.std.specs.Str.{is_utf8};
-ghost use Rattle.serde_json.specs.Read.{max_depth};
+ghost use Rattle.serde_json.specs.Read.{max_depth, read};
 ghost use Rattle.serde_json.specs.View.{view};
 ghost use Rattle.serde_json.specs.Written.{compact_text};
 ghost use Rattle.rec_forms.specs.Gives.{Gives, GivesBy};
@@ -25,7 +25,17 @@ pub fn read_text<T: Form>(alloc: Global, bytes: &[u8]) -> Result<T, FromValueErr
 fn read_value(alloc: Global, bytes: &[u8]) -> Result<Value, FromValueError>
     ensures { GivesBy view result (value_in bytes.now) }
 {
-    match Value::from_slice(alloc, bytes) {
+    match std::str::from_utf8(bytes) {
+        Ok(text) => parse_value(alloc, text),
+        Err(_) => Err(FromValueError::NotAValue),
+    }
+}
+
+/// The value of a JSON text. `NotAValue` comes exactly where `text` is none.
+pub fn parse_value(alloc: Global, text: &str) -> Result<Value, FromValueError>
+    ensures { GivesBy view result (read text.now) }
+{
+    match Value::from_str(alloc, text) {
         Ok(value) => Ok(value),
         Err(error) => {
             if error.is_memory() {

@@ -1,7 +1,7 @@
 use Rattle.serde_json.specs.View.{view}
 use Rattle.rec_codec.specs.EventForms.{event_form, IsEvent}
 use Rattle.rec_codec.specs.EventFormLaws.{event_known}
-use Rattle.rec_codec.proofs.LoadedLaws.{given_known}
+use Rattle.rec_codec.proofs.ReadEventLaws.{given_known}
 use Rattle.rec_codec.proofs.event.event_from_value.Goals as goal
 
 pub returns-clause-known : goal.returns-clause-known

@@ -1,4 +1,4 @@
-use Rattle.rec_codec.proofs.LoadedLaws.{live_event_loaded}
+use Rattle.rec_codec.proofs.ReadEventLaws.{live_event_loaded}
 use Rattle.rec_codec.proofs.laws.read_events_are_loaded.Goals as goal
 
 pub returns : goal.returns

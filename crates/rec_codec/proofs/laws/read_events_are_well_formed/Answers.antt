@@ -1,4 +1,4 @@
-use Rattle.rec_codec.proofs.LoadedLaws.{live_event_known, recorded_event_known}
+use Rattle.rec_codec.proofs.ReadEventLaws.{live_event_known, recorded_event_known}
 use Rattle.rec_codec.proofs.laws.read_events_are_well_formed.Goals as goal
 
 pub returns-clause-live : goal.returns-clause-live

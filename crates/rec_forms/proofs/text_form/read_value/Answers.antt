@@ -1,10 +1,18 @@
-use Rattle.std.proofs.Common.{sym, ◌∙◌, true≢false}
-use Rattle.std.proofs.lemmas.Str.{is_utf8-from_IsUtf8}
-use Rattle.rec_forms.specs.TextLaws.{value_in-none}
+use Rattle.std.specs.Str.{is_utf8}
+use Rattle.std.proofs.Common.{◌≡◌, Bool, true, false, Option, None, if◌then◌else◌, refl, subst}
+use Rattle.std.proofs.lemmas.Str.{is_utf8-from_IsUtf8, IsUtf8-from_is_utf8}
+use Rattle.serde_json.specs.Read.{read}
+use Rattle.serde_json.specs.View.{view}
+use Rattle.rec_forms.specs.Gives.{GivesBy}
 use Rattle.rec_forms.proofs.text_form.read_value.Goals as goal
 
-pub returns-in-Ok : goal.returns-in-Ok
-returns-in-Ok c = rw (is_utf8-from_IsUtf8 _ c.in-Ok.ensures.ok.0) c.in-Ok.ensures.ok.1
+none_unless : {T : Type 0} (b : Bool) (o : Option T) → (b ≡ true → ⊥) → (if b then o else None) ≡ None
+none_unless true o h = absurd (h refl)
+none_unless false o h = refl
 
-pub returns-else-is_memory : goal.returns-else-is_memory
-returns-else-is_memory c = value_in-none _ (c.in-Err.ensures.err (λ m. true≢false (sym (c.is_memory.ensures.1 m) ∙ c.if-is_memory.false)))
+pub returns-in-Ok : goal.returns-in-Ok
+returns-in-Ok c =
+    rw (is_utf8-from_IsUtf8 _ c.in-Ok.ensures.cases.1) (subst (λ text. GivesBy view c.parse_value.result (read text)) c.in-Ok.ensures.cases.0 c.parse_value.ensures)
+
+pub returns-in-Err : goal.returns-in-Err
+returns-in-Err c = none_unless (is_utf8 c.args.bytes.now) (read c.args.bytes.now) (λ e. c.in-Err.ensures.cases.0 (IsUtf8-from_is_utf8 _ e))
