@@ -34,8 +34,8 @@ pub struct StressRunStats {
 }
 
 impl StressRunStats {
-    /// How the stress run ended: it failed where one of its runs did, and else ended as the last of
-    /// them.
+    /// How the stress run ended: it failed where one of its runs did. Else it was cancelled, or had
+    /// no tests, where the last of its runs was or had; else it succeeded.
     pub fn summarize_final(&self) -> StressFinalRunStats
         ensures { result ≡ stress_summary self.now }
     {

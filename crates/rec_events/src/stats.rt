@@ -71,8 +71,8 @@ impl RunStats {
     }
 
     /// How the run ended. A setup script decides before the tests do, and what failed before what is
-    /// missing. A failure counts as cancelled where it ended the run for a graver reason than a
-    /// failed test.
+    /// missing. A run with a failure counts as cancelled where it was cancelled for a graver reason
+    /// than a failed test.
     pub fn summarize_final(&self) -> FinalRunStats
         ensures { result ≡ summary self.now }
     {

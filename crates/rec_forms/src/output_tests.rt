@@ -101,7 +101,10 @@ fn test_instances(rt: HostRuntime) -> Result<(), Fail> {
             "{\"binary-id\":\"alpha::a\",\"test-name\":\"t1\"}",
         ),
         ("{\"binary-id\":\"alpha::a\"}", "refused"),
+        ("{\"test-name\":\"t1\"}", "refused"),
         ("{\"binary-id\":1,\"test-name\":\"t1\"}", "refused"),
+        ("{\"binary-id\":\"alpha::a\",\"test-name\":null}", "refused"),
+        ("[\"alpha::a\",\"t1\"]", "refused"),
     ];
     check::<OwnedTestInstanceId>(&rt, alloc, &instances)?;
     let attempts = [

@@ -47,6 +47,7 @@ impl Form for ChildSingleOutput {
     }
 }
 
+// An output that was cut.
 #[tactic(auto, unfolding(crate::specs::Outputs::truncated_form))]
 fn truncated_from(alloc: Global, value: &Value) -> Result<ZipStoreOutput, FromValueError>
     ensures { Gives result (truncated_form (view value.now)) }
@@ -60,6 +61,7 @@ fn truncated_from(alloc: Global, value: &Value) -> Result<ZipStoreOutput, FromVa
     })
 }
 
+// The outputs of a process whose streams were captured apart.
 #[tactic(auto, unfolding(crate::specs::Outputs::split_form))]
 fn split_from(alloc: Global, value: &Value) -> Result<ZipStoreOutputDescription, FromValueError>
     ensures { Gives result (split_form (view value.now)) }

@@ -243,6 +243,67 @@ fn refused_stats(rt: HostRuntime) -> Result<(), Fail> {
     Ok(())
 }
 
+// The text of all counts but the one at `key`, with `last` behind them.
+fn stats_without(alloc: Global, key: &str, last: &str) -> Result<String, Fail> {
+    let mut text = String::from_str(alloc, "{\"cancel-reason\":\"signal\"")?;
+    for count in all_counts() {
+        if count != key {
+            text.push_str(",\"")?;
+            text.push_str(count)?;
+            text.push_str("\":1")?;
+        }
+    }
+    text.push_str(last)?;
+    text.push_str("}")?;
+    Ok(text)
+}
+
+fn all_counts() -> [&'static str; 19] {
+    [
+        "initial-run-count",
+        "finished-count",
+        "setup-scripts-initial-count",
+        "setup-scripts-finished-count",
+        "setup-scripts-passed",
+        "setup-scripts-failed",
+        "setup-scripts-exec-failed",
+        "setup-scripts-timed-out",
+        "passed",
+        "passed-slow",
+        "passed-timed-out",
+        "flaky",
+        "failed",
+        "failed-slow",
+        "failed-timed-out",
+        "leaky",
+        "leaky-failed",
+        "exec-failed",
+        "skipped",
+    ]
+}
+
+// No count may be missing, null, or anything but a number.
+#[test]
+fn each_count_of_stats(rt: HostRuntime) -> Result<(), Fail> {
+    let alloc = rt.alloc();
+    let whole = stats_without(alloc, "", "")?;
+    let got = rewritten::<RunStats>(alloc, whole.as_bytes())?;
+    assert!(rt; got.as_str() != "refused", "{whole}");
+    for key in all_counts() {
+        for value in ["", "null", "-1", "\"1\""] {
+            let last = if value.is_empty() {
+                String::new(alloc)
+            } else {
+                format!(in alloc; ",\"{key}\":{value}")?
+            };
+            let text = stats_without(alloc, key, last.as_str())?;
+            let got = rewritten::<RunStats>(alloc, text.as_bytes())?;
+            assert!(rt; got.as_str() == "refused", "{text} was written as {got}");
+        }
+    }
+    Ok(())
+}
+
 #[test]
 fn counts_of_stats(rt: HostRuntime) -> Result<(), Fail> {
     let alloc = rt.alloc();

@@ -117,7 +117,7 @@ impl Form for StressProgress {
     }
 }
 
-/// How many of the runs ended.
+// How far a stress run of some number of rounds has come.
 #[tactic(auto, unfolding(crate::specs::Stress::count_progress_form))]
 fn count_from(alloc: Global, value: &Value) -> Result<StressProgress, FromValueError>
     ensures { Gives result (count_progress_form (view value.now)) }
@@ -132,7 +132,7 @@ fn count_from(alloc: Global, value: &Value) -> Result<StressProgress, FromValueE
     })
 }
 
-/// How much of the time went by.
+// How far a stress run of some length has come.
 #[tactic(auto, unfolding(crate::specs::Stress::time_progress_form))]
 fn time_from(alloc: Global, value: &Value) -> Result<StressProgress, FromValueError>
     ensures { Gives result (time_progress_form (view value.now)) }

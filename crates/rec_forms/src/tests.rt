@@ -107,7 +107,15 @@ fn integers(rt: HostRuntime) -> Result<(), Fail> {
     check::<NonZeroCount>(
         &rt,
         alloc,
-        &[("1", "1"), ("4294967295", "4294967295"), ("0", "refused")],
+        &[
+            ("1", "1"),
+            ("4294967295", "4294967295"),
+            ("0", "refused"),
+            ("4294967296", "refused"),
+            ("-1", "refused"),
+            ("1.0", "refused"),
+            ("null", "refused"),
+        ],
     )?;
     Ok(())
 }
@@ -387,6 +395,10 @@ fn packages(rt: HostRuntime) -> Result<(), Fail> {
                 "{\"exclude\":[\"a\"],\"specs\":[\"b\"],\"workspace\":true}",
             ),
             ("{\"workspace\":null}", "refused"),
+            ("{\"workspace\":1}", "refused"),
+            ("{\"exclude\":\"a\"}", "refused"),
+            ("{\"specs\":[null]}", "refused"),
+            ("[]", "refused"),
         ],
     )?;
     Ok(())
@@ -408,6 +420,9 @@ fn target_selections(rt: HostRuntime) -> Result<(), Fail> {
             ),
             ("{\"all_targets\":true}", targets),
             ("{\"benches\":[]}", "refused"),
+            ("{\"all-targets\":null}", "refused"),
+            ("{\"tests\":{\"names\":[1]}}", "refused"),
+            ("null", "refused"),
         ],
     )?;
     Ok(())
@@ -427,6 +442,9 @@ fn features(rt: HostRuntime) -> Result<(), Fail> {
                 "{\"all-features\":true,\"features\":[\"f\"],\"no-default-features\":true}",
             ),
             ("{\"features\":[0]}", "refused"),
+            ("{\"all-features\":null}", "refused"),
+            ("{\"no-default-features\":\"false\"}", "refused"),
+            ("[]", "refused"),
         ],
     )?;
     Ok(())
