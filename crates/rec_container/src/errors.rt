@@ -9,7 +9,7 @@ use thiserror::Error;
 /// Why a container was not written further.
 #[derive(Clone, Copy, Debug, PartialEq, Eq, Error)]
 pub enum ContainerWriteError {
-    /// An earlier call of this writer answered `SinkFault`.
+    /// The sink failed at a call before this one.
     #[error("the sink failed earlier, so nothing more is written")]
     Failed,
     /// The name has no byte, or more than 65535.

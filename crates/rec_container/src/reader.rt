@@ -33,11 +33,11 @@ impl<'a> Model for Container<'a> {
 impl<'a> Container<'a> {
     /// Reads the bytes of a container, or answers the first fault from the left.
     pub fn parse(alloc: Global, bytes: &'a [u8]) -> Result<Container<'a>, ContainerError>
-        // What is read is spelled so.
+        // The entries are a list that the bytes spell.
         ensures found { IfOk result (IsContainer bytes.now) }
-        // What is spelled so is read, unless memory runs out.
+        // Bytes that spell a list give it, but for want of memory.
         ensures only { (es : List Entry) → IsContainer bytes.now es → MatchResult result (λ c. c ≡ es) (λ e. e ≡ OutOfMemory) }
-        // Which fault it is.
+        // Each fault has its cause in the bytes.
         ensures fault { IfErr result (λ e. (e ≡ OutOfMemory) ⊎ IsFault bytes.now e) }
     {
         read(alloc, bytes)

@@ -35,7 +35,7 @@ const MARKER_END: &[u8] = b" bytes] ...\n\n";
 ///
 /// An output of at most this many bytes is lent as it is. Of a longer one the front and the back
 /// are kept, and a marker between them that says by how many bytes the output exceeds the limit.
-/// A cut is longer than the limit only where its marker alone is.
+/// Only where the marker doesn't fit is a cut longer than the limit: it is the marker then.
 pub fn truncate_output(
     alloc: Global,
     buf: &[u8],
