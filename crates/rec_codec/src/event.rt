@@ -58,7 +58,7 @@ fn value_from<S: OutputForm>(
 }
 
 /// The value of an event: an object with its times, the name of its kind and the members of that
-/// kind. `NotLoaded` only where an output isn't loaded.
+/// kind. `NotLoaded` comes exactly where an output isn't loaded, unless memory runs out first.
 pub fn event_to_value<S: OutputForm>(
     alloc: Global,
     event: &TestEventSummary<S>,

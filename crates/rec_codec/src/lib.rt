@@ -29,6 +29,8 @@ mod script_kinds;
 mod script_status;
 mod status;
 #[cfg(test)]
+mod test_end_tests;
+#[cfg(test)]
 mod test_helpers;
 mod test_kinds;
 #[cfg(test)]

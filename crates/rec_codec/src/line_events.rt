@@ -12,7 +12,7 @@ use rec_forms::{FromValueError, parse_value};
 use std::alloc::Global;
 use thiserror::Error;
 
-/// Why a line of a log gives no event.
+/// Why a line of a session or a log gives no event.
 #[derive(Clone, Copy, PartialEq, Eq, Debug, Drop, Error)]
 pub enum LineError {
     /// The line isn't UTF-8.

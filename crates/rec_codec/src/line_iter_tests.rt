@@ -74,6 +74,17 @@ fn a_session_by_its_items(rt: HostRuntime) -> Result<(), Fail> {
     Ok(())
 }
 
+// After a line that is no text, the lines go on.
+#[test]
+fn the_line_behind_one_that_is_no_text(rt: HostRuntime) -> Result<(), Fail> {
+    let alloc = rt.alloc();
+    let log = log(alloc, &[run_start().as_bytes(), b"", b"\xff", b"{}"])?;
+    let items = told::<LiveSpec>(alloc, log.as_slice(), 2)?;
+    let want = "event;line 4 can't be read;line 5 isn't an event;";
+    assert!(rt; items.as_str() == want, "{items}");
+    Ok(())
+}
+
 #[test]
 fn a_log_by_its_items(rt: HostRuntime) -> Result<(), Fail> {
     let alloc = rt.alloc();

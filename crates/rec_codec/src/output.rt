@@ -30,7 +30,8 @@ pub trait OutputForm: OutputSpec {
     // How deep the objects of a written value nest at most.
     ghost output_levels: { ℕ };
 
-    /// The value of the output; `NotLoaded` only where it isn't loaded.
+    /// The value of the output; `NotLoaded` exactly where it isn't loaded, unless memory runs
+    /// out first.
     fn output_to_value(alloc: Global, output: &Self::ChildOutput) -> Result<Value, ToValueError>
         ensures written { Writes result (output_value output.now) (loaded output.now) }
         ensures known { OnOk result (output_well_formed output.now) };

@@ -1,6 +1,8 @@
 // Events with outputs as they are read and written, in both forms, and values that are none.
 use crate::OutputForm;
-use crate::test_helpers::{MISSING, check_required, check_rewritten, object, rewritten};
+use crate::test_helpers::{
+    MISSING, check_other_form, check_required, check_rewritten, object, rewritten,
+};
 use rec_events::{LiveSpec, RecordingSpec};
 use std::alloc::Global;
 use std::process::Abort;
@@ -48,19 +50,6 @@ fn script_not_started() -> [(&'static str, &'static str); 1] {
         r#"{"timestamp":{"secs":1005,"nanos":0,"offset":0},"elapsed":{"secs":5,"nanos":0},"kind":"setup-script-finished","index":0,"total":1,"script-id":"db","program":"sh","args":[],"no-capture":false,"run-status":{"output":{"start-error":"no such file"},"result":"exec-fail","start-time":{"secs":1001,"nanos":0,"offset":0},"time-taken":{"secs":0,"nanos":0},"is-slow":false,"x":1}}"#,
         r#"{"args":[],"elapsed":{"nanos":0,"secs":5},"index":0,"kind":"setup-script-finished","no-capture":false,"program":"sh","run-status":{"is-slow":false,"output":{"start-error":"no such file"},"result":"exec-fail","start-time":{"nanos":0,"offset":0,"secs":1001},"time-taken":{"nanos":0,"secs":0}},"script-id":"db","timestamp":{"nanos":0,"offset":0,"secs":1005},"total":1}"#,
     )]
-}
-
-// Lines with outputs are no events in the other form.
-fn check_other_form<S: OutputForm>(
-    rt: &impl Abort,
-    alloc: Global,
-    lines: &[(&str, &str)],
-) -> Result<(), Fail> {
-    for (text, _) in lines {
-        let got = rewritten::<S>(alloc, text)?;
-        assert!(rt; got.as_str() == "refused", "{text} was written as {got}");
-    }
-    Ok(())
 }
 
 #[test]
@@ -114,21 +103,6 @@ fn attempts_that_failed(rt: HostRuntime) -> Result<(), Fail> {
     check_other_form::<RecordingSpec>(&rt, rt.alloc(), &live)?;
     let recorded = recorded_failures();
     check_rewritten::<RecordingSpec>(&rt, rt.alloc(), &recorded)
-}
-
-// A test ends, with all members.
-fn full_test_end() -> [(&'static str, &'static str); 1] {
-    [(
-        r#"{"timestamp":{"secs":1002,"nanos":0,"offset":0},"elapsed":{"secs":2,"nanos":0},"kind":"test-finished","stress-index":{"current":0,"total":2},"test-instance":{"binary-id":"alpha::a","test-name":"t1"},"success-output":"final","failure-output":"immediate","junit-store-success-output":true,"junit-store-failure-output":false,"junit-flaky-fail-status":"failure","run-statuses":{"statuses":[{"retry-data":{"attempt":2,"total-attempts":3},"output":{"start-error":"no such file"},"result":"exec-fail","start-time":{"secs":1001,"nanos":0,"offset":0},"time-taken":{"secs":1,"nanos":0},"is-slow":false,"delay-before-start":{"secs":0,"nanos":0}}],"flaky-result":"pass"},"current-stats":{"initial-run-count":1,"finished-count":2,"setup-scripts-initial-count":3,"setup-scripts-finished-count":4,"setup-scripts-passed":5,"setup-scripts-failed":6,"setup-scripts-exec-failed":7,"setup-scripts-timed-out":8,"passed":9,"passed-slow":10,"passed-timed-out":11,"flaky":12,"failed":13,"failed-slow":14,"failed-timed-out":15,"leaky":16,"leaky-failed":17,"exec-failed":18,"skipped":19,"cancel-reason":"interrupt"},"running":20}"#,
-        r#"{"current-stats":{"cancel-reason":"interrupt","exec-failed":18,"failed":13,"failed-slow":14,"failed-timed-out":15,"finished-count":2,"flaky":12,"initial-run-count":1,"leaky":16,"leaky-failed":17,"passed":9,"passed-slow":10,"passed-timed-out":11,"setup-scripts-exec-failed":7,"setup-scripts-failed":6,"setup-scripts-finished-count":4,"setup-scripts-initial-count":3,"setup-scripts-passed":5,"setup-scripts-timed-out":8,"skipped":19},"elapsed":{"nanos":0,"secs":2},"failure-output":"immediate","junit-flaky-fail-status":"failure","junit-store-failure-output":false,"junit-store-success-output":true,"kind":"test-finished","run-statuses":{"flaky-result":"pass","statuses":[{"delay-before-start":{"nanos":0,"secs":0},"is-slow":false,"output":{"start-error":"no such file"},"result":"exec-fail","retry-data":{"attempt":2,"total-attempts":3},"start-time":{"nanos":0,"offset":0,"secs":1001},"time-taken":{"nanos":0,"secs":1}}]},"running":20,"stress-index":{"current":0,"total":2},"success-output":"final","test-instance":{"binary-id":"alpha::a","test-name":"t1"},"timestamp":{"nanos":0,"offset":0,"secs":1002}}"#,
-    )]
-}
-
-#[test]
-fn the_full_end_of_a_test(rt: HostRuntime) -> Result<(), Fail> {
-    let lines = full_test_end();
-    check_rewritten::<LiveSpec>(&rt, rt.alloc(), &lines)?;
-    check_rewritten::<RecordingSpec>(&rt, rt.alloc(), &lines)
 }
 
 fn script_end() -> [(&'static str, &'static str); 8] {

@@ -33,7 +33,8 @@ pub trait Part: Sized {
     // How deep the arrays and objects of a written value nest at most.
     ghost levels: { ℕ };
 
-    /// The value of the item; `NotLoaded` only where an output isn't loaded.
+    /// The value of the item; `NotLoaded` exactly where an output isn't loaded, unless memory
+    /// runs out first.
     fn to_value(&self, alloc: Global) -> Result<Value, ToValueError>
         ensures written { Writes result (value_of self.now) (loaded self.now) }
         ensures known { OnOk result (well_formed self.now) };

@@ -18,6 +18,7 @@ use rec_forms::{
 use serde_json::{Map, Value};
 use std::alloc::{AllocError, Global};
 
+// The outputs of a process that was started.
 #[tactic(auto, unfolding(crate::specs::Status::output_case_form))]
 fn output_from<S: OutputForm>(
     alloc: Global,

@@ -41,6 +41,19 @@ pub fn check_rewritten<S: OutputForm>(
     Ok(())
 }
 
+/// Lines with outputs are no events in the other form.
+pub fn check_other_form<S: OutputForm>(
+    rt: &impl Abort,
+    alloc: Global,
+    lines: &[(&str, &str)],
+) -> Result<(), Fail> {
+    for (text, _) in lines {
+        let got = rewritten::<S>(alloc, text)?;
+        assert!(rt; got.as_str() == "refused", "{text} was written as {got}");
+    }
+    Ok(())
+}
+
 /// The object of these members, with another in the place of the one at `at`.
 pub fn object(alloc: Global, members: &[&str], at: usize, other: &str) -> Result<String, Fail> {
     let mut text = String::from_str(alloc, "{\"x\":0")?;
