@@ -1,7 +1,7 @@
 #!/usr/bin/env python3
 """Refuses each allocation, read and write of `record` in turn, and says what each left.
 
-    (cd crates/rec_program && rt run -- record /tmp/example.bundle < data/example.session)
+    (cd crates/rec_program && rt run -- record /tmp/example.bundle < data/example.session > /tmp/example.trace.json)
     tools/sweep.py crates/rec_program/out/rec_program
 
 It runs the built program on the session that ships with the repository, and on one with a cut

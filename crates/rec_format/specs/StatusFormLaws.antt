@@ -158,7 +158,8 @@ status_known = record {
 }
 
 -- a format of a status stands for that status
-of-format : (s : RecordedRunStatus) → status_of (status_format s) ≡ s
+-- a status comes back from its form in JSON
+pub of-format : (s : RecordedRunStatus) → status_of (status_format s) ≡ s
 of-format Incomplete = refl
 of-format (Completed s) = refl
 of-format (Cancelled s) = refl

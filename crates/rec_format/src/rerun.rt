@@ -12,6 +12,7 @@ pub struct RerunRootInfo {
 }
 
 impl RerunRootInfo {
+    /// The first run of a line of reruns, and what it built.
     pub fn new(run_id: ReportUuid, build_scope: RecordedBuildScope) -> Self
         ensures { result ≡ record { run_id = run_id; build_scope = build_scope } }
     {

@@ -20,6 +20,7 @@ pub struct RecordedBuildScope {
 }
 
 impl RecordedBuildScope {
+    /// What was built, by a builder of this kind.
     pub fn new(build_kind: BuildKind, scope: BuildScope) -> Self
         ensures { result ≡ record { build_kind = build_kind; scope = scope } }
     {

@@ -26,6 +26,7 @@ impl Model for StoreFormatMajorVersion {
 }
 
 impl StoreFormatMajorVersion {
+    /// The major version with this number.
     pub const fn new(version: u32) -> Self
         ensures { result ≡ version }
     {
@@ -68,6 +69,7 @@ impl Model for StoreFormatMinorVersion {
 }
 
 impl StoreFormatMinorVersion {
+    /// The minor version with this number.
     pub const fn new(version: u32) -> Self
         ensures { result ≡ version }
     {
@@ -110,6 +112,7 @@ impl Model for PortableRecordingFormatMajorVersion {
 }
 
 impl PortableRecordingFormatMajorVersion {
+    /// The major version with this number.
     pub const fn new(version: u32) -> Self
         ensures { result ≡ version }
     {
@@ -152,6 +155,7 @@ impl Model for PortableRecordingFormatMinorVersion {
 }
 
 impl PortableRecordingFormatMinorVersion {
+    /// The minor version with this number.
     pub const fn new(version: u32) -> Self
         ensures { result ≡ version }
     {
@@ -192,6 +196,7 @@ pub struct StoreFormatVersion {
 }
 
 impl StoreFormatVersion {
+    /// The version of these two numbers.
     pub const fn new(major: StoreFormatMajorVersion, minor: StoreFormatMinorVersion) -> Self
         ensures { result ≡ record { major = major; minor = minor } }
     {
@@ -256,6 +261,7 @@ pub struct PortableRecordingFormatVersion {
 }
 
 impl PortableRecordingFormatVersion {
+    /// The version of these two numbers.
     pub const fn new(
         major: PortableRecordingFormatMajorVersion,
         minor: PortableRecordingFormatMinorVersion,

@@ -35,9 +35,9 @@ pub fn run_program<S: Source, B: Sink, T: Sink, G: Sink>(
         (command (texts words.now)) result
         source.old source.new bundle.old bundle.new out.old out.new diag.old diag.new }
 
-    // Status 0 of a recording: the session was read to its end, the bundle's sink took bytes whose reading is the session with each
-    // output cut at the limit, and `out` took the text of the trace, whose begins and ends on every row alternate and are exactly the
-    // slices that the pauses leave.
+    // Status 0 of a recording: nothing of the session is left to read; what the bundle's sink took is read as the head and the events
+    // of the session, with long outputs cut; and `out` took the text of their trace, in which begins and ends of equal names take
+    // turns on each row, and mark, at their events' instants, the slices outside pauses and no others.
     ensures recorded { (path : List ℕ) (settings : Settings)
         → command (texts words.now) ≡ Ok (recording path settings)
         → result ≡ 0

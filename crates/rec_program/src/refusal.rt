@@ -60,7 +60,7 @@ pub enum RecordExportError {
     KindNotBuilt {
         event: u64,
     },
-    /// The event ends an attempt of a test of which none is open.
+    /// The event finishes a test of which no attempt is open.
     #[error("event {event} ends a test that isn't running")]
     MissingTestStart {
         event: u64,
@@ -73,7 +73,7 @@ pub enum RecordExportError {
         event: u64,
         span: SpanKey,
     },
-    /// The event starts an attempt on a slot on which another runs.
+    /// The event starts a test on a slot on which another runs.
     #[error("event {event} starts a test on slot {slot}, on which another runs")]
     SlotBusy {
         event: u64,

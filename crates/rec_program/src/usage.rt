@@ -23,8 +23,9 @@ read, 4 if it is too long, 5 for a faulty line, 6 for other bytes under the
 name of an output, 7 for what is above the read limit, 8 for an event that
 ends what isn't open, starts what is, or takes a slot that is held, 9 for a
 number out of range, 10 if the bundle can't be written, 11 if standard output
-fails, and 70 if memory runs out. With a status other than 0, one line on
-standard error tells the cause.
+fails, 20 for an event of a kind that the trace doesn't draw yet, and 70 if
+memory runs out. With a status other than 0, a line on standard error tells
+the cause, if there is memory for it.
 ";
 
 /// The version of the program, and those of the formats that it writes.

@@ -63,7 +63,8 @@ behind-sum : (es : List Entry) (name content : List ℕ) (o : Option (List ℕ))
 behind-sum es name content None h = (refl, if_long _ _ refl h)
 behind-sum es name content (Some c) h = absurd (no_sum (bytes_eq c content) h)
 
-no_collision : (b : Bool) → (if b then None else Some writing.CountOutOfRange) ≡ Some writing.NameCollision → ⊥
+-- what is refused for a sum is not refused for a collision
+pub no_collision : (b : Bool) → (if b then None else Some writing.CountOutOfRange) ≡ Some writing.NameCollision → ⊥
 no_collision true h = cc
 no_collision false h = cc
 

@@ -10,7 +10,7 @@ use Rattle.rec_store.specs.declared.error.RunStoreError.TheVariants.{NameCollisi
 use Rattle.rec_store.specs.Clashes.{with_entry, with_entries, differs, clash}
 use Rattle.rec_store.specs.Recording.{Takes, AddsEach, AddsUpTo}
 use Rattle.rec_store.specs.Stopping.{Stops}
-use Rattle.rec_store.proofs.Adding.{added, entries_after, sound_added}
+use Rattle.rec_store.proofs.Adding.{added, entries_after, no_collision, sound_added}
 
 -- ---- one entry: what a refusal says of the content that is there
 
@@ -22,10 +22,6 @@ equal_collides : (b : Bool) → (if b then None else Some writing.NameCollision)
 equal_collides true h = absurd (let k = h in cc)
 equal_collides false h = refl
 
-no_sum_collides : (b : Bool) → (if b then None else Some writing.CountOutOfRange) ≡ Some writing.NameCollision → ⊥
-no_sum_collides true h = cc
-no_sum_collides false h = cc
-
 held_taken : (held : Option (List ℕ)) (content : List ℕ) (room : Option ContainerWriteError)
     → option_map_or (λ c. if bytes_eq c content then None else Some writing.NameCollision) held room ≡ None → differs held content ≡ false
 held_taken None content room h = refl
@@ -34,7 +30,7 @@ held_taken (Some c) content room h = equal_taken (bytes_eq c content) h
 held_collides : (held : Option (List ℕ)) (content : List ℕ) (fits : Bool)
     → option_map_or (λ c. if bytes_eq c content then None else Some writing.NameCollision) held (if fits then None else Some writing.CountOutOfRange) ≡ Some writing.NameCollision
     → differs held content ≡ true
-held_collides None content fits h = absurd (no_sum_collides fits h)
+held_collides None content fits h = absurd (no_collision fits h)
 held_collides (Some c) content fits h = equal_collides (bytes_eq c content) h
 
 name_taken : (b : Bool) (x : Option ContainerWriteError) → (if not b then Some writing.BadName else x) ≡ None → x ≡ None

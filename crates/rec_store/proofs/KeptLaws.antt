@@ -47,7 +47,7 @@ module _ (number : List ℕ → ℕ) (m : ℕ) where
   paths_of_description (live.Combined both) = paths_of_output kind.Combined both
   paths_of_description live.NotLoaded = refl
 
-  paths_of_event : (e : LiveEvent) → event_paths (event_recorded number m e) ≡ names (event_entries number m e)
+  pub paths_of_event : (e : LiveEvent) → event_paths (event_recorded number m e) ≡ names (event_entries number m e)
   paths_of_event e =
       of_event-with RecordingSpec (description_recorded number m) description_paths (description_entries number m) (λ (e : Entry). e.name) paths_of_description e
 

@@ -1,6 +1,7 @@
 pub mod Adding
 pub mod Clashing
 mod EventMapLaws
+mod Growing
 mod Held
 mod KeptLaws
 mod Logged

@@ -17,11 +17,10 @@ use Rattle.rec_format.specs.declared.rerun.RerunInfo.{RerunInfo}
 use Rattle.rec_format.specs.declared.run.RecordedRunInfo.{RecordedRunInfo}
 use Rattle.rec_format.specs.declared.scope.RecordedBuildScope.{RecordedBuildScope}
 use Rattle.rec_format.specs.declared.status.RecordedRunStatus.{RecordedRunStatus}
-use Rattle.rec_format.specs.declared.status.RecordedRunStatus.TheVariants.{Incomplete, Completed, Cancelled, StressCompleted, StressCancelled, Unknown}
 use Rattle.rec_format.specs.RunForms.{manifest_form}
 use Rattle.rec_format.specs.Runs.{manifest_of, run_of, info_of}
 use Rattle.rec_format.specs.ScopeForms.{recorded_scope_form}
-use Rattle.rec_format.specs.Status.{status_format, status_of}
+use Rattle.rec_format.specs.StatusFormLaws.{of-format}
 use Rattle.rec_store.specs.Bundle.{events_recorded, run_log, run_outputs, outputs_stored, run_store, run_info, manifest_text, run_bundle, run_entries}
 use Rattle.rec_store.specs.Clashes.{clash}
 use Rattle.rec_store.specs.Entries.{rerun_info_path}
@@ -32,17 +31,9 @@ use Rattle.rec_store.proofs.KeptLaws.{resolved_events}
 use Rattle.rec_store.proofs.OutputLaws.{no_rerun, stored_are_outputs}
 use Rattle.rec_store.proofs.OutputsRead.{run_held, run_outputs_read}
 
-status_again : (s : RecordedRunStatus) → status_of (status_format s) ≡ s
-status_again Incomplete = refl
-status_again (Completed stats) = refl
-status_again (Cancelled stats) = refl
-status_again (StressCompleted stats) = refl
-status_again (StressCancelled stats) = refl
-status_again Unknown = refl
-
 -- run information that went into a manifest comes out of it
 pub info_again : (info : RecordedRunInfo) → info_of (run_of info) ≡ info
-info_again info = ap (λ (s : RecordedRunStatus). record info { status = s }) (status_again info.status)
+info_again info = ap (λ (s : RecordedRunStatus). record info { status = s }) (of-format info.status)
 
 -- what the parts are read as
 abbrev read_from : PortableManifest → RecordedBuildScope → Option RerunInfo → List ℕ → TestListSummary → RecordOpts → List KeptEvent → List Entry → RunRecord

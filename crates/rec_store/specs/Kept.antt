@@ -1,5 +1,6 @@
 -- What is kept of an event's outputs: what a bundle is read as.
-use Rattle.std.specs.Prelude.{ℕ, List, [], ◌∷◌, ◌++◌, length, nat_le, ◌==◌, Option, Some, None, option_map, unwrap_or, if◌then◌else◌}
+use Rattle.std.specs.Prelude.{ℕ, List, [], ◌∷◌, ◌++◌, length, nat_le, ◌==◌, Option, Some, None, IsTrue, is_some, option_map, unwrap_or, if◌then◌else◌}
+use Rattle.std.specs.List.{AllByRecursion}
 use Rattle.rec_container.specs.Container.{Entry, content_of}
 use Rattle.rec_events.specs.EventMaps.{event_with, of_event}
 use Rattle.rec_events.specs.declared.events.TestEventSummary.{TestEventSummary}
@@ -81,3 +82,7 @@ description_paths (stored.Combined both) = output_paths both
 
 abbrev pub event_paths : RecordedEvent → List (List ℕ)
 event_paths e = of_event description_paths e
+
+-- each output that an event names stands among the entries
+abbrev pub HasOutputs : List Entry → RecordedEvent → Type 0
+HasOutputs es e = AllByRecursion (λ path. IsTrue (is_some (content_of es path))) (event_paths e)

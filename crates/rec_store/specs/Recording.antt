@@ -1,5 +1,5 @@
 -- What a recorder is, as contracts see it, and what its calls do.
-use Rattle.std.specs.Prelude.{◌≡◌, ℕ, List, [], ◌∷◌, Bool, true, false, ◌||◌, Option, Some, None, ◌⊎◌}
+use Rattle.std.specs.Prelude.{◌≡◌, ℕ, List, [], ◌∷◌, ◌++◌, Bool, true, false, ◌||◌, Option, Some, None, ◌⊎◌}
 use Rattle.rec_container.specs.Container.{Entry}
 use Rattle.rec_container.specs.Writing.{Writing, Adds, RefusesLate, refusal}
 use Rattle.rec_container.specs.declared.errors.ContainerWriteError.TheVariants as writing
@@ -29,6 +29,10 @@ IsCollisionAt path NotLoadedOutput = ⊥
 IsCollisionAt path CountOutOfRange = ⊥
 IsCollisionAt path StoreWrite = ⊥
 IsCollisionAt path RunLogWrite = ⊥
+
+-- no entry was taken out of a store or changed: what is new stands behind them
+abbrev pub KeepsEntries : {S : Type 0} → Writing S → Writing S → Type 0
+KeepsEntries old new = (more : List Entry) × (new.entries ≡ old.entries ++ more)
 
 module _ {S : Type 0} (taken : S → Option (List ℕ)) (faults : S → ℕ) where
   -- an entry was accepted, so another one of its name has the same content, and it was added

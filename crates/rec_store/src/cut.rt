@@ -1,5 +1,5 @@
 //! Outputs that are cut to a limit.
-ghost use Rattle.std.specs.Prelude.{◌≡◌, ◌≤◌, ◌-◌, ◌↔◌, length, max, IfOk, Ok};
+ghost use Rattle.std.specs.Prelude.{◌≡◌, ◌<◌, ◌≤◌, ◌-◌, ◌↔◌, length, max, IfOk, Ok};
 ghost use Rattle.rec_store.specs.Cut.{IsBorrowed, cut, cut_bytes, marker};
 ghost use Rattle.rec_store.specs.declared.cut.CutOutput.TheVariants.{Borrowed};
 
@@ -35,14 +35,14 @@ const MARKER_END: &[u8] = b" bytes] ...\n\n";
 ///
 /// An output of at most this many bytes is lent as it is. Of a longer one the front and the back
 /// are kept, and a marker between them that says by how many bytes the output exceeds the limit.
-/// Only where the marker doesn't fit is a cut longer than the limit: it is the marker then.
+/// What is cut has `max_size` bytes, or is the marker alone where this is longer.
 pub fn truncate_output(
     alloc: Global,
     buf: &[u8],
     max_size: usize,
 ) -> Result<CutOutput<'_>, AllocError>
     ensures bytes { IfOk result (λ c. cut_bytes c ≡ cut buf.now max_size) }
-    ensures size { IfOk result (λ c. length (cut_bytes c) ≤ max max_size (length (marker (length buf.now - max_size)))) }
+    ensures size { max_size < length buf.now → IfOk result (λ c. length (cut_bytes c) ≡ max max_size (length (marker (length buf.now - max_size)))) }
     ensures lent { length buf.now ≤ max_size → result ≡ Ok (Borrowed buf.entry) }
     ensures borrowed { IfOk result (λ c. IsBorrowed c ↔ (length buf.now ≤ max_size)) }
 {

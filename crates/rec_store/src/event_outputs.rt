@@ -259,8 +259,9 @@ impl<'n, N: OutputNamer> OutputRules<'n, N> {
     ///
     /// Outputs are stored one after the other, stdout before stderr. The first refusal ends it, and
     /// those before it are stored. `Failed` comes exactly where the store's sink failed before, and
-    /// then nothing is stored; the other refusals are those of `RunRecorder::write_meta`.
-    pub fn store_event<S: Sink>(
+    /// then nothing is stored; the other refusals are those of `RunRecorder::write_meta`. An output
+    /// that isn't loaded stores nothing; the recorder refuses its event before.
+    pub(crate) fn store_event<S: Sink>(
         &self,
         store: &mut ContainerWriter<S>,
         event: TestEventSummary<LiveSpec>,

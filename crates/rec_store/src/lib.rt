@@ -26,6 +26,5 @@ pub use cut::{CutOutput, truncate_output};
 pub use error::RunStoreError;
 pub use namer::{ConstantNamer, OutputNamer, Sha256Namer};
 pub use output_paths::output_path;
-pub use outputs::OutputRules;
 pub use recorder::{RecorderEnd, RunRecorder};
 pub use sizes::{ComponentSizes, StoreSizes};

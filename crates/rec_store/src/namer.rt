@@ -6,7 +6,7 @@ use sha2::{Digest, Sha256};
 
 /// A number for an output, which names it in the store.
 ///
-/// The number is a function of the bytes, so equal outputs have one name. It takes no memory.
+/// The number is a function of the bytes, so equal outputs have one number. It takes no memory.
 pub trait OutputNamer {
     /// The number of a byte string.
     ghost number: { Self → List ℕ → ℕ };

@@ -1,5 +1,6 @@
+use crate::outputs::OutputRules;
 use crate::tests::told_store;
-use crate::{ConstantNamer, OutputNamer, OutputRules, RunStoreError, Sha256Namer};
+use crate::{ConstantNamer, OutputNamer, RunStoreError, Sha256Namer};
 use rec_codec::{OutputForm, event_from_value};
 use rec_container::{ContainerWriter, MemorySink};
 use rec_events::{
@@ -130,6 +131,26 @@ fn equal_outputs_are_stored_once(rt: HostRuntime) -> Result<(), Fail> {
     let outputs = [abc(), abc(), abc_as_stderr()];
     let text = stored(alloc, &Sha256Namer, 100, &outputs)?;
     assert!(rt; text.as_str() == abc_three_times(), "{text}");
+    Ok(())
+}
+
+// Standard error and standard output of one process, with bytes on both.
+fn abc_and_hello() -> &'static str {
+    r#"{"output":{"output":{"split":{"stderr":"68656c6c6f","stdout":"616263"}}}}"#
+}
+
+fn stdout_first() -> &'static str {
+    r#"{"split":{"stderr":{"full":"0000000000000007-stderr"},"stdout":{"full":"0000000000000007-stdout"}}}
+out/0000000000000007-stdout abc
+out/0000000000000007-stderr hello
+"#
+}
+
+#[test]
+fn standard_output_is_stored_before_standard_error(rt: HostRuntime) -> Result<(), Fail> {
+    let alloc = rt.alloc();
+    let text = stored(alloc, &ConstantNamer { number: 7 }, 100, &[abc_and_hello()])?;
+    assert!(rt; text.as_str() == stdout_first(), "{text}");
     Ok(())
 }
 

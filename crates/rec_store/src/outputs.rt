@@ -21,15 +21,15 @@ use std::alloc::Global;
 
 /// By which rules outputs are stored.
 ///
-/// An output is cut to a limit, and stored under the number of what is kept of it. One without
-/// bytes is not stored, and equal outputs are stored once.
+/// An output is cut to a limit, and stored under the number of what is kept of it and its kind. One
+/// without bytes is not stored, and equal outputs of one kind are stored once.
 #[derive(Clone, Copy)]
-pub struct OutputRules<'n, N: OutputNamer> {
-    pub alloc: Global,
+pub(crate) struct OutputRules<'n, N: OutputNamer> {
+    pub(crate) alloc: Global,
     /// Numbers what is kept of an output.
-    pub namer: &'n N,
+    pub(crate) namer: &'n N,
     /// At how many bytes an output is cut.
-    pub max_size: usize,
+    pub(crate) max_size: usize,
 }
 
 /// Stores the bytes of an output under its name.

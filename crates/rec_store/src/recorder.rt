@@ -5,8 +5,9 @@ ghost use Rattle.std.specs.Io.KnownBytes.{Appends};
 ghost use Rattle.rec_container.specs.Container.{ending};
 ghost use Rattle.rec_container.specs.Container.{AreFrom};
 ghost use Rattle.rec_store.specs.Ending.{sizes_of, sizes_of_log, Unended};
-ghost use Rattle.rec_store.specs.Recording.{RefusesEntry, has_failed, Stores, Unstored, AddsEach, AddsUpTo, Takes};
+ghost use Rattle.rec_store.specs.Recording.{RefusesEntry, has_failed, KeepsEntries, Stores, Unstored, AddsEach, AddsUpTo, Takes};
 ghost use Rattle.rec_store.specs.EventOutputs.{event_entries, event_recorded};
+ghost use Rattle.rec_store.specs.Kept.{HasOutputs};
 ghost use Rattle.rec_store.specs.Logging.{AppendsAs, AppendsEvent, Logs, LogsLoaded, Unlogged};
 ghost use Rattle.rec_store.specs.Stopping.{StoresAs};
 ghost use Rattle.rec_codec.specs.Event.{IsLogged};
@@ -168,6 +169,7 @@ impl<'n, S: Sink, L: Sink, N: OutputNamer> RunRecorder<'n, S, L, N> {
         ensures ok { OnOk result (Stores S.taken S.faults self.old self.new (build_scope_entry build_scope.now ∷ [])) }
         ensures read { OnOk result (bytes_form recorded_scope_form (build_scope_entry build_scope.now).content ≡ Some build_scope.now) }
         ensures err { IfErr result (Unstored S.taken S.faults self.old self.new (build_scope_entry build_scope.now ∷ [])) }
+        ensures entries { KeepsEntries self.old.store self.new.store }
     {
         self.store_item(BUILD_SCOPE_JSON_PATH, build_scope)
     }
@@ -179,6 +181,7 @@ impl<'n, S: Sink, L: Sink, N: OutputNamer> RunRecorder<'n, S, L, N> {
         ensures ok { OnOk result (Stores S.taken S.faults self.old self.new (rerun_entry rerun_info.now ∷ [])) }
         ensures read { OnOk result (bytes_form rerun_info_form (rerun_entry rerun_info.now).content ≡ Some rerun_info.now) }
         ensures err { IfErr result (Unstored S.taken S.faults self.old self.new (rerun_entry rerun_info.now ∷ [])) }
+        ensures entries { KeepsEntries self.old.store self.new.store }
     {
         self.store_item(RERUN_INFO_JSON_PATH, rerun_info)
     }
@@ -198,6 +201,7 @@ impl<'n, S: Sink, L: Sink, N: OutputNamer> RunRecorder<'n, S, L, N> {
         ensures ok { OnOk result (Stores S.taken S.faults self.old self.new (meta_entries cargo_metadata_json.now test_list.now opts.now)) }
         ensures read { OnOk result (AreMetaRead test_list.now opts.now) }
         ensures err { IfErr result (Unstored S.taken S.faults self.old self.new (meta_entries cargo_metadata_json.now test_list.now opts.now)) }
+        ensures entries { KeepsEntries self.old.store self.new.store }
     {
         if self.is_failed() {
             return Err(RunStoreError::Failed);
@@ -225,6 +229,8 @@ impl<'n, S: Sink, L: Sink, N: OutputNamer> RunRecorder<'n, S, L, N> {
         ensures ok { OnOk result (Logs S.taken S.faults L.taken L.faults N.number self.old self.new event) }
         ensures logged { OnOk result (IsLogged (event_recorded (N.number self.old.namer) self.old.max_output event)) }
         ensures err { IfErr result (Unlogged S.taken S.faults L.taken L.faults N.number self.old self.new event) }
+        ensures entries { KeepsEntries self.old.store self.new.store }
+        ensures outputs { OnOk result (HasOutputs self.new.store.entries (event_recorded (N.number self.old.namer) self.old.max_output event)) }
     {
         // An event is let go of by a call: in place, each of its kinds would be a case of the proof.
         if self.is_failed() {
@@ -347,6 +353,7 @@ fn log_sizes(bytes: u64, events: u64) -> ComponentSizes
     }
 }
 
+/// The sizes of a store, which is a container.
 fn component_sizes(sizes: ContainerSizes) -> ComponentSizes
     ensures { result ≡ record { compressed = sizes.compressed; uncompressed = sizes.uncompressed; entries = sizes.entries } }
 {

@@ -24,7 +24,7 @@ pub enum ChromeTraceError {
     KindNotBuilt {
         event: u64,
     },
-    /// The event ends an attempt of a test of which none is open.
+    /// The event finishes a test of which no attempt is open.
     #[error("event {event} ends a test that isn't running")]
     MissingTestStart {
         event: u64,
@@ -37,7 +37,7 @@ pub enum ChromeTraceError {
         event: u64,
         span: SpanKey,
     },
-    /// The event starts an attempt on a slot on which another runs.
+    /// The event starts a test on a slot on which another runs.
     #[error("event {event} starts a test on slot {slot}, on which another runs")]
     SlotBusy {
         event: u64,
