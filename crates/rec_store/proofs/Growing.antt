@@ -1,5 +1,5 @@
 -- No call takes an entry out of a store, and what an event names stands in it.
-use Rattle.std.proofs.Common.{◌≡◌, ℕ, List, [], ◌∷◌, ◌++◌, Bool, true, false, Option, Some, None, is_some, IsTrue, Result, Ok, Err, OnOk, IfErr, map, inl, inr, refl, sym, ap, subst, ◌∙◌, append_assoc, append-nil, if◌then◌else◌}
+use Rattle.std.proofs.Common.{◌≡◌, ℕ, List, [], ◌∷◌, ◌++◌, Bool, true, false, Option, is_some, IsTrue, Result, Ok, Err, OnOk, IfErr, inl, inr, refl, sym, ap, subst, ◌∙◌, append_assoc, append-nil, if◌then◌else◌}
 use Rattle.std.specs.Bool.{⊤}
 use Rattle.std.specs.List.{AllByRecursion}
 use Rattle.rec_container.specs.Container.{Entry, content_of}
@@ -7,18 +7,21 @@ use Rattle.rec_container.specs.Writing.{Writing}
 use Rattle.rec_codec.specs.Event.{LiveEvent}
 use Rattle.rec_store.specs.declared.error.RunStoreError.{RunStoreError}
 use Rattle.rec_store.specs.declared.error.RunStoreError.TheVariants.{Failed, NotLoadedOutput, NameCollision, CountOutOfRange, StoreWrite, RunLogWrite, OutOfMemory}
-use Rattle.rec_store.specs.Clashes.{with_entry, with_entries, clash}
 use Rattle.rec_store.specs.EventOutputs.{event_entries, event_recorded}
-use Rattle.rec_store.specs.Kept.{HasOutputs, event_paths}
-use Rattle.rec_store.specs.Logging.{LogsLoaded, Unappended}
+use Rattle.rec_store.specs.Kept.{HasOutputs}
+use Rattle.rec_store.specs.Logging.{LogsLoaded}
 use Rattle.rec_store.specs.Recording.{Recording, Takes, RefusesEntry, AddsEach, AddsUpTo, Stores, Unstored, KeepsEntries}
 use Rattle.rec_store.specs.Stopping.{TakesFirst, Stops}
-use Rattle.rec_store.proofs.Adding.{added, entries_after}
+use Rattle.rec_store.proofs.Adding.{added}
 use Rattle.rec_store.proofs.Clashing.{clash_none}
 use Rattle.rec_store.proofs.Held.{all_held, IsHeld}
 use Rattle.rec_store.proofs.KeptLaws.{names, paths_of_event}
 
 -- ---- entries
+
+more_unless : (b : Bool) (es : List Entry) (e : Entry) → (more : List Entry) × ((if b then es else es ++ e ∷ []) ≡ es ++ more)
+more_unless true es e = ([], sym (append-nil es))
+more_unless false es e = (e ∷ [], refl)
 
 module _ {S : Type 0} where
   pub keeps_same : (old new : Writing S) → new ≡ old → KeepsEntries old new
@@ -26,10 +29,6 @@ module _ {S : Type 0} where
 
   keeps_then : (old mid new : Writing S) → KeepsEntries old mid → KeepsEntries mid new → KeepsEntries old new
   keeps_then old mid new p q = (p.0 ++ q.0, q.1 ∙ ap (λ es. es ++ q.0) p.1 ∙ append_assoc old.entries p.0 q.0)
-
-  more_unless : (b : Bool) (es : List Entry) (e : Entry) → (more : List Entry) × ((if b then es else es ++ e ∷ []) ≡ es ++ more)
-  more_unless true es e = ([], sym (append-nil es))
-  more_unless false es e = (e ∷ [], refl)
 
 module _ {S : Type 0} (taken : S → Option (List ℕ)) (faults : S → ℕ) where
   keeps_taken : (old new : Writing S) (e : Entry) → Takes taken faults old new e → KeepsEntries old new
@@ -86,7 +85,7 @@ module _ {S L N : Type 0} (taken : S → Option (List ℕ)) (faults : S → ℕ)
 
     held_some : (es : List Entry) (fs : List Entry) → AllByRecursion (IsHeld es) fs → AllByRecursion (λ path. IsTrue (is_some (content_of es path))) (names fs)
     held_some es [] h = tt
-    held_some es (f ∷ fs) h = (subst (λ o. IsTrue (is_some o)) (sym h.0) tt, held_some es fs h.1)
+    held_some es (f ∷ fs) h = (subst (λ o. IsTrue (is_some o)) (sym h.0) refl, held_some es fs h.1)
 
     stand : (m : ℕ) (f : List ℕ → ℕ) (old new : Writing S) (event : LiveEvent) → old.failed ≡ false → AddsEach taken faults old new (event_entries f m event)
         → HasOutputs new.entries (event_recorded f m event)

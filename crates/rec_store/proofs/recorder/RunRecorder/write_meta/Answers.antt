@@ -6,6 +6,7 @@ use Rattle.rec_forms.specs.Recording.{test_list_value, record_opts_value}
 use Rattle.rec_store.specs.Entries.{three_entries}
 use Rattle.rec_store.specs.Recording.{AddsEach, AddsUpTo}
 use Rattle.rec_store.specs.declared.error.RunStoreError.{RunStoreError}
+use Rattle.rec_store.proofs.Growing.{keeps_all}
 use Rattle.rec_store.proofs.Refusals.{if_err_weaker}
 use Rattle.rec_store.proofs.recorder.RunRecorder.write_meta.Goals as goal
 
@@ -31,3 +32,7 @@ returns-clause-err g c =
     if_err_weaker c.store_three.result (λ (e : RunStoreError) refused.
     inr (sym c.is_failed.ensures.value ∙ c.if-is_failed.false, c.store_three.ensures.kept, subst (λ (es : List Entry). AddsUpTo g.S.Sink.taken g.S.Sink.faults c.args.self.now.store c.store_three.new.self.store es e) is refused))
     c.store_three.ensures.err
+
+pub returns-clause-entries : goal.returns-clause-entries
+returns-clause-entries g c =
+    keeps_all g.S.Sink.taken g.S.Sink.faults c.args.self.now.store c.store_three.new.self.store (three_entries c.deref.result.now c.as_bytes.result.now c.deref-2.result.now) c.store_three.result c.store_three.ensures.ok c.store_three.ensures.err
