@@ -1,8 +1,8 @@
 #!/usr/bin/env python3
 """Refuses each allocation, read and write of `record` in turn, and says what each left.
 
-    (cd crates/rec_program && rt run -- record /tmp/example.bundle < data/example.session > /tmp/example.trace.json)
-    tools/sweep.py crates/rec_program/out/rec_program
+    (cd crates/rezovamy && rt run -- record /tmp/example.bundle < data/example.session > /tmp/example.trace.json)
+    tools/sweep.py crates/rezovamy/out/rezovamy
 
 It runs the built program on the session that ships with the repository, and on one with a cut
 output, each time as a traced child whose calls of the C library it counts. One call in a run is
@@ -86,7 +86,7 @@ def main():
     if len(sys.argv) != 2:
         sys.exit(__doc__)
     here = pathlib.Path(__file__).resolve().parent.parent
-    example = (here / "crates/rec_program/data/example.session").read_bytes()
+    example = (here / "crates/rezovamy/data/example.session").read_bytes()
     with tempfile.TemporaryDirectory() as folder:
         tool = Sweep(sys.argv[1], pathlib.Path(folder))
         sweep(tool, "example", example, [])

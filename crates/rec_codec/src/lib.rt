@@ -4,37 +4,21 @@
 mod core_kinds;
 mod errors;
 mod event;
-#[cfg(test)]
-mod event_tests;
-#[cfg(test)]
-mod kind_tests;
 pub mod laws;
 mod line_events;
 mod line_iter;
-#[cfg(test)]
-mod line_iter_tests;
 mod lines;
 mod live;
 mod loaded;
 mod log_lines;
 mod output;
-#[cfg(test)]
-mod output_kind_tests;
 mod output_kinds;
 mod part;
-#[cfg(test)]
-mod refused_kind_tests;
 mod run_kinds;
 mod script_kinds;
 mod script_status;
 mod status;
-#[cfg(test)]
-mod test_end_tests;
-#[cfg(test)]
-mod test_helpers;
 mod test_kinds;
-#[cfg(test)]
-mod tests;
 
 pub use errors::ToValueError;
 pub use event::{event_from_value, event_to_value};

@@ -18,6 +18,3 @@ pub use memory::{EndlessSource, MemorySink, SliceSource};
 pub use reader::Container;
 pub use streams::{Sink, SinkFailed, Source, SourceFailed, write_all, write_all_dyn};
 pub use writer::{ContainerEnd, ContainerWriter};
-
-#[cfg(test)]
-mod tests;

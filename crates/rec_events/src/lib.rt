@@ -1,8 +1,6 @@
 //! The events of a test run and the small types that they are made of.
 #![tactic(auto)]
 
-#[cfg(test)]
-mod attempt_tests;
 mod counts;
 mod events;
 mod groups;
@@ -23,11 +21,7 @@ mod skipping;
 mod stats;
 mod statuses;
 mod stress;
-#[cfg(test)]
-mod summary_tests;
 mod test_names;
-#[cfg(test)]
-mod tests;
 mod text;
 mod text_map;
 mod times;

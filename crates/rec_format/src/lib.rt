@@ -14,8 +14,6 @@ mod scope;
 mod sizes;
 mod status;
 mod suites;
-#[cfg(test)]
-mod tests;
 mod versions;
 
 pub use head::SessionHead;

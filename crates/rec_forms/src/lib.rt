@@ -12,24 +12,16 @@ mod lists;
 mod maps;
 mod numbers;
 mod output_names;
-#[cfg(test)]
-mod output_tests;
 mod outputs;
 mod recording;
 mod reporting;
-#[cfg(test)]
-mod result_tests;
 mod results;
-#[cfg(test)]
-mod run_end_tests;
 mod run_ends;
 mod selections;
 mod skipping;
 mod stats;
 mod stress;
 mod test_names;
-#[cfg(test)]
-mod tests;
 mod text_form;
 mod texts;
 mod times;

@@ -2,25 +2,15 @@
 #![tactic(auto)]
 
 mod cut;
-#[cfg(test)]
-mod cut_tests;
 mod entries;
 mod error;
 mod event_outputs;
-#[cfg(test)]
-mod kind_tests;
 pub mod laws;
 mod namer;
 mod output_paths;
-#[cfg(test)]
-mod output_tests;
 mod outputs;
 mod recorder;
-#[cfg(test)]
-mod recorder_tests;
 mod sizes;
-#[cfg(test)]
-mod tests;
 
 pub use cut::{CutOutput, truncate_output};
 pub use error::RunStoreError;

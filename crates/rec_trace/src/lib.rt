@@ -3,8 +3,6 @@
 
 mod builder;
 mod convert;
-#[cfg(test)]
-mod convert_tests;
 mod drawing;
 mod errors;
 pub mod laws;

@@ -1,0 +1,140 @@
+ghost use Rattle.std.specs.Prelude.{◌+◌, ◌<◌, ◌^◌, length};
+
+use crate::events::{attempt, finished, run_start};
+use rec_codec::{LineIter, OutputForm, has_all_outputs, log_line};
+use rec_events::{LiveSpec, RecordingSpec, TestEventSummary};
+use std::alloc::{AllocError, Global};
+use std::test::Fail;
+
+// What the lines of a log give.
+fn told<S: OutputForm>(alloc: Global, log: &[u8], first_line: u64) -> Result<String, Fail>
+    requires { first_line + length log.now < 2 ^ 64 }
+{
+    let mut seen = String::new(alloc);
+    for item in LineIter::<S>::new(alloc, log, first_line) {
+        match item.err() {
+            None => seen.push_str("event;")?,
+            Some(error) => seen.push_str(format!(in alloc; "{error};")?.as_str())?,
+        }
+    }
+    Ok(seen)
+}
+
+// A log of these lines, the last of which has no newline.
+fn log(alloc: Global, lines: &[&[u8]]) -> Result<Vec<u8>, Fail> {
+    let mut bytes = Vec::new(alloc);
+    for (i, line) in lines.iter().enumerate() {
+        if i > 0 {
+            bytes.push(b'\n')?;
+        }
+        bytes.extend_from_slice(line)?;
+    }
+    Ok(bytes)
+}
+
+// A finished test with a captured output.
+fn captured(alloc: Global) -> Result<String, Fail> {
+    let attempt = attempt(alloc, r#"{"output":{"output":{"combined":"6f6b"}}}"#)?;
+    finished(alloc, attempt.as_str())
+}
+
+fn mixed(alloc: Global) -> Result<Vec<u8>, Fail> {
+    let captured = captured(alloc)?;
+    log(
+        alloc,
+        &[
+            run_start().as_bytes(),
+            b" \r",
+            b"",
+            "\u{a0}\t".as_bytes(),
+            b"\xff",
+            captured.as_str().as_bytes(),
+            b"{}",
+            b"",
+            run_start().as_bytes(),
+            b" ",
+        ],
+    )
+}
+
+fn live_items() -> &'static str {
+    "event;line 5 can't be read;event;line 7 isn't an event;event;"
+}
+
+fn recorded_items() -> &'static str {
+    "event;line 9 can't be read;line 10 isn't an event;line 11 isn't an event;event;"
+}
+
+#[test]
+fn a_session_by_its_items(rt: HostRuntime) -> Result<(), Fail> {
+    let alloc = rt.alloc();
+    let log = mixed(alloc)?;
+    let items = told::<LiveSpec>(alloc, log.as_slice(), 1)?;
+    assert!(rt; items.as_str() == live_items(), "{items}");
+    Ok(())
+}
+
+// After a line that is no text, the lines go on.
+#[test]
+fn the_line_behind_one_that_is_no_text(rt: HostRuntime) -> Result<(), Fail> {
+    let alloc = rt.alloc();
+    let log = log(alloc, &[run_start().as_bytes(), b"", b"\xff", b"{}"])?;
+    let items = told::<LiveSpec>(alloc, log.as_slice(), 2)?;
+    let want = "event;line 4 can't be read;line 5 isn't an event;";
+    assert!(rt; items.as_str() == want, "{items}");
+    Ok(())
+}
+
+#[test]
+fn a_log_by_its_items(rt: HostRuntime) -> Result<(), Fail> {
+    let alloc = rt.alloc();
+    let log = mixed(alloc)?;
+    let items = told::<RecordingSpec>(alloc, log.as_slice(), 5)?;
+    assert!(rt; items.as_str() == recorded_items(), "{items}");
+    Ok(())
+}
+
+#[test]
+fn texts_without_events(rt: HostRuntime) -> Result<(), Fail> {
+    let alloc = rt.alloc();
+    for (text, want) in [
+        (b"".as_slice(), ""),
+        (b"\n \n\t\r\n", ""),
+        (b"\xc3\n", "line 1 can't be read;"),
+        (b"\n[]", "line 2 isn't an event;"),
+        (b"{\n}", "line 1 isn't an event;line 2 isn't an event;"),
+    ] {
+        let items = told::<LiveSpec>(alloc, text, 1)?;
+        assert!(rt; items.as_str() == want, "{items}");
+    }
+    Ok(())
+}
+
+fn run_start_line() -> &'static str {
+    "{\"cli-args\":[],\"elapsed\":{\"nanos\":0,\"secs\":0},\"kind\":\"run-started\",\"profile-name\":\"default\",\"run-id\":\"550e8400-e29b-41d4-a716-446655440000\",\"timestamp\":{\"nanos\":0,\"offset\":0,\"secs\":1000}}\n"
+}
+
+// The line of an event, which ends here.
+fn logged(alloc: Global, event: TestEventSummary<RecordingSpec>) -> Result<Vec<u8>, AllocError> {
+    log_line(alloc, &event)
+}
+
+#[test]
+fn the_line_of_an_event(rt: HostRuntime) -> Result<(), Fail> {
+    let alloc = rt.alloc();
+    for item in LineIter::<RecordingSpec>::new(alloc, run_start().as_bytes(), 1) {
+        let line = logged(alloc, item?)?;
+        assert!(rt; line.as_slice() == run_start_line().as_bytes());
+    }
+    Ok(())
+}
+
+#[test]
+fn captured_outputs_are_there(rt: HostRuntime) -> Result<(), Fail> {
+    let alloc = rt.alloc();
+    let text = captured(alloc)?;
+    for item in LineIter::<LiveSpec>::new(alloc, text.as_str().as_bytes(), 1) {
+        assert!(rt; has_all_outputs(&item?));
+    }
+    Ok(())
+}

@@ -1,0 +1,5 @@
+//! The tests of `rec_container`.
+#![tactic(auto)]
+
+#[cfg(test)]
+mod containers;

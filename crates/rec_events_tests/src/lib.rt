@@ -1,0 +1,9 @@
+//! The tests of `rec_events`.
+#![tactic(auto)]
+
+#[cfg(test)]
+mod attempts;
+#[cfg(test)]
+mod summaries;
+#[cfg(test)]
+mod values;

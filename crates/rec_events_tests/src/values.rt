@@ -1,0 +1,192 @@
+use rec_events::{
+    Duration, Items, NamedTargets, NonEmpty, NonZeroCount, OutputFileName, OutputKind,
+    OwnedTestInstanceId, ReportUuid, RustBinaryId, ScriptId, Stamp, TargetSelection, TestCaseName,
+    TestGroup, TestNames, Text, TextMap, TryClone, Version, VersionError,
+};
+use std::alloc::{AllocError, Global};
+use std::test::Fail;
+use uuid::Uuid;
+
+// The pairs of a map, made of these keys and values in turn.
+fn shown_map(alloc: Global, pairs: &[(&str, &str)]) -> Result<String, Fail> {
+    let mut map = TextMap::empty(alloc);
+    for (key, value) in pairs {
+        map.insert(Text::from_str(alloc, key)?, Text::from_str(alloc, value)?)?;
+    }
+    let mut shown = String::new(alloc);
+    for (key, value) in map.try_clone(alloc)?.as_map() {
+        shown.push_str(key.as_str())?;
+        shown.push_str("=")?;
+        shown.push_str(value.as_str())?;
+        shown.push_str(";")?;
+    }
+    Ok(shown)
+}
+
+// The names of a set, made of these names in turn.
+fn shown_names(alloc: Global, names: &[&str]) -> Result<String, Fail> {
+    let mut set = TestNames::empty(alloc);
+    for name in names {
+        set.insert(TestCaseName::new(String::from_str(alloc, name)?))?;
+    }
+    let mut shown = String::new(alloc);
+    for name in set.as_set() {
+        shown.push_str(name.as_str())?;
+        shown.push_str(";")?;
+    }
+    Ok(shown)
+}
+
+#[test]
+fn maps_and_sets(rt: HostRuntime) -> Result<(), Fail> {
+    let alloc = rt.alloc();
+    let shown = shown_map(alloc, &[("b", "1"), ("", "2"), ("a", "3"), ("b", "4")])?;
+    assert!(rt; shown.as_str() == "=2;a=3;b=4;", "{shown}");
+    let shown = shown_names(alloc, &["b", "a", "é", "b", "z"])?;
+    assert!(rt; shown.as_str() == "a;b;z;é;", "{shown}");
+    Ok(())
+}
+
+#[test]
+fn texts_and_lists(rt: HostRuntime) -> Result<(), Fail> {
+    let alloc = rt.alloc();
+    let text = Text::from_str(alloc, "é")?;
+    assert!(rt; text.as_str() == "é");
+    assert!(rt; text.try_clone(alloc)? == Text::new(String::from_str(alloc, "é")?));
+    let mut texts = Vec::new(alloc);
+    texts.push(text)?;
+    let items = Items::new(texts);
+    assert!(rt; items.try_clone(alloc)? == items);
+    assert!(rt; items != Items::empty(alloc));
+    Ok(())
+}
+
+#[test]
+fn names(rt: HostRuntime) -> Result<(), Fail> {
+    let alloc = rt.alloc();
+    let binary = RustBinaryId::new(String::from_str(alloc, "alpha::a")?);
+    assert!(rt; binary.try_clone(alloc)?.as_str() == "alpha::a");
+    let script = ScriptId::new(String::from_str(alloc, "")?);
+    assert!(rt; script.try_clone(alloc)?.into_string().as_str() == "");
+    let id = ReportUuid::new(Uuid::parse_str("550E8400-E29B-41D4-A716-446655440000")?);
+    assert!(rt; id.to_string(alloc)?.as_str() == "550e8400-e29b-41d4-a716-446655440000");
+    Ok(())
+}
+
+#[test]
+fn versions(rt: HostRuntime) -> Result<(), Fail> {
+    let alloc = rt.alloc();
+    for text in ["0.9.111", "1.0.0-rc.1+build.01"] {
+        let version = Version::parse(alloc, text)?.try_clone(alloc)?;
+        assert!(rt; version.to_string(alloc)?.as_str() == text);
+    }
+    for text in ["", "1.0", "01.0.0", "1.0.0 ", "18446744073709551616.0.0"] {
+        let refused = matches!(Version::parse(alloc, text), Err(VersionError::NotAVersion));
+        assert!(rt; refused, "{text}");
+    }
+    Ok(())
+}
+
+#[test]
+fn times_and_counts(rt: HostRuntime) {
+    for (secs, nanos, want) in [
+        (-1, 999999999, Some(-1)),
+        (0, 1000000000, None),
+        (9223372036854, 775807999, Some(9223372036854775807)),
+        (9223372036854, 775808000, None),
+        (-9223372036855, 224192000, Some(-9223372036854775808)),
+        (-9223372036855, 224191999, None),
+    ] {
+        let stamp = Stamp::new(secs, nanos, 0);
+        assert_eq!(rt; stamp.and_then(|stamp| stamp.microseconds()), want);
+    }
+    assert!(rt; Duration::new(0, 1000000000).is_none());
+    assert!(rt; NonZeroCount::new(0).is_none());
+}
+
+#[test]
+fn selections(rt: HostRuntime) -> Result<(), Fail> {
+    let alloc = rt.alloc();
+    let targets = TargetSelection::none(alloc);
+    assert!(rt; targets.try_clone(alloc)? == targets);
+    assert!(rt; targets.bins == NamedTargets::none(alloc));
+    assert!(rt; TestNames::empty(alloc) == TestNames::empty(alloc));
+    Ok(())
+}
+
+#[test]
+fn output_names(rt: HostRuntime) -> Result<(), Fail> {
+    let alloc = rt.alloc();
+    let name = OutputFileName::new(1, OutputKind::Stderr);
+    assert!(rt; name.text(alloc)?.as_str() == "0000000000000001-stderr");
+    for text in [
+        "0123456789abcdef-stdout",
+        "ffffffffffffffff-stderr",
+        "0000000000000000-combined",
+    ] {
+        let Some(name) = OutputFileName::parse(text) else {
+            assert!(rt; false, "{text}");
+            continue;
+        };
+        assert!(rt; name.text(alloc)?.as_str() == text, "{text}");
+    }
+    Ok(())
+}
+
+#[test]
+fn other_texts_are_no_output_names(rt: HostRuntime) {
+    for text in [
+        "",
+        "-stdout",
+        "0123456789abcdef",
+        "0123456789abcdef-",
+        "0123456789abcde-stdout",
+        "0123456789abcdef0-stdout",
+        "0123456789ABCDEF-stdout",
+        "0123456789abcdeg-stdout",
+        "0123456789abcdef-Stdout",
+        "0123456789abcdef-stdout ",
+        "+123456789abcdef-stdout",
+        "é23456789abcdef-stdout",
+    ] {
+        assert!(rt; OutputFileName::parse(text).is_none(), "{text}");
+    }
+}
+
+#[test]
+fn groups_and_lists(rt: HostRuntime) -> Result<(), Fail> {
+    let alloc = rt.alloc();
+    assert!(rt; TestGroup::custom(String::from_str(alloc, "@global")?).is_none());
+    for name in ["", "global", "@global ", "é"] {
+        let group = TestGroup::custom(String::from_str(alloc, name)?);
+        assert!(rt; group.is_some_and(|group| group.text() == name), "{name}");
+    }
+    assert!(rt; TestGroup::Global.text() == "@global");
+    assert!(rt; NonEmpty::<Text>::from_items(Items::empty(alloc)).is_none());
+    let mut texts = Vec::new(alloc);
+    texts.push(Text::from_str(alloc, "a")?)?;
+    let texts = NonEmpty::new(texts);
+    assert!(rt; texts.split_first().1.is_empty());
+    assert!(rt; texts.into_vec().len() == 1);
+    Ok(())
+}
+
+/// The test of this name in the binary of that one.
+fn test_of(alloc: Global, binary: &str, name: &str) -> Result<OwnedTestInstanceId, AllocError> {
+    Ok(OwnedTestInstanceId {
+        binary_id: RustBinaryId::new(String::from_str(alloc, binary)?),
+        test_name: TestCaseName::new(String::from_str(alloc, name)?),
+    })
+}
+
+#[test]
+fn tests_stand_in_the_order_of_their_binaries(rt: HostRuntime) -> Result<(), Fail> {
+    let alloc = rt.alloc();
+    let second = test_of(alloc, "a", "t2")?;
+    let tenth = test_of(alloc, "a", "t10")?;
+    let other = test_of(alloc, "b", "t1")?;
+    assert!(rt; tenth < second);
+    assert!(rt; second < other);
+    assert!(rt; second.try_clone(alloc)? == second);
+    Ok(())
+}

@@ -1,0 +1,5 @@
+//! The tests of `rec_format`.
+#![tactic(auto)]
+
+#[cfg(test)]
+mod formats;

@@ -1,0 +1,156 @@
+//! The words of the command line, and the texts that the program prints about itself.
+
+use crate::running::{SOUND, path_of, run, told};
+use crate::texts::head;
+use rec_container::SliceSource;
+use rec_program::{Command, FaultLine, read_words};
+use std::alloc::{AllocError, Global};
+use std::test::Fail;
+
+#[test]
+fn words_name_a_command_and_a_path(rt: HostRuntime) -> Result<(), Fail> {
+    let cases: [(&[&str], &str, &str); 14] = [
+        (&[], "none", "2 NoCommand\n"),
+        (&["rec", "b"], "none", "2 UnknownCommand at=0\n"),
+        (&["", "b"], "none", "2 UnknownCommand at=0\n"),
+        (&["--help", "x"], "none", "2 UnknownCommand at=0\n"),
+        (&["record"], "none", "2 MissingPositional at=1\n"),
+        (&["record", "b", "x"], "none", "2 UnknownOption at=2\n"),
+        (&["record", "b", ""], "none", "2 UnknownOption at=2\n"),
+        (
+            &["record", "b", "--help", "x"],
+            "none",
+            "2 UnknownOption at=2\n",
+        ),
+        (&["record", "b"], "b", "0 bundle out "),
+        (&["record", ""], "", "0 bundle out "),
+        (&["record", "--help"], "--help", "0 bundle out "),
+        (
+            &["record", "b", "--session-limit", "9"],
+            "b",
+            "4 SessionTooLarge limit=9\n",
+        ),
+        (&["--help"], "none", "0 out "),
+        (&["--version"], "none", "0 out "),
+    ];
+    for (texts, path, expected) in cases {
+        let got = told(rt.alloc(), texts, &mut SliceSource::new(head().as_bytes()))?;
+        assert!(rt; got.as_str() == expected, "{got}");
+        let got = path_of(rt.alloc(), texts)?;
+        assert!(rt; got.as_str() == path, "{got}");
+    }
+    Ok(())
+}
+
+/// What words with a blank between them ask for: the bundle with its settings, or the fault.
+fn asked(alloc: Global, text: &str) -> Result<String, AllocError> {
+    let mut words = Vec::new(alloc);
+    for word in text.split(' ') {
+        words.push(String::from_str(alloc, word)?)?;
+    }
+    match read_words(&words) {
+        Ok(Command::Record { bundle, settings }) => {
+            let output = settings.max_output;
+            let read = settings.read_limit;
+            let session = settings.session_limit;
+            format!(in alloc; "{bundle} {output} {read} {session}")
+        }
+        Ok(_) => String::from_str(alloc, "a text"),
+        Err(fault) => fault.fault_line(alloc),
+    }
+}
+
+/// Options after `record b`, and the settings that they give.
+fn settings() -> [(&'static str, &'static str); 12] {
+    [
+        ("", "10485760 268435456 268435456"),
+        (" --max-output 1", "1 268435456 268435456"),
+        (" --read-limit 2", "10485760 2 268435456"),
+        (" --session-limit 3", "10485760 268435456 3"),
+        (" --read-limit 2 --max-output 1", "1 2 268435456"),
+        (" --max-output 1 --read-limit 2 --session-limit 3", "1 2 3"),
+        (" --session-limit 3 --max-output 1 --read-limit 2", "1 2 3"),
+        (" --max-output 0", "0 268435456 268435456"),
+        (" --max-output 007", "7 268435456 268435456"),
+        (
+            " --max-output 00000000000000000000000",
+            "0 268435456 268435456",
+        ),
+        (
+            " --read-limit 18446744073709551615",
+            "10485760 18446744073709551615 268435456",
+        ),
+        (
+            " --session-limit 0018446744073709551615",
+            "10485760 268435456 18446744073709551615",
+        ),
+    ]
+}
+
+#[test]
+fn options(rt: HostRuntime) -> Result<(), Fail> {
+    for bundle in ["b", "", "--max-output", "--help"] {
+        for (options, expected) in settings() {
+            let text = format!(in rt.alloc(); "record {bundle}{options}")?;
+            let expected = format!(in rt.alloc(); "{bundle} {expected}")?;
+            let got = asked(rt.alloc(), &text)?;
+            assert!(rt; got.as_str() == expected.as_str(), "{got}");
+        }
+    }
+    Ok(())
+}
+
+/// What stands after `record b`, and its fault.
+fn faults() -> [(&'static str, &'static str); 24] {
+    [
+        ("", "UnknownOption at=2\n"),
+        ("--help", "UnknownOption at=2\n"),
+        ("--max-outpu 1", "UnknownOption at=2\n"),
+        ("--max-output=1", "UnknownOption at=2\n"),
+        ("--MAX-OUTPUT 1", "UnknownOption at=2\n"),
+        ("1 --max-output", "UnknownOption at=2\n"),
+        ("--max-output 1 2", "UnknownOption at=4\n"),
+        ("--max-output 1 --max-output 1", "RepeatedOption at=4\n"),
+        ("--read-limit 1 --read-limit", "RepeatedOption at=4\n"),
+        (
+            "--session-limit 1 --session-limit x",
+            "RepeatedOption at=4\n",
+        ),
+        ("--max-output", "MissingValue at=3\n"),
+        ("--max-output 1 --read-limit", "MissingValue at=5\n"),
+        ("--max-output ", "BadValue at=3\n"),
+        ("--max-output +1", "BadValue at=3\n"),
+        ("--max-output -1", "BadValue at=3\n"),
+        ("--max-output 1x", "BadValue at=3\n"),
+        ("--max-output x1", "BadValue at=3\n"),
+        ("--max-output 1_0", "BadValue at=3\n"),
+        ("--max-output \u{661}", "BadValue at=3\n"),
+        ("--max-output 18446744073709551616", "BadValue at=3\n"),
+        ("--max-output --read-limit", "BadValue at=3\n"),
+        ("--max-output x --max-output", "BadValue at=3\n"),
+        ("--read-limit 1 --session-limit x", "BadValue at=5\n"),
+        ("--max-output 1 --read-limit x --help", "BadValue at=5\n"),
+    ]
+}
+
+#[test]
+fn faults_of_options(rt: HostRuntime) -> Result<(), Fail> {
+    for (options, expected) in faults() {
+        let text = format!(in rt.alloc(); "record b {options}")?;
+        let got = asked(rt.alloc(), &text)?;
+        assert!(rt; got.as_str() == expected, "{text}: {got}");
+    }
+    Ok(())
+}
+
+fn version() -> &'static str {
+    "rezovamy 0.1.0\nportable recording format 1.1\nstore format 3.0\n"
+}
+
+#[test]
+fn the_version_names_the_formats(rt: HostRuntime) -> Result<(), Fail> {
+    let alloc = rt.alloc();
+    let ran = run(alloc, &["--version"], &mut SliceSource::new(b""), SOUND)?;
+    assert!(rt; ran.status == 0 && ran.out.as_slice() == version().as_bytes());
+    Ok(())
+}

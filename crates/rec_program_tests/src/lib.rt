@@ -1,0 +1,19 @@
+//! The tests of `rec_program`.
+#![tactic(auto)]
+
+#[cfg(test)]
+mod bundles;
+#[cfg(test)]
+mod commands;
+#[cfg(test)]
+mod exports;
+#[cfg(test)]
+mod faults;
+#[cfg(test)]
+mod running;
+#[cfg(test)]
+mod sessions;
+#[cfg(test)]
+mod texts;
+#[cfg(test)]
+mod traces;

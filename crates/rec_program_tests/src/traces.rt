@@ -1,0 +1,125 @@
+//! The trace that a recording writes, and why there is none.
+
+use crate::running::{recorded, told_lines};
+use crate::texts::{
+    abc, finished, replaced, run_paused, run_started, session_of, small_session, small_trace,
+    test_started,
+};
+use std::alloc::{AllocError, Global};
+use std::test::Fail;
+
+/// The trace of a head alone, 83 bytes.
+fn empty_trace() -> &'static str {
+    r#"{"displayTimeUnit":"ms","otherData":{"nextest_version":"0.9.111"},"traceEvents":[]}"#
+}
+
+/// The trace of a test on the last slot that has a row.
+fn last_row() -> &'static str {
+    r#"{"displayTimeUnit":"ms","otherData":{"nextest_version":"0.9.111"},"traceEvents":[{"cat":"test","name":"alpha::a t1","ph":"B","pid":2,"tid":18446744073709551615,"ts":1001000000}]}"#
+}
+
+/// A test that starts on a slot.
+fn started_on(alloc: Global, slot: &str) -> Result<String, AllocError> {
+    replaced(
+        alloc,
+        test_started(),
+        "\"global-slot\":0",
+        "\"global-slot\":",
+        slot,
+    )
+}
+
+/// Whether a session is drawn as this trace.
+fn is_drawn(alloc: Global, session: &str, trace: &str) -> Result<bool, AllocError> {
+    let ran = recorded(alloc, &[], session.as_bytes())?;
+    Ok(ran.out.as_slice() == trace.as_bytes())
+}
+
+#[test]
+fn traces_are_written(rt: HostRuntime) -> Result<(), Fail> {
+    let alloc = rt.alloc();
+    let none = session_of(alloc, &[])?;
+    assert!(rt; is_drawn(alloc, none.as_str(), empty_trace())?);
+    let small = small_session(alloc)?;
+    assert!(rt; is_drawn(alloc, small.as_str(), small_trace())?);
+    let start = started_on(alloc, "18446744073709541615")?;
+    let last = session_of(alloc, &[start.as_str()])?;
+    assert!(rt; is_drawn(alloc, last.as_str(), last_row())?);
+    Ok(())
+}
+
+#[test]
+fn spans_that_do_not_fit_are_told(rt: HostRuntime) -> Result<(), Fail> {
+    let alloc = rt.alloc();
+    let run = run_started();
+    let start = test_started();
+    let test = finished(alloc, abc())?;
+    let other = replaced(alloc, start, "\"t1\"", "\"t2", "\"")?;
+    for (first, second, expected) in [
+        (
+            run,
+            test.as_str(),
+            "8 MissingTestStart event=2 binary_id=alpha::a test_name=t1\n",
+        ),
+        (run, run, "8 SpanAlreadyOpen event=2 span=Run\n"),
+        (
+            start,
+            start,
+            "8 SpanAlreadyOpen event=2 span=Test binary_id=alpha::a test_name=t1\n",
+        ),
+        (start, other.as_str(), "8 SlotBusy event=2 slot=0\n"),
+        (run, run_paused(), "20 KindNotBuilt event=2\n"),
+        // A line that fails comes first, wherever it stands.
+        (run_paused(), "{}", "5 ParseEvent line_number=3\n"),
+        (test.as_str(), "{}", "5 ParseEvent line_number=3\n"),
+    ] {
+        let got = told_lines(alloc, &[first, second], "65536")?;
+        assert!(rt; got.as_str() == expected, "{got}");
+    }
+    Ok(())
+}
+
+#[test]
+fn sizes_come_before_the_trace(rt: HostRuntime) -> Result<(), Fail> {
+    let got = told_lines(rt.alloc(), &[run_started(), run_started()], "400")?;
+    assert!(rt;
+        got.as_str() == "7 FileTooLarge file_name=manifest.json size=466 limit=400\n",
+        "{got}"
+    );
+    Ok(())
+}
+
+/// A finished test that tells of 2^64 failed tests.
+fn too_many_failed(alloc: Global) -> Result<String, AllocError> {
+    let test = finished(alloc, abc())?;
+    let most = "18446744073709551615";
+    let failed = replaced(alloc, test.as_str(), "\"failed\":0", "\"failed\":", most)?;
+    let key = "\"exec-failed\":";
+    replaced(alloc, failed.as_str(), "\"exec-failed\":0", key, "1")
+}
+
+#[test]
+fn numbers_out_of_range_are_told(rt: HostRuntime) -> Result<(), Fail> {
+    let alloc = rt.alloc();
+    let run = run_started();
+    let late = replaced(alloc, run, "\"secs\":1000", "\"secs\":", "9223372036855")?;
+    let last = started_on(alloc, "18446744073709541616")?;
+    let failed = too_many_failed(alloc)?;
+    for (first, second, expected) in [
+        (late.as_str(), run, "9 TimestampOutOfRange event=1\n"),
+        (
+            run,
+            last.as_str(),
+            "9 RowOutOfRange event=2 number=18446744073709541616\n",
+        ),
+        (
+            test_started(),
+            failed.as_str(),
+            "9 CountOutOfRange event=2\n",
+        ),
+    ] {
+        let got = told_lines(alloc, &[first, second], "65536")?;
+        assert!(rt; got.as_str() == expected, "{got}");
+    }
+    Ok(())
+}

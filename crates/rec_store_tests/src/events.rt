@@ -1,0 +1,251 @@
+//! Events, their outputs and their lines.
+
+use crate::helpers::{Call, Left, Setup, recorded};
+use crate::texts::{
+    failed_attempt, failed_attempt_line, finished, lines, paused, paused_line, script, script_line,
+    started, started_line, two_attempts, two_attempts_line,
+};
+use rec_store::{ConstantNamer, OutputNamer, Sha256Namer};
+use std::alloc::Global;
+use std::test::Fail;
+
+#[test]
+fn an_event_is_a_line_of_the_log(rt: HostRuntime) -> Result<(), Fail> {
+    let alloc = rt.alloc();
+    let setup = Setup::sound(&Sha256Namer, 10);
+    let left = recorded(alloc, &setup, &[Call::Event(started())])?;
+    assert!(rt; left.log.as_str() == started_line());
+    assert!(rt; left.sizes.as_str() == "188 188 1, 9 0 0, 197 188");
+    let left = recorded(alloc, &setup, &[Call::Event(paused())])?;
+    assert!(rt; left.log.as_str() == paused_line());
+    assert!(rt; left.store.is_empty());
+    Ok(())
+}
+
+/// Finished tests with outputs, and what is recorded of them.
+#[derive(Drop)]
+struct Case<'c> {
+    max_size: u64,
+    outputs: &'c [&'c str],
+    answers: &'c str,
+    /// The outputs that stand in the lines of the log.
+    logged: &'c [&'c str],
+    store: &'c str,
+}
+
+/// Whether a case's outputs are recorded as it says.
+fn is_recorded<N: OutputNamer>(alloc: Global, namer: &N, case: &Case<'_>) -> Result<bool, Fail> {
+    let left = finished_tests(alloc, namer, case.max_size, case.outputs)?;
+    let log = lines(alloc, case.logged)?;
+    Ok(
+        left.answers.as_str() == case.answers
+            && left.store.as_str() == case.store
+            && left.log.as_str() == log.as_str(),
+    )
+}
+
+/// What finished tests with these outputs leave.
+fn finished_tests<N: OutputNamer>(
+    alloc: Global,
+    namer: &N,
+    max_size: u64,
+    outputs: &[&str],
+) -> Result<Left, Fail> {
+    let mut texts = Vec::new(alloc);
+    for output in outputs {
+        texts.push(finished(alloc, output)?)?;
+    }
+    let mut calls = Vec::new(alloc);
+    for text in &texts {
+        calls.push(Call::Event(text.as_str()))?;
+    }
+    recorded(alloc, &Setup::sound(namer, max_size), &calls)
+}
+
+/// `abc` on standard output.
+fn abc() -> &'static str {
+    r#"{"output":{"output":{"split":{"stdout":"616263"}}}}"#
+}
+
+fn abc_logged() -> &'static str {
+    r#"{"output":{"output":{"split":{"stdout":{"full":"ba7816bf8f01cfea-stdout"}}}}}"#
+}
+
+fn abc_cut_logged() -> &'static str {
+    r#"{"output":{"output":{"split":{"stdout":{"truncated":{"file-name":"f324c488732c58a3-stdout","original-size":3}}}}}}"#
+}
+
+fn abc_as_stderr() -> &'static str {
+    r#"{"output":{"output":{"split":{"stdout":"","stderr":"616263"}}}}"#
+}
+
+fn abc_as_stderr_logged() -> &'static str {
+    r#"{"output":{"output":{"split":{"stderr":{"full":"ba7816bf8f01cfea-stderr"},"stdout":"empty"}}}}"#
+}
+
+fn abcd() -> &'static str {
+    r#"{"output":{"output":{"split":{"stdout":"61626364"}}}}"#
+}
+
+fn abcd_cut_logged() -> &'static str {
+    r#"{"output":{"output":{"split":{"stdout":{"truncated":{"file-name":"f324c488732c58a3-stdout","original-size":4}}}}}}"#
+}
+
+fn abc_in_store() -> &'static str {
+    "out/ba7816bf8f01cfea-stdout abc\n"
+}
+
+fn abc_twice_in_store() -> &'static str {
+    "out/ba7816bf8f01cfea-stdout abc\nout/ba7816bf8f01cfea-stderr abc\n"
+}
+
+fn marker_in_store() -> &'static str {
+    "out/f324c488732c58a3-stdout \n\n... [truncated 1 bytes] ...\n\n\n"
+}
+
+fn abc_and_marker_in_store() -> &'static str {
+    "out/ba7816bf8f01cfea-stdout abc\nout/f324c488732c58a3-stdout \n\n... [truncated 1 bytes] ...\n\n\n"
+}
+
+#[test]
+fn outputs_are_cut_at_the_limit_and_stored_once(rt: HostRuntime) -> Result<(), Fail> {
+    let alloc = rt.alloc();
+    for case in [
+        Case {
+            max_size: 2,
+            outputs: &[abc()],
+            answers: "taken\nsound",
+            logged: &[abc_cut_logged()],
+            store: marker_in_store(),
+        },
+        Case {
+            max_size: 3,
+            outputs: &[abc(), abcd()],
+            answers: "taken\ntaken\nsound",
+            logged: &[abc_logged(), abcd_cut_logged()],
+            store: abc_and_marker_in_store(),
+        },
+        Case {
+            max_size: 100,
+            outputs: &[abc(), abc(), abc_as_stderr()],
+            answers: "taken\ntaken\ntaken\nsound",
+            logged: &[abc_logged(), abc_logged(), abc_as_stderr_logged()],
+            store: abc_twice_in_store(),
+        },
+    ] {
+        let max_size = case.max_size;
+        assert!(rt; is_recorded(alloc, &Sha256Namer, &case)?, "{max_size}");
+    }
+    Ok(())
+}
+
+#[test]
+fn log_and_store_have_their_sizes(rt: HostRuntime) -> Result<(), Fail> {
+    let alloc = rt.alloc();
+    let left = finished_tests(alloc, &Sha256Namer, 100, &[abc(), abc_as_stderr()])?;
+    assert!(rt; left.sizes.as_str() == "2119 2119 2, 91 6 2, 2210 2125");
+    let left = finished_tests(alloc, &Sha256Namer, 3, &[abc(), abcd()])?;
+    assert!(rt; left.sizes.as_str() == "2139 2139 2, 119 34 2, 2258 2173");
+    let zero = ConstantNamer { number: 0 };
+    let left = finished_tests(alloc, &zero, 100, &[abc(), hello()])?;
+    assert!(rt; left.sizes.as_str() == "1051 1051 1, 50 3 1, 1101 1054");
+    Ok(())
+}
+
+// Standard error and standard output of one process, with bytes on both.
+fn abc_and_hello() -> &'static str {
+    r#"{"output":{"output":{"split":{"stderr":"68656c6c6f","stdout":"616263"}}}}"#
+}
+
+fn abc_and_hello_logged() -> &'static str {
+    r#"{"output":{"output":{"split":{"stderr":{"full":"0000000000000007-stderr"},"stdout":{"full":"0000000000000007-stdout"}}}}}"#
+}
+
+fn standard_output_first() -> &'static str {
+    "out/0000000000000007-stdout abc\nout/0000000000000007-stderr hello\n"
+}
+
+fn hello() -> &'static str {
+    r#"{"output":{"output":{"split":{"stdout":"68656c6c6f"}}}}"#
+}
+
+fn both() -> &'static str {
+    r#"{"output":{"output":{"combined":"00ff"}}}"#
+}
+
+fn not_started() -> &'static str {
+    r#"{"start-error":"no such file"}"#
+}
+
+fn abc_under_zero() -> &'static str {
+    r#"{"output":{"output":{"split":{"stdout":{"full":"0000000000000000-stdout"}}}}}"#
+}
+
+fn both_under_zero() -> &'static str {
+    r#"{"output":{"output":{"combined":{"full":"0000000000000000-combined"}}}}"#
+}
+
+fn one_clashes() -> &'static str {
+    "taken\ncollision at out/0000000000000000-stdout\ntaken\ntaken\nsound"
+}
+
+fn stored_under_zero() -> &'static str {
+    "out/0000000000000000-stdout abc\nout/0000000000000000-combined no text\n"
+}
+
+#[test]
+fn outputs_stand_under_their_numbers(rt: HostRuntime) -> Result<(), Fail> {
+    let alloc = rt.alloc();
+    let seven = Case {
+        max_size: 100,
+        outputs: &[abc_and_hello()],
+        answers: "taken\nsound",
+        logged: &[abc_and_hello_logged()],
+        store: standard_output_first(),
+    };
+    assert!(rt; is_recorded(alloc, &ConstantNamer { number: 7 }, &seven)?);
+    // Other bytes under a name are refused, and the event leaves no line.
+    let zero = Case {
+        max_size: 100,
+        outputs: &[abc(), hello(), both(), not_started()],
+        answers: one_clashes(),
+        logged: &[abc_under_zero(), both_under_zero(), not_started()],
+        store: stored_under_zero(),
+    };
+    assert!(rt; is_recorded(alloc, &ConstantNamer { number: 0 }, &zero)?);
+    Ok(())
+}
+
+fn three_in_store() -> &'static str {
+    "out/ba7816bf8f01cfea-stdout abc\nout/2cf24dba5fb0a30e-combined hello\nout/486ea46224d1bb4f-stdout world\n"
+}
+
+#[test]
+fn outputs_of_all_kinds_are_stored(rt: HostRuntime) -> Result<(), Fail> {
+    let alloc = rt.alloc();
+    let calls = [
+        Call::Event(script()),
+        Call::Event(failed_attempt()),
+        Call::Event(two_attempts()),
+    ];
+    let left = recorded(alloc, &Setup::sound(&Sha256Namer, 100), &calls)?;
+    assert!(rt; left.store.as_str() == three_in_store());
+    let mut log = String::from_str(alloc, script_line())?;
+    log.push_str(failed_attempt_line())?;
+    log.push_str(two_attempts_line())?;
+    assert!(rt; left.log.as_str() == log.as_str());
+    Ok(())
+}
+
+#[test]
+fn an_output_that_is_not_loaded_leaves_all_as_it_was(rt: HostRuntime) -> Result<(), Fail> {
+    let alloc = rt.alloc();
+    for text in [script(), failed_attempt(), two_attempts()] {
+        let calls = [Call::Event(script()), Call::Unloaded(text)];
+        let left = recorded(alloc, &Setup::sound(&Sha256Namer, 100), &calls)?;
+        assert!(rt; left.answers.as_str() == "taken\nan output is not loaded\nsound");
+        assert!(rt; left.store.as_str() == abc_in_store());
+        assert!(rt; left.log.as_str() == script_line());
+    }
+    Ok(())
+}

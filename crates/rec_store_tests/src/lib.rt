@@ -1,0 +1,13 @@
+//! The tests of `rec_store`.
+#![tactic(auto)]
+
+#[cfg(test)]
+mod cuts;
+#[cfg(test)]
+mod events;
+#[cfg(test)]
+mod helpers;
+#[cfg(test)]
+mod metadata;
+#[cfg(test)]
+mod texts;

@@ -1,0 +1,91 @@
+//! Metadata, and what a fault leaves.
+
+use crate::helpers::{Call, Setup, recorded};
+use crate::texts::{started, stored_text};
+use rec_store::{OutputNamer, Sha256Namer};
+use std::test::Fail;
+
+#[test]
+fn outputs_are_named_by_their_digest(rt: HostRuntime) {
+    for (bytes, number) in [
+        ("abc", 0xba78_16bf_8f01_cfea),
+        ("hello", 0x2cf2_4dba_5fb0_a30e),
+        ("", 0xe3b0_c442_98fc_1c14),
+    ] {
+        assert_eq!(rt; Sha256Namer.name(bytes.as_bytes()), number, "{bytes:?}");
+    }
+}
+
+fn all_taken() -> &'static str {
+    "taken\ntaken\ntaken\ntaken\nsound"
+}
+
+#[test]
+fn metadata_is_stored_in_order(rt: HostRuntime) -> Result<(), Fail> {
+    let alloc = rt.alloc();
+    // Equal metadata changes nothing.
+    let calls = [Call::Scope, Call::Rerun, Call::Meta("{}"), Call::Meta("{}")];
+    let left = recorded(alloc, &Setup::sound(&Sha256Namer, 10), &calls)?;
+    assert!(rt; left.answers.as_str() == all_taken());
+    assert!(rt; left.sizes.as_str() == "0 0 0, 1066 897 5, 1066 897");
+    assert!(rt; left.store.as_str() == stored_text());
+    assert!(rt; left.log.is_empty());
+    Ok(())
+}
+
+fn one_collides() -> &'static str {
+    "taken\ncollision at meta/cargo-metadata.json\nsound"
+}
+
+#[test]
+fn other_metadata_is_refused(rt: HostRuntime) -> Result<(), Fail> {
+    let alloc = rt.alloc();
+    let calls = [Call::Meta("{}"), Call::Meta("[]")];
+    let left = recorded(alloc, &Setup::sound(&Sha256Namer, 10), &calls)?;
+    assert!(rt; left.answers.as_str() == one_collides());
+    Ok(())
+}
+
+fn nothing_after_the_store() -> &'static str {
+    "taken\nwriting the store failed\nan earlier write failed\nfailed"
+}
+
+#[test]
+fn nothing_is_written_after_a_fault_of_the_store(rt: HostRuntime) -> Result<(), Fail> {
+    let alloc = rt.alloc();
+    // The content of the second entry is the fourth write.
+    let setup = Setup {
+        namer: &Sha256Namer,
+        max_size: 10,
+        store_fails: 4,
+        log_fails: 0,
+    };
+    let left = recorded(alloc, &setup, &[Call::Scope, Call::Meta("{}"), Call::Scope])?;
+    assert!(rt; left.answers.as_str() == nothing_after_the_store());
+    assert!(rt; left.sizes.as_str() == "an earlier write failed");
+    Ok(())
+}
+
+fn nothing_after_the_log() -> &'static str {
+    "writing the log failed\nan earlier write failed\nan earlier write failed\nan earlier write failed\nan earlier write failed\nfailed"
+}
+
+#[test]
+fn nothing_is_written_after_a_fault_of_the_log(rt: HostRuntime) -> Result<(), Fail> {
+    let alloc = rt.alloc();
+    let setup = Setup {
+        namer: &Sha256Namer,
+        max_size: 10,
+        store_fails: 0,
+        log_fails: 1,
+    };
+    let event = Call::Event(started());
+    let calls = [event, event, Call::Scope, Call::Rerun, Call::Meta("{}")];
+    let left = recorded(alloc, &setup, &calls)?;
+    assert!(rt; left.answers.as_str() == nothing_after_the_log());
+    assert!(rt; left.sizes.as_str() == "an earlier write failed");
+    assert!(rt; left.log.is_empty());
+    // The store has no end mark either.
+    assert!(rt; left.store.as_str() == "0 bytes without an end");
+    Ok(())
+}

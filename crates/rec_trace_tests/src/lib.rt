@@ -1,0 +1,5 @@
+//! The tests of `rec_trace`.
+#![tactic(auto)]
+
+#[cfg(test)]
+mod conversions;

@@ -1,0 +1,61 @@
+//! Records a test run into a portable bundle, and draws its trace.
+#![tactic(auto)]
+
+ghost use Rattle.std.specs.Prelude.{◌≡◌, [], IfOk, string_bytes, unwrap_or};
+ghost use Rattle.rec_program.specs.Words.{bundle_of, command, texts};
+
+use rec_container::{FileSink, StdSink, StdSource};
+use rec_program::{FAULTY_WORDS, OUT_OF_MEMORY, bundle_path, run_program};
+use std::alloc::{AllocError, Global};
+use std::process::ExitCode;
+use std::rt::Env;
+use std::{env, fs, io};
+
+/// The words behind the program's name. A word that isn't UTF-8 is an error.
+fn words_of<R: Env + AllocGlobal>(rt: &R) -> io::Result<Vec<String>> {
+    let words = env::args(rt)?.skip(1).collect(rt.alloc())?;
+    Ok(words)
+}
+
+/// The status where the words can't be had.
+fn status_without_words(error: &io::Error) -> u8 {
+    match error.kind() {
+        io::ErrorKind::OutOfMemory => OUT_OF_MEMORY,
+        _ => FAULTY_WORDS,
+    }
+}
+
+/// The path of the file that the bundle goes into, empty where the words name none.
+fn path_of(alloc: Global, words: &[String]) -> Result<String, AllocError>
+    ensures { IfOk result (λ path. string_bytes path ≡ unwrap_or (bundle_of (command (texts words.now))) []) }
+{
+    String::from_str(alloc, bundle_path(words).unwrap_or(""))
+}
+
+fn main(rt: HostRuntime) -> ExitCode {
+    // Where a standard stream is closed, the next file that is opened would take its place. So these are
+    // opened first: the root folder can neither be read nor written as a file.
+    let _first = fs::open(&rt, "/").ok();
+    let _second = fs::open(&rt, "/").ok();
+    let _third = fs::open(&rt, "/").ok();
+    let words = match words_of(&rt) {
+        Ok(words) => words,
+        Err(error) => return ExitCode::from(status_without_words(&error)),
+    };
+    let Ok(path) = path_of(rt.alloc(), &words) else {
+        return ExitCode::from(OUT_OF_MEMORY);
+    };
+    let mut source = StdSource::new(rt.reader());
+    let mut bundle = FileSink::new(&rt, path);
+    let mut out = StdSink::new(io::writer(&rt));
+    let mut diag = StdSink::new(rt.stderr());
+    let status = run_program(
+        rt.alloc(),
+        &words,
+        &mut source,
+        &mut bundle,
+        &mut out,
+        &mut diag,
+    );
+    ExitCode::from(status)
+}
