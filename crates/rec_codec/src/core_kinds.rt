@@ -1,4 +1,4 @@
-// The kinds of events that hold no outputs.
+//! The kinds of events that hold no outputs.
 ghost use Rattle.std.specs.Prelude.{◌≡◌, OnOk, [], ◌∷◌};
 ghost use Rattle.serde_json.specs.View.{members_view};
 ghost use Rattle.rec_forms.specs.Shape.{with_members};

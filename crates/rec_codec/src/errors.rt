@@ -1,4 +1,4 @@
-// Why an item is not written.
+//! Why an item is not written.
 ghost use Rattle.rec_codec.specs.declared.errors.ToValueError.TheVariants.{OutOfMemory};
 
 use std::alloc::{AllocError, AllocFailed};

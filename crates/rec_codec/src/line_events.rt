@@ -1,4 +1,4 @@
-// The events of a log, line by line.
+//! The events of a log, line by line.
 ghost use Rattle.std.specs.Prelude.{Some};
 ghost use Rattle.rec_forms.specs.Gives.{Gives};
 ghost use Rattle.rec_forms.specs.TextForm.{text_form};

@@ -1,4 +1,4 @@
-// Goes over the events of a log.
+//! Goes over the events of a log.
 ghost use Rattle.std.specs.Prelude.{◌≡◌, ◌+◌, ◌<◌, ◌^◌, length};
 ghost use Rattle.rec_codec.specs.Lines.{lines, numbered};
 ghost use Rattle.rec_codec.specs.LineItems.{left_after};

@@ -1,4 +1,4 @@
-// Outputs as they are captured.
+//! Outputs as they are captured.
 ghost use Rattle.std.specs.Prelude.{◌≡◌};
 ghost use Rattle.serde_json.specs.View.{view};
 ghost use Rattle.rec_forms.specs.Gives.{Gives};

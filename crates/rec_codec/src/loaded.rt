@@ -1,4 +1,4 @@
-// Whether the outputs of an event are there.
+//! Whether the outputs of an event are there.
 ghost use Rattle.std.specs.Prelude.{◌≡◌};
 ghost use Rattle.rec_codec.specs.EventForms.{kind_loaded};
 ghost use Rattle.rec_codec.specs.Live.{is_loaded};

@@ -1,4 +1,4 @@
-// The lines of a log.
+//! The lines of a log.
 ghost use Rattle.std.specs.Prelude.{◌≡◌, ◌++◌, ◌≤◌, [], ◌∷◌, Some, IfOk, OnOk, IsTrue};
 ghost use Rattle.serde_json.specs.View.{view};
 ghost use Rattle.rec_forms.specs.Outputs.{stored_outputs_value, stored_outputs_form};

@@ -1,4 +1,4 @@
-// Outputs in either form.
+//! Outputs in either form.
 ghost use Rattle.std.specs.Prelude.{◌≡◌, ℕ, Bool, Option, Some, OnOk};
 ghost use Rattle.serde_json.specs.Data.{Data};
 ghost use Rattle.serde_json.specs.View.{view};

@@ -1,4 +1,4 @@
-// What holds outputs, and so isn't written where one isn't loaded.
+//! What holds outputs, and so isn't written where one isn't loaded.
 ghost use Rattle.std.specs.Prelude.{◌≡◌, ℕ, Bool, Option, Some, OnOk, map};
 ghost use Rattle.std.specs.List.{AllByRecursion};
 ghost use Rattle.serde_json.specs.Data.{Data};

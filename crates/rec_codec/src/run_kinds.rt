@@ -1,4 +1,4 @@
-// The kinds of events of a whole run.
+//! The kinds of events of a whole run.
 ghost use Rattle.std.specs.Prelude.{◌≡◌, OnOk, codes};
 ghost use Rattle.serde_json.specs.View.{members_view};
 ghost use Rattle.rec_forms.specs.Gives.{Gives};

@@ -1,4 +1,4 @@
-// The runs of setup scripts, with their outputs.
+//! The runs of setup scripts, with their outputs.
 ghost use Rattle.std.specs.Prelude.{◌≡◌};
 ghost use Rattle.serde_json.specs.View.{view};
 

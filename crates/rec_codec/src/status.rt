@@ -1,4 +1,4 @@
-// The attempts of a test, with their outputs.
+//! The attempts of a test, with their outputs.
 ghost use Rattle.std.specs.Prelude.{◌≡◌, OnOk};
 ghost use Rattle.serde_json.specs.View.{view, members_view};
 ghost use Rattle.rec_forms.specs.Gives.{Gives};

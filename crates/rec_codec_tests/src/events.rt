@@ -1,3 +1,5 @@
+//! Events of the three kinds of a plain run, as JSON.
+
 use crate::helpers::{MISSING, check_refused, rewritten};
 use rec_codec::{OutputForm, ToValueError};
 use rec_events::{ChildOutputDescription, LiveSpec, RecordingSpec};

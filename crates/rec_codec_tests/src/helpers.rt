@@ -1,4 +1,4 @@
-// What the tests of events share.
+//! What the tests of events share.
 use rec_codec::{OutputForm, ToValueError, event_from_value, event_to_value};
 use rec_events::TestEventSummary;
 use rec_forms::FromValueError;

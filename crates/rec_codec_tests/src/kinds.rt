@@ -1,4 +1,4 @@
-// Events without outputs as they are read, and as they are written.
+//! Events without outputs as they are read, and as they are written.
 use crate::helpers::check_rewritten;
 use rec_events::{LiveSpec, RecordingSpec};
 use std::alloc::Global;

@@ -1,3 +1,5 @@
+//! The items that an iterator over lines gives.
+
 ghost use Rattle.std.specs.Prelude.{◌+◌, ◌<◌, ◌^◌, length};
 
 use crate::events::{attempt, finished, run_start};

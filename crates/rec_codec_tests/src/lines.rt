@@ -1,3 +1,5 @@
+//! The lines of a text, and what each stands for.
+
 use rec_codec::{Line, LineError, Lines, read_line};
 use rec_events::RecordingSpec;
 use std::alloc::Global;

@@ -1,4 +1,4 @@
-// Events with outputs as they are read and written, in both forms, and values that are none.
+//! Events with outputs as they are read and written, in both forms, and values that are none.
 use crate::helpers::{
     MISSING, check_other_form, check_required, check_rewritten, object, rewritten,
 };

@@ -1,4 +1,4 @@
-// Values that are no events of the kinds without outputs.
+//! Values that are no events of the kinds without outputs.
 use crate::helpers::{check_required, rewritten};
 use rec_events::LiveSpec;
 use std::test::Fail;

@@ -1,4 +1,4 @@
-// The ends of tests: with all members, and what makes none.
+//! The ends of tests: with all members, and what makes none.
 use crate::helpers::{check_other_form, check_required, check_rewritten};
 use rec_events::{LiveSpec, RecordingSpec};
 use std::test::Fail;

@@ -1,3 +1,5 @@
+//! What a writer writes, what a reader reads, and what sources and sinks in memory do.
+
 use rec_container::*;
 use std::alloc::Global;
 use std::collections::VecDeque;

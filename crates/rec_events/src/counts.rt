@@ -1,4 +1,4 @@
-// Counts.
+//! Counts.
 ghost use Rattle.std.specs.Prelude.{◌≡◌, ℕ, ◌<◌, ◌↔◌, IsSome, IfSome};
 
 use std::marker::Model;

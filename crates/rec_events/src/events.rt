@@ -1,4 +1,4 @@
-// The events of a run.
+//! The events of a run.
 use crate::{
     CancelReason, Duration, ExecuteStatus, ExecutionStatuses, Items, JunitFlakyFailStatus,
     MismatchReason, OutputSpec, OwnedTestInstanceId, ReportSkipPolicy, ReportUuid, RetryData,

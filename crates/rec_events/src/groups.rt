@@ -1,4 +1,4 @@
-// Test groups.
+//! Test groups.
 ghost use Rattle.std.specs.Prelude.{◌≡◌, ◌≢◌, ◌↔◌, IsSome, IfSome, IsTrue, string_bytes, codes};
 ghost use Rattle.std.specs.Str.{is_utf8};
 ghost use Rattle.rec_events.specs.Groups.{group_text};

@@ -1,4 +1,4 @@
-// Names and numbers that identify.
+//! Names and numbers that identify.
 ghost use Rattle.std.specs.Prelude.{◌≡◌, ℕ, List, IfOk, IsTrue, string_bytes};
 ghost use Rattle.std.specs.Str.{is_utf8};
 

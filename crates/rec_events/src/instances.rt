@@ -1,4 +1,4 @@
-// Which test ran, where, and which time.
+//! Which test ran, where, and which time.
 ghost use Rattle.std.specs.Prelude.{◌≡◌};
 
 use crate::{NonZeroCount, RustBinaryId, TestCaseName, TestGroup, TryClone};

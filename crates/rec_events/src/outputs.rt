@@ -1,4 +1,4 @@
-// What an attempt wrote, as it runs and as it is stored.
+//! What an attempt wrote, as it runs and as it is stored.
 use crate::{ChildSingleOutput, ExecutionResultDescription, Items, OutputFileName, Text};
 
 /// In which form an event has its outputs.

@@ -1,4 +1,4 @@
-// What a recording says of the whole run.
+//! What a recording says of the whole run.
 ghost use Rattle.std.specs.Prelude.{◌≡◌, []};
 
 use crate::{Items, TestCaseName, TextMap, TryClone};

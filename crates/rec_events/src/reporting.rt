@@ -1,4 +1,4 @@
-// How the outcome of a test is shown and reported.
+//! How the outcome of a test is shown and reported.
 
 /// When an output is shown.
 #[derive(Clone, Copy, PartialEq, Eq, Debug, Drop)]

@@ -1,4 +1,4 @@
-// How a test, a script or an attempt ended.
+//! How a test, a script or an attempt ended.
 ghost use Rattle.std.specs.Prelude.{◌≡◌};
 ghost use Rattle.rec_events.specs.Results.{succeeded};
 

@@ -1,4 +1,4 @@
-// The runs of setup scripts.
+//! The runs of setup scripts.
 use crate::{
     ChildExecutionOutputDescription, Duration, ErrorSummary, ExecutionResultDescription,
     OutputSpec, Stamp, Text, TextMap,

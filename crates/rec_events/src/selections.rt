@@ -1,4 +1,4 @@
-// What of a workspace is built.
+//! What of a workspace is built.
 ghost use Rattle.std.specs.Prelude.{◌≡◌};
 ghost use Rattle.rec_events.specs.Selections.{no_named_targets, no_package_selection, no_target_selection, no_feature_selection};
 

@@ -1,4 +1,4 @@
-// Why tests are skipped, and which of these a report names.
+//! Why tests are skipped, and which of these a report names.
 ghost use Rattle.std.specs.Prelude.{◌≡◌};
 ghost use Rattle.rec_events.specs.Skipping.{reports};
 

@@ -1,4 +1,4 @@
-// The counts of a run.
+//! The counts of a run.
 ghost use Rattle.std.specs.Prelude.{◌≡◌, ◌↔◌, ◌<◌, ◌^◌, IsSome, IfSome};
 ghost use Rattle.rec_events.specs.Stats.{no_stats, failures};
 ghost use Rattle.rec_events.specs.Summaries.{failed_or_cancelled, has_failed_script, has_failed_test, summary};

@@ -1,4 +1,4 @@
-// The attempts of a test.
+//! The attempts of a test.
 ghost use Rattle.std.specs.Prelude.{◌≡◌, ◌<◌, ◌-◌, length, slice_get, Some};
 ghost use Rattle.rec_events.specs.Attempts.{Describes};
 

@@ -1,4 +1,4 @@
-// How long a stress run goes on, and how far it got.
+//! How long a stress run goes on, and how far it got.
 use crate::Duration;
 
 /// What ends a stress run.

@@ -1,4 +1,4 @@
-// Copies of what holds memory.
+//! Copies of what holds memory.
 ghost use Rattle.std.specs.Prelude.{◌≡◌, IfOk};
 
 use std::alloc::{AllocError, Global};

@@ -1,4 +1,4 @@
-// Versions.
+//! Versions.
 ghost use Rattle.std.specs.Prelude.{◌≡◌, Ok, Err, IfOk, IsErr, IsTrue};
 ghost use Rattle.std.specs.Str.{is_utf8};
 ghost use Rattle.semver.specs.Parse.{version_parts};

@@ -1,3 +1,5 @@
+//! The attempts of a test, and how they are described.
+
 use rec_events::{
     ChildExecutionOutputDescription, ChildOutputDescription, ChildSingleOutput, Duration,
     ExecuteStatus, ExecutionDescription, ExecutionResultDescription, ExecutionStatuses,

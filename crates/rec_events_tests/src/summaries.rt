@@ -1,4 +1,4 @@
-// How runs are summed up, and which skipped tests are reported.
+//! How runs are summed up, and which skipped tests are reported.
 use rec_events::{
     CancelReason, FinalRunStats, MismatchReason, ReportSkipPolicy, RunStats, StressFinalRunStats,
     StressIndexSummary, StressRunStats,

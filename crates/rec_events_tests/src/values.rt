@@ -1,3 +1,5 @@
+//! The small types: what is in range, and how it is written.
+
 use rec_events::{
     Duration, Items, NamedTargets, NonEmpty, NonZeroCount, OutputFileName, OutputKind,
     OwnedTestInstanceId, ReportUuid, RustBinaryId, ScriptId, Stamp, TargetSelection, TestCaseName,

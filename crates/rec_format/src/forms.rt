@@ -1,4 +1,4 @@
-// The JSON forms of the types of this crate.
+//! The JSON forms of the types of this crate.
 mod head;
 mod manifest;
 mod parts;

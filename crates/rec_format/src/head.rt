@@ -1,4 +1,4 @@
-// The first line of a session.
+//! The first line of a session.
 ghost use Rattle.std.specs.Prelude.{◌≡◌, IfOk};
 ghost use Rattle.rec_format.specs.Runs.{recorded_info};
 

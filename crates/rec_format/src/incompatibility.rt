@@ -1,4 +1,4 @@
-// Why a recording isn't read, and what to do with it then.
+//! Why a recording isn't read, and what to do with it then.
 use crate::{
     PortableRecordingFormatMajorVersion, PortableRecordingFormatMinorVersion,
     StoreFormatMajorVersion, StoreFormatMinorVersion,

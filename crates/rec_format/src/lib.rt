@@ -1,7 +1,6 @@
-#![tactic(auto)]
-
 //! What a recorded run is described by: format versions, path names, sizes, statuses, the head of a
 //! session, the metadata of a run and the manifest of a bundle, with their JSON forms.
+#![tactic(auto)]
 
 mod forms;
 mod head;

@@ -1,4 +1,4 @@
-// The manifest of a bundle.
+//! The manifest of a bundle.
 ghost use Rattle.std.specs.Prelude.{◌≡◌, IfOk};
 ghost use Rattle.rec_format.specs.Runs.{manifest_of, info_of, store_version_in};
 

@@ -1,4 +1,4 @@
-// The names of the parts of a recording, and what the name of a file tells.
+//! The names of the parts of a recording, and what the name of a file tells.
 ghost use Rattle.std.specs.Prelude.{◌≡◌, option_map};
 ghost use Rattle.rec_format.specs.Paths.{dict_of_name, dict_of_path, is_zip_name, is_zip_path, last_name as last_name_of};
 

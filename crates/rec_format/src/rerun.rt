@@ -1,4 +1,4 @@
-// What a rerun is a rerun of.
+//! What a rerun is a rerun of.
 ghost use Rattle.std.specs.Prelude.{◌≡◌};
 
 use crate::{RecordedBuildScope, RerunSuites};

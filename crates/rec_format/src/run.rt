@@ -1,4 +1,4 @@
-// The metadata of a recorded run, as it is used and as it stands in JSON.
+//! The metadata of a recorded run, as it is used and as it stands in JSON.
 ghost use Rattle.std.specs.Prelude.{◌≡◌, IfOk};
 ghost use Rattle.rec_format.specs.Runs.{run_of, info_of};
 

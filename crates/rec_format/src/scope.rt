@@ -1,4 +1,4 @@
-// What was built for a run.
+//! What was built for a run.
 ghost use Rattle.std.specs.Prelude.{◌≡◌};
 
 use rec_events::BuildScope;

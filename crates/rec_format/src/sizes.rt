@@ -1,4 +1,4 @@
-// What a log and a store took.
+//! What a log and a store took.
 
 /// What one part of a recording took, in bytes.
 #[derive(Copy, Clone, Default, Debug)]

@@ -1,4 +1,4 @@
-// How a recorded run ended.
+//! How a recorded run ended.
 use rec_events::NonZeroCount;
 
 /// How a run of tests ended.

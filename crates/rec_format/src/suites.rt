@@ -1,4 +1,4 @@
-// The test suites of a rerun, by their binaries.
+//! The test suites of a rerun, by their binaries.
 ghost use Rattle.std.specs.Prelude.{◌≡◌, ◌<◌, List, [], length, map, slice_get, Some, IfOk, OnOk, OnErr, option_map};
 ghost use Rattle.std.specs.Option.{option_copied};
 ghost use Rattle.rec_format.specs.SuiteEntries.{suites_in};

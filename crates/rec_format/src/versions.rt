@@ -1,4 +1,4 @@
-// The versions of the two formats, and which recording is read by which program.
+//! The versions of the two formats, and which recording is read by which program.
 ghost use Rattle.std.specs.Prelude.{◌≡◌, ◌≤◌, ◌↔◌, IsOk, option_map};
 ghost use Rattle.rec_format.specs.Versions.{store_readable, portable_readable, guidance, store_version_of, number_of};
 

@@ -1,3 +1,5 @@
+//! Versions, paths, heads, statuses and manifests.
+
 use rec_events::{RustBinaryId, TestNames};
 use rec_format::{
     ComponentSizes, OutputDict, PORTABLE_RECORDING_FORMAT_VERSION, PortableManifest,

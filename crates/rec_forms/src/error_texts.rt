@@ -1,4 +1,4 @@
-// What is said of errors.
+//! What is said of errors.
 use crate::fields::{put_field, required_field};
 use crate::{Form, FromValueError};
 use rec_events::{ErrorSummary, OutputErrorSlice};

@@ -1,4 +1,4 @@
-// Why a value is not read.
+//! Why a value is not read.
 ghost use Rattle.rec_forms.specs.declared.errors.FromValueError.TheVariants.{OutOfMemory};
 
 use std::alloc::{AllocError, AllocFailed};

@@ -1,4 +1,4 @@
-// The members of an object, one at a time.
+//! The members of an object, one at a time.
 ghost use Rattle.std.specs.Prelude.{◌≡◌, OnOk, Some, option_map, IfSome, IfOk};
 ghost use Rattle.serde_json.specs.Find.{get_member};
 ghost use Rattle.serde_json.specs.View.{view, members_view};

@@ -1,4 +1,4 @@
-// What is written and read as a JSON value.
+//! What is written and read as a JSON value.
 ghost use Rattle.std.specs.Prelude.{◌≡◌, ℕ, Option, Some, IfOk};
 ghost use Rattle.serde_json.specs.Data.{Data};
 ghost use Rattle.serde_json.specs.View.{view};

@@ -1,4 +1,4 @@
-// Test groups.
+//! Test groups.
 use crate::{Form, FromValueError};
 use rec_events::TestGroup;
 use serde_json::Value;

@@ -1,4 +1,4 @@
-// Names and numbers that identify.
+//! Names and numbers that identify.
 ghost use Rattle.std.specs.Prelude.{◌≡◌};
 ghost use Rattle.uuid.specs.Text.{parsed};
 

@@ -1,4 +1,4 @@
-// Which test ran, where, and which time.
+//! Which test ran, where, and which time.
 use crate::fields::{optional_field, put_field, put_optional, required_field};
 use crate::{Form, FromValueError};
 use rec_events::{OwnedTestInstanceId, RetryData, StressIndexSummary, TestSlotAssignment};

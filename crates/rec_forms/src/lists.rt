@@ -1,4 +1,4 @@
-// Lists.
+//! Lists.
 ghost use Rattle.std.specs.Prelude.{◌≡◌, Some, map};
 ghost use Rattle.std.specs.List.{AllByRecursion};
 ghost use Rattle.rec_forms.specs.Lists.{list_value, list_form};

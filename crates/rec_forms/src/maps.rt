@@ -1,4 +1,4 @@
-// Maps from texts.
+//! Maps from texts.
 ghost use Rattle.std.specs.Prelude.{◌≡◌, suc};
 
 use crate::fields::put_field;

@@ -1,4 +1,4 @@
-// Numbers and truth values.
+//! Numbers and truth values.
 ghost use Rattle.std.specs.Prelude.{◌≡◌, ◌^◌, ◌<◌, ℕ, FitsSigned};
 ghost use Rattle.std.specs.Int.{w32, w64};
 

@@ -1,4 +1,4 @@
-// Kinds of outputs, and the names of their files.
+//! Kinds of outputs, and the names of their files.
 use crate::{Form, FromValueError};
 use rec_events::{OutputFileName, OutputKind};
 use serde_json::Value;

@@ -1,4 +1,4 @@
-// Outputs: the bytes of one, and those in a store.
+//! Outputs: the bytes of one, and those in a store.
 ghost use Rattle.std.specs.Prelude.{◌≡◌};
 ghost use Rattle.serde_json.specs.View.{view};
 ghost use Rattle.rec_forms.specs.Gives.{Gives};

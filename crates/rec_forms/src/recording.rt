@@ -1,4 +1,4 @@
-// What a recording says of the whole run.
+//! What a recording says of the whole run.
 use crate::fields::{put_field, required_field};
 use crate::{Form, FromValueError};
 use rec_events::{NextestRunMode, RecordOpts, TestListSummary};

@@ -1,4 +1,4 @@
-// How the outcome of a test is shown and reported.
+//! How the outcome of a test is shown and reported.
 use crate::{Form, FromValueError};
 use rec_events::{CancelReason, JunitFlakyFailStatus, TestOutputDisplay};
 use serde_json::Value;

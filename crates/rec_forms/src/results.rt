@@ -1,4 +1,4 @@
-// How a test, a script or an attempt ended.
+//! How a test, a script or an attempt ended.
 ghost use Rattle.std.specs.Prelude.{◌≡◌};
 ghost use Rattle.serde_json.specs.View.{view};
 ghost use Rattle.rec_forms.specs.Gives.{Gives};

@@ -1,4 +1,4 @@
-// How a run ended.
+//! How a run ended.
 use crate::fields::{only_member, put_field, required_field, tagged};
 use crate::{Form, FromValueError};
 use rec_events::{

@@ -1,4 +1,4 @@
-// What of a workspace is built.
+//! What of a workspace is built.
 use crate::fields::{defaulted_field, put_field};
 use crate::{Form, FromValueError};
 use rec_events::{

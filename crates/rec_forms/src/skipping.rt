@@ -1,4 +1,4 @@
-// Why tests are skipped, and which of these a report names.
+//! Why tests are skipped, and which of these a report names.
 use crate::{Form, FromValueError};
 use rec_events::{MismatchReason, ReportSkipPolicy};
 use serde_json::Value;

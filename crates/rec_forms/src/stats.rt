@@ -1,4 +1,4 @@
-// The counts of a run, in three parts.
+//! The counts of a run, in three parts.
 ghost use Rattle.std.specs.Prelude.{◌≡◌, OnOk};
 ghost use Rattle.serde_json.specs.View.{members_view};
 ghost use Rattle.rec_forms.specs.Gives.{Gives};

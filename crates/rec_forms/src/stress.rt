@@ -1,4 +1,4 @@
-// What ends a stress run, and how far it got.
+//! What ends a stress run, and how far it got.
 ghost use Rattle.std.specs.Prelude.{◌≡◌};
 ghost use Rattle.serde_json.specs.View.{view};
 ghost use Rattle.rec_forms.specs.Gives.{Gives};

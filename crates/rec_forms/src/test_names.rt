@@ -1,4 +1,4 @@
-// Sets of test names.
+//! Sets of test names.
 use crate::{Form, FromValueError};
 use rec_events::{Items, TestCaseName, TestNames};
 use serde_json::Value;

@@ -1,4 +1,4 @@
-// Items as the bytes of their JSON text.
+//! Items as the bytes of their JSON text.
 ghost use Rattle.std.specs.Prelude.{◌≡◌, ◌≤◌, Some, IfOk, IsTrue};
 ghost use Rattle.std.specs.Str.{is_utf8};
 ghost use Rattle.serde_json.specs.Read.{max_depth, read};

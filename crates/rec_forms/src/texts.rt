@@ -1,4 +1,4 @@
-// Texts.
+//! Texts.
 ghost use Rattle.serde_json.specs.Data.{string};
 ghost use Rattle.rec_forms.specs.Shape.{text_of};
 

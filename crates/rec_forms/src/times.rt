@@ -1,4 +1,4 @@
-// Instants and spans of time.
+//! Instants and spans of time.
 use crate::fields::{put_field, required_field};
 use crate::{Form, FromValueError};
 use rec_events::{Duration, Stamp};

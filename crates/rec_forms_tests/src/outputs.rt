@@ -1,3 +1,5 @@
+//! Names and records of outputs, as JSON.
+
 use crate::values::check;
 use rec_events::{
     ChildSingleOutput, OutputFileName, OutputKind, OwnedTestInstanceId, RetryData,

@@ -1,3 +1,5 @@
+//! Results of attempts, and the counts of a run, as JSON.
+
 use crate::values::{check, rewritten};
 use rec_events::{
     CancelReason, ErrorSummary, ExecutionResultDescription, FailureDescription, FlakyResult,

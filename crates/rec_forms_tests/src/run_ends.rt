@@ -1,3 +1,5 @@
+//! How runs end, as JSON.
+
 use crate::results::stats;
 use crate::values::{check, rewritten};
 use rec_events::{

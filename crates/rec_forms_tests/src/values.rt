@@ -1,3 +1,5 @@
+//! Numbers, texts, lists, maps and the plain types made of them, as JSON.
+
 use rec_events::{
     BuildScope, Duration, FeatureSelection, Items, NamedTargets, NextestRunMode, NonZeroCount,
     PackageSelection, RecordOpts, ReportUuid, RustBinaryId, ScriptId, Stamp, TargetSelection,

@@ -1,3 +1,5 @@
+//! Histories, and the trace of each or why it has none.
+
 use rec_codec::{LineError, LineIter};
 use rec_events::{
     CoreEventKind, Duration, RecordingSpec, Stamp, TestEventKindSummary, TestEventSummary, Version,

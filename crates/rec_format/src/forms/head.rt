@@ -1,4 +1,4 @@
-// The head of a session, in three parts.
+//! The head of a session, in three parts.
 ghost use Rattle.std.specs.Prelude.{◌≡◌, OnOk};
 ghost use Rattle.serde_json.specs.View.{members_view};
 ghost use Rattle.rec_forms.specs.Gives.{Gives};

@@ -1,4 +1,4 @@
-// The manifest of a bundle.
+//! The manifest of a bundle.
 use crate::PortableManifest;
 use rec_forms::{Form, FromValueError, put_field, required_field};
 use serde_json::{Map, Value};

@@ -1,4 +1,4 @@
-// The fields that a head and a run's metadata share, in two parts.
+//! The fields that a head and a run's metadata share, in two parts.
 ghost use Rattle.std.specs.Prelude.{◌≡◌, OnOk};
 ghost use Rattle.serde_json.specs.View.{members_view};
 ghost use Rattle.rec_forms.specs.Gives.{Gives};

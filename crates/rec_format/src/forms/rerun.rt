@@ -1,4 +1,4 @@
-// What a rerun is a rerun of.
+//! What a rerun is a rerun of.
 use crate::{RerunInfo, RerunRootInfo};
 use rec_forms::{Form, FromValueError, put_field, required_field};
 use serde_json::{Map, Value};

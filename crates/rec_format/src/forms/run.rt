@@ -1,4 +1,4 @@
-// The metadata of a run.
+//! The metadata of a run.
 use super::parts::{Identity, Invocation};
 use crate::{RecordedRun, StoreFormatMinorVersion};
 use rec_forms::{Form, FromValueError, defaulted_field, put_field, required_field};

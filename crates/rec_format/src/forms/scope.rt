@@ -1,4 +1,4 @@
-// What was built.
+//! What was built.
 use crate::{BuildKind, RecordedBuildScope};
 use rec_forms::{Form, FromValueError, put_field, required_field};
 use serde_json::{Map, Value};

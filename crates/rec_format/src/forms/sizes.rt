@@ -1,4 +1,4 @@
-// Sizes, which are written as their formats.
+//! Sizes, which are written as their formats.
 use crate::{ComponentSizes, ComponentSizesFormat, RecordedSizes, RecordedSizesFormat};
 use rec_forms::{Form, FromValueError, defaulted_field, put_field, required_field};
 use serde_json::{Map, Value};

@@ -1,4 +1,4 @@
-// Statuses: an object with the name of the status, and the statistics beside it.
+//! Statuses: an object with the name of the status, and the statistics beside it.
 ghost use Rattle.std.specs.Prelude.{◌≡◌, [], ◌∷◌, IfOk, option_map, codes};
 ghost use Rattle.serde_json.specs.Data.{string, no_members};
 ghost use Rattle.serde_json.specs.Find.{as_str};

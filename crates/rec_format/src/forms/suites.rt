@@ -1,4 +1,4 @@
-// Test suites: an array in the order of binary ids, which is read in any order.
+//! Test suites: an array in the order of binary ids, which is read in any order.
 use crate::{RerunSuites, RerunTestSuiteInfo};
 use rec_forms::{Form, FromValueError, put_field, required_field};
 use serde_json::{Map, Value};

@@ -1,4 +1,4 @@
-// A version number is written as its number, and the bundle's version as an object of both.
+//! A version number is written as its number, and the bundle's version as an object of both.
 use crate::{
     PortableRecordingFormatMajorVersion, PortableRecordingFormatMinorVersion,
     PortableRecordingFormatVersion, StoreFormatMajorVersion, StoreFormatMinorVersion,
