@@ -9,7 +9,7 @@ use crate::{
 
 /// What happened, without outputs. `running` is how many tests run after the event, and
 /// `setup_scripts_running` how many setup scripts.
-#[derive(PartialEq, Eq, Debug, Drop)]
+#[derive(PartialEq, Eq, Drop)]
 pub enum CoreEventKind {
     /// The run began.
     RunStarted {

@@ -11,7 +11,7 @@ use std::marker::Model;
 const GLOBAL_GROUP: &str = "@global";
 
 /// The name of a test group of one's own: any text but `@global`.
-#[derive(PartialEq, Eq, Debug, Drop)]
+#[derive(PartialEq, Eq, Drop)]
 pub struct GroupName {
     text: Text,
 }
@@ -40,7 +40,7 @@ impl GroupName {
 }
 
 /// The group that a test is in.
-#[derive(PartialEq, Eq, Debug, Drop)]
+#[derive(PartialEq, Eq, Drop)]
 pub enum TestGroup {
     Global,
     Custom(GroupName),

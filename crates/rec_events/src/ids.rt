@@ -105,7 +105,7 @@ impl TryClone for TestCaseName {
 }
 
 /// The name of a setup script. Any text is one.
-#[derive(PartialEq, Eq, Drop, Debug)]
+#[derive(PartialEq, Eq, Drop)]
 pub struct ScriptId {
     text: Text,
 }
@@ -153,7 +153,7 @@ impl TryClone for ScriptId {
 }
 
 /// The number of a run. Contracts see its sixteen bytes.
-#[derive(Clone, Copy, PartialEq, Eq, Drop, Debug)]
+#[derive(Clone, Copy, PartialEq, Eq, Drop)]
 pub struct ReportUuid {
     uuid: Uuid,
 }

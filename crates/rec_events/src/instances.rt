@@ -14,7 +14,7 @@ pub struct OwnedTestInstanceId {
 
 /// Where a test runs: its slot among all tests, and its slot within its group, if the group has
 /// slots.
-#[derive(PartialEq, Eq, Debug, Drop)]
+#[derive(PartialEq, Eq, Drop)]
 pub struct TestSlotAssignment {
     pub global_slot: u64,
     pub group_slot: Option<u64>,
@@ -22,14 +22,14 @@ pub struct TestSlotAssignment {
 }
 
 /// Which attempt of how many.
-#[derive(Clone, Copy, PartialEq, Eq, Debug, Drop)]
+#[derive(Clone, Copy, PartialEq, Eq, Drop)]
 pub struct RetryData {
     pub attempt: u32,
     pub total_attempts: u32,
 }
 
 /// Which run of a stress run, and of how many where that is known.
-#[derive(Clone, Copy, PartialEq, Eq, Debug, Drop)]
+#[derive(Clone, Copy, PartialEq, Eq, Drop)]
 pub struct StressIndexSummary {
     pub current: u32,
     pub total: Option<NonZeroCount>,

@@ -8,7 +8,7 @@ use crate::Items;
 use std::marker::Model;
 
 /// A list of at least one item. Contracts see the items in order.
-#[derive(Drop, Debug)]
+#[derive(Drop)]
 pub struct NonEmpty<T> {
     inner: Vec<T>,
 }

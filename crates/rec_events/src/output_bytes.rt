@@ -7,7 +7,7 @@ ghost use Rattle.std.proofs.Common.{rules};
 use std::marker::Model;
 
 /// An output of a process. Contracts see its bytes.
-#[derive(Drop, Debug)]
+#[derive(Drop)]
 pub struct ChildSingleOutput {
     bytes: Vec<u8>,
 }

@@ -6,7 +6,7 @@ ghost use Rattle.rec_events.specs.declared.output_names.OutputFileName.{OutputFi
 use std::alloc::{AllocError, Global};
 
 /// Which output it is.
-#[derive(Clone, Copy, PartialEq, Eq, Debug, Drop)]
+#[derive(Clone, Copy, PartialEq, Eq, Drop)]
 pub enum OutputKind {
     Stdout,
     Stderr,
@@ -43,7 +43,7 @@ impl OutputKind {
 }
 
 /// The name of a stored output: sixteen hexadecimal digits in lower case, and its kind.
-#[derive(Clone, Copy, PartialEq, Eq, Debug, Drop)]
+#[derive(Clone, Copy, PartialEq, Eq, Drop)]
 pub struct OutputFileName {
     number: u64,
     kind: OutputKind,

@@ -22,7 +22,7 @@ impl OutputSpec for RecordingSpec {
 }
 
 /// What a process wrote. An output that was not captured is None.
-#[derive(PartialEq, Eq, Drop, Debug)]
+#[derive(PartialEq, Eq, Drop)]
 pub enum ChildOutputDescription {
     Split {
         stdout: Option<ChildSingleOutput>,
@@ -36,7 +36,7 @@ pub enum ChildOutputDescription {
 }
 
 /// An output in a store.
-#[derive(Clone, Copy, PartialEq, Eq, Drop, Debug)]
+#[derive(Clone, Copy, PartialEq, Eq, Drop)]
 pub enum ZipStoreOutput {
     /// No bytes; no file holds it.
     Empty,
@@ -51,7 +51,7 @@ pub enum ZipStoreOutput {
 }
 
 /// What a process wrote, by the names of its files.
-#[derive(Clone, Copy, PartialEq, Eq, Drop, Debug)]
+#[derive(Clone, Copy, PartialEq, Eq, Drop)]
 pub enum ZipStoreOutputDescription {
     Split {
         stdout: Option<ZipStoreOutput>,

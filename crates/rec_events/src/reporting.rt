@@ -1,7 +1,7 @@
 //! How the outcome of a test is shown and reported.
 
 /// When an output is shown.
-#[derive(Clone, Copy, PartialEq, Eq, Debug, Drop)]
+#[derive(Clone, Copy, PartialEq, Eq, Drop)]
 pub enum TestOutputDisplay {
     Immediate,
     Final,
@@ -10,7 +10,7 @@ pub enum TestOutputDisplay {
 }
 
 /// How a flaky test that counts as failed stands in a JUnit report.
-#[derive(Clone, Copy, PartialEq, Eq, Debug, Drop)]
+#[derive(Clone, Copy, PartialEq, Eq, Drop)]
 pub enum JunitFlakyFailStatus {
     Failure,
     Success,

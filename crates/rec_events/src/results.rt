@@ -5,28 +5,28 @@ ghost use Rattle.rec_events.specs.Results.{succeeded};
 use crate::Text;
 
 /// What a test counts as that failed at first and passed at last.
-#[derive(Clone, Copy, PartialEq, Eq, Debug, Drop)]
+#[derive(Clone, Copy, PartialEq, Eq, Drop)]
 pub enum FlakyResult {
     Pass,
     Fail,
 }
 
 /// What a test counts as that passed and left an output open.
-#[derive(Clone, Copy, PartialEq, Eq, Debug, Drop)]
+#[derive(Clone, Copy, PartialEq, Eq, Drop)]
 pub enum LeakTimeoutResult {
     Pass,
     Fail,
 }
 
 /// What a test counts as that was stopped for its time.
-#[derive(Clone, Copy, PartialEq, Eq, Debug, Drop)]
+#[derive(Clone, Copy, PartialEq, Eq, Drop)]
 pub enum SlowTimeoutResult {
     Pass,
     Fail,
 }
 
 /// How a process failed.
-#[derive(PartialEq, Eq, Debug, Drop)]
+#[derive(PartialEq, Eq, Drop)]
 pub enum FailureDescription {
     ExitCode { code: i32 },
     /// It was ended by a signal, whose name is there where it is known.
@@ -34,7 +34,7 @@ pub enum FailureDescription {
 }
 
 /// How an attempt ended.
-#[derive(PartialEq, Eq, Debug, Drop)]
+#[derive(PartialEq, Eq, Drop)]
 pub enum ExecutionResultDescription {
     Pass,
     /// It passed and left an output open.
@@ -69,14 +69,14 @@ impl ExecutionResultDescription {
 }
 
 /// What is said of an error, shortly and at length.
-#[derive(PartialEq, Eq, Debug, Drop)]
+#[derive(PartialEq, Eq, Drop)]
 pub struct ErrorSummary {
     pub short_message: Text,
     pub description: Text,
 }
 
 /// The piece of an output that shows an error, and at which byte it begins there.
-#[derive(PartialEq, Eq, Debug, Drop)]
+#[derive(PartialEq, Eq, Drop)]
 pub struct OutputErrorSlice {
     pub slice: Text,
     pub start: u64,

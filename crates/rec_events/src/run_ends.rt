@@ -5,7 +5,7 @@ ghost use Rattle.rec_events.specs.Summaries.{stress_summary};
 use crate::{Items, OwnedTestInstanceId, RunStats, StressIndexSummary};
 
 /// How a run ended, over all its tests.
-#[derive(Clone, Copy, PartialEq, Eq, Debug, Drop)]
+#[derive(Clone, Copy, PartialEq, Eq, Drop)]
 pub enum FinalRunStats {
     Success,
     NoTestsRun,
@@ -14,7 +14,7 @@ pub enum FinalRunStats {
 }
 
 /// How a stress run ended, over all its runs.
-#[derive(Clone, Copy, PartialEq, Eq, Debug, Drop)]
+#[derive(Clone, Copy, PartialEq, Eq, Drop)]
 pub enum StressFinalRunStats {
     Success,
     NoTestsRun,
@@ -23,7 +23,7 @@ pub enum StressFinalRunStats {
 }
 
 /// The counts of a stress run.
-#[derive(Clone, Copy, PartialEq, Eq, Debug, Drop)]
+#[derive(Clone, Copy, PartialEq, Eq, Drop)]
 pub struct StressRunStats {
     /// The last of its runs.
     pub completed: StressIndexSummary,
@@ -51,14 +51,14 @@ impl StressRunStats {
 }
 
 /// The counts of a run that ended.
-#[derive(Clone, Copy, PartialEq, Eq, Debug, Drop)]
+#[derive(Clone, Copy, PartialEq, Eq, Drop)]
 pub enum RunFinishedStats {
     Single(RunStats),
     Stress(StressRunStats),
 }
 
 /// Tests that a run didn't come to.
-#[derive(PartialEq, Eq, Debug, Drop)]
+#[derive(PartialEq, Eq, Drop)]
 pub struct TestsNotSeenSummary {
     /// Some of them.
     pub not_seen: Items<OwnedTestInstanceId>,

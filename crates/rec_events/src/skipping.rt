@@ -3,7 +3,7 @@ ghost use Rattle.std.specs.Prelude.{◌≡◌};
 ghost use Rattle.rec_events.specs.Skipping.{reports};
 
 /// Why a test doesn't run.
-#[derive(Clone, Copy, PartialEq, Eq, Debug, Drop)]
+#[derive(Clone, Copy, PartialEq, Eq, Drop)]
 pub enum MismatchReason {
     /// It is no benchmark, and benchmarks are run.
     NotBenchmark,
@@ -22,7 +22,7 @@ pub enum MismatchReason {
 }
 
 /// Which skipped tests a JUnit report names.
-#[derive(Clone, Copy, PartialEq, Eq, Debug, Drop)]
+#[derive(Clone, Copy, PartialEq, Eq, Drop)]
 pub enum ReportSkipPolicy {
     None,
     /// Only those that are ignored.

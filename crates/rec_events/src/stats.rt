@@ -6,7 +6,7 @@ ghost use Rattle.rec_events.specs.Summaries.{failed_or_cancelled, has_failed_scr
 use crate::{CancelReason, FinalRunStats};
 
 /// How many tests and setup scripts ran, and how they ended.
-#[derive(Clone, Copy, PartialEq, Eq, Debug, Drop)]
+#[derive(Clone, Copy, PartialEq, Eq, Drop)]
 pub struct RunStats {
     pub initial_run_count: usize,
     pub finished_count: usize,

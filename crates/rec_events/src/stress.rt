@@ -2,7 +2,7 @@
 use crate::Duration;
 
 /// What ends a stress run.
-#[derive(Clone, Copy, PartialEq, Eq, Debug, Drop)]
+#[derive(Clone, Copy, PartialEq, Eq, Drop)]
 pub enum StressConditionSummary {
     /// So many runs; without a count it goes on until it is stopped.
     Count { count: Option<u32> },
@@ -12,7 +12,7 @@ pub enum StressConditionSummary {
 
 /// How far a stress run got. `elapsed` is the time since it began, and `completed` the number of its
 /// runs that ended.
-#[derive(Clone, Copy, PartialEq, Eq, Debug, Drop)]
+#[derive(Clone, Copy, PartialEq, Eq, Drop)]
 pub enum StressProgress {
     /// Of so many runs; without a total it goes on until it is stopped.
     Count {

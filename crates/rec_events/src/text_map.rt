@@ -13,7 +13,7 @@ use std::collections::BTreeMap;
 use std::marker::Model;
 
 /// A map from texts to values. Contracts see its pairs in the order of their keys' bytes.
-#[derive(Drop, Debug)]
+#[derive(Drop)]
 pub struct TextMap<V> {
     inner: BTreeMap<String, V>,
 }

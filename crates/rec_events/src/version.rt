@@ -25,7 +25,7 @@ pub enum VersionError {
 
 /// A `semver` version. Contracts see its parts: three numbers, the pre-release and the build
 /// metadata. Each is made from its text, so its text reads as it.
-#[derive(Drop, Debug)]
+#[derive(Drop)]
 pub struct Version {
     inner: semver::Version,
 }

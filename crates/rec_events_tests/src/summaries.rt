@@ -32,7 +32,7 @@ fn runs_without_failures(rt: HostRuntime) {
         (skipped, FinalRunStats::Success),
         (RunStats::zero(), FinalRunStats::NoTestsRun),
     ] {
-        assert_eq!(rt; stats.summarize_final(), want);
+        assert!(rt; stats.summarize_final() == want);
     }
 }
 
@@ -50,7 +50,7 @@ fn runs_by_failed_tests(rt: HostRuntime) {
             ..stats
         },
     ] {
-        assert_eq!(rt; stats.summarize_final(), FinalRunStats::Failed);
+        assert!(rt; stats.summarize_final() == FinalRunStats::Failed);
     }
 }
 
@@ -71,7 +71,7 @@ fn runs_by_failed_scripts(rt: HostRuntime) {
             ..stats
         },
     ] {
-        assert_eq!(rt; stats.summarize_final(), FinalRunStats::Failed);
+        assert!(rt; stats.summarize_final() == FinalRunStats::Failed);
     }
 }
 
@@ -101,14 +101,14 @@ fn runs_by_what_is_missing(rt: HostRuntime) {
             FinalRunStats::Failed,
         ),
     ] {
-        assert_eq!(rt; stats.summarize_final(), clean);
+        assert!(rt; stats.summarize_final() == clean);
         let test = RunStats { failed: 1, ..stats };
-        assert_eq!(rt; test.summarize_final(), failed_test);
+        assert!(rt; test.summarize_final() == failed_test);
         let script = RunStats {
             setup_scripts_failed: 1,
             ..stats
         };
-        assert_eq!(rt; script.summarize_final(), failed_script);
+        assert!(rt; script.summarize_final() == failed_script);
     }
 }
 
@@ -128,17 +128,17 @@ fn failed_runs_by_what_cancelled_them(rt: HostRuntime) {
             cancel_reason: Some(reason),
             ..passed()
         };
-        assert_eq!(rt; cancelled.summarize_final(), FinalRunStats::Success);
+        assert!(rt; cancelled.summarize_final() == FinalRunStats::Success);
         let test = RunStats {
             failed: 1,
             ..cancelled
         };
-        assert_eq!(rt; test.summarize_final(), want);
+        assert!(rt; test.summarize_final() == want);
         let script = RunStats {
             setup_scripts_failed: 1,
             ..cancelled
         };
-        assert_eq!(rt; script.summarize_final(), want);
+        assert!(rt; script.summarize_final() == want);
     }
 }
 
@@ -169,7 +169,7 @@ fn stress_runs(rt: HostRuntime) {
             failed_count,
             last_final_stats,
         };
-        assert_eq!(rt; stats.summarize_final(), want);
+        assert!(rt; stats.summarize_final() == want);
     }
 }
 
