@@ -1,14 +1,35 @@
 //! How a test, a script or an attempt ended.
-ghost use Rattle.std.specs.Prelude.{◌≡◌};
-ghost use Rattle.rec_events.specs.Results.{succeeded};
+ghost use Rattle.std.specs.Prelude.{◌≡◌, IfOk, option_map, string_bytes};
+ghost use Rattle.rec_events.specs.Results.{succeeded, flaky_text};
 
 use crate::Text;
+use std::alloc::{AllocError, Global};
 
 /// What a test counts as that failed at first and passed at last.
 #[derive(Clone, Copy, PartialEq, Eq, Drop)]
 pub enum FlakyResult {
     Pass,
     Fail,
+}
+
+impl FlakyResult {
+    /// Says that a test passed on this attempt and still counts as failed; `None` where it counts as
+    /// passed.
+    pub fn fail_message(
+        &self,
+        alloc: Global,
+        attempt: u32,
+        total_attempts: u32,
+    ) -> Result<Option<String>, AllocError>
+        ensures { IfOk result (λ message. option_map string_bytes message ≡ flaky_text self.now attempt total_attempts) }
+    {
+        match self {
+            FlakyResult::Pass => Ok(None),
+            FlakyResult::Fail => Ok(Some(format!(in alloc;
+                "test passed on attempt {attempt}/{total_attempts} but is configured to fail when flaky"
+            )?)),
+        }
+    }
 }
 
 /// What a test counts as that passed and left an output open.
