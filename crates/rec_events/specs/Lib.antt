@@ -14,3 +14,6 @@ pub mod Skipping
 pub mod Stats
 pub mod Summaries
 pub mod EventMaps
+pub mod TestLists
+pub mod LiveStress
+pub mod LiveEvents

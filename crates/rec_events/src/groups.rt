@@ -4,7 +4,8 @@ ghost use Rattle.std.specs.Str.{is_utf8};
 ghost use Rattle.rec_events.specs.Groups.{group_text};
 ghost use Rattle.rec_events.specs.declared.groups.TestGroup.TheVariants.{Custom};
 
-use crate::Text;
+use crate::{Text, TryClone};
+use std::alloc::{AllocError, Global};
 use std::marker::Model;
 
 /// How the group of all tests that are in no other group is written.
@@ -39,6 +40,14 @@ impl GroupName {
     }
 }
 
+impl TryClone for GroupName {
+    fn try_clone(&self, alloc: Global) -> Result<GroupName, AllocError> {
+        Ok(GroupName {
+            text: self.text.try_clone(alloc)?,
+        })
+    }
+}
+
 /// The group that a test is in.
 #[derive(PartialEq, Eq, Drop)]
 pub enum TestGroup {
@@ -67,6 +76,15 @@ impl TestGroup {
         match self {
             TestGroup::Global => GLOBAL_GROUP,
             TestGroup::Custom(name) => name.as_str(),
+        }
+    }
+}
+
+impl TryClone for TestGroup {
+    fn try_clone(&self, alloc: Global) -> Result<TestGroup, AllocError> {
+        match self {
+            TestGroup::Global => Ok(TestGroup::Global),
+            TestGroup::Custom(name) => Ok(TestGroup::Custom(name.try_clone(alloc)?)),
         }
     }
 }

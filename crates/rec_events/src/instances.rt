@@ -43,3 +43,13 @@ impl TryClone for OwnedTestInstanceId {
         })
     }
 }
+
+impl TryClone for TestSlotAssignment {
+    fn try_clone(&self, alloc: Global) -> Result<TestSlotAssignment, AllocError> {
+        Ok(TestSlotAssignment {
+            global_slot: self.global_slot,
+            group_slot: self.group_slot,
+            test_group: self.test_group.try_clone(alloc)?,
+        })
+    }
+}

@@ -1,10 +1,11 @@
 //! A list that is not empty.
-ghost use Rattle.std.specs.Prelude.{◌≡◌, ◌++◌, ◌<◌, List, [], ◌∷◌, length, nat_lt, if◌then◌else◌, Some, None};
+ghost use Rattle.std.specs.Prelude.{◌≡◌, ◌++◌, ◌<◌, List, [], ◌∷◌, length, nat_lt, if◌then◌else◌, IfOk, Some, None};
 ghost use Rattle.std.specs.Cmp.Lexicographic.{pointwise};
 ghost use Rattle.std.specs.Cmp.Rules.{comparing};
 ghost use Rattle.std.proofs.Common.{rules};
 
-use crate::Items;
+use crate::{Items, TryClone};
+use std::alloc::{AllocError, Global};
 use std::marker::Model;
 
 /// A list of at least one item. Contracts see the items in order.
@@ -87,4 +88,21 @@ impl<T: PartialEq> PartialEq for NonEmpty<T> {
     fn eq(&self, other: &NonEmpty<T>) -> bool {
         self.inner.as_slice() == other.inner.as_slice()
     }
+}
+
+impl<T: TryClone + Drop> TryClone for NonEmpty<T> {
+    fn try_clone(&self, alloc: Global) -> Result<NonEmpty<T>, AllocError> {
+        Ok(NonEmpty::new(copies_of(self.as_slice(), alloc)?))
+    }
+}
+
+/// Copies these items.
+fn copies_of<T: TryClone + Drop>(items: &[T], alloc: Global) -> Result<Vec<T>, AllocError>
+    ensures { IfOk result (λ copies. copies.items ≡ items.now) }
+{
+    let mut copies = Vec::new(alloc);
+    for item in items {
+        copies.push(item.try_clone(alloc)?)?;
+    }
+    Ok(copies)
 }

@@ -4,6 +4,8 @@ ghost use Rattle.std.specs.Cmp.Lexicographic.{pointwise};
 ghost use Rattle.std.specs.Cmp.Rules.{comparing};
 ghost use Rattle.std.proofs.Common.{rules};
 
+use crate::TryClone;
+use std::alloc::{AllocError, Global};
 use std::marker::Model;
 
 /// An output of a process. Contracts see its bytes.
@@ -57,4 +59,10 @@ impl PartialEq for ChildSingleOutput {
 
 impl Eq for ChildSingleOutput {
     ghost laws = { Prim.search (comparing, rules) };
+}
+
+impl TryClone for ChildSingleOutput {
+    fn try_clone(&self, alloc: Global) -> Result<ChildSingleOutput, AllocError> {
+        Ok(ChildSingleOutput::new(self.as_bytes().to_vec(alloc)?))
+    }
 }

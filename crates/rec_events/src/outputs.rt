@@ -1,5 +1,6 @@
 //! What an attempt wrote, as it runs and as it is stored.
-use crate::{ChildSingleOutput, ExecutionResultDescription, Items, OutputFileName, Text};
+use crate::{ChildSingleOutput, ExecutionResultDescription, Items, OutputFileName, Text, TryClone};
+use std::alloc::{AllocError, Global};
 
 /// In which form an event has its outputs.
 pub trait OutputSpec {
@@ -77,4 +78,49 @@ pub enum ChildExecutionOutputDescription<S: OutputSpec> {
     StartError {
         message: Text,
     },
+}
+
+impl TryClone for ChildOutputDescription {
+    fn try_clone(&self, alloc: Global) -> Result<ChildOutputDescription, AllocError> {
+        match self {
+            ChildOutputDescription::Split { stdout, stderr } => {
+                let stdout = stdout.try_clone(alloc)?;
+                let stderr = stderr.try_clone(alloc)?;
+                Ok(ChildOutputDescription::Split { stdout, stderr })
+            }
+            ChildOutputDescription::Combined { output } => {
+                let output = output.try_clone(alloc)?;
+                Ok(ChildOutputDescription::Combined { output })
+            }
+            ChildOutputDescription::NotLoaded => Ok(ChildOutputDescription::NotLoaded),
+        }
+    }
+}
+
+impl TryClone for ChildExecutionOutputDescription<LiveSpec> {
+    fn try_clone(
+        &self,
+        alloc: Global,
+    ) -> Result<ChildExecutionOutputDescription<LiveSpec>, AllocError> {
+        match self {
+            ChildExecutionOutputDescription::Output {
+                result,
+                output,
+                errors,
+            } => {
+                let result = result.try_clone(alloc)?;
+                let output = output.try_clone(alloc)?;
+                let errors = errors.try_clone(alloc)?;
+                Ok(ChildExecutionOutputDescription::Output {
+                    result,
+                    output,
+                    errors,
+                })
+            }
+            ChildExecutionOutputDescription::StartError { message } => {
+                let message = message.try_clone(alloc)?;
+                Ok(ChildExecutionOutputDescription::StartError { message })
+            }
+        }
+    }
 }

@@ -2,7 +2,7 @@
 ghost use Rattle.std.specs.Prelude.{◌≡◌, IfOk, option_map, string_bytes};
 ghost use Rattle.rec_events.specs.Results.{succeeded, flaky_text};
 
-use crate::Text;
+use crate::{Text, TryClone};
 use std::alloc::{AllocError, Global};
 
 /// What a test counts as that failed at first and passed at last.
@@ -101,4 +101,61 @@ pub struct ErrorSummary {
 pub struct OutputErrorSlice {
     pub slice: Text,
     pub start: u64,
+}
+
+impl TryClone for FailureDescription {
+    fn try_clone(&self, alloc: Global) -> Result<FailureDescription, AllocError> {
+        match self {
+            FailureDescription::ExitCode { code } => {
+                Ok(FailureDescription::ExitCode { code: *code })
+            }
+            FailureDescription::Abort { signal, name } => {
+                let name = name.try_clone(alloc)?;
+                Ok(FailureDescription::Abort {
+                    signal: *signal,
+                    name,
+                })
+            }
+        }
+    }
+}
+
+impl TryClone for ExecutionResultDescription {
+    fn try_clone(&self, alloc: Global) -> Result<ExecutionResultDescription, AllocError> {
+        match self {
+            ExecutionResultDescription::Pass => Ok(ExecutionResultDescription::Pass),
+            ExecutionResultDescription::Leak { result } => {
+                Ok(ExecutionResultDescription::Leak { result: *result })
+            }
+            ExecutionResultDescription::Fail { failure, leaked } => {
+                let failure = failure.try_clone(alloc)?;
+                Ok(ExecutionResultDescription::Fail {
+                    failure,
+                    leaked: *leaked,
+                })
+            }
+            ExecutionResultDescription::ExecFail => Ok(ExecutionResultDescription::ExecFail),
+            ExecutionResultDescription::Timeout { result } => {
+                Ok(ExecutionResultDescription::Timeout { result: *result })
+            }
+        }
+    }
+}
+
+impl TryClone for ErrorSummary {
+    fn try_clone(&self, alloc: Global) -> Result<ErrorSummary, AllocError> {
+        Ok(ErrorSummary {
+            short_message: self.short_message.try_clone(alloc)?,
+            description: self.description.try_clone(alloc)?,
+        })
+    }
+}
+
+impl TryClone for OutputErrorSlice {
+    fn try_clone(&self, alloc: Global) -> Result<OutputErrorSlice, AllocError> {
+        Ok(OutputErrorSlice {
+            slice: self.slice.try_clone(alloc)?,
+            start: self.start,
+        })
+    }
 }

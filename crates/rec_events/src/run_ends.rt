@@ -2,7 +2,8 @@
 ghost use Rattle.std.specs.Prelude.{◌≡◌};
 ghost use Rattle.rec_events.specs.Summaries.{stress_summary};
 
-use crate::{Items, OwnedTestInstanceId, RunStats, StressIndexSummary};
+use crate::{Items, OwnedTestInstanceId, RunStats, StressIndexSummary, TryClone};
+use std::alloc::{AllocError, Global};
 
 /// How a run ended, over all its tests.
 #[derive(Clone, Copy, PartialEq, Eq, Drop)]
@@ -64,4 +65,13 @@ pub struct TestsNotSeenSummary {
     pub not_seen: Items<OwnedTestInstanceId>,
     /// How many there are in all.
     pub total_not_seen: usize,
+}
+
+impl TryClone for TestsNotSeenSummary {
+    fn try_clone(&self, alloc: Global) -> Result<TestsNotSeenSummary, AllocError> {
+        Ok(TestsNotSeenSummary {
+            not_seen: self.not_seen.try_clone(alloc)?,
+            total_not_seen: self.total_not_seen,
+        })
+    }
 }

@@ -1,8 +1,9 @@
 //! The runs of setup scripts.
 use crate::{
-    ChildExecutionOutputDescription, Duration, ErrorSummary, ExecutionResultDescription,
-    OutputSpec, Stamp, Text, TextMap,
+    ChildExecutionOutputDescription, Duration, ErrorSummary, ExecutionResultDescription, LiveSpec,
+    OutputSpec, Stamp, Text, TextMap, TryClone,
 };
+use std::alloc::{AllocError, Global};
 
 /// One run of a setup script.
 #[derive(Drop)]
@@ -16,4 +17,18 @@ pub struct SetupScriptExecuteStatus<S: OutputSpec> {
     /// The variables that it set for the tests, where they could be read.
     pub env_map: Option<TextMap<Text>>,
     pub error_summary: Option<ErrorSummary>,
+}
+
+impl TryClone for SetupScriptExecuteStatus<LiveSpec> {
+    fn try_clone(&self, alloc: Global) -> Result<SetupScriptExecuteStatus<LiveSpec>, AllocError> {
+        Ok(SetupScriptExecuteStatus {
+            output: self.output.try_clone(alloc)?,
+            result: self.result.try_clone(alloc)?,
+            start_time: self.start_time,
+            time_taken: self.time_taken,
+            is_slow: self.is_slow,
+            env_map: self.env_map.try_clone(alloc)?,
+            error_summary: self.error_summary.try_clone(alloc)?,
+        })
+    }
 }

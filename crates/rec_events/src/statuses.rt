@@ -4,8 +4,9 @@ ghost use Rattle.rec_events.specs.Attempts.{Describes};
 
 use crate::{
     ChildExecutionOutputDescription, Duration, ErrorSummary, ExecutionResultDescription,
-    FlakyResult, NonEmpty, OutputErrorSlice, OutputSpec, RetryData, Stamp,
+    FlakyResult, LiveSpec, NonEmpty, OutputErrorSlice, OutputSpec, RetryData, Stamp, TryClone,
 };
+use std::alloc::{AllocError, Global};
 
 /// One attempt of a test.
 #[derive(Drop)]
@@ -116,5 +117,30 @@ impl<S: OutputSpec> ExecutionStatuses<S> {
             prior_statuses,
             result: self.flaky_result,
         }
+    }
+}
+
+impl TryClone for ExecuteStatus<LiveSpec> {
+    fn try_clone(&self, alloc: Global) -> Result<ExecuteStatus<LiveSpec>, AllocError> {
+        Ok(ExecuteStatus {
+            retry_data: self.retry_data,
+            output: self.output.try_clone(alloc)?,
+            result: self.result.try_clone(alloc)?,
+            start_time: self.start_time,
+            time_taken: self.time_taken,
+            is_slow: self.is_slow,
+            delay_before_start: self.delay_before_start,
+            error_summary: self.error_summary.try_clone(alloc)?,
+            output_error_slice: self.output_error_slice.try_clone(alloc)?,
+        })
+    }
+}
+
+impl TryClone for ExecutionStatuses<LiveSpec> {
+    fn try_clone(&self, alloc: Global) -> Result<ExecutionStatuses<LiveSpec>, AllocError> {
+        Ok(ExecutionStatuses {
+            statuses: self.statuses.try_clone(alloc)?,
+            flaky_result: self.flaky_result,
+        })
     }
 }

@@ -9,3 +9,12 @@ pub trait TryClone: Sized {
     fn try_clone(&self, alloc: Global) -> Result<Self, AllocError>
         ensures copy { IfOk result (λ t. t ≡ self.now) };
 }
+
+impl<T: TryClone> TryClone for Option<T> {
+    fn try_clone(&self, alloc: Global) -> Result<Option<T>, AllocError> {
+        match self {
+            Some(value) => Ok(Some(value.try_clone(alloc)?)),
+            None => Ok(None),
+        }
+    }
+}

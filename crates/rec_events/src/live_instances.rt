@@ -1,0 +1,45 @@
+//! Tests, as events name them while a run is going on.
+ghost use Rattle.std.specs.Prelude.{◌≡◌, IfOk};
+
+use crate::{OwnedTestInstanceId, RustBinaryId, TestCaseName, TryClone};
+use std::alloc::{AllocError, Global};
+use std::marker::Model;
+
+/// A test, by its binary and its name there. Contracts see it as the test itself.
+#[derive(Drop)]
+pub struct TestInstanceId<'a> {
+    pub binary_id: &'a RustBinaryId,
+    pub test_name: &'a TestCaseName,
+}
+
+impl<'a> Model for TestInstanceId<'a> {
+    ghost use Rattle.rec_events.specs.declared.instances.OwnedTestInstanceId.{OwnedTestInstanceId};
+
+    ghost Value = { OwnedTestInstanceId };
+
+    ghost view = { λ t. record { binary_id = t.binary_id.now; test_name = t.test_name.now } };
+}
+
+impl TestInstanceId<'_> {
+    /// Copies the test, so that it needs no other value.
+    pub fn to_owned(&self, alloc: Global) -> Result<OwnedTestInstanceId, AllocError>
+        ensures { IfOk result (λ t. t ≡ self.now) }
+    {
+        Ok(OwnedTestInstanceId {
+            binary_id: self.binary_id.try_clone(alloc)?,
+            test_name: self.test_name.try_clone(alloc)?,
+        })
+    }
+}
+
+impl OwnedTestInstanceId {
+    /// Names the test by references.
+    pub fn as_id(&self) -> TestInstanceId<'_>
+        ensures { result ≡ self.now }
+    {
+        TestInstanceId {
+            binary_id: &self.binary_id,
+            test_name: &self.test_name,
+        }
+    }
+}

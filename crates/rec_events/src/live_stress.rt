@@ -1,0 +1,80 @@
+//! Stress runs, as events name them while a run is going on.
+ghost use Rattle.std.specs.Prelude.{◌≡◌, option_map};
+ghost use Rattle.rec_events.specs.LiveStress.{stress_index_summary, condition_summary};
+
+use crate::{Duration, NonZeroCount, StressConditionSummary, StressIndexSummary};
+
+/// Which run of a stress run, and of how many where that is known.
+#[derive(Clone, Copy, PartialEq, Eq, Drop)]
+pub struct StressIndex {
+    pub current: u32,
+    pub total: Option<NonZeroCount>,
+}
+
+/// How many runs a stress run has.
+#[derive(Clone, Copy, PartialEq, Eq, Drop)]
+pub enum StressCount {
+    Count { count: NonZeroCount },
+    /// It goes on until it is stopped.
+    Infinite,
+}
+
+/// What ends a stress run.
+#[derive(Clone, Copy, PartialEq, Eq, Drop)]
+pub enum StressCondition {
+    Count(StressCount),
+    Duration(Duration),
+}
+
+impl StressIndex {
+    /// Gives the index as it is recorded.
+    pub fn summary(&self) -> StressIndexSummary
+        ensures { result ≡ stress_index_summary self.now }
+    {
+        StressIndexSummary {
+            current: self.current,
+            total: self.total,
+        }
+    }
+}
+
+/// Gives an index that may not be there, as it is recorded.
+pub(crate) fn recorded_index(index: &Option<StressIndex>) -> Option<StressIndexSummary>
+    ensures { result ≡ option_map stress_index_summary index.now }
+{
+    match index {
+        Some(index) => Some(index.summary()),
+        None => None,
+    }
+}
+
+impl StressCondition {
+    /// Gives the condition as it is recorded.
+    pub fn summary(&self) -> StressConditionSummary
+        ensures { result ≡ condition_summary self.now }
+    {
+        match self {
+            StressCondition::Count(StressCount::Count { count }) => StressConditionSummary::Count {
+                count: Some(count.get()),
+            },
+            StressCondition::Count(StressCount::Infinite) => {
+                StressConditionSummary::Count { count: None }
+            }
+            StressCondition::Duration(duration) => StressConditionSummary::Duration {
+                duration: *duration,
+            },
+        }
+    }
+}
+
+/// Gives a condition that may not be there, as it is recorded.
+pub(crate) fn recorded_condition(
+    condition: &Option<StressCondition>,
+) -> Option<StressConditionSummary>
+    ensures { result ≡ option_map condition_summary condition.now }
+{
+    match condition {
+        Some(condition) => Some(condition.summary()),
+        None => None,
+    }
+}
