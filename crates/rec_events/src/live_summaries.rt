@@ -54,18 +54,18 @@ fn summarize_core(
     ensures { IfOk result (λ summary. summary ≡ core_kind kind.now) }
 {
     match kind {
-        TestEventKind::RunStarted { .. } => Ok(Some(run_started(alloc, kind)?)),
+        TestEventKind::RunStarted { .. } => run_started(alloc, kind).map(Some),
         TestEventKind::StressSubRunStarted { progress } => {
             Ok(Some(CoreEventKind::StressSubRunStarted {
                 progress: *progress,
             }))
         }
-        TestEventKind::SetupScriptStarted { .. } => Ok(Some(script_started(alloc, kind)?)),
-        TestEventKind::SetupScriptSlow { .. } => Ok(Some(script_slow(alloc, kind)?)),
-        TestEventKind::TestStarted { .. } => Ok(Some(test_started(alloc, kind)?)),
-        TestEventKind::TestSlow { .. } => Ok(Some(test_slow(alloc, kind)?)),
-        TestEventKind::TestRetryStarted { .. } => Ok(Some(retry_started(alloc, kind)?)),
-        TestEventKind::TestSkipped { .. } => Ok(Some(test_skipped(alloc, kind)?)),
+        TestEventKind::SetupScriptStarted { .. } => script_started(alloc, kind).map(Some),
+        TestEventKind::SetupScriptSlow { .. } => script_slow(alloc, kind).map(Some),
+        TestEventKind::TestStarted { .. } => test_started(alloc, kind).map(Some),
+        TestEventKind::TestSlow { .. } => test_slow(alloc, kind).map(Some),
+        TestEventKind::TestRetryStarted { .. } => retry_started(alloc, kind).map(Some),
+        TestEventKind::TestSkipped { .. } => test_skipped(alloc, kind).map(Some),
         TestEventKind::RunBeginCancel {
             setup_scripts_running,
             running,
@@ -98,7 +98,7 @@ fn summarize_core(
             sub_elapsed: *sub_elapsed,
             sub_stats: *sub_stats,
         })),
-        TestEventKind::RunFinished { .. } => Ok(Some(run_finished(alloc, kind)?)),
+        TestEventKind::RunFinished { .. } => run_finished(alloc, kind).map(Some),
         _ => Ok(None),
     }
 }
@@ -111,9 +111,9 @@ fn summarize_output(
     ensures { IfOk result (λ summary. summary ≡ output_kind kind.now) }
 {
     match kind {
-        TestEventKind::SetupScriptFinished { .. } => Ok(Some(script_finished(alloc, kind)?)),
-        TestEventKind::TestAttemptFailedWillRetry { .. } => Ok(Some(attempt_failed(alloc, kind)?)),
-        TestEventKind::TestFinished { .. } => Ok(Some(test_finished(alloc, kind)?)),
+        TestEventKind::SetupScriptFinished { .. } => script_finished(alloc, kind).map(Some),
+        TestEventKind::TestAttemptFailedWillRetry { .. } => attempt_failed(alloc, kind).map(Some),
+        TestEventKind::TestFinished { .. } => test_finished(alloc, kind).map(Some),
         _ => Ok(None),
     }
 }

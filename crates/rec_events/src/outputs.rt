@@ -1,4 +1,6 @@
 //! What an attempt wrote, as it runs and as it is stored.
+ghost use Rattle.std.specs.Prelude.{◌≡◌, IfOk};
+
 use crate::{ChildSingleOutput, ExecutionResultDescription, Items, OutputFileName, Text, TryClone};
 use std::alloc::{AllocError, Global};
 
@@ -108,9 +110,9 @@ impl TryClone for ChildExecutionOutputDescription<LiveSpec> {
                 output,
                 errors,
             } => {
+                let errors = errors.try_clone(alloc)?;
                 let result = result.try_clone(alloc)?;
                 let output = output.try_clone(alloc)?;
-                let errors = errors.try_clone(alloc)?;
                 Ok(ChildExecutionOutputDescription::Output {
                     result,
                     output,
@@ -123,4 +125,23 @@ impl TryClone for ChildExecutionOutputDescription<LiveSpec> {
             }
         }
     }
+}
+
+/// Copies what came of starting a process, and how it ended.
+pub(crate) fn copy_outcome(
+    output: &ChildExecutionOutputDescription<LiveSpec>,
+    ending: &ExecutionResultDescription,
+    alloc: Global,
+) -> Result<
+    (
+        ChildExecutionOutputDescription<LiveSpec>,
+        ExecutionResultDescription,
+    ),
+    AllocError,
+>
+    ensures { IfOk result (λ copies. copies ≡ (output.now, ending.now)) }
+{
+    let ending = ending.try_clone(alloc)?;
+    let output = output.try_clone(alloc)?;
+    Ok((output, ending))
 }

@@ -1,4 +1,5 @@
 //! The runs of setup scripts.
+use crate::outputs::copy_outcome;
 use crate::{
     ChildExecutionOutputDescription, Duration, ErrorSummary, ExecutionResultDescription, LiveSpec,
     OutputSpec, Stamp, Text, TextMap, TryClone,
@@ -21,14 +22,17 @@ pub struct SetupScriptExecuteStatus<S: OutputSpec> {
 
 impl TryClone for SetupScriptExecuteStatus<LiveSpec> {
     fn try_clone(&self, alloc: Global) -> Result<SetupScriptExecuteStatus<LiveSpec>, AllocError> {
+        let env_map = self.env_map.try_clone(alloc)?;
+        let error_summary = self.error_summary.try_clone(alloc)?;
+        let (output, result) = copy_outcome(&self.output, &self.result, alloc)?;
         Ok(SetupScriptExecuteStatus {
-            output: self.output.try_clone(alloc)?,
-            result: self.result.try_clone(alloc)?,
+            output,
+            result,
             start_time: self.start_time,
             time_taken: self.time_taken,
             is_slow: self.is_slow,
-            env_map: self.env_map.try_clone(alloc)?,
-            error_summary: self.error_summary.try_clone(alloc)?,
+            env_map,
+            error_summary,
         })
     }
 }

@@ -2,6 +2,7 @@
 ghost use Rattle.std.specs.Prelude.{◌≡◌, ◌<◌, ◌-◌, length, slice_get, Some};
 ghost use Rattle.rec_events.specs.Attempts.{Describes};
 
+use crate::outputs::copy_outcome;
 use crate::{
     ChildExecutionOutputDescription, Duration, ErrorSummary, ExecutionResultDescription,
     FlakyResult, LiveSpec, NonEmpty, OutputErrorSlice, OutputSpec, RetryData, Stamp, TryClone,
@@ -122,16 +123,19 @@ impl<S: OutputSpec> ExecutionStatuses<S> {
 
 impl TryClone for ExecuteStatus<LiveSpec> {
     fn try_clone(&self, alloc: Global) -> Result<ExecuteStatus<LiveSpec>, AllocError> {
+        let error_summary = self.error_summary.try_clone(alloc)?;
+        let output_error_slice = self.output_error_slice.try_clone(alloc)?;
+        let (output, result) = copy_outcome(&self.output, &self.result, alloc)?;
         Ok(ExecuteStatus {
             retry_data: self.retry_data,
-            output: self.output.try_clone(alloc)?,
-            result: self.result.try_clone(alloc)?,
+            output,
+            result,
             start_time: self.start_time,
             time_taken: self.time_taken,
             is_slow: self.is_slow,
             delay_before_start: self.delay_before_start,
-            error_summary: self.error_summary.try_clone(alloc)?,
-            output_error_slice: self.output_error_slice.try_clone(alloc)?,
+            error_summary,
+            output_error_slice,
         })
     }
 }
