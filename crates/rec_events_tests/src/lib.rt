@@ -4,6 +4,8 @@
 #[cfg(test)]
 mod attempts;
 #[cfg(test)]
+mod live_events;
+#[cfg(test)]
 mod summaries;
 #[cfg(test)]
 mod values;

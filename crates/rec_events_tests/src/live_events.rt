@@ -1,0 +1,175 @@
+//! Live events, and what they are recorded as.
+
+use rec_events::{
+    CancelReason, CoreEventKind, Duration, FlakyResult, Items, LiveSpec, NextestRunMode,
+    NonZeroCount, OwnedTestInstanceId, ReportUuid, RunStats, RustBinaryId, Stamp, StressCondition,
+    StressConditionSummary, StressCount, TestCaseName, TestEvent, TestEventKind,
+    TestEventKindSummary, TestEventSummary, TestGroup, TestInstanceId, TestList, TestListSummary,
+    TestSlotAssignment, Text, TextMap,
+};
+use std::alloc::{AllocError, Global};
+use std::test::Fail;
+use uuid::Uuid;
+
+/// An event of this kind, at second 1000 and two seconds after the run's start.
+fn live(kind: TestEventKind<'_>) -> TestEvent<'_> {
+    TestEvent {
+        timestamp: Stamp {
+            secs: 1000,
+            nanos: 0,
+            offset: 0,
+        },
+        elapsed: Duration { secs: 2, nanos: 0 },
+        kind,
+    }
+}
+
+/// What an event of this kind is recorded as, if it is recorded.
+fn recorded(
+    alloc: Global,
+    kind: TestEventKind<'_>,
+) -> Result<Option<TestEventSummary<LiveSpec>>, AllocError> {
+    let event = live(kind);
+    let summary = TestEventSummary::from_test_event(alloc, &event);
+    drop(event);
+    summary
+}
+
+/// Whether an event of this kind is recorded as that of the other kind, at the same time.
+fn is_recorded_as(
+    alloc: Global,
+    kind: TestEventKind<'_>,
+    expected: CoreEventKind,
+) -> Result<bool, AllocError> {
+    let expected = TestEventSummary {
+        timestamp: Stamp {
+            secs: 1000,
+            nanos: 0,
+            offset: 0,
+        },
+        elapsed: Duration { secs: 2, nanos: 0 },
+        kind: TestEventKindSummary::Core(expected),
+    };
+    let summary = recorded(alloc, kind);
+    let is_equal = is_some_and_equal(&summary, &expected);
+    drop(summary);
+    drop(expected);
+    Ok(is_equal)
+}
+
+fn is_some_and_equal(
+    summary: &Result<Option<TestEventSummary<LiveSpec>>, AllocError>,
+    expected: &TestEventSummary<LiveSpec>,
+) -> bool {
+    match summary {
+        Ok(Some(summary)) => summary == expected,
+        _ => false,
+    }
+}
+
+#[test]
+fn what_only_informs_is_not_recorded(rt: HostRuntime) -> Result<(), Fail> {
+    let alloc = rt.alloc();
+    for kind in [
+        TestEventKind::InfoStarted,
+        TestEventKind::InfoResponse,
+        TestEventKind::InfoFinished,
+        TestEventKind::InputEnter,
+        TestEventKind::RunBeginKill,
+    ] {
+        assert!(rt; recorded(alloc, kind)?.is_none());
+    }
+    Ok(())
+}
+
+/// The statistics of a run that is cancelled for this reason.
+fn cancelled(cancel_reason: Option<CancelReason>) -> RunStats {
+    let mut stats = RunStats::zero();
+    stats.cancel_reason = cancel_reason;
+    stats
+}
+
+#[test]
+fn a_cancel_has_the_reason_of_its_statistics(rt: HostRuntime) -> Result<(), Fail> {
+    for (reason, expected) in [
+        (Some(CancelReason::TestFailure), CancelReason::TestFailure),
+        (Some(CancelReason::Interrupt), CancelReason::Interrupt),
+        (None, CancelReason::Signal),
+    ] {
+        let kind = TestEventKind::RunBeginCancel {
+            setup_scripts_running: 1,
+            running: 2,
+            current_stats: cancelled(reason),
+        };
+        let expected = CoreEventKind::RunBeginCancel {
+            setup_scripts_running: 1,
+            running: 2,
+            reason: expected,
+        };
+        assert!(rt; is_recorded_as(rt.alloc(), kind, expected)?);
+    }
+    Ok(())
+}
+
+/// The start of a run of these tests, under a condition.
+fn run_started<'a>(
+    alloc: Global,
+    test_list: &'a TestList<'a>,
+    stress_condition: Option<StressCondition>,
+) -> Result<TestEventKind<'a>, AllocError> {
+    Ok(TestEventKind::RunStarted {
+        test_list,
+        run_id: ReportUuid::new(Uuid::nil()),
+        profile_name: Text::from_str(alloc, "default")?,
+        cli_args: Items::empty(alloc),
+        stress_condition,
+    })
+}
+
+#[test]
+fn a_run_keeps_its_stress_condition(rt: HostRuntime) -> Result<(), Fail> {
+    let alloc = rt.alloc();
+    let summary = TestListSummary {
+        suites: TextMap::empty(alloc),
+    };
+    let test_list = TestList::from_summary(NextestRunMode::Benchmark, &summary);
+    assert!(rt; test_list.mode() == NextestRunMode::Benchmark);
+    let two = NonZeroCount::new(2);
+    let two = two.map(|count| StressCondition::Count(StressCount::Count { count }));
+    let minute = Duration { secs: 60, nanos: 0 };
+    for (condition, expected) in [
+        (None, None),
+        (two, Some(StressConditionSummary::Count { count: Some(2) })),
+        (
+            Some(StressCondition::Count(StressCount::Infinite)),
+            Some(StressConditionSummary::Count { count: None }),
+        ),
+        (
+            Some(StressCondition::Duration(minute)),
+            Some(StressConditionSummary::Duration { duration: minute }),
+        ),
+    ] {
+        let expected = CoreEventKind::RunStarted {
+            run_id: ReportUuid::new(Uuid::nil()),
+            profile_name: Text::from_str(alloc, "default")?,
+            cli_args: Items::empty(alloc),
+            stress_condition: expected,
+        };
+        let kind = run_started(alloc, &test_list, condition)?;
+        assert!(rt; is_recorded_as(alloc, kind, expected)?);
+    }
+    Ok(())
+}
+
+#[test]
+fn a_flaky_failure_is_told(rt: HostRuntime) -> Result<(), Fail> {
+    let alloc = rt.alloc();
+    assert!(rt; FlakyResult::Pass.fail_message(alloc, 2, 3)?.is_none());
+    let message = FlakyResult::Fail.fail_message(alloc, 2, 3)?;
+    let message = message.unwrap_or(String::new(alloc));
+    assert_eq!(rt;
+        message.as_str(),
+        "test passed on attempt 2/3 but is configured to fail when flaky"
+    );
+    Ok(())
+}
