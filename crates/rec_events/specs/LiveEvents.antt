@@ -40,53 +40,29 @@ kind_name InfoFinished = []
 kind_name InputEnter = []
 kind_name RunBeginKill = []
 
--- what happened without outputs, as it is recorded
+-- what happened without outputs, as it is recorded; the rest has outputs, or only informs
 abbrev pub core_kind : TestEventKind → Option CoreEventKind
 core_kind (RunStarted tests run profile args condition) = Some (core.RunStarted run profile args (option_map condition_summary condition))
 core_kind (StressSubRunStarted progress) = Some (core.StressSubRunStarted progress)
 core_kind (SetupScriptStarted stress index total script program args no_capture) = Some (core.SetupScriptStarted (index_summary stress) index total script program args no_capture)
 core_kind (SetupScriptSlow stress script program args elapsed terminates) = Some (core.SetupScriptSlow (index_summary stress) script program args elapsed terminates)
-core_kind (SetupScriptFinished stress index total script program args no_capture store_success store_failure status) = None
 core_kind (TestStarted stress test slot stats running command) = Some (core.TestStarted (index_summary stress) test slot stats running command)
 core_kind (TestSlow stress test retry elapsed terminates) = Some (core.TestSlow (index_summary stress) test retry elapsed terminates)
-core_kind (TestAttemptFailedWillRetry stress test status delay failure running) = None
 core_kind (TestRetryStarted stress test slot retry running command) = Some (core.TestRetryStarted (index_summary stress) test slot retry running command)
-core_kind (TestFinished stress test success failure store_success store_failure flaky statuses stats running) = None
 core_kind (TestSkipped stress test reason report) = Some (core.TestSkipped (index_summary stress) test reason report)
 core_kind (RunBeginCancel scripts running stats) = Some (core.RunBeginCancel scripts running (unwrap_or stats.cancel_reason Signal))
 core_kind (RunPaused scripts running) = Some (core.RunPaused scripts running)
 core_kind (RunContinued scripts running) = Some (core.RunContinued scripts running)
 core_kind (StressSubRunFinished progress elapsed stats) = Some (core.StressSubRunFinished progress elapsed stats)
 core_kind (RunFinished run start elapsed stats not_seen) = Some (core.RunFinished run start elapsed stats not_seen)
-core_kind InfoStarted = None
-core_kind InfoResponse = None
-core_kind InfoFinished = None
-core_kind InputEnter = None
-core_kind RunBeginKill = None
+core_kind kind = None
 
--- what happened with outputs, as it is recorded
+-- what happened with outputs, as it is recorded; the rest has none
 abbrev pub output_kind : TestEventKind → Option (OutputEventKind LiveSpec ChildOutputDescription)
-output_kind (RunStarted tests run profile args condition) = None
-output_kind (StressSubRunStarted progress) = None
-output_kind (SetupScriptStarted stress index total script program args no_capture) = None
-output_kind (SetupScriptSlow stress script program args elapsed terminates) = None
 output_kind (SetupScriptFinished stress index total script program args no_capture store_success store_failure status) = Some (ended.SetupScriptFinished (index_summary stress) index total script program args no_capture status)
-output_kind (TestStarted stress test slot stats running command) = None
-output_kind (TestSlow stress test retry elapsed terminates) = None
 output_kind (TestAttemptFailedWillRetry stress test status delay failure running) = Some (ended.TestAttemptFailedWillRetry (index_summary stress) test status delay failure running)
-output_kind (TestRetryStarted stress test slot retry running command) = None
 output_kind (TestFinished stress test success failure store_success store_failure flaky statuses stats running) = Some (ended.TestFinished (index_summary stress) test success failure store_success store_failure flaky statuses stats running)
-output_kind (TestSkipped stress test reason report) = None
-output_kind (RunBeginCancel scripts running stats) = None
-output_kind (RunPaused scripts running) = None
-output_kind (RunContinued scripts running) = None
-output_kind (StressSubRunFinished progress elapsed stats) = None
-output_kind (RunFinished run start elapsed stats not_seen) = None
-output_kind InfoStarted = None
-output_kind InfoResponse = None
-output_kind InfoFinished = None
-output_kind InputEnter = None
-output_kind RunBeginKill = None
+output_kind kind = None
 
 -- what happened, as it is recorded; what only informs is in neither
 abbrev pub kind_summary : TestEventKind → Option (TestEventKindSummary LiveSpec ChildOutputDescription)

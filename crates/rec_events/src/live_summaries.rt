@@ -66,15 +66,7 @@ fn summarize_core(
         TestEventKind::TestSlow { .. } => test_slow(alloc, kind).map(Some),
         TestEventKind::TestRetryStarted { .. } => retry_started(alloc, kind).map(Some),
         TestEventKind::TestSkipped { .. } => test_skipped(alloc, kind).map(Some),
-        TestEventKind::RunBeginCancel {
-            setup_scripts_running,
-            running,
-            current_stats,
-        } => Ok(Some(CoreEventKind::RunBeginCancel {
-            setup_scripts_running: *setup_scripts_running,
-            running: *running,
-            reason: current_stats.cancel_reason.unwrap_or(CancelReason::Signal),
-        })),
+        TestEventKind::RunBeginCancel { .. } => Ok(Some(begin_cancel(kind))),
         TestEventKind::RunPaused {
             setup_scripts_running,
             running,
@@ -89,15 +81,7 @@ fn summarize_core(
             setup_scripts_running: *setup_scripts_running,
             running: *running,
         })),
-        TestEventKind::StressSubRunFinished {
-            progress,
-            sub_elapsed,
-            sub_stats,
-        } => Ok(Some(CoreEventKind::StressSubRunFinished {
-            progress: *progress,
-            sub_elapsed: *sub_elapsed,
-            sub_stats: *sub_stats,
-        })),
+        TestEventKind::StressSubRunFinished { .. } => Ok(Some(sub_run_finished(kind))),
         TestEventKind::RunFinished { .. } => run_finished(alloc, kind).map(Some),
         _ => Ok(None),
     }
@@ -291,6 +275,46 @@ fn test_skipped(alloc: Global, kind: &TestEventKind<'_>) -> Result<CoreEventKind
         reason: *reason,
         junit_report_skipped: *junit_report_skipped,
     })
+}
+
+/// Summarizes that no further test is to begin.
+fn begin_cancel(kind: &TestEventKind<'_>) -> CoreEventKind
+    requires kind { kind_name kind.now ≡ codes "run-begin-cancel" }
+    ensures { core_kind kind.now ≡ Some result }
+{
+    let TestEventKind::RunBeginCancel {
+        setup_scripts_running,
+        running,
+        current_stats,
+    } = kind
+    else {
+        unreachable!()
+    };
+    CoreEventKind::RunBeginCancel {
+        setup_scripts_running: *setup_scripts_running,
+        running: *running,
+        reason: current_stats.cancel_reason.unwrap_or(CancelReason::Signal),
+    }
+}
+
+/// Summarizes the end of one of a stress run's runs.
+fn sub_run_finished(kind: &TestEventKind<'_>) -> CoreEventKind
+    requires kind { kind_name kind.now ≡ codes "stress-sub-run-finished" }
+    ensures { core_kind kind.now ≡ Some result }
+{
+    let TestEventKind::StressSubRunFinished {
+        progress,
+        sub_elapsed,
+        sub_stats,
+    } = kind
+    else {
+        unreachable!()
+    };
+    CoreEventKind::StressSubRunFinished {
+        progress: *progress,
+        sub_elapsed: *sub_elapsed,
+        sub_stats: *sub_stats,
+    }
 }
 
 /// Summarizes the end of a run.
