@@ -4,6 +4,7 @@ pub mod Fronts
 pub mod Grammar
 pub mod Integers
 pub mod Lengths
+pub mod NameIndex
 pub mod Octets
 pub mod Parts
 pub mod Placed

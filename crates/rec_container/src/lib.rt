@@ -4,6 +4,7 @@
 mod adapters;
 mod errors;
 mod failing;
+mod indexed;
 pub mod laws;
 mod memory;
 mod reader;
