@@ -1,5 +1,6 @@
 pub mod Contents
 pub mod Entries
+pub mod FileMaps
 pub mod Fronts
 pub mod Grammar
 pub mod Integers

@@ -16,7 +16,7 @@ use Rattle.rec_container.proofs.Contents.{content_of-push}
 not_both : (b : Bool) → b ≡ true → b ≡ false → ⊥
 not_both b holds fails = cc
 
-apart : (xs ys : List ℕ) → bytes_eq xs ys ≡ false → bytes_eq ys xs ≡ false
+pub apart : (xs ys : List ℕ) → bytes_eq xs ys ≡ false → bytes_eq ys xs ≡ false
 apart xs ys h = by (bytes_eq ys xs) refl
   where
     by : (b : Bool) → bytes_eq ys xs ≡ b → bytes_eq ys xs ≡ false
