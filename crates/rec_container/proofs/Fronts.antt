@@ -9,7 +9,7 @@ use Rattle.rec_container.specs.declared.errors.ContainerError.{ContainerError}
 use Rattle.rec_container.specs.Container.{Entry, entry, magic, AreFrom, IsFront, place_behind, IsContainer}
 use Rattle.rec_container.specs.Reading.{step_at, IsFault, has_magic}
 use Rattle.rec_container.specs.Placed.{placed_entry, placed_entries, PlacedFrom}
-use Rattle.rec_container.specs.declared.steps.PlacedEntry.{PlacedEntry}
+use Rattle.rec_container.specs.declared.indexed.PlacedEntry.{PlacedEntry}
 use Rattle.rec_container.proofs.Lengths.{length-entry, length-magic}
 use Rattle.rec_container.proofs.Spelling.{AreFrom-push}
 use Rattle.rec_container.proofs.Octets.{AreOctets, AreOctets-drop, AreOctets-behind}

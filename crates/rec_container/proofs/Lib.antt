@@ -1,9 +1,11 @@
 pub mod Contents
 pub mod Entries
+pub mod FileMaps
 pub mod Fronts
 pub mod Grammar
 pub mod Integers
 pub mod Lengths
+pub mod NameIndex
 pub mod Octets
 pub mod Parts
 pub mod Placed

@@ -1,7 +1,10 @@
 pub mod Causes
 pub mod Container
+pub mod Disks
 pub mod Memory
+pub mod MemoryDisks
 pub mod Placed
 pub mod Reading
 pub mod Taking
+pub mod Within
 pub mod Writing

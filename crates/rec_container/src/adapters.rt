@@ -68,7 +68,7 @@ impl<W: Write> StdSink<W> {
 }
 
 /// How many bytes a writer took: at least one, of a piece that isn't empty.
-fn write_flushed<W: Write>(writer: &mut W, piece: &[u8]) -> Option<usize>
+pub(crate) fn write_flushed<W: Write>(writer: &mut W, piece: &[u8]) -> Option<usize>
     ensures bound { IfSome result (λ n. n ≤ length piece.now) }
     ensures progress { IfSome result (λ n. 0 < length piece.now → 0 < n) }
     ensures passed { IfSome result (λ n. Appends (W.contents writer.old) (W.contents writer.new) (take n piece.now)) }

@@ -7,7 +7,8 @@ ghost use Rattle.rec_container.specs.declared.errors.ContainerError.TheVariants.
 ghost use Rattle.rec_container.specs.Placed.{placed_entries};
 
 use crate::errors::ContainerError;
-use crate::steps::{PlacedEntry, read_step};
+use crate::indexed::IndexedEntries;
+use crate::steps::read_step;
 use std::alloc::Global;
 use std::marker::Model;
 
@@ -15,7 +16,7 @@ use std::marker::Model;
 /// parsed.
 #[derive(Drop)]
 pub struct Container<'a> {
-    entries: Vec<PlacedEntry<'a>>,
+    entries: IndexedEntries<'a>,
 }
 
 impl<'a> Model for Container<'a> {
@@ -25,9 +26,9 @@ impl<'a> Model for Container<'a> {
 
     ghost Value = { List Entry };
 
-    ghost view = { λ c. placed_entries c.entries.items };
+    ghost view = { λ c. placed_entries c.entries };
 
-    ghost invariant = { λ c. PlacedFrom 8 c.entries.items };
+    ghost invariant = { λ c. PlacedFrom 8 c.entries };
 }
 
 impl<'a> Container<'a> {
@@ -54,14 +55,14 @@ impl<'a> Container<'a> {
     pub fn is_empty(&self) -> bool
         ensures { IsTrue result ↔ (self.now ≡ []) }
     {
-        self.entries.is_empty()
+        self.entries.len() == 0
     }
 
     /// The content under a name.
     pub fn get(&self, name: &str) -> Option<&'a [u8]>
         ensures { option_map (λ c. c.now) result ≡ content_of self.now name.now }
     {
-        find(&self.entries, name)
+        self.entries.get(name)
     }
 
     /// The name of an entry.
@@ -69,7 +70,7 @@ impl<'a> Container<'a> {
         requires { i < length self.now }
         ensures { slice_get (map (λ e. e.name) self.now) i ≡ Some result.now }
     {
-        self.entries[i].name
+        self.entries.entry(i).name
     }
 
     /// Where the content of an entry begins in the bytes that were parsed.
@@ -80,7 +81,7 @@ impl<'a> Container<'a> {
         // There the parsed bytes, which spell the entries, have the content.
         ensures stands { (content : List ℕ) → slice_get (map (λ e. e.content) self.now) i ≡ Some content → StandsAt (spell self.now) result content }
     {
-        self.entries[i].place
+        self.entries.entry(i).place
     }
 
     /// The content of an entry.
@@ -88,7 +89,7 @@ impl<'a> Container<'a> {
         requires { i < length self.now }
         ensures { slice_get (map (λ e. e.content) self.now) i ≡ Some result.now }
     {
-        self.entries[i].content
+        self.entries.entry(i).content
     }
 }
 
@@ -101,23 +102,11 @@ fn read<'a>(alloc: Global, bytes: &'a [u8]) -> Result<Container<'a>, ContainerEr
         return Err(ContainerError::BadMagic);
     };
     let mut at = 8;
-    let mut entries = Vec::new(alloc);
+    let mut entries = IndexedEntries::new(alloc);
     while let Some((held, after)) = read_step(rest, at, &entries)? {
         at = held.place + held.content.len();
         entries.push(held)?;
         rest = after;
     }
     Ok(Container { entries })
-}
-
-/// The content of the entry of a name.
-fn find<'a>(entries: &[PlacedEntry<'a>], name: &str) -> Option<&'a [u8]>
-    ensures { option_map (λ c. c.now) result ≡ content_of (placed_entries entries.now) name.now }
-{
-    for held in entries {
-        if name == held.name {
-            return Some(held.content);
-        }
-    }
-    None
 }

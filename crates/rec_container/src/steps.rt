@@ -1,15 +1,13 @@
 //! What stands at a place of a container's bytes: an entry, the end, or a fault.
-ghost use Rattle.std.specs.Prelude.{◌≡◌, ◌<◌, ◌+◌, ◌^◌, length, is_some, true, false, MatchOption, IfOk, IfSome};
-ghost use Rattle.std.specs.List.{list_any};
+ghost use Rattle.std.specs.Prelude.{◌≡◌, ◌<◌, ◌+◌, ◌^◌, length, true, false, MatchOption, IfOk, IfSome};
 ghost use Rattle.std.specs.Option.{option_map};
-ghost use Rattle.std.specs.Str.{bytes_eq, is_utf8};
+ghost use Rattle.std.specs.Str.{is_utf8};
 ghost use Rattle.std.specs.Int.{w16, w64};
-ghost use Rattle.rec_container.specs.declared.steps.PlacedEntry.{PlacedEntry};
-ghost use Rattle.rec_container.specs.Container.{content_of};
 ghost use Rattle.rec_container.specs.Reading.{Gives, number_at, name_at, content_at, entry_at, step_at};
 ghost use Rattle.rec_container.specs.Placed.{placed_entry, placed_entries};
 
 use crate::errors::ContainerError;
+use crate::indexed::{IndexedEntries, PlacedEntry};
 
 /// A number of two bytes, and what follows.
 fn read_u16(bytes: &[u8], at: usize) -> Result<(u16, &[u8]), ContainerError>
@@ -86,41 +84,19 @@ fn read_content(bytes: &[u8], at: usize) -> Result<(&[u8], &[u8]), ContainerErro
     Ok(rest.split_at(len))
 }
 
-/// An entry, and where its content begins.
-#[derive(Clone, Copy)]
-pub(crate) struct PlacedEntry<'a> {
-    pub(crate) name: &'a str,
-    pub(crate) content: &'a [u8],
-    pub(crate) place: usize,
-}
-
-/// Whether an entry has this name.
-fn any_named(seen: &[PlacedEntry<'_>], name: &str) -> bool
-    ensures { result ≡ list_any (λ (h : PlacedEntry). bytes_eq name.now h.name.now) seen.now }
-{
-    seen.iter().any(|held| name == held.name)
-}
-
-/// As `any_named`, of the entries as the grammar sees them.
-fn is_seen(seen: &[PlacedEntry<'_>], name: &str) -> bool
-    ensures { result ≡ is_some (content_of (placed_entries seen.now) name.now) }
-{
-    any_named(seen, name)
-}
-
 /// An entry behind its tag, and what follows, after the entries seen.
 #[tactic(auto, unfolding(crate::specs::Reading::entry_at))]
 fn read_entry<'a>(
     bytes: &'a [u8],
     at: usize,
-    seen: &[PlacedEntry<'_>],
+    seen: &IndexedEntries<'a>,
 ) -> Result<(PlacedEntry<'a>, &'a [u8]), ContainerError>
     requires { at + length bytes.now < 2 ^ 64 }
     ensures entry { Gives (λ x. (placed_entry x.0, x.1.now)) result (entry_at at (placed_entries seen.now) bytes.now) }
     ensures place { IfOk result (λ x. (x.0.place ≡ at + 10 + length x.0.name.now) × (x.0.place + length x.0.content.now + length x.1.now ≡ at + length bytes.now)) }
 {
     let (name, rest) = read_name(bytes, at)?;
-    if is_seen(seen, name) {
+    if seen.contains(name) {
         return Err(ContainerError::DuplicateName { at: at + 2 });
     }
     let start = at + 2 + name.len();
@@ -138,7 +114,7 @@ fn read_entry<'a>(
 pub(crate) fn read_step<'a>(
     bytes: &'a [u8],
     at: usize,
-    seen: &[PlacedEntry<'_>],
+    seen: &IndexedEntries<'a>,
 ) -> Result<Option<(PlacedEntry<'a>, &'a [u8])>, ContainerError>
     requires { at + length bytes.now < 2 ^ 64 }
     ensures step { Gives (option_map (λ x. (placed_entry x.0, x.1.now))) result (step_at at (placed_entries seen.now) bytes.now) }

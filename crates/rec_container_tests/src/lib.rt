@@ -3,3 +3,7 @@
 
 #[cfg(test)]
 mod containers;
+#[cfg(test)]
+mod disks;
+#[cfg(test)]
+mod streams;

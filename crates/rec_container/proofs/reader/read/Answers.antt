@@ -1,11 +1,12 @@
-use Rattle.std.proofs.Common.{◌≡◌, ◌∙◌, ◌+◌, ap, sym, arith, length, drop, inl, inr, refl, Ok, Some, None, Option, Result, List, ℕ, Bor, subst, IfSome}
+use Rattle.std.proofs.Common.{◌≡◌, ◌∙◌, ◌+◌, ap, arith, length, drop, inl, inr, refl, Ok, Some, None, Option, Result, List, ℕ, Bor, subst, IfSome}
 use Rattle.std.specs.Option.{option_map}
 use Rattle.rec_container.specs.declared.errors.ContainerError.{ContainerError}
-use Rattle.rec_container.specs.declared.steps.PlacedEntry.{PlacedEntry}
+use Rattle.rec_container.specs.declared.indexed.PlacedEntry.{PlacedEntry}
 use Rattle.rec_container.specs.Container.{Entry}
 use Rattle.rec_container.specs.Reading.{step_at}
 use Rattle.rec_container.specs.Placed.{placed_entry, placed_entries}
 use Rattle.rec_container.proofs.Fronts.{reading_begins, reading_goes_on, reading_ends, magic_tested}
+use Rattle.rec_container.proofs.Grammar.{step_at-some}
 use Rattle.rec_container.proofs.reader.read.Goals as goal
 
 pub returns-in_default-clause-fault : goal.returns-in_default-clause-fault
@@ -15,28 +16,35 @@ pub loop-entries-init : goal.loop-entries-init
 loop-entries-init c =
     let cases = c.in-Some.ensures.cases in
     let eight = ap length c.as_slice.ensures in
-    reading_begins c.args.bytes.now c.in-Some.rest.now c.new-entries.result.items (λ i. omega (arith, c.type_inv.bytes i)) (magic_tested c.args.bytes.now c.as_slice.result.now _ c.as_slice.ensures cases.0)
-    (cases.1 ∙ ap (λ n. drop n c.args.bytes.now) eight) (omega (arith, cases.2, eight)) c.new-entries.ensures.items
+    reading_begins c.args.bytes.now c.in-Some.rest.now c.new-entries.result (λ i. omega (arith, c.type_inv.bytes i)) (magic_tested c.args.bytes.now c.as_slice.result.now _ c.as_slice.ensures cases.0)
+    (cases.1 ∙ ap (λ n. drop n c.args.bytes.now) eight) (omega (arith, cases.2, eight)) c.new-entries.ensures
 
 abbrev stepped : Option (PlacedEntry × Bor (List ℕ)) → Result (Option (Entry × List ℕ)) ContainerError
 stepped o = Ok (option_map (λ x. (placed_entry x.0, x.1.now)) o)
+
+pub push-requires : goal.push-requires
+push-requires c =
+    let h = c.in-Some-2.held in
+    let es = placed_entries c.loop-entries.entries in
+    let found : step_at c.loop-entries.at es c.loop-entries.rest.now ≡ Ok (Some (placed_entry h, c.in-Some-2.after.now)) = c.in_ok-held.ensures.step ∙ ap stepped c.in-Some-2.is in
+    (step_at-some c.loop-entries.at es c.loop-entries.rest.now (placed_entry h) c.in-Some-2.after.now c.loop-entries.invariant.octets found).new
 
 pub loop-entries-preserved : goal.loop-entries-preserved
 loop-entries-preserved c =
     let h = c.in-Some-2.held in
     let at = c.loop-entries.at in
     let rest = c.loop-entries.rest.now in
-    let found : step_at at (placed_entries c.loop-entries.entries.items) rest ≡ Ok (Some (placed_entry h, c.in-Some-2.after.now)) =
-    ap (λ hs. step_at at (placed_entries hs) rest) (sym c.deref.ensures.value) ∙ c.in_ok-held.ensures.step ∙ ap stepped c.in-Some-2.is in
+    let found : step_at at (placed_entries c.loop-entries.entries) rest ≡ Ok (Some (placed_entry h, c.in-Some-2.after.now)) =
+    c.in_ok-held.ensures.step ∙ ap stepped c.in-Some-2.is in
     let place = subst (λ (o : Option (PlacedEntry × Bor (List ℕ))). IfSome o (λ x. (x.0.place ≡ at + 11 + length x.0.name.now) × (x.0.place + length x.0.content.now + length x.1.now ≡ at + length rest)))
     c.in-Some-2.is c.in_ok-held.ensures.place in
-    reading_goes_on c.args.bytes.now c.loop-entries.entries.items c.push.new.self.items h rest c.in-Some-2.after.now at c.loop-entries.invariant found c.in_ok-push.ensures.items
+    reading_goes_on c.args.bytes.now c.loop-entries.entries c.push.new.self h rest c.in-Some-2.after.now at c.loop-entries.invariant found c.in_ok-push.ensures.added
     (h.place + length h.content.now) (omega (arith, place.0)) place.0
 
 pub returns-clause-found : goal.returns-clause-found
 returns-clause-found c =
     let at = c.loop-entries.at in
     let rest = c.loop-entries.rest.now in
-    let ends : step_at at (placed_entries c.loop-entries.entries.items) rest ≡ Ok None =
-    ap (λ hs. step_at at (placed_entries hs) rest) (sym c.deref.ensures.value) ∙ c.in_ok-held.ensures.step ∙ ap stepped c.in_default-2.is in
-    reading_ends c.args.bytes.now c.loop-entries.entries.items rest at c.loop-entries.invariant ends
+    let ends : step_at at (placed_entries c.loop-entries.entries) rest ≡ Ok None =
+    c.in_ok-held.ensures.step ∙ ap stepped c.in_default-2.is in
+    reading_ends c.args.bytes.now c.loop-entries.entries rest at c.loop-entries.invariant ends
