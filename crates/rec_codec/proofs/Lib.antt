@@ -4,3 +4,4 @@ pub mod Trims
 pub mod LogLaws
 pub mod ReadEventLaws
 pub mod LineItemLemmas
+pub mod KindTables

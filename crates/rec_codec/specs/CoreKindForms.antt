@@ -1,5 +1,5 @@
 -- The kinds of events that hold no outputs, as the members of an event stand for them.
-use Rattle.std.specs.Prelude.{Option, Some, codes}
+use Rattle.std.specs.Prelude.{ℕ, List, [], ◌∷◌, ◌++◌, Option, Some, codes}
 use Rattle.serde_json.specs.Data.{Members}
 use Rattle.serde_json.specs.Find.{as_bool}
 use Rattle.rec_events.specs.declared.events.CoreEventKind.{CoreEventKind}
@@ -10,7 +10,7 @@ use Rattle.rec_forms.specs.Lists.{list_form}
 use Rattle.rec_forms.specs.Numbers.{u64_form}
 use Rattle.rec_forms.specs.Reporting.{cancel_reason_form}
 use Rattle.rec_forms.specs.RunEnds.{run_finished_stats_form, tests_not_seen_form}
-use Rattle.rec_forms.specs.Shape.{◌>>=◌, required, maybe, text_of}
+use Rattle.rec_forms.specs.Shape.{◌>>=◌, required, maybe, text_of, named}
 use Rattle.rec_forms.specs.Skipping.{mismatch_reason_form, skip_policy_form}
 use Rattle.rec_forms.specs.Stats.{run_stats_form}
 use Rattle.rec_forms.specs.Stress.{stress_condition_form, stress_progress_form}
@@ -121,3 +121,34 @@ run_finished_form ms = do
   run_stats ← required run_finished_stats_form (codes "run-stats") ms
   outstanding_not_seen ← maybe tests_not_seen_form (codes "outstanding-not-seen") ms
   Some (RunFinished run_id start_time elapsed run_stats outstanding_not_seen)
+
+-- ---- each kind by its name
+
+abbrev pub run_kinds : List (List ℕ × (Members → Option CoreEventKind))
+run_kinds =
+    (codes "run-started", run_started_form)
+    ∷ (codes "stress-sub-run-started", stress_sub_run_started_form)
+    ∷ (codes "run-begin-cancel", run_begin_cancel_form)
+    ∷ (codes "run-paused", run_paused_form)
+    ∷ (codes "run-continued", run_continued_form)
+    ∷ (codes "stress-sub-run-finished", stress_sub_run_finished_form)
+    ∷ (codes "run-finished", run_finished_form)
+    ∷ []
+
+abbrev pub script_kinds : List (List ℕ × (Members → Option CoreEventKind))
+script_kinds = (codes "setup-script-started", setup_script_started_form) ∷ (codes "setup-script-slow", setup_script_slow_form) ∷ []
+
+abbrev pub test_kinds : List (List ℕ × (Members → Option CoreEventKind))
+test_kinds =
+    (codes "test-started", test_started_form)
+    ∷ (codes "test-slow", test_slow_form)
+    ∷ (codes "test-retry-started", test_retry_started_form)
+    ∷ (codes "test-skipped", test_skipped_form)
+    ∷ []
+
+abbrev pub core_kinds : List (List ℕ × (Members → Option CoreEventKind))
+core_kinds = run_kinds ++ script_kinds ++ test_kinds
+
+-- the kind that has this name in a table
+unfoldable pub kind_in : List (List ℕ × (Members → Option CoreEventKind)) → List ℕ → Members → Option CoreEventKind
+kind_in kinds name ms = named kinds name >>= λ form. form ms

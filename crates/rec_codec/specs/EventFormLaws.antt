@@ -59,7 +59,7 @@ module _ {S O : Type 0} (P : O → Type 0) (output_form : Data → Option O) (kn
 
   each_known : AllByRecursion (λ k. KnownKind k.1) (kinds output_form)
   each_known =
-      (core_kind run_started_form run_started_known, (core_kind stress_sub_run_started_form stress_sub_run_started_known, (core_kind setup_script_started_form setup_script_started_known, (core_kind setup_script_slow_form setup_script_slow_known, (core_kind test_started_form test_started_known, (core_kind test_slow_form test_slow_known, (core_kind test_retry_started_form test_retry_started_known, (core_kind test_skipped_form test_skipped_known, (core_kind run_begin_cancel_form run_begin_cancel_known, (core_kind run_paused_form run_paused_known, (core_kind run_continued_form run_continued_known, (core_kind stress_sub_run_finished_form stress_sub_run_finished_known, (core_kind run_finished_form run_finished_known, (output_kind (script_finished_form output_form) (script_finished_known P output_form known), (output_kind (attempt_failed_form output_form) (attempt_failed_known P output_form known), (output_kind (test_finished_form output_form) (test_finished_known P output_form known), tt))))))))))))))))
+      (output_kind (script_finished_form output_form) (script_finished_known P output_form known), (output_kind (attempt_failed_form output_form) (attempt_failed_known P output_form known), (output_kind (test_finished_form output_form) (test_finished_known P output_form known), (core_kind run_started_form run_started_known, (core_kind stress_sub_run_started_form stress_sub_run_started_known, (core_kind run_begin_cancel_form run_begin_cancel_known, (core_kind run_paused_form run_paused_known, (core_kind run_continued_form run_continued_known, (core_kind stress_sub_run_finished_form stress_sub_run_finished_known, (core_kind run_finished_form run_finished_known, (core_kind setup_script_started_form setup_script_started_known, (core_kind setup_script_slow_form setup_script_slow_known, (core_kind test_started_form test_started_known, (core_kind test_slow_form test_slow_known, (core_kind test_retry_started_form test_retry_started_known, (core_kind test_skipped_form test_skipped_known, tt))))))))))))))))
 
   named_known : (name : List ℕ) → KnownKind (kind_named output_form name)
   unfolding kind_named

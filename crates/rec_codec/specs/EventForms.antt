@@ -1,14 +1,15 @@
 -- The values and forms of events, over those of an output.
-use Rattle.std.specs.Prelude.{ℕ, Bool, true, List, [], ◌∷◌, Option, Some, codes}
+use Rattle.std.specs.Prelude.{ℕ, Bool, true, List, [], ◌∷◌, Option, Some, codes, map}
 use Rattle.serde_json.specs.Data.{Data, Members}
 use Rattle.serde_json.specs.Find.{as_object, as_str}
+use Rattle.rec_events.specs.declared.events.CoreEventKind.{CoreEventKind}
 use Rattle.rec_events.specs.declared.events.TestEventKindSummary.{TestEventKindSummary}
 use Rattle.rec_events.specs.declared.events.TestEventKindSummary.TheVariants.{Core, Output}
 use Rattle.rec_events.specs.declared.events.TestEventSummary.{TestEventSummary}
 use Rattle.rec_forms.specs.Shape.{◌>>=◌, Field, field, struct, required, named}
 use Rattle.rec_forms.specs.Times.{stamp_value, stamp_form, IsStamp, duration_value, duration_form, IsDuration}
 use Rattle.rec_codec.specs.CoreKinds.{core_fields, IsCore}
-use Rattle.rec_codec.specs.CoreKindForms.{run_started_form, stress_sub_run_started_form, setup_script_started_form, setup_script_slow_form, test_started_form, test_slow_form, test_retry_started_form, test_skipped_form, run_begin_cancel_form, run_paused_form, run_continued_form, stress_sub_run_finished_form, run_finished_form}
+use Rattle.rec_codec.specs.CoreKindForms.{core_kinds}
 use Rattle.rec_codec.specs.OutputKinds.{output_fields, output_loaded, IsOutput, script_finished_form, attempt_failed_form, test_finished_form}
 
 -- ---- values
@@ -24,26 +25,17 @@ module _ {S O : Type 0} (output_value : O → Data) where
 -- ---- forms
 
 module _ {S O : Type 0} (output_form : Data → Option O) where
+  -- a kind without outputs as one of all
+  abbrev pub core_entry : List ℕ × (Members → Option CoreEventKind) → List ℕ × (Members → Option (TestEventKindSummary S O))
+  core_entry k = (k.0, λ ms. k.1 ms >>= λ kind. Some (Core kind))
+
   -- each kind by its name
   abbrev pub kinds : List (List ℕ × (Members → Option (TestEventKindSummary S O)))
   kinds =
-      (codes "run-started", λ ms. run_started_form ms >>= λ k. Some (Core k))
-      ∷ (codes "stress-sub-run-started", λ ms. stress_sub_run_started_form ms >>= λ k. Some (Core k))
-      ∷ (codes "setup-script-started", λ ms. setup_script_started_form ms >>= λ k. Some (Core k))
-      ∷ (codes "setup-script-slow", λ ms. setup_script_slow_form ms >>= λ k. Some (Core k))
-      ∷ (codes "test-started", λ ms. test_started_form ms >>= λ k. Some (Core k))
-      ∷ (codes "test-slow", λ ms. test_slow_form ms >>= λ k. Some (Core k))
-      ∷ (codes "test-retry-started", λ ms. test_retry_started_form ms >>= λ k. Some (Core k))
-      ∷ (codes "test-skipped", λ ms. test_skipped_form ms >>= λ k. Some (Core k))
-      ∷ (codes "run-begin-cancel", λ ms. run_begin_cancel_form ms >>= λ k. Some (Core k))
-      ∷ (codes "run-paused", λ ms. run_paused_form ms >>= λ k. Some (Core k))
-      ∷ (codes "run-continued", λ ms. run_continued_form ms >>= λ k. Some (Core k))
-      ∷ (codes "stress-sub-run-finished", λ ms. stress_sub_run_finished_form ms >>= λ k. Some (Core k))
-      ∷ (codes "run-finished", λ ms. run_finished_form ms >>= λ k. Some (Core k))
-      ∷ (codes "setup-script-finished", λ ms. script_finished_form output_form ms >>= λ k. Some (Output k))
+      (codes "setup-script-finished", λ ms. script_finished_form output_form ms >>= λ k. Some (Output k))
       ∷ (codes "test-attempt-failed-will-retry", λ ms. attempt_failed_form output_form ms >>= λ k. Some (Output k))
       ∷ (codes "test-finished", λ ms. test_finished_form output_form ms >>= λ k. Some (Output k))
-      ∷ []
+      ∷ map core_entry core_kinds
 
   -- the kind of this name
   unfoldable pub kind_named : List ℕ → Members → Option (TestEventKindSummary S O)

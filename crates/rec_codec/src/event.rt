@@ -6,17 +6,9 @@ ghost use Rattle.rec_forms.specs.Shape.{with_members};
 ghost use Rattle.rec_codec.specs.Writes.{Writes, Refuses};
 ghost use Rattle.rec_codec.specs.EventForms.{kind_fields, kind_named, kind_form, kind_loaded, IsKind, event_value, event_form, IsEvent};
 
-use crate::core_kinds::put_core;
+use crate::core_kinds::{core_from, put_core};
 use crate::output_kinds::{
     attempt_failed_from, put_output, script_finished_from, test_finished_from,
-};
-use crate::run_kinds::{
-    run_begin_cancel_from, run_continued_from, run_finished_from, run_paused_from,
-    run_started_from, stress_sub_run_finished_from, stress_sub_run_started_from,
-};
-use crate::script_kinds::{setup_script_slow_from, setup_script_started_from};
-use crate::test_kinds::{
-    test_retry_started_from, test_skipped_from, test_slow_from, test_started_from,
 };
 use crate::{OutputForm, ToValueError};
 use rec_events::{TestEventKindSummary, TestEventSummary};
@@ -81,29 +73,6 @@ fn kind_named<S: OutputForm>(
     ensures { Gives result (kind_named S.output_form name.now (members_view object.now.entries)) }
 {
     match name {
-        "run-started" => Ok(TestEventKindSummary::Core(run_started_from(alloc, object)?)),
-        "stress-sub-run-started" => Ok(TestEventKindSummary::Core(stress_sub_run_started_from(
-            alloc, object,
-        )?)),
-        "setup-script-started" => Ok(TestEventKindSummary::Core(setup_script_started_from(
-            alloc, object,
-        )?)),
-        "setup-script-slow" => Ok(TestEventKindSummary::Core(setup_script_slow_from(
-            alloc, object,
-        )?)),
-        "test-started" => Ok(TestEventKindSummary::Core(test_started_from(alloc, object)?)),
-        "test-slow" => Ok(TestEventKindSummary::Core(test_slow_from(alloc, object)?)),
-        "test-retry-started" => Ok(TestEventKindSummary::Core(test_retry_started_from(
-            alloc, object,
-        )?)),
-        "test-skipped" => Ok(TestEventKindSummary::Core(test_skipped_from(alloc, object)?)),
-        "run-begin-cancel" => Ok(TestEventKindSummary::Core(run_begin_cancel_from(alloc, object)?)),
-        "run-paused" => Ok(TestEventKindSummary::Core(run_paused_from(alloc, object)?)),
-        "run-continued" => Ok(TestEventKindSummary::Core(run_continued_from(alloc, object)?)),
-        "stress-sub-run-finished" => Ok(TestEventKindSummary::Core(stress_sub_run_finished_from(
-            alloc, object,
-        )?)),
-        "run-finished" => Ok(TestEventKindSummary::Core(run_finished_from(alloc, object)?)),
         "setup-script-finished" => Ok(TestEventKindSummary::Output(script_finished_from(
             alloc, object,
         )?)),
@@ -111,7 +80,7 @@ fn kind_named<S: OutputForm>(
             alloc, object,
         )?)),
         "test-finished" => Ok(TestEventKindSummary::Output(test_finished_from(alloc, object)?)),
-        _ => Err(FromValueError::NotAValue),
+        _ => Ok(TestEventKindSummary::Core(core_from(alloc, object, name)?)),
     }
 }
 

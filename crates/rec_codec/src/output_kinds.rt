@@ -232,10 +232,10 @@ pub fn script_finished_from<S: OutputForm>(
         stress_index: optional_field(alloc, object, "stress-index")?,
         index: required_field(alloc, object, "index")?,
         total: required_field(alloc, object, "total")?,
+        no_capture: required_field(alloc, object, "no-capture")?,
         script_id: required_field(alloc, object, "script-id")?,
         program: required_field(alloc, object, "program")?,
         args: required_field(alloc, object, "args")?,
-        no_capture: required_field(alloc, object, "no-capture")?,
         run_status: required_part(alloc, object, "run-status")?,
     })
 }
@@ -250,11 +250,11 @@ pub fn attempt_failed_from<S: OutputForm>(
 {
     Ok(OutputEventKind::TestAttemptFailedWillRetry {
         stress_index: optional_field(alloc, object, "stress-index")?,
-        test_instance: required_field(alloc, object, "test-instance")?,
-        run_status: required_part(alloc, object, "run-status")?,
         delay_before_next_attempt: required_field(alloc, object, "delay-before-next-attempt")?,
         failure_output: required_field(alloc, object, "failure-output")?,
         running: required_field(alloc, object, "running")?,
+        test_instance: required_field(alloc, object, "test-instance")?,
+        run_status: required_part(alloc, object, "run-status")?,
     })
 }
 
@@ -269,14 +269,14 @@ pub fn test_finished_from<S: OutputForm>(
     let reporting = Reporting::read(alloc, object)?;
     Ok(OutputEventKind::TestFinished {
         stress_index: optional_field(alloc, object, "stress-index")?,
-        test_instance: required_field(alloc, object, "test-instance")?,
         success_output: reporting.success_output,
         failure_output: reporting.failure_output,
         junit_store_success_output: reporting.junit_store_success_output,
         junit_store_failure_output: reporting.junit_store_failure_output,
         junit_flaky_fail_status: reporting.junit_flaky_fail_status,
-        run_statuses: required_part(alloc, object, "run-statuses")?,
         current_stats: required_field(alloc, object, "current-stats")?,
         running: required_field(alloc, object, "running")?,
+        test_instance: required_field(alloc, object, "test-instance")?,
+        run_statuses: required_part(alloc, object, "run-statuses")?,
     })
 }

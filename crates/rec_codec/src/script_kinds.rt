@@ -55,10 +55,10 @@ pub fn setup_script_started_from(
         stress_index: optional_field(alloc, object, "stress-index")?,
         index: required_field(alloc, object, "index")?,
         total: required_field(alloc, object, "total")?,
+        no_capture: required_field(alloc, object, "no-capture")?,
         script_id: required_field(alloc, object, "script-id")?,
         program: required_field(alloc, object, "program")?,
         args: required_field(alloc, object, "args")?,
-        no_capture: required_field(alloc, object, "no-capture")?,
     })
 }
 
@@ -103,10 +103,10 @@ pub fn setup_script_slow_from(
 {
     Ok(CoreEventKind::SetupScriptSlow {
         stress_index: optional_field(alloc, object, "stress-index")?,
+        elapsed: required_field(alloc, object, "slow-elapsed")?,
+        will_terminate: required_field(alloc, object, "will-terminate")?,
         script_id: required_field(alloc, object, "script-id")?,
         program: required_field(alloc, object, "program")?,
         args: required_field(alloc, object, "args")?,
-        elapsed: required_field(alloc, object, "slow-elapsed")?,
-        will_terminate: required_field(alloc, object, "will-terminate")?,
     })
 }

@@ -52,13 +52,13 @@ impl<S: OutputForm> Part for SetupScriptExecuteStatus<S> {
             return Err(FromValueError::NotAValue);
         };
         Ok(SetupScriptExecuteStatus {
-            output: required_part(alloc, object, "output")?,
-            result: required_field(alloc, object, "result")?,
             start_time: required_field(alloc, object, "start-time")?,
             time_taken: required_field(alloc, object, "time-taken")?,
             is_slow: required_field(alloc, object, "is-slow")?,
-            env_map: optional_field(alloc, object, "env-map")?,
             error_summary: optional_field(alloc, object, "error-summary")?,
+            env_map: optional_field(alloc, object, "env-map")?,
+            result: required_field(alloc, object, "result")?,
+            output: required_part(alloc, object, "output")?,
         })
     }
 }

@@ -30,12 +30,12 @@ fn output_from<S: OutputForm>(
         return Err(FromValueError::NotAValue);
     };
     Ok(ChildExecutionOutputDescription::Output {
+        errors: optional_field(alloc, fields, "errors")?,
         result: optional_field(alloc, fields, "result")?,
         output: match member(fields, "output") {
             Some(value) => S::output_from_value(alloc, value)?,
             None => return Err(FromValueError::NotAValue),
         },
-        errors: optional_field(alloc, fields, "errors")?,
     })
 }
 
@@ -191,14 +191,14 @@ impl<S: OutputForm> Part for ExecuteStatus<S> {
         let course = Course::read(alloc, object)?;
         Ok(ExecuteStatus {
             retry_data: required_field(alloc, object, "retry-data")?,
-            output: required_part(alloc, object, "output")?,
-            result: required_field(alloc, object, "result")?,
             start_time: course.start_time,
             time_taken: course.time_taken,
             is_slow: course.is_slow,
             delay_before_start: course.delay_before_start,
             error_summary: optional_field(alloc, object, "error-summary")?,
             output_error_slice: optional_field(alloc, object, "output-error-slice")?,
+            result: required_field(alloc, object, "result")?,
+            output: required_part(alloc, object, "output")?,
         })
     }
 }

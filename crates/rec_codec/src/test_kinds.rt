@@ -48,11 +48,11 @@ pub fn test_started_from(alloc: Global, object: &Object) -> Result<CoreEventKind
 {
     Ok(CoreEventKind::TestStarted {
         stress_index: optional_field(alloc, object, "stress-index")?,
-        test_instance: required_field(alloc, object, "test-instance")?,
-        slot_assignment: required_field(alloc, object, "slot-assignment")?,
         current_stats: required_field(alloc, object, "current-stats")?,
         running: required_field(alloc, object, "running")?,
+        slot_assignment: required_field(alloc, object, "slot-assignment")?,
         command_line: required_field(alloc, object, "command-line")?,
+        test_instance: required_field(alloc, object, "test-instance")?,
     })
 }
 
@@ -92,10 +92,10 @@ pub fn test_slow_from(alloc: Global, object: &Object) -> Result<CoreEventKind, F
 {
     Ok(CoreEventKind::TestSlow {
         stress_index: optional_field(alloc, object, "stress-index")?,
-        test_instance: required_field(alloc, object, "test-instance")?,
         retry_data: required_field(alloc, object, "retry-data")?,
         elapsed: required_field(alloc, object, "slow-elapsed")?,
         will_terminate: required_field(alloc, object, "will-terminate")?,
+        test_instance: required_field(alloc, object, "test-instance")?,
     })
 }
 
@@ -140,11 +140,11 @@ pub fn test_retry_started_from(
 {
     Ok(CoreEventKind::TestRetryStarted {
         stress_index: optional_field(alloc, object, "stress-index")?,
-        test_instance: required_field(alloc, object, "test-instance")?,
-        slot_assignment: required_field(alloc, object, "slot-assignment")?,
         retry_data: required_field(alloc, object, "retry-data")?,
         running: required_field(alloc, object, "running")?,
+        slot_assignment: required_field(alloc, object, "slot-assignment")?,
         command_line: required_field(alloc, object, "command-line")?,
+        test_instance: required_field(alloc, object, "test-instance")?,
     })
 }
 
@@ -182,8 +182,8 @@ pub fn test_skipped_from(alloc: Global, object: &Object) -> Result<CoreEventKind
 {
     Ok(CoreEventKind::TestSkipped {
         stress_index: optional_field(alloc, object, "stress-index")?,
-        test_instance: required_field(alloc, object, "test-instance")?,
         reason: required_field(alloc, object, "reason")?,
         junit_report_skipped: required_field(alloc, object, "junit-report-skipped")?,
+        test_instance: required_field(alloc, object, "test-instance")?,
     })
 }
