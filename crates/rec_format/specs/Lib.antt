@@ -25,3 +25,6 @@ pub mod HeadForms
 pub mod HeadFormLaws
 pub mod RunForms
 pub mod RunFormLaws
+pub mod RunLists
+pub mod RunListForms
+pub mod RunListFormLaws
