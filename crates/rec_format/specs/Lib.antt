@@ -26,5 +26,7 @@ pub mod HeadFormLaws
 pub mod RunForms
 pub mod RunFormLaws
 pub mod RunLists
+pub mod RunIds
+pub mod RunIdEntries
 pub mod RunListForms
 pub mod RunListFormLaws

@@ -10,6 +10,7 @@ mod manifest;
 mod paths;
 mod rerun;
 mod run;
+mod run_ids;
 mod run_list;
 #[cfg(test)]
 mod run_list_tests;
@@ -34,6 +35,7 @@ pub use paths::{
 };
 pub use rerun::{RerunInfo, RerunRootInfo};
 pub use run::{RecordedRun, RecordedRunInfo};
+pub use run_ids::{RunIdIndex, ShortestRunIdPrefix};
 pub use run_list::{RecordedRunList, RunFilesExist, RunsJsonWritePermission};
 pub use scope::{BuildKind, RecordedBuildScope};
 pub use sizes::{ComponentSizes, ComponentSizesFormat, RecordedSizes, RecordedSizesFormat};

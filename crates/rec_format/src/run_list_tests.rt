@@ -1,8 +1,9 @@
 // The list of runs.
 use crate::{
-    RUNS_JSON_FORMAT_VERSION, RecordedRunList, RunFilesExist, RunsJsonFormatVersion,
+    RUNS_JSON_FORMAT_VERSION, RecordedRunList, RunFilesExist, RunIdIndex, RunsJsonFormatVersion,
     RunsJsonWritePermission,
 };
+use rec_events::ReportUuid;
 use rec_forms::{FromValueError, read_text, write_text};
 use std::alloc::Global;
 use std::test::Fail;
@@ -42,6 +43,7 @@ fn lists(rt: HostRuntime) -> Result<(), Fail> {
     Ok(())
 }
 
+#[derive(Drop)]
 struct Files {
     store: bool,
     log: bool,
@@ -62,10 +64,38 @@ fn are_all_there<F: RunFilesExist>(files: &F) -> bool {
 }
 
 #[test]
-fn files(rt: HostRuntime) {
+fn which_files(rt: HostRuntime) {
     let files = Files {
         store: true,
         log: false,
     };
     assert!(rt; !are_all_there(&files));
+}
+
+fn run_id(alloc: Global, text: &str) -> Result<ReportUuid, FromValueError> {
+    read_text(alloc, text.as_bytes())
+}
+
+// The prefix of the second id in an index of the first two, and what follows it.
+fn cut(alloc: Global, first: &str, second: &str, other: &str) -> Result<String, Fail> {
+    let ids = [run_id(alloc, first)?, run_id(alloc, second)?];
+    let index = RunIdIndex::new(alloc, &ids)?;
+    match index.shortest_unique_prefix(alloc, run_id(alloc, other)?)? {
+        Some(cut) => Ok(format!(in alloc; "{} {}", cut.prefix, cut.rest)?),
+        None => Ok(String::from_str(alloc, "none")?),
+    }
+}
+
+#[test]
+fn prefixes(rt: HostRuntime) -> Result<(), Fail> {
+    let alloc = rt.alloc();
+    let first = r#""550e8400-e29b-41d4-a716-446655440000""#;
+    let second = r#""550e7400-e29b-41d4-a716-446655440000""#;
+    let near = cut(alloc, first, second, first)?;
+    assert!(rt; near.as_str() == "550e8 400-e29b-41d4-a716-446655440000");
+    let alone = cut(alloc, first, first, first)?;
+    assert!(rt; alone.as_str() == "5 50e8400-e29b-41d4-a716-446655440000");
+    let missing = cut(alloc, first, first, second)?;
+    assert!(rt; missing.as_str() == "none");
+    Ok(())
 }

@@ -308,10 +308,10 @@ impl fmt::Display for PortableRecordingFormatVersion {
     }
 }
 
-/// The version of the format that a run list is written in.
+/// Names the version of the format that a run list is written in.
 pub const RUNS_JSON_FORMAT_VERSION: RunsJsonFormatVersion = RunsJsonFormatVersion { version: 3 };
 
-/// The version of the run list's format: a list of a newer one isn't written back.
+/// Numbers a version of the run list's format. A list of a newer one isn't written back.
 #[derive(Copy, Clone, PartialEq, Eq, PartialOrd, Ord, Debug)]
 pub struct RunsJsonFormatVersion {
     version: u32,
