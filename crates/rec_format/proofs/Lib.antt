@@ -2,3 +2,5 @@ pub mod SuiteMaps
 pub mod LastItem
 pub mod PathPieces
 pub mod VersionNumbers
+pub mod SharedTexts
+pub mod RunIdMaps

@@ -98,9 +98,9 @@ contents_known : (ms : Members) → Holds AreContents (contents_form ms)
 unfolding contents_form
 contents_known ms =
     required_then status_form (codes "status") ms _ status_known (λ status status_is.
+    required_then record_opts_form (codes "record-opts") ms _ (any_known record_opts_form) (λ record_opts record_opts_is.
     required_then text_of (codes "cargo-metadata") ms _ text_known (λ cargo_metadata cargo_metadata_is.
     required_then test_list_form (codes "test-list") ms _ test_list_known (λ test_list test_list_is.
-    required_then record_opts_form (codes "record-opts") ms _ (any_known record_opts_form) (λ record_opts record_opts_is.
     required_then recorded_scope_form (codes "build-scope") ms _ recorded_scope_known (λ build_scope build_scope_is.
     maybe_then rerun_info_form (codes "rerun-info") ms _ rerun_info_known (λ rerun_info rerun_info_is.
     record { is = record { status = status_is; cargo_metadata = cargo_metadata_is; test_list = test_list_is; build_scope = build_scope_is; rerun_info = rerun_info_is } }))))))

@@ -28,9 +28,9 @@ contents_fields c =
 unfoldable pub contents_form : Members → Option Contents
 contents_form ms = do
   status ← required status_form (codes "status") ms
+  record_opts ← required record_opts_form (codes "record-opts") ms
   cargo_metadata ← required text_of (codes "cargo-metadata") ms
   test_list ← required test_list_form (codes "test-list") ms
-  record_opts ← required record_opts_form (codes "record-opts") ms
   build_scope ← required recorded_scope_form (codes "build-scope") ms
   rerun_info ← maybe rerun_info_form (codes "rerun-info") ms
   Some (record {

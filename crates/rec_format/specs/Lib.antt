@@ -25,3 +25,8 @@ pub mod HeadForms
 pub mod HeadFormLaws
 pub mod RunForms
 pub mod RunFormLaws
+pub mod RunLists
+pub mod RunIds
+pub mod RunIdEntries
+pub mod RunListForms
+pub mod RunListFormLaws

@@ -25,10 +25,10 @@ pub identity_known : (ms : Members) → Holds IsIdentity (identity_form ms)
 unfolding identity_form
 identity_known ms =
     required_then uuid_form (codes "run-id") ms _ uuid_known (λ run_id run_id_is.
-    required_then version_form (codes "nextest-version") ms _ version_known (λ nextest_version nextest_version_is.
     required_then stamp_form (codes "started-at") ms _ stamp_known (λ started_at started_at_is.
     required_then stamp_form (codes "last-written-at") ms _ stamp_known (λ last_written_at last_written_at_is.
     maybe_then duration_form (codes "duration") ms _ duration_known (λ duration duration_is.
+    required_then version_form (codes "nextest-version") ms _ version_known (λ nextest_version nextest_version_is.
     record { is = record { run_id = run_id_is; nextest_version = nextest_version_is; started_at = started_at_is; last_written_at = last_written_at_is; duration = duration_is } })))))
 
 pub invocation_known : (ms : Members) → Holds IsInvocation (invocation_form ms)

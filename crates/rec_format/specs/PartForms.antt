@@ -24,10 +24,10 @@ identity_fields i =
 unfoldable pub identity_form : Members → Option Identity
 identity_form ms = do
   run_id ← required uuid_form (codes "run-id") ms
-  nextest_version ← required version_form (codes "nextest-version") ms
   started_at ← required stamp_form (codes "started-at") ms
   last_written_at ← required stamp_form (codes "last-written-at") ms
   duration ← maybe duration_form (codes "duration") ms
+  nextest_version ← required version_form (codes "nextest-version") ms
   Some (record {
     run_id = run_id;
     nextest_version = nextest_version;

@@ -98,12 +98,12 @@ unfolding run_form
 run_known = record {
   each = λ d.
       object_then d _ (λ ms.
-      then_holds (identity_form ms) _ (identity_known ms) (λ i i_is.
-      then_holds (invocation_form ms) _ (invocation_known ms) (λ v v_is.
       required_then u32_form (codes "store-format-version") ms _ u32_known (λ major major_is.
       defaulted_then u32_form (codes "store-format-minor-version") ms 0 _ (omega arith) u32_known (λ minor minor_is.
       required_then sizes_format_form (codes "sizes") ms _ sizes_format_known (λ sizes sizes_is.
       required_then status_format_form (codes "status") ms _ status_format_known (λ status status_is.
+      then_holds (identity_form ms) _ (identity_known ms) (λ i i_is.
+      then_holds (invocation_form ms) _ (invocation_known ms) (λ v v_is.
       record {
         is = record {
           identity = i_is;

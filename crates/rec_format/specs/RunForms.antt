@@ -38,12 +38,12 @@ run_value r = struct (
 unfoldable pub run_form : Data → Option RecordedRun
 run_form d = do
   ms ← as_object d
-  i ← identity_form ms
-  v ← invocation_form ms
   major ← required u32_form (codes "store-format-version") ms
   minor ← defaulted 0 u32_form (codes "store-format-minor-version") ms
   sizes ← required sizes_format_form (codes "sizes") ms
   status ← required status_format_form (codes "status") ms
+  i ← identity_form ms
+  v ← invocation_form ms
   Some (record {
     run_id = i.run_id;
     store_format_version = major;

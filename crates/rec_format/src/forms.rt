@@ -4,6 +4,7 @@ mod manifest;
 mod parts;
 mod rerun;
 mod run;
+mod run_list;
 mod scope;
 mod sizes;
 mod status;

@@ -9,6 +9,10 @@ mod manifest;
 mod paths;
 mod rerun;
 mod run;
+mod run_ids;
+mod run_list;
+#[cfg(test)]
+mod run_list_tests;
 mod scope;
 mod sizes;
 mod status;
@@ -28,6 +32,8 @@ pub use paths::{
 };
 pub use rerun::{RerunInfo, RerunRootInfo};
 pub use run::{RecordedRun, RecordedRunInfo};
+pub use run_ids::{RunIdIndex, ShortestRunIdPrefix};
+pub use run_list::{RecordedRunList, RunFilesExist, RunsJsonWritePermission};
 pub use scope::{BuildKind, RecordedBuildScope};
 pub use sizes::{ComponentSizes, ComponentSizesFormat, RecordedSizes, RecordedSizesFormat};
 pub use status::{
@@ -36,6 +42,7 @@ pub use status::{
 pub use suites::{RerunSuites, RerunTestSuiteInfo};
 pub use versions::{
     PORTABLE_RECORDING_FORMAT_VERSION, PortableRecordingFormatMajorVersion,
-    PortableRecordingFormatMinorVersion, PortableRecordingFormatVersion, STORE_FORMAT_VERSION,
-    StoreFormatMajorVersion, StoreFormatMinorVersion, StoreFormatVersion, store_format_version_for,
+    PortableRecordingFormatMinorVersion, PortableRecordingFormatVersion, RUNS_JSON_FORMAT_VERSION,
+    RunsJsonFormatVersion, STORE_FORMAT_VERSION, StoreFormatMajorVersion, StoreFormatMinorVersion,
+    StoreFormatVersion, store_format_version_for,
 };

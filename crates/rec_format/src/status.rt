@@ -2,7 +2,7 @@
 use rec_events::NonZeroCount;
 
 /// How a run of tests ended.
-#[derive(Copy, Clone, PartialEq, Eq, Debug)]
+#[derive(Copy, Clone, PartialEq, Eq)]
 pub struct CompletedRunStats {
     pub initial_run_count: usize,
     pub passed: usize,
@@ -12,7 +12,7 @@ pub struct CompletedRunStats {
 }
 
 /// How a stress run ended, which runs its tests again and again.
-#[derive(Copy, Clone, PartialEq, Eq, Debug)]
+#[derive(Copy, Clone, PartialEq, Eq)]
 pub struct StressCompletedRunStats {
     /// How many rounds were asked for; `None` where no number was.
     pub initial_iteration_count: Option<NonZeroCount>,
@@ -23,7 +23,7 @@ pub struct StressCompletedRunStats {
 }
 
 /// The status of a recorded run.
-#[derive(Copy, Clone, PartialEq, Eq, Debug)]
+#[derive(Copy, Clone, PartialEq, Eq)]
 pub enum RecordedRunStatus {
     /// The run goes on, or it was cut off.
     Incomplete,
@@ -36,7 +36,7 @@ pub enum RecordedRunStatus {
 }
 
 /// `RecordedRunStatus` as it stands in JSON.
-#[derive(Copy, Clone, PartialEq, Eq, Debug)]
+#[derive(Copy, Clone, PartialEq, Eq)]
 pub enum RecordedRunStatusFormat {
     Incomplete,
     Unknown,

@@ -308,6 +308,52 @@ impl fmt::Display for PortableRecordingFormatVersion {
     }
 }
 
+/// Names the version of the format that a run list is written in.
+pub const RUNS_JSON_FORMAT_VERSION: RunsJsonFormatVersion = RunsJsonFormatVersion { version: 3 };
+
+/// Numbers a version of the run list's format. A list of a newer one isn't written back.
+#[derive(Copy, Clone, PartialEq, Eq, PartialOrd, Ord, Debug)]
+pub struct RunsJsonFormatVersion {
+    version: u32,
+}
+
+impl Model for RunsJsonFormatVersion {
+    ghost use Rattle.std.specs.Prelude.{ℕ};
+
+    ghost Value = { ℕ };
+
+    ghost view = { λ v. v.version };
+
+    ghost inverse = { λ n. record { version = n } };
+}
+
+impl RunsJsonFormatVersion {
+    /// Makes the version with this number.
+    pub const fn new(version: u32) -> Self
+        ensures { result ≡ version }
+    {
+        RunsJsonFormatVersion { version }
+    }
+
+    pub(crate) fn number(self) -> u32
+        ensures { result ≡ self }
+    {
+        self.version
+    }
+}
+
+impl fmt::Display for RunsJsonFormatVersion {
+    ghost use Rattle.std.specs.Prelude.{Some};
+    ghost use Rattle.std.specs.Fmt.{decimal};
+
+    ghost output = { λ v. Some (decimal v) };
+
+    fn fmt<W: fmt::Write>(&self, f: &mut fmt::Formatter<W>) -> fmt::Result {
+        let version = self.version;
+        write!(f, "{version}")
+    }
+}
+
 impl StoreFormatMajorVersion {
     /// What to do with a recording of this major version where it is too old to be read.
     pub fn too_old_guidance(self) -> TooOldRecordingGuidance

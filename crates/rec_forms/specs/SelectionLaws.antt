@@ -106,11 +106,11 @@ target_selection_known = record {
   each = λ d.
       object_then d _ (λ ms.
       defaulted_then as_bool (codes "lib") ms false _ tt (any_known as_bool) (λ lib lib_is.
+      defaulted_then as_bool (codes "all-targets") ms false _ tt (any_known as_bool) (λ all_targets all_targets_is.
       defaulted_then named_targets_form (codes "bins") ms no_named_targets _ no_named_targets_is named_targets_known (λ bins bins_is.
       defaulted_then named_targets_form (codes "examples") ms no_named_targets _ no_named_targets_is named_targets_known (λ examples examples_is.
       defaulted_then named_targets_form (codes "tests") ms no_named_targets _ no_named_targets_is named_targets_known (λ tests tests_is.
       defaulted_then named_targets_form (codes "benches") ms no_named_targets _ no_named_targets_is named_targets_known (λ benches benches_is.
-      defaulted_then as_bool (codes "all-targets") ms false _ tt (any_known as_bool) (λ all_targets all_targets_is.
       record { is = record { bins = bins_is; examples = examples_is; tests = tests_is; benches = benches_is } })))))));
 }
 

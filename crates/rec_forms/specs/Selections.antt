@@ -61,11 +61,11 @@ unfoldable pub target_selection_form : Data → Option TargetSelection
 target_selection_form d = do
   ms ← as_object d
   lib ← defaulted false as_bool (codes "lib") ms
+  all_targets ← defaulted false as_bool (codes "all-targets") ms
   bins ← defaulted no_named_targets named_targets_form (codes "bins") ms
   examples ← defaulted no_named_targets named_targets_form (codes "examples") ms
   tests ← defaulted no_named_targets named_targets_form (codes "tests") ms
   benches ← defaulted no_named_targets named_targets_form (codes "benches") ms
-  all_targets ← defaulted false as_bool (codes "all-targets") ms
   Some (record { lib = lib; bins = bins; examples = examples; tests = tests; benches = benches; all_targets = all_targets })
 
 pub record IsTargetSelection (s : TargetSelection) : Type 0 where

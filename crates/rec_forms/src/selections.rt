@@ -122,11 +122,11 @@ impl Form for TargetSelection {
         };
         Ok(TargetSelection {
             lib: defaulted_field(alloc, object, "lib", false)?,
+            all_targets: defaulted_field(alloc, object, "all-targets", false)?,
             bins: defaulted_field(alloc, object, "bins", NamedTargets::none(alloc))?,
             examples: defaulted_field(alloc, object, "examples", NamedTargets::none(alloc))?,
             tests: defaulted_field(alloc, object, "tests", NamedTargets::none(alloc))?,
             benches: defaulted_field(alloc, object, "benches", NamedTargets::none(alloc))?,
-            all_targets: defaulted_field(alloc, object, "all-targets", false)?,
         })
     }
 }

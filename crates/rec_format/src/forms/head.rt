@@ -45,9 +45,9 @@ impl Contents {
     {
         Ok(Contents {
             status: required_field(alloc, object, "status")?,
+            record_opts: required_field(alloc, object, "record-opts")?,
             cargo_metadata: required_field(alloc, object, "cargo-metadata")?,
             test_list: required_field(alloc, object, "test-list")?,
-            record_opts: required_field(alloc, object, "record-opts")?,
             build_scope: required_field(alloc, object, "build-scope")?,
             rerun_info: optional_field(alloc, object, "rerun-info")?,
         })

@@ -51,10 +51,10 @@ impl Identity {
     {
         Ok(Identity {
             run_id: required_field(alloc, object, "run-id")?,
-            nextest_version: required_field(alloc, object, "nextest-version")?,
             started_at: required_field(alloc, object, "started-at")?,
             last_written_at: required_field(alloc, object, "last-written-at")?,
             duration: optional_field(alloc, object, "duration")?,
+            nextest_version: required_field(alloc, object, "nextest-version")?,
         })
     }
 }

@@ -64,17 +64,21 @@ impl Form for RecordedRun {
         let Value::Object(object) = value else {
             return Err(FromValueError::NotAValue);
         };
+        let store_format_version = required_field(alloc, object, "store-format-version")?;
+        let store_format_minor_version = defaulted_field(
+            alloc,
+            object,
+            "store-format-minor-version",
+            StoreFormatMinorVersion::new(0),
+        )?;
+        let sizes = required_field(alloc, object, "sizes")?;
+        let status = required_field(alloc, object, "status")?;
         let identity = Identity::read(alloc, object)?;
         let invocation = Invocation::read(alloc, object)?;
         Ok(RecordedRun {
             run_id: identity.run_id,
-            store_format_version: required_field(alloc, object, "store-format-version")?,
-            store_format_minor_version: defaulted_field(
-                alloc,
-                object,
-                "store-format-minor-version",
-                StoreFormatMinorVersion::new(0),
-            )?,
+            store_format_version,
+            store_format_minor_version,
             nextest_version: identity.nextest_version,
             started_at: identity.started_at,
             last_written_at: identity.last_written_at,
@@ -82,8 +86,8 @@ impl Form for RecordedRun {
             cli_args: invocation.cli_args,
             env_vars: invocation.env_vars,
             parent_run_id: invocation.parent_run_id,
-            sizes: required_field(alloc, object, "sizes")?,
-            status: required_field(alloc, object, "status")?,
+            sizes,
+            status,
         })
     }
 }

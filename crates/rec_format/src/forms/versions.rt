@@ -1,7 +1,8 @@
 //! A version number is written as its number, and the bundle's version as an object of both.
 use crate::{
     PortableRecordingFormatMajorVersion, PortableRecordingFormatMinorVersion,
-    PortableRecordingFormatVersion, StoreFormatMajorVersion, StoreFormatMinorVersion,
+    PortableRecordingFormatVersion, RunsJsonFormatVersion, StoreFormatMajorVersion,
+    StoreFormatMinorVersion,
 };
 use rec_forms::{Form, FromValueError, put_field, required_field};
 use serde_json::{Map, Value};
@@ -130,6 +131,36 @@ impl Form for PortableRecordingFormatMinorVersion {
         value: &Value,
     ) -> Result<PortableRecordingFormatMinorVersion, FromValueError> {
         Ok(PortableRecordingFormatMinorVersion::new(u32::from_value(alloc, value)?))
+    }
+}
+
+impl Form for RunsJsonFormatVersion {
+    ghost use Rattle.rec_forms.specs.Numbers.{u32_form};
+    ghost use Rattle.rec_forms.specs.NumberLaws.{u32_back, u32_known};
+    ghost use Rattle.rec_forms.specs.Shape.{natural};
+    ghost use Rattle.rec_forms.specs.Writable.{natural_writable};
+    ghost use Rattle.rec_format.specs.VersionForms.{IsNumber};
+
+    ghost well_formed = { IsNumber };
+
+    ghost value_of = { natural };
+
+    ghost form_of = { u32_form };
+
+    ghost levels = { 0 };
+
+    ghost reads_back = { u32_back };
+
+    ghost reads_known = { u32_known };
+
+    ghost writable = { λ n. natural_writable n };
+
+    fn to_value(&self, alloc: Global) -> Result<Value, AllocError> {
+        self.number().to_value(alloc)
+    }
+
+    fn from_value(alloc: Global, value: &Value) -> Result<RunsJsonFormatVersion, FromValueError> {
+        Ok(RunsJsonFormatVersion::new(u32::from_value(alloc, value)?))
     }
 }
 

@@ -1,0 +1,55 @@
+// The list of the runs that a store holds.
+ghost use Rattle.std.specs.Prelude.{◌≡◌, ◌≤◌, ◌↔◌};
+ghost use Rattle.rec_format.specs.declared.run_list.RunsJsonWritePermission.TheVariants.{Allowed};
+ghost use Rattle.rec_format.specs.RunLists.{permission};
+
+use crate::{RUNS_JSON_FORMAT_VERSION, RecordedRun, RunsJsonFormatVersion};
+use rec_events::{Items, Stamp};
+
+/// Lists the runs that a store holds, as they stand in JSON.
+#[derive(Drop)]
+pub struct RecordedRunList {
+    pub format_version: RunsJsonFormatVersion,
+    /// When runs were last removed.
+    pub last_pruned_at: Option<Stamp>,
+    pub runs: Items<RecordedRun>,
+}
+
+/// Says whether a run list may be written back.
+#[derive(Copy, Clone, PartialEq, Eq, Debug)]
+pub enum RunsJsonWritePermission {
+    /// All that the list holds is known.
+    Allowed,
+    /// The list is of a newer version, and may hold what is not known here.
+    Denied {
+        file_version: RunsJsonFormatVersion,
+        max_supported_version: RunsJsonFormatVersion,
+    },
+}
+
+impl RecordedRunList {
+    /// Says whether the list may be written back: exactly where its version isn't newer than
+    /// `RUNS_JSON_FORMAT_VERSION`.
+    pub fn write_permission(&self) -> RunsJsonWritePermission
+        ensures answer { result ≡ permission self.now.format_version }
+        ensures allowed { (result ≡ Allowed) ↔ (self.now.format_version ≤ 3) }
+    {
+        let file_version = self.format_version;
+        if file_version > RUNS_JSON_FORMAT_VERSION {
+            return RunsJsonWritePermission::Denied {
+                file_version,
+                max_supported_version: RUNS_JSON_FORMAT_VERSION,
+            };
+        }
+        RunsJsonWritePermission::Allowed
+    }
+}
+
+/// Tells which of a run's files are there.
+pub trait RunFilesExist {
+    /// Tells whether the run's store is there.
+    fn store_zip_exists(&self) -> bool;
+
+    /// Tells whether the run's log is there.
+    fn run_log_exists(&self) -> bool;
+}
