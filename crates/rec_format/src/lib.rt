@@ -11,8 +11,6 @@ mod rerun;
 mod run;
 mod run_ids;
 mod run_list;
-#[cfg(test)]
-mod run_list_tests;
 mod scope;
 mod sizes;
 mod status;

@@ -1,4 +1,4 @@
-// Run ids, and the prefixes that stand for them.
+//! Run ids, and the prefixes that stand for them.
 ghost use Rattle.std.specs.Prelude.{◌≡◌, ◌↔◌, ℕ, List, IfOk, nat_eq};
 ghost use Rattle.std.specs.List.{Contains, common_prefix_len};
 ghost use Rattle.rec_format.specs.RunIds.{CutsShortest};

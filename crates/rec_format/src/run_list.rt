@@ -1,4 +1,4 @@
-// The list of the runs that a store holds.
+//! The list of the runs that a store holds.
 ghost use Rattle.std.specs.Prelude.{◌≡◌, ◌≤◌, ◌↔◌};
 ghost use Rattle.rec_format.specs.declared.run_list.RunsJsonWritePermission.TheVariants.{Allowed};
 ghost use Rattle.rec_format.specs.RunLists.{permission};

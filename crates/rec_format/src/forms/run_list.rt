@@ -1,4 +1,4 @@
-// The list of runs.
+//! The list of runs.
 use crate::RecordedRunList;
 use rec_events::Items;
 use rec_forms::{

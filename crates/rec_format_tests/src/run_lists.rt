@@ -1,9 +1,10 @@
-// The list of runs.
-use crate::{
+//! The list of runs, and prefixes of their ids.
+
+use rec_events::ReportUuid;
+use rec_format::{
     RUNS_JSON_FORMAT_VERSION, RecordedRunList, RunFilesExist, RunIdIndex, RunsJsonFormatVersion,
     RunsJsonWritePermission,
 };
-use rec_events::ReportUuid;
 use rec_forms::{FromValueError, read_text, write_text};
 use std::alloc::Global;
 use std::test::Fail;
