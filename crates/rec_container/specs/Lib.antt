@@ -6,4 +6,5 @@ pub mod MemoryDisks
 pub mod Placed
 pub mod Reading
 pub mod Taking
+pub mod Within
 pub mod Writing

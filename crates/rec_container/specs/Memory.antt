@@ -7,7 +7,12 @@ pub record SinkState : Type 0 where
   pub faults : ℕ
   pub room : ℕ
 
--- the same, with the bound on a piece (0: none), the calls made so far, and the calls that fail
+-- the bytes taken, and the count of faults, of a sink that grows
+pub record GrowingSinkState : Type 0 where
+  pub bytes : List ℕ
+  pub faults : ℕ
+
+-- those of a sink with spare room, with the bound on a piece (0: none), the calls made so far, and the calls that fail
 pub record FailingSinkState : Type 0 where
   pub bytes : List ℕ
   pub faults : ℕ

@@ -27,7 +27,7 @@ impl Model for FileMap {
 }
 
 impl FileMap {
-    /// No files.
+    /// Makes a map without files.
     pub(crate) fn new(alloc: Global) -> FileMap
         ensures { result ≡ [] }
     {
@@ -37,7 +37,7 @@ impl FileMap {
         }
     }
 
-    /// The bytes of a file.
+    /// Answers the bytes of a file, or none where there is no such file.
     pub(crate) fn get(&self, path: &str) -> Option<&[u8]>
         ensures { option_map (λ b. b.now) result ≡ file_at self.now path.now }
     {
@@ -66,7 +66,8 @@ impl FileMap {
         drop(self.files.remove(path));
     }
 
-    /// Puts a piece behind a file's bytes.
+    /// Puts a piece behind a file's bytes. An error means that the file is missing, or that memory
+    /// ran out, and leaves all files as they were.
     pub(crate) fn extend(&mut self, path: &str, piece: &[u8]) -> Result<(), DiskError>
         ensures { Extends self.old self.new path.now (file_at self.old path.now) piece.now result }
     {
@@ -79,7 +80,8 @@ impl FileMap {
         Ok(())
     }
 
-    /// Gives a file another path, in the place of a file that is there.
+    /// Gives a file another path, in the place of a file that is there. An error means that
+    /// no file stands at `from`, or that memory ran out, and leaves all files as they were.
     pub(crate) fn rename(&mut self, from: &str, to: &str) -> Result<(), DiskError>
         ensures answer { RenamesFile (file_at self.old) (file_at self.new) from.now to.now (file_at self.old from.now) result }
         ensures missing { IfErr result (IsRefusal (file_at self.old from.now)) }
@@ -96,7 +98,7 @@ impl FileMap {
         Ok(())
     }
 
-    /// Whether a file lies at a path or below it.
+    /// Tells whether a file lies at a path or below it.
     pub(crate) fn has_any(&self, path: &str) -> bool
         ensures { result ≡ list_any (λ f. lies_at path.now f.0) self.now }
     {
@@ -109,7 +111,7 @@ impl FileMap {
     }
 }
 
-/// Whether the file of this name lies at a path or below it.
+/// Tells whether the file of this name lies at a path or below it.
 fn is_at_or_below(name: &str, path: &str) -> bool
     ensures { result ≡ lies_at path.now name.now }
 {

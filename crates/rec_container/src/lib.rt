@@ -6,6 +6,7 @@ mod disk;
 mod errors;
 mod failing;
 mod file_map;
+mod growing;
 mod indexed;
 pub mod laws;
 mod memory;
@@ -14,17 +15,20 @@ mod reader;
 mod std_disk;
 mod steps;
 mod streams;
+mod within;
 mod writer;
 
 pub use adapters::{FileSink, StdSink, StdSource};
 pub use disk::{Disk, DiskError};
 pub use errors::{ContainerError, ContainerSizes, ContainerWriteError};
 pub use failing::{FailingSink, FailingSource};
+pub use growing::GrowingSink;
 pub use memory::{EndlessSource, MemorySink, SliceSource};
 pub use memory_disk::MemoryDisk;
 pub use reader::Container;
 pub use std_disk::StdDisk;
 pub use streams::{Sink, SinkFailed, Source, SourceFailed, write_all, write_all_dyn};
+pub use within::{ReadError, read_within};
 pub use writer::{ContainerEnd, ContainerWriter};
 
 #[cfg(test)]

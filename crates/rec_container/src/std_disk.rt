@@ -119,7 +119,7 @@ impl<R: Files> Disk for StdDisk<'_, R> {
     }
 }
 
-/// None, where the error says that there is no such file.
+/// Answers none where the error says that there is no such file.
 fn none_or<T>(error: io::Error) -> io::Result<Option<T>>
     ensures { IfOk result (λ o. o ≡ None) }
 {
@@ -133,7 +133,7 @@ fn none_or<T>(error: io::Error) -> io::Result<Option<T>>
     Err(error)
 }
 
-/// Whether a file or a directory stands at a path.
+/// Tells whether a file or a directory stands at a path.
 fn stands<R: Files>(rt: &R, path: &str) -> io::Result<bool> {
     match fs::metadata(rt, path) {
         Ok(_) => Ok(true),
@@ -144,7 +144,7 @@ fn stands<R: Files>(rt: &R, path: &str) -> io::Result<bool> {
     }
 }
 
-/// The length of a file, or none where there is no such file.
+/// Answers the length of a file, or none where there is no such file.
 fn file_len<R: Files>(rt: &R, path: &str) -> io::Result<Option<u64>> {
     match fs::metadata(rt, path) {
         Ok(metadata) if metadata.is_dir() => Ok(None),
