@@ -271,7 +271,9 @@ impl<'n, N: OutputNamer> OutputRules<'n, N> {
             (event_entries (N.number self.now.namer.now) self.now.max_size event)
             (event_recorded (N.number self.now.namer.now) self.now.max_size event) result }
     {
+        // The event is let go of by a call: in place, each of its kinds would be a case of the proof.
         if store.is_failed() {
+            drop(event);
             return Err(RunStoreError::Failed);
         }
         self.store_outputs(store, event)

@@ -145,7 +145,10 @@ impl<'n, N: OutputNamer> OutputRules<'n, N> {
                 output,
                 errors,
             } => {
-                let output = self.store_description(store, &output)?;
+                let stored = self.store_description(store, &output);
+                // By a call: in place, each form of output would be a case of the proof.
+                drop(output);
+                let output = stored?;
                 Ok(ChildExecutionOutputDescription::Output {
                     result,
                     output,

@@ -250,7 +250,10 @@ impl<'n, S: Sink, L: Sink, N: OutputNamer> RunRecorder<'n, S, L, N> {
         ensures { LogsLoaded S.taken S.faults L.taken L.faults N.number self.old self.new event result }
     {
         let recorded = self.store_event(event)?;
-        self.append_event(&recorded)
+        let result = self.append_event(&recorded);
+        // By a call, as in `write_event`.
+        drop(recorded);
+        result
     }
 
     /// Stores the outputs of an event, and gives the event as it is recorded.

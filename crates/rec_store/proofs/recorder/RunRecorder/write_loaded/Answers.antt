@@ -12,11 +12,11 @@ returns g c =
     g.N.OutputNamer.number
     c.args.self.now
     c.store_event.new.self
-    c.append_event.new.self
+    c.append_event-result.new.self
     c.args.event
     c.in_ok-recorded.recorded
-    c.append_event.result
+    c.append_event-result.result
     c.store_event.ensures.kept
     stored.0
     stored.1
-    c.append_event.ensures
+    c.append_event-result.ensures
