@@ -6,7 +6,7 @@ use Rattle.rec_codec.specs.Event.{LiveEvent}
 use Rattle.rec_codec.specs.Lines.{NumberedLine}
 use Rattle.rec_format.specs.declared.head.SessionHead.{SessionHead}
 use Rattle.rec_store.specs.Bundle.{run_bundle}
-use Rattle.rec_program.specs.Bundle.{count_refusal, refusal, refusal_behind, session_events, session_head, size_refusal}
+use Rattle.rec_program.specs.Bundle.{count_refusal, refusal, refusal_behind, session_events, session_head, size_refusal, sizes_refusal}
 use Rattle.rec_program.specs.Session.{event_lines, events_of, lines_refusal, session_lines}
 use Rattle.rec_program.specs.SessionTraces.{trace_refusal}
 use Rattle.rec_program.specs.declared.settings.Settings.{Settings}
@@ -18,6 +18,18 @@ is_less n h = grind (arith, nat_tests)
 
 is_not_less : (n : ℕ) → 2 ^ 64 ≤ n → nat_lt n (2 ^ 64) ≡ false
 is_not_less n h = grind (arith, nat_tests)
+
+-- of three causes, one among the first two comes before the third
+found_first : {E : Type 0} (a b c : Option E) (e : E) → option_or a b ≡ Some e → option_or a (option_or b c) ≡ Some e
+found_first None None c e h = absurd cc
+found_first None (Some y) c e h = h
+found_first (Some x) b c e h = h
+
+-- and none among the first two leaves the third
+none_first : {E : Type 0} (a b c : Option E) → option_or a b ≡ None → option_or a (option_or b c) ≡ c
+none_first None None c h = refl
+none_first None (Some y) c h = absurd cc
+none_first (Some x) b c h = absurd cc
 
 -- the events of a session are those of the lines behind its head
 pub events_behind : (session : List ℕ) → events_of (event_lines (session_lines session)) ≡ session_events session
@@ -46,30 +58,36 @@ module _ (number : List ℕ → ℕ) (settings : Settings) where
       → refusal_behind number settings (Some head) lines ≡ Some e
   refused_line head lines e h = ap (λ o. option_or o (behind_lines head lines)) h
 
-  pub refused_count : (head : SessionHead) (lines : List NumberedLine) (e : RecordExportError) → lines_refusal number settings.max_output [] lines ≡ None
-      → (e ≡ OutOfMemory) ⊎ ((e ≡ CountOutOfRange None) × (2 ^ 64 ≤ length (run_bundle number settings.max_output head (events_of lines))))
-      → (e ≡ OutOfMemory) ⊎ (refusal_behind number settings (Some head) lines ≡ Some e)
-  refused_count head lines e h (inl k) = inl k
-  refused_count head lines e h (inr k) =
-      inr (ap (λ o. option_or o (behind_lines head lines)) h
-      ∙ ap (λ b. option_or (if b then None else Some (CountOutOfRange None)) (behind_count head lines)) (is_not_less _ k.1)
+  -- a sum that is refused comes first among the sizes
+  pub refused_count : (head : SessionHead) (events : List LiveEvent) (e : RecordExportError)
+      → (e ≡ OutOfMemory) ⊎ ((e ≡ CountOutOfRange None) × (2 ^ 64 ≤ length (run_bundle number settings.max_output head events)))
+      → (e ≡ OutOfMemory) ⊎ (sizes_refusal number settings head events ≡ Some e)
+  refused_count head events e (inl k) = inl k
+  refused_count head events e (inr k) =
+      inr (ap (λ b. option_or (if b then None else Some (CountOutOfRange None)) (size_refusal number settings head events)) (is_not_less _ k.1)
       ∙ ap (λ x. Some x) (sym k.0))
 
-  -- lines and their sum that are no fault leave the sizes and the trace
-  pub sizes_left : (head : SessionHead) (lines : List NumberedLine) → lines_refusal number settings.max_output [] lines ≡ None
-      → length (run_bundle number settings.max_output head (events_of lines)) < 2 ^ 64
-      → refusal_behind number settings (Some head) lines ≡ behind_count head lines
-  sizes_left head lines h fits =
+  -- a sum that is no fault leaves each size
+  pub size_left : (head : SessionHead) (events : List LiveEvent) → length (run_bundle number settings.max_output head events) < 2 ^ 64
+      → sizes_refusal number settings head events ≡ size_refusal number settings head events
+  size_left head events fits = ap (λ b. option_or (if b then None else Some (CountOutOfRange None)) (size_refusal number settings head events)) (is_less _ fits)
+
+  pub refused_size : (head : SessionHead) (events : List LiveEvent) (e : RecordExportError) → sizes_refusal number settings head events ≡ size_refusal number settings head events
+      → (e ≡ OutOfMemory) ⊎ (size_refusal number settings head events ≡ Some e) → (e ≡ OutOfMemory) ⊎ (sizes_refusal number settings head events ≡ Some e)
+  refused_size head events e left (inl h) = inl h
+  refused_size head events e left (inr h) = inr (left ∙ h)
+
+  -- behind lines that are no fault, sizes that are refused come first
+  pub refused_sizes : (head : SessionHead) (lines : List NumberedLine) (e : RecordExportError) → lines_refusal number settings.max_output [] lines ≡ None
+      → (e ≡ OutOfMemory) ⊎ (sizes_refusal number settings head (events_of lines) ≡ Some e) → (e ≡ OutOfMemory) ⊎ (refusal_behind number settings (Some head) lines ≡ Some e)
+  refused_sizes head lines e h (inl k) = inl k
+  refused_sizes head lines e h (inr k) =
+      inr (ap (λ o. option_or o (behind_lines head lines)) h
+      ∙ found_first (count_refusal number settings head (events_of lines)) (size_refusal number settings head (events_of lines)) (trace_refusal settings (events_of lines)) e k)
+
+  -- lines and sizes that are no fault leave the trace
+  pub trace_left : (head : SessionHead) (lines : List NumberedLine) → lines_refusal number settings.max_output [] lines ≡ None
+      → sizes_refusal number settings head (events_of lines) ≡ None → refusal_behind number settings (Some head) lines ≡ trace_refusal settings (events_of lines)
+  trace_left head lines h k =
       ap (λ o. option_or o (behind_lines head lines)) h
-      ∙ ap (λ b. option_or (if b then None else Some (CountOutOfRange None)) (behind_count head lines)) (is_less _ fits)
-
-  -- a size that is refused comes first
-  pub refused_size : (head : SessionHead) (lines : List NumberedLine) (e : RecordExportError) → refusal_behind number settings (Some head) lines ≡ behind_count head lines
-      → (e ≡ OutOfMemory) ⊎ (size_refusal number settings head (events_of lines) ≡ Some e) → (e ≡ OutOfMemory) ⊎ (refusal_behind number settings (Some head) lines ≡ Some e)
-  refused_size head lines e left (inl h) = inl h
-  refused_size head lines e left (inr h) = inr (left ∙ ap (λ o. option_or o (trace_refusal settings (events_of lines))) h)
-
-  -- sizes that are no fault leave the trace
-  pub trace_left : (head : SessionHead) (lines : List NumberedLine) → refusal_behind number settings (Some head) lines ≡ behind_count head lines
-      → size_refusal number settings head (events_of lines) ≡ None → refusal_behind number settings (Some head) lines ≡ trace_refusal settings (events_of lines)
-  trace_left head lines left h = left ∙ ap (λ o. option_or o (trace_refusal settings (events_of lines))) h
+      ∙ none_first (count_refusal number settings head (events_of lines)) (size_refusal number settings head (events_of lines)) (trace_refusal settings (events_of lines)) k

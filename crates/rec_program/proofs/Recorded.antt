@@ -1,5 +1,5 @@
 -- What a recorder over sinks in memory leaves.
-use Rattle.std.proofs.Common.{◌≡◌, ℕ, ◌+◌, List, [], ◌∷◌, ◌++◌, length, Bool, true, false, true≢false, ◌||◌, Option, Some, None, Result, refl, sym, ap, subst, ◌∙◌, ◌⊎◌, inl, inr, append_assoc, append-nil, length-append}
+use Rattle.std.proofs.Common.{◌≡◌, ℕ, ◌+◌, List, [], ◌∷◌, ◌++◌, length, Bool, true, false, true≢false, ◌||◌, Option, Some, None, Result, Ok, Err, OnOk, refl, sym, ap, subst, ◌∙◌, ◌⊎◌, inl, inr, append_assoc, append-nil, length-append}
 use Rattle.std.specs.Bool.{⊤}
 use Rattle.std.specs.Io.KnownBytes.{Appends}
 use Rattle.std.specs.List.{AllByRecursion}
@@ -28,6 +28,11 @@ use Rattle.rec_store.proofs.Clashing.{clash_none, clash_found}
 use Rattle.rec_store.proofs.OutputLaws.{clash_outputs, clash_push, log_push, outputs_of_event, outputs_push, with_outputs}
 use Rattle.rec_program.specs.Built.{Built}
 use Rattle.rec_program.specs.Recorded.{AreRecorded, HasRecorded, IsRunOf}
+
+-- what holds in any case holds of an answer
+pub always : {T E V : Type 0} (r : Result T E) → V → OnOk r V
+always (Ok x) v = v
+always (Err e) v = tt
 
 -- the paths of metadata differ
 metadata_new : (scope : RecordedBuildScope) (rerun : Option RerunInfo) (metadata : List ℕ) (list : TestListSummary) (opts : RecordOpts) → AreNew [] (metadata_of scope rerun metadata list opts)

@@ -42,6 +42,10 @@ module _ (number : List ℕ → ℕ) (settings : Settings) where
       ∷ named log_name (run_log number settings.max_output events)
       ∷ run_store number settings.max_output head events)
 
+  -- why the sizes of a run are refused, if they are: the sum of all, then the first that is too large
+  abbrev pub sizes_refusal : SessionHead → List LiveEvent → Option RecordExportError
+  sizes_refusal head events = option_or (count_refusal head events) (size_refusal head events)
+
   -- why lines are refused behind a head, if they are: the first failing line, then the sum of all sizes, then the first size, then the
   -- first event that has no trace
   abbrev pub refusal_behind : Option SessionHead → List NumberedLine → Option RecordExportError

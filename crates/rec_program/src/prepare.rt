@@ -1,7 +1,10 @@
 //! The judging of a session, and its bundle and its trace in memory.
-ghost use Rattle.std.specs.Prelude.{◌≡◌, ◌⊎◌, ◌<◌, ◌^◌, [], length, Some, None, IfOk, IfErr, OnOk, string_bytes};
-ghost use Rattle.rec_program.specs.Bundle.{AreOf, refusal, refusal_behind, session_events};
+ghost use Rattle.std.specs.Prelude.{◌≡◌, ◌⊎◌, ◌<◌, ◌^◌, [], length, Some, None, IfOk, IfErr, OnOk, string_bytes, List, ℕ};
+ghost use Rattle.rec_program.specs.Bundle.{AreOf, refusal, refusal_behind, session_events, sizes_refusal};
+ghost use Rattle.rec_codec.specs.Event.{LiveEvent};
+ghost use Rattle.rec_program.specs.Recorded.{IsRunOf};
 ghost use Rattle.rec_program.specs.Session.{events_of, lines_refusal};
+ghost use Rattle.rec_program.specs.Sizes.{Weighs};
 ghost use Rattle.rec_trace.specs.Refusals as traces;
 ghost use Rattle.rec_program.specs.SessionTraces.{run_trace, session_history};
 ghost use Rattle.rec_program.specs.declared.refusal.RecordExportError.TheVariants.{OutOfMemory};
@@ -12,7 +15,7 @@ ghost use Rattle.rec_store.specs.Store.{store_entries};
 use crate::built::BuiltText;
 use crate::bundle::{build_bundle, build_manifest};
 use crate::head::{read_head, take_head};
-use crate::record::record_run;
+use crate::record::{RecordedInMemory, record_run};
 use crate::refusal::RecordExportError;
 use crate::settings::Settings;
 use crate::sizes::judge_sizes;
@@ -47,7 +50,10 @@ pub fn prepare<N: OutputNamer>(
 {
     let mut lines = Lines::new(session, 1);
     let head = read_head(alloc, take_head(&mut lines))?;
-    bundle_run(alloc, settings, namer, &head, lines)
+    let result = bundle_run(alloc, settings, namer, &head, lines);
+    // By a call: in place, each part of the head would be a case of the proof.
+    drop(head);
+    result
 }
 
 /// The bundle and the trace of a run with this head, and the events of the lines behind it.
@@ -73,15 +79,14 @@ fn bundle_run<N: OutputNamer>(
         ⊎ (refusal_behind (N.number namer.now) settings.now (Some head.now) lines.entry ≡ Some e)) }
 {
     let run = record_run(alloc, settings, namer, head, lines)?;
-    let manifest = build_manifest(alloc, head, run.sizes)?;
-    let bundle = build_bundle(alloc, &manifest, run.log.bytes(), run.store.bytes())?;
-    judge_sizes(
-        alloc,
-        settings.read_limit,
-        &manifest,
-        run.log.bytes(),
-        run.store.bytes(),
-    )?;
+    let bundle = match bundle_recorded(alloc, settings, head, &run) {
+        Ok(bundle) => bundle,
+        Err(error) => {
+            // By a call, as the head in `prepare`.
+            drop(run);
+            return Err(error);
+        }
+    };
     let sizes = run.sizes;
     let trace = run
         .trace
@@ -92,6 +97,35 @@ fn bundle_run<N: OutputNamer>(
         events: sizes.log.entries,
         outputs: sizes.store.entries - metadata_count(head),
     })
+}
+
+/// The bundle of a run that was recorded, unless it is too long or a reader refuses one of its sizes.
+fn bundle_recorded(
+    alloc: Global,
+    settings: &Settings,
+    head: &SessionHead,
+    run: &RecordedInMemory,
+) -> Result<BuiltText, RecordExportError>
+    ensures bundle { (number : List ℕ → ℕ) (events : List LiveEvent)
+        → IsRunOf number settings.now.max_output head.now events run.now.store.bytes run.now.log.bytes run.now.sizes
+        → IfOk result (λ b. b.bytes ≡ run_bundle number settings.now.max_output head.now events) }
+    ensures reads { (number : List ℕ → ℕ) (events : List LiveEvent)
+        → IsRunOf number settings.now.max_output head.now events run.now.store.bytes run.now.log.bytes run.now.sizes
+        → IfOk result (λ b. IsReading b.bytes (recorded number settings.now.max_output head.now events)) }
+    ensures judged { (number : List ℕ → ℕ) (events : List LiveEvent)
+        → IsRunOf number settings.now.max_output head.now events run.now.store.bytes run.now.log.bytes run.now.sizes
+        → Weighs result (sizes_refusal number settings.now head.now events) }
+{
+    let manifest = build_manifest(alloc, head, run.sizes)?;
+    let bundle = build_bundle(alloc, &manifest, run.log.bytes(), run.store.bytes())?;
+    judge_sizes(
+        alloc,
+        settings.read_limit,
+        &manifest,
+        run.log.bytes(),
+        run.store.bytes(),
+    )?;
+    Ok(bundle)
 }
 
 /// How many entries a store has of a head.

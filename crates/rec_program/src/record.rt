@@ -1,5 +1,5 @@
 //! Records a session into memory.
-ghost use Rattle.std.specs.Prelude.{◌≡◌, ◌⊎◌, ◌++◌, ◌∷◌, [], List, map, false, None, Some, length, IfOk, IfErr, OnOk};
+ghost use Rattle.std.specs.Prelude.{◌≡◌, ◌⊎◌, ◌++◌, ◌∷◌, [], List, map, ℕ, false, None, Some, length, IfOk, IfErr, OnOk};
 ghost use Rattle.std.specs.Option.{option_to_list};
 ghost use Rattle.rec_codec.specs.Event.{LiveEvent};
 ghost use Rattle.rec_codec.specs.LineView.{line_view};
@@ -66,24 +66,47 @@ pub fn record_run<N: OutputNamer>(
         namer,
         settings.max_output,
     );
+    // Recorder and trace are let go of by calls: in place, each of their parts would be a case of the proof.
     let Ok(()) = record_head(&mut recorder, head) else {
+        drop(recorder);
         return Err(RecordExportError::OutOfMemory);
     };
     let mut trace = SessionTrace::new(alloc, settings.group_by);
-    record_lines(alloc, lines, &mut recorder, &mut trace)?;
-    let end = recorder.finish();
-    match end.result {
-        Ok(sizes) => Ok(RecordedInMemory {
-            store: end.store,
-            log: end.log,
-            sizes: RecordedSizes {
-                log: sizes.log,
-                store: sizes.store,
-            },
-            trace,
-        }),
-        Err(_) => Err(RecordExportError::OutOfMemory),
+    match record_lines(alloc, lines, &mut recorder, &mut trace) {
+        Ok(()) => end_run(recorder, trace),
+        Err(error) => {
+            drop(recorder);
+            drop(trace);
+            Err(error)
+        }
     }
+}
+
+/// Ends a recording.
+fn end_run<N: OutputNamer>(
+    recorder: MemoryRecorder<'_, N>,
+    trace: SessionTrace,
+) -> Result<RecordedInMemory, RecordExportError>
+    ensures run { (namer : N) (m : ℕ) (head : SessionHead) (events : List LiveEvent)
+        → HasRecorded N.number namer m head events recorder.entry → AreRead head
+        → IfOk result (λ r. IsRunOf (N.number namer) m head events r.store.bytes r.log.bytes r.sizes) }
+    ensures traced { IfOk result (λ r. r.trace ≡ trace) }
+    ensures err { IfErr result (λ e. e ≡ OutOfMemory) }
+{
+    let end = recorder.finish();
+    let Ok(sizes) = end.result else {
+        drop(trace);
+        return Err(RecordExportError::OutOfMemory);
+    };
+    Ok(RecordedInMemory {
+        store: end.store,
+        log: end.log,
+        sizes: RecordedSizes {
+            log: sizes.log,
+            store: sizes.store,
+        },
+        trace,
+    })
 }
 
 /// Records the events of lines, and traces them.
@@ -137,7 +160,23 @@ fn record_event<N: OutputNamer>(
     ensures traced { (g : ChromeTraceGroupBy) (history : List Happening) → IsTraceOf g history trace.old
         → OnOk result (IsTraceOf g (history ++ happening g event ∷ []) trace.new) }
 {
-    trace.add(alloc, &event)?;
+    let Ok(()) = trace.add(alloc, &event) else {
+        // By a call: in place, each kind of event would be a case of the proof.
+        drop(event);
+        return Err(RecordExportError::OutOfMemory);
+    };
+    record_traced(event, recorder)
+}
+
+/// Records an event that is traced already.
+fn record_traced<N: OutputNamer>(
+    event: TestEventSummary<LiveSpec>,
+    recorder: &mut MemoryRecorder<'_, N>,
+) -> Result<(), RecordExportError>
+    ensures { (head : SessionHead) (events : List LiveEvent)
+        → HasRecorded N.number recorder.old.namer recorder.old.max_output head events recorder.old
+        → RecordsEvent N.number recorder.old.namer recorder.old.max_output head events event recorder.new result }
+{
     match recorder.write_event(event) {
         Ok(()) => Ok(()),
         Err(RunStoreError::NameCollision { file_name }) => {

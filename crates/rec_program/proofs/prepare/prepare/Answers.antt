@@ -39,7 +39,7 @@ returns-clause-texts g c =
     let has_head = ap head_in (sym text) ∙ c.in_ok-head.ensures.head in
     let lines = c.take_head.ensures.others ∙ ap event_lines c.new-lines.ensures in
     let events = ap events_of lines ∙ events_behind session in
-    joined c.bundle_run.result (λ prepared spelled reads traced valid accepted. record {
+    joined c.bundle_run-result.result (λ prepared spelled reads traced valid accepted. record {
       head = head;
       has_head = has_head;
       valid = behind_head number settings session head has_head ∙ ap (refusal_behind number settings (Some head)) (sym lines) ∙ valid;
@@ -48,13 +48,13 @@ returns-clause-texts g c =
       traced = traced ∙ ap (run_trace settings head) events;
       timeline = timeline settings.group_by (session_events session)
           (subst (λ (es : List LiveEvent). traces.refusal (session_history settings es) ≡ None) events accepted);
-    }) c.bundle_run.ensures.bundle c.bundle_run.ensures.reads c.bundle_run.ensures.trace c.bundle_run.ensures.valid c.bundle_run.ensures.accepted
+    }) c.bundle_run-result.ensures.bundle c.bundle_run-result.ensures.reads c.bundle_run-result.ensures.trace c.bundle_run-result.ensures.valid c.bundle_run-result.ensures.accepted
 
 pub returns-clause-events : goal.returns-clause-events
 returns-clause-events g c =
     let lines = c.take_head.ensures.others ∙ ap event_lines c.new-lines.ensures in
     let events = ap events_of lines ∙ events_behind c.args.session.now in
-    subst (λ (es : List LiveEvent). IfOk c.bundle_run.result (λ p. p.events ≡ length es)) events c.bundle_run.ensures.events
+    subst (λ (es : List LiveEvent). IfOk c.bundle_run-result.result (λ p. p.events ≡ length es)) events c.bundle_run-result.ensures.events
 
 pub returns-clause-outputs : goal.returns-clause-outputs
 returns-clause-outputs g c =
@@ -62,7 +62,7 @@ returns-clause-outputs g c =
     let m = c.args.settings.now.max_output in
     let lines = c.take_head.ensures.others ∙ ap event_lines c.new-lines.ensures in
     let events = ap events_of lines ∙ events_behind c.args.session.now in
-    subst (λ (es : List LiveEvent). IfOk c.bundle_run.result (λ p. p.outputs ≡ length (outputs_stored number m es))) events c.bundle_run.ensures.outputs
+    subst (λ (es : List LiveEvent). IfOk c.bundle_run-result.result (λ p. p.outputs ≡ length (outputs_stored number m es))) events c.bundle_run-result.ensures.outputs
 
 pub returns-clause-err : goal.returns-clause-err
 returns-clause-err g c =
@@ -73,4 +73,4 @@ returns-clause-err g c =
     let has_head = ap head_in (sym text) ∙ c.in_ok-head.ensures.head in
     let lines = c.take_head.ensures.others ∙ ap event_lines c.new-lines.ensures in
     let same = ap (refusal_behind number settings (Some head)) lines ∙ sym (behind_head number settings c.args.session.now head has_head) in
-    subst (λ (o : Option RecordExportError). IfErr c.bundle_run.result (λ e. (e ≡ OutOfMemory) ⊎ (o ≡ Some e))) same c.bundle_run.ensures.err
+    subst (λ (o : Option RecordExportError). IfErr c.bundle_run-result.result (λ e. (e ≡ OutOfMemory) ⊎ (o ≡ Some e))) same c.bundle_run-result.ensures.err
