@@ -51,14 +51,28 @@ impl<S: OutputForm> Part for SetupScriptExecuteStatus<S> {
         let Value::Object(object) = value else {
             return Err(FromValueError::NotAValue);
         };
+        let start_time = required_field(alloc, object, "start-time")?;
+        let time_taken = required_field(alloc, object, "time-taken")?;
+        let is_slow = required_field(alloc, object, "is-slow")?;
+        let error_summary = optional_field(alloc, object, "error-summary")?;
+        let env_map = optional_field(alloc, object, "env-map")?;
+        let result = required_field(alloc, object, "result")?;
+        let output = match required_part(alloc, object, "output") {
+            Ok(output) => output,
+            Err(error) => {
+                // by a call: in place, each case of what is let go is one of the proof
+                drop((error_summary, env_map, result));
+                return Err(error);
+            }
+        };
         Ok(SetupScriptExecuteStatus {
-            start_time: required_field(alloc, object, "start-time")?,
-            time_taken: required_field(alloc, object, "time-taken")?,
-            is_slow: required_field(alloc, object, "is-slow")?,
-            error_summary: optional_field(alloc, object, "error-summary")?,
-            env_map: optional_field(alloc, object, "env-map")?,
-            result: required_field(alloc, object, "result")?,
-            output: required_part(alloc, object, "output")?,
+            output,
+            result,
+            start_time,
+            time_taken,
+            is_slow,
+            env_map,
+            error_summary,
         })
     }
 }

@@ -3,13 +3,15 @@ ghost use Rattle.std.specs.Prelude.{◌≡◌, OnOk};
 ghost use Rattle.serde_json.specs.View.{view, members_view};
 ghost use Rattle.rec_forms.specs.Gives.{Gives};
 ghost use Rattle.rec_forms.specs.Shape.{with_members, required};
-ghost use Rattle.rec_codec.specs.Status.{output_case_form, course_fields, course_form, IsCourse, attempts_form};
+ghost use Rattle.rec_events.specs.declared.outputs.ChildExecutionOutputDescription.TheVariants.{Output};
+ghost use Rattle.rec_codec.specs.Writes.{Writes};
+ghost use Rattle.rec_codec.specs.Status.{description_value, IsDescription, output_case_form, course_fields, course_form, IsCourse, attempts_form};
 
 use crate::part::{Part, each_to_value, put_part, required_part, some_from_value};
 use crate::{OutputForm, ToValueError};
 use rec_events::{
-    ChildExecutionOutputDescription, Duration, ExecuteStatus, ExecutionStatuses, NonEmpty, Stamp,
-    Text,
+    ChildExecutionOutputDescription, Duration, ExecuteStatus, ExecutionResultDescription,
+    ExecutionStatuses, Items, NonEmpty, Stamp, Text,
 };
 use rec_forms::{
     Form, FromValueError, Object, member, only_member, optional_field, put_field, put_optional,
@@ -17,6 +19,39 @@ use rec_forms::{
 };
 use serde_json::{Map, Value};
 use std::alloc::{AllocError, Global};
+
+// The value of the outputs of a process that was started.
+#[tactic(auto, unfolding(rec_forms::specs::Shape::members_of))]
+fn output_value<S: OutputForm>(
+    alloc: Global,
+    ended: &Option<ExecutionResultDescription>,
+    output: &S::ChildOutput,
+    errors: &Option<Items<Text>>,
+) -> Result<Value, ToValueError>
+    ensures written { Writes result (description_value {S = S} S.output_value (Output ended.now output.now errors.now)) (S.loaded output.now) }
+    ensures known { OnOk result (IsDescription {S = S} S.output_well_formed (Output ended.now output.now errors.now)) }
+{
+    let mut object = Map::new(alloc);
+    put_optional(alloc, &mut object, "result", ended)?;
+    let output = S::output_to_value(alloc, output)?;
+    serde_json::put(&mut object, alloc, "output", output)?;
+    put_optional(alloc, &mut object, "errors", errors)?;
+    Ok(tagged(alloc, "output", Value::from(object))?)
+}
+
+// Reads an output that has to be there.
+fn required_output<S: OutputForm>(
+    alloc: Global,
+    object: &Object,
+    key: &str,
+) -> Result<S::ChildOutput, FromValueError>
+    ensures { Gives result (required S.output_form key.now (members_view object.now.entries)) }
+{
+    match member(object, key) {
+        Some(value) => S::output_from_value(alloc, value),
+        None => Err(FromValueError::NotAValue),
+    }
+}
 
 // The outputs of a process that was started.
 #[tactic(auto, unfolding(crate::specs::Status::output_case_form))]
@@ -32,10 +67,7 @@ fn output_from<S: OutputForm>(
     Ok(ChildExecutionOutputDescription::Output {
         errors: optional_field(alloc, fields, "errors")?,
         result: optional_field(alloc, fields, "result")?,
-        output: match member(fields, "output") {
-            Some(value) => S::output_from_value(alloc, value)?,
-            None => return Err(FromValueError::NotAValue),
-        },
+        output: required_output::<S>(alloc, fields, "output")?,
     })
 }
 
@@ -67,14 +99,7 @@ impl<S: OutputForm> Part for ChildExecutionOutputDescription<S> {
                 result,
                 output,
                 errors,
-            } => {
-                let mut object = Map::new(alloc);
-                put_optional(alloc, &mut object, "result", result)?;
-                let output = S::output_to_value(alloc, output)?;
-                serde_json::put(&mut object, alloc, "output", output)?;
-                put_optional(alloc, &mut object, "errors", errors)?;
-                Ok(tagged(alloc, "output", Value::from(object))?)
-            }
+            } => output_value::<S>(alloc, result, output, errors),
             ChildExecutionOutputDescription::StartError { message } => {
                 Ok(tagged(alloc, "start-error", message.to_value(alloc)?)?)
             }
@@ -189,16 +214,28 @@ impl<S: OutputForm> Part for ExecuteStatus<S> {
             return Err(FromValueError::NotAValue);
         };
         let course = Course::read(alloc, object)?;
+        let retry_data = required_field(alloc, object, "retry-data")?;
+        let error_summary = optional_field(alloc, object, "error-summary")?;
+        let output_error_slice = optional_field(alloc, object, "output-error-slice")?;
+        let result = required_field(alloc, object, "result")?;
+        let output = match required_part(alloc, object, "output") {
+            Ok(output) => output,
+            Err(error) => {
+                // by a call: in place, each case of what is let go is one of the proof
+                drop((error_summary, output_error_slice, result));
+                return Err(error);
+            }
+        };
         Ok(ExecuteStatus {
-            retry_data: required_field(alloc, object, "retry-data")?,
+            retry_data,
+            output,
+            result,
             start_time: course.start_time,
             time_taken: course.time_taken,
             is_slow: course.is_slow,
             delay_before_start: course.delay_before_start,
-            error_summary: optional_field(alloc, object, "error-summary")?,
-            output_error_slice: optional_field(alloc, object, "output-error-slice")?,
-            result: required_field(alloc, object, "result")?,
-            output: required_part(alloc, object, "output")?,
+            error_summary,
+            output_error_slice,
         })
     }
 }
