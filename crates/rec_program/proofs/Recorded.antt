@@ -26,7 +26,7 @@ use Rattle.rec_store.specs.declared.sizes.StoreSizes.{StoreSizes}
 use Rattle.rec_store.proofs.Adding.{AreNew, with_entries-new, entries_after, taken_after, sound_after}
 use Rattle.rec_store.proofs.Clashing.{clash_none, clash_found}
 use Rattle.rec_store.proofs.OutputLaws.{clash_outputs, clash_push, log_push, outputs_of_event, outputs_push, with_outputs}
-use Rattle.rec_program.specs.Built.{Built}
+use Rattle.rec_container.specs.Memory.{GrowingSinkState}
 use Rattle.rec_program.specs.Recorded.{AreRecorded, HasRecorded, IsRunOf}
 
 -- what holds in any case holds of an answer
@@ -40,11 +40,11 @@ metadata_new scope None metadata list opts = (refl, (refl, (refl, (refl, tt))))
 metadata_new scope (Some info) metadata list opts = (refl, (refl, (refl, (refl, (refl, tt)))))
 
 -- the bytes of a text in memory
-abbrev pub text_taken : Built → Option (List ℕ)
+abbrev pub text_taken : GrowingSinkState → Option (List ℕ)
 text_taken b = Some b.bytes
 
 -- a recorder that has written nothing
-abbrev pub fresh : {N : Type 0} → N → ℕ → Built → Built → Recording Built Built N
+abbrev pub fresh : {N : Type 0} → N → ℕ → GrowingSinkState → GrowingSinkState → Recording GrowingSinkState GrowingSinkState N
 fresh namer limit store log = record {
   store = record { entries = []; sink = store; failed = false };
   log = log;
@@ -71,31 +71,31 @@ logged_push : (number : List ℕ → ℕ) (m : ℕ) (events : List LiveEvent) (e
 logged_push number m [] e h p = (p, tt)
 logged_push number m (x ∷ xs) e h p = (h.0, logged_push number m xs e h.1 p)
 
-module _ {N : Type 0} (number : N → List ℕ → ℕ) (faults : Built → ℕ) (head : SessionHead) where
+module _ {N : Type 0} (number : N → List ℕ → ℕ) (faults : GrowingSinkState → ℕ) (head : SessionHead) where
   -- a fresh recorder that stored the metadata has recorded no events
-  pub begun : (namer : N) (m : ℕ) (store log : Built) (now : Recording Built Built N) → store.bytes ≡ [] → log.bytes ≡ []
+  pub begun : (namer : N) (m : ℕ) (store log : GrowingSinkState) (now : Recording GrowingSinkState GrowingSinkState N) → store.bytes ≡ [] → log.bytes ≡ []
       → Stores text_taken faults (fresh namer m store log) now (store_entries head) → HasRecorded number namer m head [] now
   begun namer m store log now store_empty log_empty stored =
       let start = fresh namer m store log in
       let new = metadata_new head.build_scope head.rerun_info head.cargo_metadata head.test_list head.record_opts in
       record {
-        namer_kept = ap (λ (r : Recording Built Built N). r.namer) stored.kept;
-        limit_kept = ap (λ (r : Recording Built Built N). r.max_output) stored.kept;
+        namer_kept = ap (λ (r : Recording GrowingSinkState GrowingSinkState N). r.namer) stored.kept;
+        limit_kept = ap (λ (r : Recording GrowingSinkState GrowingSinkState N). r.max_output) stored.kept;
         sound =
             neither now.store.failed now.log_failed (sound_after text_taken faults start.store now.store (store_entries head) stored.added refl)
-            (ap (λ (r : Recording Built Built N). r.log_failed) stored.kept);
+            (ap (λ (r : Recording GrowingSinkState GrowingSinkState N). r.log_failed) stored.kept);
         entries_stored =
             entries_after text_taken faults start.store now.store (store_entries head) stored.added
             ∙ with_entries-new [] (store_entries head) new ∙ sym (append-nil (store_entries head));
         store_taken = taken_after text_taken faults (Some []) start.store now.store (store_entries head) stored.added store_empty;
-        log_taken = ap (λ (r : Recording Built Built N). r.log.bytes) stored.kept ∙ log_empty;
-        log_counted = ap (λ (r : Recording Built Built N). r.log_bytes) stored.kept;
-        events_counted = ap (λ (r : Recording Built Built N). r.events) stored.kept;
+        log_taken = ap (λ (r : Recording GrowingSinkState GrowingSinkState N). r.log.bytes) stored.kept ∙ log_empty;
+        log_counted = ap (λ (r : Recording GrowingSinkState GrowingSinkState N). r.log_bytes) stored.kept;
+        events_counted = ap (λ (r : Recording GrowingSinkState GrowingSinkState N). r.events) stored.kept;
         recorded = record { logged = tt; distinct = refl };
       }
 
   -- what a recorder leaves that is ended
-  pub ended : (namer : N) (m : ℕ) (events : List LiveEvent) (now : Recording Built Built N) (store : Built) (sizes : StoreSizes) → HasRecorded number namer m head events now
+  pub ended : (namer : N) (m : ℕ) (events : List LiveEvent) (now : Recording GrowingSinkState GrowingSinkState N) (store : GrowingSinkState) (sizes : StoreSizes) → HasRecorded number namer m head events now
       → AreRead head → AreFrom [] now.store.entries → Appends (text_taken now.store.sink) (text_taken store) (ending now.store.entries) → sizes ≡ sizes_of now
       → IsRunOf (number namer) m head events store.bytes now.log.bytes (record { log = sizes.log; store = sizes.store })
   ended namer m events now store sizes has read sound behind same = record {
@@ -111,7 +111,7 @@ module _ {N : Type 0} (number : N → List ℕ → ℕ) (faults : Built → ℕ)
     recorded = has.recorded;
   }
 
-module _ {N : Type 0} (number : N → List ℕ → ℕ) (faults : Built → ℕ) (head : SessionHead) (events : List LiveEvent) (event : LiveEvent) (old new : Recording Built Built N)
+module _ {N : Type 0} (number : N → List ℕ → ℕ) (faults : GrowingSinkState → ℕ) (head : SessionHead) (events : List LiveEvent) (event : LiveEvent) (old new : Recording GrowingSinkState GrowingSinkState N)
     (has : HasRecorded number old.namer old.max_output head events old) where
   store_sound : old.store.failed ≡ false
   store_sound = first_false old.store.failed old.log_failed has.sound
@@ -149,11 +149,11 @@ module _ {N : Type 0} (number : N → List ℕ → ℕ) (faults : Built → ℕ)
       let line = event_line (event_recorded number' m event) in
       let kept = logs.3.kept in
       record {
-        namer_kept = ap (λ (r : Recording Built Built N). r.namer) kept;
-        limit_kept = ap (λ (r : Recording Built Built N). r.max_output) kept;
+        namer_kept = ap (λ (r : Recording GrowingSinkState GrowingSinkState N). r.namer) kept;
+        limit_kept = ap (λ (r : Recording GrowingSinkState GrowingSinkState N). r.max_output) kept;
         sound =
             neither new.store.failed new.log_failed (sound_after text_taken faults old.store new.store fs logs.2 store_sound)
-            (ap (λ (r : Recording Built Built N). r.log_failed) kept ∙ second_false old.store.failed old.log_failed has.sound);
+            (ap (λ (r : Recording GrowingSinkState GrowingSinkState N). r.log_failed) kept ∙ second_false old.store.failed old.log_failed has.sound);
         entries_stored =
             (clash_none text_taken faults old.store new.store fs store_sound logs.2).1
             ∙ ap (λ es. with_entries es fs) has.entries_stored
@@ -162,12 +162,12 @@ module _ {N : Type 0} (number : N → List ℕ → ℕ) (faults : Built → ℕ)
         store_taken = taken_after text_taken faults (Some []) old.store new.store fs logs.2 has.store_taken;
         log_taken = logs.3.taken_line ∙ ap (λ l. l ++ line) has.log_taken ∙ sym (log_push number' m events event);
         log_counted =
-            ap (λ (r : Recording Built Built N). r.log_bytes) kept
+            ap (λ (r : Recording GrowingSinkState GrowingSinkState N). r.log_bytes) kept
             ∙ ap (λ n. n + length line) has.log_counted
             ∙ sym (length-append (run_log number' m events) line)
             ∙ ap length (sym (log_push number' m events event));
         events_counted =
-            ap (λ (r : Recording Built Built N). r.events) kept
+            ap (λ (r : Recording GrowingSinkState GrowingSinkState N). r.events) kept
             ∙ ap (λ n. n + 1) has.events_counted
             ∙ sym (length-append events (event ∷ []));
         recorded = record {

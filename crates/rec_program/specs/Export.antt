@@ -5,7 +5,8 @@ use Rattle.rec_container.specs.Causes.{Rose}
 use Rattle.rec_container.specs.Taking.{TookPart}
 use Rattle.rec_store.specs.Bundle.{outputs_stored}
 use Rattle.rec_program.specs.Bundle.{session_events, refusal, AreOf}
-use Rattle.rec_program.specs.Reading.{Gave, Unread}
+use Rattle.rec_container.specs.Within.{Gave}
+use Rattle.rec_program.specs.Reading.{Unread}
 use Rattle.rec_program.specs.declared.counts.Exported.{Exported}
 use Rattle.rec_program.specs.declared.settings.Settings.{Settings}
 use Rattle.rec_program.specs.declared.refusal.RecordExportError.{RecordExportError}

@@ -1,4 +1,3 @@
-pub mod Built
 pub mod Bundle
 pub mod Export
 pub mod FaultLine

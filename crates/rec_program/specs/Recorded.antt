@@ -13,7 +13,7 @@ use Rattle.rec_store.specs.Clashes.{clash}
 use Rattle.rec_store.specs.EventOutputs.{event_entries}
 use Rattle.rec_store.specs.Reading.{AreRead}
 use Rattle.rec_store.specs.Recording.{Recording, has_failed}
-use Rattle.rec_program.specs.Built.{Built}
+use Rattle.rec_container.specs.Memory.{GrowingSinkState}
 use Rattle.rec_program.specs.Session.{event_at, events_of, line_refusal, lines_refusal}
 use Rattle.rec_program.specs.declared.refusal.RecordExportError.{RecordExportError}
 use Rattle.rec_program.specs.declared.refusal.RecordExportError.TheVariants.{NameCollision, OutOfMemory}
@@ -36,7 +36,7 @@ module _ (number : List ℕ → ℕ) (m : ℕ) where
 
 module _ {N : Type 0} (number : N → List ℕ → ℕ) (namer : N) (m : ℕ) (head : SessionHead) where
   -- the recorder has written the head's metadata and these events
-  pub record HasRecorded (events : List LiveEvent) (r : Recording Built Built N) : Type 0 where
+  pub record HasRecorded (events : List LiveEvent) (r : Recording GrowingSinkState GrowingSinkState N) : Type 0 where
     pub namer_kept : r.namer ≡ namer
     pub limit_kept : r.max_output ≡ m
     pub sound : has_failed r ≡ false
@@ -48,21 +48,21 @@ module _ {N : Type 0} (number : N → List ℕ → ℕ) (namer : N) (m : ℕ) (h
     pub recorded : AreRecorded (number namer) m events
 
   -- an event was recorded behind these; or one of its outputs clashes with theirs, or memory ran out
-  abbrev pub RecordsEvent : List LiveEvent → LiveEvent → Recording Built Built N → Result ⊤ RecordExportError → Type 0
+  abbrev pub RecordsEvent : List LiveEvent → LiveEvent → Recording GrowingSinkState GrowingSinkState N → Result ⊤ RecordExportError → Type 0
   RecordsEvent events event new (Ok u) =
       (clash (outputs_stored (number namer) m events) (event_entries (number namer) m event) ≡ None) × HasRecorded (events ++ event ∷ []) new
   RecordsEvent events event new (Err e) =
       (e ≡ OutOfMemory) ⊎ (option_map NameCollision (clash (outputs_stored (number namer) m events) (event_entries (number namer) m event)) ≡ Some e)
 
   -- the event of a line, if it has one, was recorded behind these; or the line is refused, or memory ran out
-  abbrev pub RecordsLine : List LiveEvent → NumberedLine → Recording Built Built N → Result ⊤ RecordExportError → Type 0
+  abbrev pub RecordsLine : List LiveEvent → NumberedLine → Recording GrowingSinkState GrowingSinkState N → Result ⊤ RecordExportError → Type 0
   RecordsLine events line new (Ok u) =
       (line_refusal (number namer) m (outputs_stored (number namer) m events) line ≡ None) × HasRecorded (events ++ option_to_list (event_at line)) new
   RecordsLine events line new (Err e) =
       (e ≡ OutOfMemory) ⊎ (line_refusal (number namer) m (outputs_stored (number namer) m events) line ≡ Some e)
 
   -- the same of several lines
-  abbrev pub RecordsLines : List LiveEvent → List NumberedLine → Recording Built Built N → Result ⊤ RecordExportError → Type 0
+  abbrev pub RecordsLines : List LiveEvent → List NumberedLine → Recording GrowingSinkState GrowingSinkState N → Result ⊤ RecordExportError → Type 0
   RecordsLines events lines new (Ok u) =
       (lines_refusal (number namer) m (outputs_stored (number namer) m events) lines ≡ None) × HasRecorded (events ++ events_of lines) new
   RecordsLines events lines new (Err e) =

@@ -11,9 +11,8 @@ ghost use Rattle.serde_json.specs.Written.{compact_text};
 ghost use Rattle.rec_store.specs.Entries.{bundle_entries};
 ghost use Rattle.rec_program.specs.declared.refusal.RecordExportError.TheVariants.{CountOutOfRange, OutOfMemory};
 
-use crate::built::BuiltText;
 use crate::refusal::RecordExportError;
-use rec_container::{ContainerWriteError, ContainerWriter};
+use rec_container::{ContainerWriteError, ContainerWriter, GrowingSink};
 use rec_format::{
     PORTABLE_MANIFEST_FILE_NAME, PortableManifest, RUN_LOG_FILE_NAME, RecordedSizes,
     STORE_ZIP_FILE_NAME, SessionHead,
@@ -41,14 +40,14 @@ pub fn build_bundle(
     manifest: &[u8],
     log: &[u8],
     store: &[u8],
-) -> Result<BuiltText, RecordExportError>
+) -> Result<GrowingSink, RecordExportError>
     ensures ok { IfOk result (λ b. b.bytes ≡ spell (bundle_entries manifest.now log.now store.now)) }
     ensures sound { OnOk result (AreFrom [] (bundle_entries manifest.now log.now store.now)) }
     ensures fits { OnOk result (length (spell (bundle_entries manifest.now log.now store.now)) < 2 ^ 64) }
     ensures err { IfErr result (λ e. (e ≡ OutOfMemory)
         ⊎ ((e ≡ CountOutOfRange None) × (2 ^ 64 ≤ length (spell (bundle_entries manifest.now log.now store.now))))) }
 {
-    let mut writer = ContainerWriter::new(alloc, BuiltText::new(alloc));
+    let mut writer = ContainerWriter::new(alloc, GrowingSink::new(alloc));
     add_entry(&mut writer, PORTABLE_MANIFEST_FILE_NAME, manifest)?;
     add_entry(&mut writer, RUN_LOG_FILE_NAME, log)?;
     add_entry(&mut writer, STORE_ZIP_FILE_NAME, store)?;
@@ -61,7 +60,7 @@ pub fn build_bundle(
 
 /// Adds an entry under a new name.
 fn add_entry(
-    writer: &mut ContainerWriter<BuiltText>,
+    writer: &mut ContainerWriter<GrowingSink>,
     name: &str,
     content: &[u8],
 ) -> Result<(), RecordExportError>

@@ -4,7 +4,6 @@
 //! clause of `run_program`, and others can call `record_and_export` with a source, a namer and sinks of their own.
 #![tactic(auto)]
 
-mod built;
 mod bundle;
 mod counts;
 mod deliver;

@@ -12,7 +12,6 @@ ghost use Rattle.rec_store.specs.Bundle.{outputs_stored, run_bundle};
 ghost use Rattle.rec_store.specs.Reading.{IsReading, recorded};
 ghost use Rattle.rec_store.specs.Store.{store_entries};
 
-use crate::built::BuiltText;
 use crate::bundle::{build_bundle, build_manifest};
 use crate::head::{read_head, take_head};
 use crate::record::{RecordedInMemory, record_run};
@@ -20,6 +19,7 @@ use crate::refusal::RecordExportError;
 use crate::settings::Settings;
 use crate::sizes::judge_sizes;
 use rec_codec::Lines;
+use rec_container::GrowingSink;
 use rec_format::SessionHead;
 use rec_store::OutputNamer;
 use std::alloc::Global;
@@ -27,7 +27,7 @@ use std::alloc::Global;
 /// What is exported of a session, in memory.
 #[derive(Drop)]
 pub struct Prepared {
-    pub bundle: BuiltText,
+    pub bundle: GrowingSink,
     pub trace: String,
     pub events: u64,
     pub outputs: u64,
@@ -105,7 +105,7 @@ fn bundle_recorded(
     settings: &Settings,
     head: &SessionHead,
     run: &RecordedInMemory,
-) -> Result<BuiltText, RecordExportError>
+) -> Result<GrowingSink, RecordExportError>
     ensures bundle { (number : List ℕ → ℕ) (events : List LiveEvent)
         → IsRunOf number settings.now.max_output head.now events run.now.store.bytes run.now.log.bytes run.now.sizes
         → IfOk result (λ b. b.bytes ≡ run_bundle number settings.now.max_output head.now events) }

@@ -15,12 +15,11 @@ ghost use Rattle.rec_program.specs.Session.{event_at, events_of, lines_refusal};
 ghost use Rattle.rec_program.specs.SessionTraces.{IsTraceOf, session_history};
 ghost use Rattle.rec_program.specs.declared.refusal.RecordExportError.TheVariants.{OutOfMemory};
 
-use crate::built::BuiltText;
 use crate::refusal::RecordExportError;
 use crate::settings::Settings;
 use crate::trace::SessionTrace;
 use rec_codec::{Line, Lines, read_line};
-use rec_container::Sink;
+use rec_container::{GrowingSink, Sink};
 use rec_events::{LiveSpec, TestEventSummary};
 use rec_format::{RecordedSizes, RerunInfo, SessionHead};
 use rec_store::{OutputNamer, RunRecorder, RunStoreError};
@@ -30,9 +29,9 @@ use std::alloc::Global;
 #[derive(Drop)]
 pub struct RecordedInMemory {
     /// The store, a whole container.
-    pub store: BuiltText,
+    pub store: GrowingSink,
     /// The log.
-    pub log: BuiltText,
+    pub log: GrowingSink,
     /// The sizes of both.
     pub sizes: RecordedSizes,
     /// The trace of its events.
@@ -40,7 +39,7 @@ pub struct RecordedInMemory {
 }
 
 /// A recorder of a run into memory.
-type MemoryRecorder<'n, N> = RunRecorder<'n, BuiltText, BuiltText, N>;
+type MemoryRecorder<'n, N> = RunRecorder<'n, GrowingSink, GrowingSink, N>;
 
 /// Records a head, and the events of the lines behind it.
 ///
@@ -61,8 +60,8 @@ pub fn record_run<N: OutputNamer>(
 {
     let mut recorder = RunRecorder::new(
         alloc,
-        BuiltText::new(alloc),
-        BuiltText::new(alloc),
+        GrowingSink::new(alloc),
+        GrowingSink::new(alloc),
         namer,
         settings.max_output,
     );

@@ -2,7 +2,7 @@ use Rattle.std.proofs.Common.{◌≡◌, List, ℕ, [], Ok, Err, ap, subst, sym,
 use Rattle.std.proofs.lemmas.Result.{IfErr-weaker, IfOk-weaker}
 use Rattle.rec_store.specs.Recording.{Recording, Stores}
 use Rattle.rec_store.specs.Store.{store_entries}
-use Rattle.rec_program.specs.Built.{Built}
+use Rattle.rec_container.specs.Memory.{GrowingSinkState}
 use Rattle.rec_program.specs.Session.{events_of}
 use Rattle.rec_program.specs.SessionTraces.{IsTraceOf, session_history}
 use Rattle.rec_program.specs.declared.record.RecordedInMemory.{RecordedInMemory}
@@ -17,8 +17,8 @@ returns-in-Err-clause-err g c =
     let m = c.args.settings.now.max_output in
     let head = c.args.head.now in
     let start = c.record_head.new.recorder in
-    let stored = subst (λ (r : Recording Built Built g.row.N.Denot). Stores text_taken (λ (b : Built). b.faults) r start (store_entries head)) c.new-recorder.ensures c.in-Ok.ensures.ok in
-    let has = begun number (λ (b : Built). b.faults) head namer m c.new.result c.new-2.result start c.new.ensures.bytes c.new-2.ensures.bytes stored in
+    let stored = subst (λ (r : Recording GrowingSinkState GrowingSinkState g.row.N.Denot). Stores text_taken (λ (b : GrowingSinkState). b.faults) r start (store_entries head)) c.new-recorder.ensures c.in-Ok.ensures.ok in
+    let has = begun number (λ (b : GrowingSinkState). b.faults) head namer m c.new.result c.new-2.result start c.new.ensures.bytes c.new-2.ensures.bytes stored in
     lines_with number namer m head [] c.args.lines start c.record_lines.new.recorder (Err c.in-Err.error) has (c.in-Err.ensures.recorded head [] (made_with number namer m head [] start has))
 
 pub returns-in-Ok-record_lines-clause-valid : goal.returns-in-Ok-record_lines-clause-valid
@@ -28,8 +28,8 @@ returns-in-Ok-record_lines-clause-valid g c =
     let m = c.args.settings.now.max_output in
     let head = c.args.head.now in
     let start = c.record_head.new.recorder in
-    let stored = subst (λ (r : Recording Built Built g.row.N.Denot). Stores text_taken (λ (b : Built). b.faults) r start (store_entries head)) c.new-recorder.ensures c.in-Ok.ensures.ok in
-    let has = begun number (λ (b : Built). b.faults) head namer m c.new.result c.new-2.result start c.new.ensures.bytes c.new-2.ensures.bytes stored in
+    let stored = subst (λ (r : Recording GrowingSinkState GrowingSinkState g.row.N.Denot). Stores text_taken (λ (b : GrowingSinkState). b.faults) r start (store_entries head)) c.new-recorder.ensures c.in-Ok.ensures.ok in
+    let has = begun number (λ (b : GrowingSinkState). b.faults) head namer m c.new.result c.new-2.result start c.new.ensures.bytes c.new-2.ensures.bytes stored in
     let recorded = lines_with number namer m head [] c.args.lines start c.record_lines.new.recorder (Ok tt) has (c.in-Ok-record_lines.ensures.recorded head [] (made_with number namer m head [] start has)) in
     always c.end_run.result recorded.0
 
@@ -40,8 +40,8 @@ returns-in-Ok-record_lines-clause-run g c =
     let m = c.args.settings.now.max_output in
     let head = c.args.head.now in
     let start = c.record_head.new.recorder in
-    let stored = subst (λ (r : Recording Built Built g.row.N.Denot). Stores text_taken (λ (b : Built). b.faults) r start (store_entries head)) c.new-recorder.ensures c.in-Ok.ensures.ok in
-    let has = begun number (λ (b : Built). b.faults) head namer m c.new.result c.new-2.result start c.new.ensures.bytes c.new-2.ensures.bytes stored in
+    let stored = subst (λ (r : Recording GrowingSinkState GrowingSinkState g.row.N.Denot). Stores text_taken (λ (b : GrowingSinkState). b.faults) r start (store_entries head)) c.new-recorder.ensures c.in-Ok.ensures.ok in
+    let has = begun number (λ (b : GrowingSinkState). b.faults) head namer m c.new.result c.new-2.result start c.new.ensures.bytes c.new-2.ensures.bytes stored in
     let recorded = lines_with number namer m head [] c.args.lines start c.record_lines.new.recorder (Ok tt) has (c.in-Ok-record_lines.ensures.recorded head [] (made_with number namer m head [] start has)) in
     c.end_run.ensures.run namer m head (events_of c.args.lines) recorded.1 c.in-Ok.ensures.read
 
