@@ -1,11 +1,12 @@
 -- The kinds of events that hold no outputs, as the members of an event stand for them.
-use Rattle.std.specs.Prelude.{ℕ, List, [], ◌∷◌, ◌++◌, Option, Some, codes}
+use Rattle.std.specs.Prelude.{ℕ, ◌^◌, ◌<◌, IfSome, List, [], ◌∷◌, ◌++◌, Option, Some, codes}
 use Rattle.serde_json.specs.Data.{Members}
 use Rattle.serde_json.specs.Find.{as_bool}
+use Rattle.rec_events.specs.Names.{IsText, AreTexts}
 use Rattle.rec_events.specs.declared.events.CoreEventKind.{CoreEventKind}
 use Rattle.rec_events.specs.declared.events.CoreEventKind.TheVariants.{RunStarted, StressSubRunStarted, SetupScriptStarted, SetupScriptSlow, TestStarted, TestSlow, TestRetryStarted, TestSkipped, RunBeginCancel, RunPaused, RunContinued, StressSubRunFinished, RunFinished}
 use Rattle.rec_forms.specs.Ids.{uuid_form}
-use Rattle.rec_forms.specs.Instances.{test_instance_form, slot_assignment_form, retry_data_form, stress_index_form}
+use Rattle.rec_forms.specs.Instances.{test_instance_form, slot_assignment_form, retry_data_form, stress_index_form, IsStressIndex}
 use Rattle.rec_forms.specs.Lists.{list_form}
 use Rattle.rec_forms.specs.Numbers.{u64_form}
 use Rattle.rec_forms.specs.Reporting.{cancel_reason_form}
@@ -15,6 +16,8 @@ use Rattle.rec_forms.specs.Skipping.{mismatch_reason_form, skip_policy_form}
 use Rattle.rec_forms.specs.Stats.{run_stats_form}
 use Rattle.rec_forms.specs.Stress.{stress_condition_form, stress_progress_form}
 use Rattle.rec_forms.specs.Times.{stamp_form, duration_form}
+use Rattle.rec_codec.specs.declared.script_kinds.Command.{Command}
+use Rattle.rec_codec.specs.declared.script_kinds.Place.{Place}
 
 unfoldable pub run_started_form : Members → Option CoreEventKind
 run_started_form ms = do
@@ -29,26 +32,46 @@ stress_sub_run_started_form ms = do
   progress ← required stress_progress_form (codes "progress") ms
   Some (StressSubRunStarted progress)
 
-unfoldable pub setup_script_started_form : Members → Option CoreEventKind
-setup_script_started_form ms = do
+-- which setup script it is
+unfoldable pub place_form : Members → Option Place
+place_form ms = do
   stress_index ← maybe stress_index_form (codes "stress-index") ms
   index ← required u64_form (codes "index") ms
   total ← required u64_form (codes "total") ms
+  Some (record { stress_index = stress_index; index = index; total = total })
+
+pub record IsPlace (p : Place) : Type 0 where
+  pub stress_index : IfSome p.stress_index IsStressIndex
+  pub index : p.index < 2 ^ 64
+  pub total : p.total < 2 ^ 64
+
+-- what a setup script runs
+unfoldable pub command_form : Members → Option Command
+command_form ms = do
   script_id ← required text_of (codes "script-id") ms
   program ← required text_of (codes "program") ms
   args ← required (list_form text_of) (codes "args") ms
+  Some (record { script_id = script_id; program = program; args = args })
+
+pub record IsCommand (c : Command) : Type 0 where
+  pub script_id : IsText c.script_id
+  pub program : IsText c.program
+  pub args : AreTexts c.args
+
+unfoldable pub setup_script_started_form : Members → Option CoreEventKind
+setup_script_started_form ms = do
+  place ← place_form ms
   no_capture ← required as_bool (codes "no-capture") ms
-  Some (SetupScriptStarted stress_index index total script_id program args no_capture)
+  command ← command_form ms
+  Some (SetupScriptStarted place.stress_index place.index place.total command.script_id command.program command.args no_capture)
 
 unfoldable pub setup_script_slow_form : Members → Option CoreEventKind
 setup_script_slow_form ms = do
   stress_index ← maybe stress_index_form (codes "stress-index") ms
-  script_id ← required text_of (codes "script-id") ms
-  program ← required text_of (codes "program") ms
-  args ← required (list_form text_of) (codes "args") ms
   elapsed ← required duration_form (codes "slow-elapsed") ms
   will_terminate ← required as_bool (codes "will-terminate") ms
-  Some (SetupScriptSlow stress_index script_id program args elapsed will_terminate)
+  command ← command_form ms
+  Some (SetupScriptSlow stress_index command.script_id command.program command.args elapsed will_terminate)
 
 unfoldable pub test_started_form : Members → Option CoreEventKind
 test_started_form ms = do

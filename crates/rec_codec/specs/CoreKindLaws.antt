@@ -25,10 +25,10 @@ use Rattle.rec_forms.specs.TimeLaws.{stamp_back, stamp_writable, duration_back, 
 use Rattle.rec_forms.specs.Times.{IsStamp, IsDuration, duration_form, stamp_form}
 use Rattle.rec_forms.specs.Writable.{EachWritten, weaker, natural_writable, string_writable, boolean_writable, list_writable, optional_writable}
 use Rattle.rec_codec.specs.CoreKinds.{core_fields, IsCore}
-use Rattle.rec_codec.specs.CoreKindForms.{run_started_form, stress_sub_run_started_form, setup_script_started_form, setup_script_slow_form, test_started_form, test_slow_form, test_retry_started_form, test_skipped_form, run_begin_cancel_form, run_paused_form, run_continued_form, stress_sub_run_finished_form, run_finished_form}
+use Rattle.rec_codec.specs.CoreKindForms.{place_form, IsPlace, command_form, IsCommand, run_started_form, stress_sub_run_started_form, setup_script_started_form, setup_script_slow_form, test_started_form, test_slow_form, test_retry_started_form, test_skipped_form, run_begin_cancel_form, run_paused_form, run_continued_form, stress_sub_run_finished_form, run_finished_form}
 use Rattle.rec_codec.specs.EventForms.{kind_named, kind_form, event_value, event_form}
 use Rattle.rec_forms.specs.Known.{Holds}
-use Rattle.rec_forms.specs.KnownLaws.{any_known, required_then, maybe_then, list_known}
+use Rattle.rec_forms.specs.KnownLaws.{any_known, then_holds, required_then, maybe_then, list_known}
 use Rattle.rec_forms.specs.Ids.{uuid_form}
 use Rattle.rec_forms.specs.Lists.{list_form}
 use Rattle.rec_forms.specs.Numbers.{u64_form}
@@ -42,7 +42,7 @@ use Rattle.serde_json.specs.Find.{as_bool}
 module _ {S O : Type 0} (output_value : O → Data) (output_form : Data → Option O) where
   pub core_back : (t : Moment) (e : Span) (k : CoreEventKind) → IsStamp t → IsDuration e → IsCore k
       → event_form {S = S} output_form (event_value {S = S} output_value (record { timestamp = t; elapsed = e; kind = Core k })) ≡ Some (record { timestamp = t; elapsed = e; kind = Core k })
-  unfolding event_form kind_form kind_named run_started_form stress_sub_run_started_form setup_script_started_form setup_script_slow_form test_started_form test_slow_form test_retry_started_form test_skipped_form run_begin_cancel_form run_paused_form run_continued_form stress_sub_run_finished_form run_finished_form
+  unfolding event_form kind_form kind_named run_started_form stress_sub_run_started_form place_form command_form setup_script_started_form setup_script_slow_form test_started_form test_slow_form test_retry_started_form test_skipped_form run_begin_cancel_form run_paused_form run_continued_form stress_sub_run_finished_form run_finished_form
   core_back t e (RunStarted run_id profile_name cli_args stress_condition) ht he h =
       simp (
         get_member-members_of,
@@ -220,28 +220,38 @@ stress_sub_run_started_known ms =
     required_then stress_progress_form (codes "progress") ms _ stress_progress_known (λ progress progress_is.
     record { is = progress_is })
 
-pub setup_script_started_known : (ms : Members) → Holds IsCore (setup_script_started_form ms)
-unfolding setup_script_started_form
-setup_script_started_known ms =
+pub place_known : (ms : Members) → Holds IsPlace (place_form ms)
+unfolding place_form
+place_known ms =
     maybe_then stress_index_form (codes "stress-index") ms _ stress_index_known (λ stress_index stress_index_is.
     required_then u64_form (codes "index") ms _ u64_known (λ index index_is.
     required_then u64_form (codes "total") ms _ u64_known (λ total total_is.
+    record { is = record { stress_index = stress_index_is; index = index_is; total = total_is } })))
+
+pub command_known : (ms : Members) → Holds IsCommand (command_form ms)
+unfolding command_form
+command_known ms =
     required_then text_of (codes "script-id") ms _ text_known (λ script_id script_id_is.
     required_then text_of (codes "program") ms _ text_known (λ program program_is.
     required_then (list_form text_of) (codes "args") ms _ (list_known text_of text_known) (λ args args_is.
+    record { is = record { script_id = script_id_is; program = program_is; args = args_is } })))
+
+pub setup_script_started_known : (ms : Members) → Holds IsCore (setup_script_started_form ms)
+unfolding setup_script_started_form
+setup_script_started_known ms =
+    then_holds (place_form ms) _ (place_known ms) (λ place place_is.
     required_then as_bool (codes "no-capture") ms _ (any_known as_bool) (λ no_capture no_capture_is.
-    record { is = (stress_index_is, index_is, total_is, script_id_is, program_is, args_is) })))))))
+    then_holds (command_form ms) _ (command_known ms) (λ command command_is.
+    record { is = (place_is.stress_index, place_is.index, place_is.total, command_is.script_id, command_is.program, command_is.args) })))
 
 pub setup_script_slow_known : (ms : Members) → Holds IsCore (setup_script_slow_form ms)
 unfolding setup_script_slow_form
 setup_script_slow_known ms =
     maybe_then stress_index_form (codes "stress-index") ms _ stress_index_known (λ stress_index stress_index_is.
-    required_then text_of (codes "script-id") ms _ text_known (λ script_id script_id_is.
-    required_then text_of (codes "program") ms _ text_known (λ program program_is.
-    required_then (list_form text_of) (codes "args") ms _ (list_known text_of text_known) (λ args args_is.
     required_then duration_form (codes "slow-elapsed") ms _ duration_known (λ elapsed elapsed_is.
     required_then as_bool (codes "will-terminate") ms _ (any_known as_bool) (λ will_terminate will_terminate_is.
-    record { is = (stress_index_is, script_id_is, program_is, args_is, elapsed_is) }))))))
+    then_holds (command_form ms) _ (command_known ms) (λ command command_is.
+    record { is = (stress_index_is, command_is.script_id, command_is.program, command_is.args, elapsed_is) }))))
 
 pub test_started_known : (ms : Members) → Holds IsCore (test_started_form ms)
 unfolding test_started_form

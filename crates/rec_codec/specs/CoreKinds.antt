@@ -1,9 +1,10 @@
 -- The kinds of events that hold no outputs: their names and members, and what holds of their fields.
-use Rattle.std.specs.Prelude.{ℕ, ◌^◌, ◌<◌, IfSome, List, [], ◌∷◌, ◌++◌, codes}
+use Rattle.std.specs.Prelude.{ℕ, ◌^◌, ◌<◌, IfSome, List, [], ◌∷◌, ◌++◌, Option, codes}
 use Rattle.serde_json.specs.Data.{string, boolean}
 use Rattle.rec_events.specs.Names.{IsText, AreTexts}
 use Rattle.rec_events.specs.declared.events.CoreEventKind.{CoreEventKind}
 use Rattle.rec_events.specs.declared.events.CoreEventKind.TheVariants.{RunStarted, StressSubRunStarted, SetupScriptStarted, SetupScriptSlow, TestStarted, TestSlow, TestRetryStarted, TestSkipped, RunBeginCancel, RunPaused, RunContinued, StressSubRunFinished, RunFinished}
+use Rattle.rec_events.specs.declared.instances.StressIndexSummary.{StressIndexSummary}
 use Rattle.rec_forms.specs.Ids.{uuid_value, IsUuid}
 use Rattle.rec_forms.specs.Instances.{test_instance_value, IsTestInstance, slot_assignment_value, IsSlotAssignment, retry_data_value, IsRetryData, stress_index_value, IsStressIndex}
 use Rattle.rec_forms.specs.Lists.{list_value}
@@ -42,6 +43,22 @@ running_fields setup_scripts_running running =
     ∷ field (codes "running") (natural running)
     ∷ []
 
+-- which setup script it is: the one with so many before it, of how many
+abbrev pub place_fields : Option StressIndexSummary → ℕ → ℕ → List Field
+place_fields stress_index index total =
+    optional (codes "stress-index") stress_index_value stress_index
+    ∷ field (codes "index") (natural index)
+    ∷ field (codes "total") (natural total)
+    ∷ []
+
+-- what a setup script runs
+abbrev pub command_fields : List ℕ → List ℕ → List (List ℕ) → List Field
+command_fields script_id program args =
+    field (codes "script-id") (string script_id)
+    ∷ field (codes "program") (string program)
+    ∷ field (codes "args") (list_value string args)
+    ∷ []
+
 -- its members
 abbrev pub core_members : CoreEventKind → List Field
 core_members (RunStarted run_id profile_name cli_args stress_condition) =
@@ -54,20 +71,11 @@ core_members (StressSubRunStarted progress) =
     field (codes "progress") (stress_progress_value progress)
     ∷ []
 core_members (SetupScriptStarted stress_index index total script_id program args no_capture) =
-    optional (codes "stress-index") stress_index_value stress_index
-    ∷ field (codes "index") (natural index)
-    ∷ field (codes "total") (natural total)
-    ∷ field (codes "script-id") (string script_id)
-    ∷ field (codes "program") (string program)
-    ∷ field (codes "args") (list_value string args)
-    ∷ field (codes "no-capture") (boolean no_capture)
-    ∷ []
+    place_fields stress_index index total ++ command_fields script_id program args ++ field (codes "no-capture") (boolean no_capture) ∷ []
 core_members (SetupScriptSlow stress_index script_id program args elapsed will_terminate) =
     optional (codes "stress-index") stress_index_value stress_index
-    ∷ field (codes "script-id") (string script_id)
-    ∷ field (codes "program") (string program)
-    ∷ field (codes "args") (list_value string args)
-    ∷ field (codes "slow-elapsed") (duration_value elapsed)
+    ∷ command_fields script_id program args
+    ++ field (codes "slow-elapsed") (duration_value elapsed)
     ∷ field (codes "will-terminate") (boolean will_terminate)
     ∷ []
 core_members (TestStarted stress_index test_instance slot_assignment current_stats running command_line) =

@@ -18,6 +18,8 @@ use Rattle.rec_forms.specs.StatsLaws.{run_stats_back, run_stats_writable, run_st
 use Rattle.rec_forms.specs.TimeLaws.{stamp_back, duration_back, duration_writable, duration_known}
 use Rattle.rec_forms.specs.Times.{IsStamp, IsDuration, duration_form}
 use Rattle.rec_forms.specs.Writable.{IsWritable, EachWritten, weaker, natural_writable, string_writable, boolean_writable, list_writable, optional_writable}
+use Rattle.rec_codec.specs.CoreKindForms.{place_form, command_form}
+use Rattle.rec_codec.specs.CoreKindLaws.{place_known, command_known}
 use Rattle.rec_codec.specs.EventForms.{kind_named, kind_form, event_value, event_form}
 use Rattle.rec_codec.specs.OutputKinds.{reporting_form, output_fields, script_finished_form, attempt_failed_form, test_finished_form, IsOutput}
 use Rattle.rec_codec.specs.ScriptStatusLaws.{script_status_back, script_status_writable, script_status_known}
@@ -37,7 +39,7 @@ use Rattle.serde_json.specs.Find.{as_bool}
 module _ {S O : Type 0} (P : O → Type 0) (output_value : O → Data) (output_form : Data → Option O) (back : (o : O) → P o → output_form (output_value o) ≡ Some o) where
   pub output_back : (t : Moment) (e : Span) (k : OutputEventKind S O) → IsStamp t → IsDuration e → IsOutput P k
       → event_form output_form (event_value output_value (record { timestamp = t; elapsed = e; kind = Output k })) ≡ Some (record { timestamp = t; elapsed = e; kind = Output k })
-  unfolding event_form kind_form kind_named script_finished_form attempt_failed_form reporting_form test_finished_form
+  unfolding event_form kind_form kind_named place_form command_form script_finished_form attempt_failed_form reporting_form test_finished_form
   output_back t e (SetupScriptFinished stress_index index total script_id program args no_capture run_status) ht he h =
       simp (
         get_member-members_of,
@@ -95,15 +97,11 @@ module _ {S O : Type 0} (P : O → Type 0) (output_form : Data → Option O) (kn
   pub script_finished_known : (ms : Members) → Holds {T = OutputEventKind S O} (IsOutput P) (script_finished_form output_form ms)
   unfolding script_finished_form
   script_finished_known ms =
-      maybe_then stress_index_form (codes "stress-index") ms _ stress_index_known (λ stress_index stress_index_is.
-      required_then u64_form (codes "index") ms _ u64_known (λ index index_is.
-      required_then u64_form (codes "total") ms _ u64_known (λ total total_is.
-      required_then text_of (codes "script-id") ms _ text_known (λ script_id script_id_is.
-      required_then text_of (codes "program") ms _ text_known (λ program program_is.
-      required_then (list_form text_of) (codes "args") ms _ (list_known text_of text_known) (λ args args_is.
+      then_holds (place_form ms) _ (place_known ms) (λ place place_is.
       required_then as_bool (codes "no-capture") ms _ (any_known as_bool) (λ no_capture no_capture_is.
+      then_holds (command_form ms) _ (command_known ms) (λ command command_is.
       required_then (script_status_form output_form) (codes "run-status") ms _ (script_status_known P output_form known) (λ run_status run_status_is.
-      record { is = (stress_index_is, index_is, total_is, script_id_is, program_is, args_is, run_status_is) }))))))))
+      record { is = (place_is.stress_index, place_is.index, place_is.total, command_is.script_id, command_is.program, command_is.args, run_status_is) }))))
 
   pub attempt_failed_known : (ms : Members) → Holds {T = OutputEventKind S O} (IsOutput P) (attempt_failed_form output_form ms)
   unfolding attempt_failed_form

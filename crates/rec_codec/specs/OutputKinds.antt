@@ -12,7 +12,8 @@ use Rattle.rec_forms.specs.Reporting.{output_display_value, output_display_form,
 use Rattle.rec_forms.specs.Shape.{◌>>=◌, Field, natural, field, optional, required, maybe, text_of}
 use Rattle.rec_forms.specs.Stats.{run_stats_value, run_stats_form, IsRunStats}
 use Rattle.rec_forms.specs.Times.{duration_value, duration_form, IsDuration}
-use Rattle.rec_codec.specs.CoreKinds.{kind_field}
+use Rattle.rec_codec.specs.CoreKinds.{kind_field, place_fields, command_fields}
+use Rattle.rec_codec.specs.CoreKindForms.{place_form, command_form}
 use Rattle.rec_codec.specs.ScriptStatus.{script_status_value, script_status_form, script_status_loaded, IsScriptStatus}
 use Rattle.rec_codec.specs.Status.{status_value, status_form, status_loaded, IsStatus, statuses_value, statuses_form, statuses_loaded, AreStatuses}
 use Rattle.rec_codec.specs.declared.output_kinds.Reporting.{Reporting}
@@ -54,13 +55,9 @@ reporting_form ms = do
 module _ {S O : Type 0} (output_value : O → Data) where
   abbrev pub output_members : OutputEventKind S O → List Field
   output_members (SetupScriptFinished stress_index index total script_id program args no_capture run_status) =
-      optional (codes "stress-index") stress_index_value stress_index
-      ∷ field (codes "index") (natural index)
-      ∷ field (codes "total") (natural total)
-      ∷ field (codes "script-id") (string script_id)
-      ∷ field (codes "program") (string program)
-      ∷ field (codes "args") (list_value string args)
-      ∷ field (codes "no-capture") (boolean no_capture)
+      place_fields stress_index index total
+      ++ command_fields script_id program args
+      ++ field (codes "no-capture") (boolean no_capture)
       ∷ field (codes "run-status") (script_status_value output_value run_status)
       ∷ []
   output_members (TestAttemptFailedWillRetry stress_index test_instance run_status delay_before_next_attempt failure_output running) =
@@ -95,15 +92,11 @@ module _ {S O : Type 0} (output_value : O → Data) where
 module _ {S O : Type 0} (output_form : Data → Option O) where
   unfoldable pub script_finished_form : Members → Option (OutputEventKind S O)
   script_finished_form ms = do
-    stress_index ← maybe stress_index_form (codes "stress-index") ms
-    index ← required u64_form (codes "index") ms
-    total ← required u64_form (codes "total") ms
-    script_id ← required text_of (codes "script-id") ms
-    program ← required text_of (codes "program") ms
-    args ← required (list_form text_of) (codes "args") ms
+    place ← place_form ms
     no_capture ← required as_bool (codes "no-capture") ms
+    command ← command_form ms
     run_status ← required (script_status_form output_form) (codes "run-status") ms
-    Some (SetupScriptFinished stress_index index total script_id program args no_capture run_status)
+    Some (SetupScriptFinished place.stress_index place.index place.total command.script_id command.program command.args no_capture run_status)
 
   unfoldable pub attempt_failed_form : Members → Option (OutputEventKind S O)
   attempt_failed_form ms = do

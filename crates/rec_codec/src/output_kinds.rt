@@ -8,6 +8,7 @@ ghost use Rattle.rec_codec.specs.OutputKinds.{output_name, reporting_fields, rep
 
 use crate::core_kinds::put_kind_name;
 use crate::part::{put_part, required_part};
+use crate::script_kinds::{Command, Place, put_command, put_place};
 use crate::{OutputForm, ToValueError};
 use rec_events::{JunitFlakyFailStatus, OutputEventKind, TestOutputDisplay};
 use rec_forms::{FromValueError, Object, optional_field, put_field, put_optional, required_field};
@@ -108,12 +109,8 @@ fn put_script_finished<S: OutputForm>(
     else {
         unreachable!()
     };
-    put_optional(alloc, object, "stress-index", stress_index)?;
-    put_field(alloc, object, "index", index)?;
-    put_field(alloc, object, "total", total)?;
-    put_field(alloc, object, "script-id", script_id)?;
-    put_field(alloc, object, "program", program)?;
-    put_field(alloc, object, "args", args)?;
+    put_place(alloc, object, stress_index, *index, *total)?;
+    put_command(alloc, object, script_id, program, args)?;
     put_field(alloc, object, "no-capture", no_capture)?;
     put_part(alloc, object, "run-status", run_status)?;
     Ok(())
@@ -228,15 +225,26 @@ pub fn script_finished_from<S: OutputForm>(
 ) -> Result<OutputEventKind<S>, FromValueError>
     ensures { Gives result (script_finished_form S.output_form (members_view object.now.entries)) }
 {
+    let place = Place::read(alloc, object)?;
+    let no_capture = required_field(alloc, object, "no-capture")?;
+    let command = Command::read(alloc, object)?;
+    let run_status = match required_part(alloc, object, "run-status") {
+        Ok(run_status) => run_status,
+        Err(error) => {
+            // by a call: in place, each case of what is let go is one of the proof
+            drop(command);
+            return Err(error);
+        }
+    };
     Ok(OutputEventKind::SetupScriptFinished {
-        stress_index: optional_field(alloc, object, "stress-index")?,
-        index: required_field(alloc, object, "index")?,
-        total: required_field(alloc, object, "total")?,
-        no_capture: required_field(alloc, object, "no-capture")?,
-        script_id: required_field(alloc, object, "script-id")?,
-        program: required_field(alloc, object, "program")?,
-        args: required_field(alloc, object, "args")?,
-        run_status: required_part(alloc, object, "run-status")?,
+        stress_index: place.stress_index,
+        index: place.index,
+        total: place.total,
+        script_id: command.script_id,
+        program: command.program,
+        args: command.args,
+        no_capture,
+        run_status,
     })
 }
 
@@ -248,13 +256,25 @@ pub fn attempt_failed_from<S: OutputForm>(
 ) -> Result<OutputEventKind<S>, FromValueError>
     ensures { Gives result (attempt_failed_form S.output_form (members_view object.now.entries)) }
 {
+    let stress_index = optional_field(alloc, object, "stress-index")?;
+    let delay_before_next_attempt = required_field(alloc, object, "delay-before-next-attempt")?;
+    let failure_output = required_field(alloc, object, "failure-output")?;
+    let running = required_field(alloc, object, "running")?;
+    let test_instance = required_field(alloc, object, "test-instance")?;
+    let run_status = match required_part(alloc, object, "run-status") {
+        Ok(run_status) => run_status,
+        Err(error) => {
+            drop(test_instance);
+            return Err(error);
+        }
+    };
     Ok(OutputEventKind::TestAttemptFailedWillRetry {
-        stress_index: optional_field(alloc, object, "stress-index")?,
-        delay_before_next_attempt: required_field(alloc, object, "delay-before-next-attempt")?,
-        failure_output: required_field(alloc, object, "failure-output")?,
-        running: required_field(alloc, object, "running")?,
-        test_instance: required_field(alloc, object, "test-instance")?,
-        run_status: required_part(alloc, object, "run-status")?,
+        stress_index,
+        test_instance,
+        run_status,
+        delay_before_next_attempt,
+        failure_output,
+        running,
     })
 }
 
@@ -267,16 +287,27 @@ pub fn test_finished_from<S: OutputForm>(
     ensures { Gives result (test_finished_form S.output_form (members_view object.now.entries)) }
 {
     let reporting = Reporting::read(alloc, object)?;
+    let stress_index = optional_field(alloc, object, "stress-index")?;
+    let current_stats = required_field(alloc, object, "current-stats")?;
+    let running = required_field(alloc, object, "running")?;
+    let test_instance = required_field(alloc, object, "test-instance")?;
+    let run_statuses = match required_part(alloc, object, "run-statuses") {
+        Ok(run_statuses) => run_statuses,
+        Err(error) => {
+            drop(test_instance);
+            return Err(error);
+        }
+    };
     Ok(OutputEventKind::TestFinished {
-        stress_index: optional_field(alloc, object, "stress-index")?,
+        stress_index,
+        test_instance,
         success_output: reporting.success_output,
         failure_output: reporting.failure_output,
         junit_store_success_output: reporting.junit_store_success_output,
         junit_store_failure_output: reporting.junit_store_failure_output,
         junit_flaky_fail_status: reporting.junit_flaky_fail_status,
-        current_stats: required_field(alloc, object, "current-stats")?,
-        running: required_field(alloc, object, "running")?,
-        test_instance: required_field(alloc, object, "test-instance")?,
-        run_statuses: required_part(alloc, object, "run-statuses")?,
+        run_statuses,
+        current_stats,
+        running,
     })
 }

@@ -6,11 +6,7 @@ returns-clause-written g c =
     rw (
       c.in-SetupScriptFinished.is,
       c.in_ok-put_part.ensures.written,
-      c.in_ok-put_field-6.ensures.written,
-      c.in_ok-put_field-5.ensures.written,
-      c.in_ok-put_field-4.ensures.written,
-      c.in_ok-put_field-3.ensures.written,
-      c.in_ok-put_field-2.ensures.written,
       c.in_ok-put_field.ensures.written,
-      c.in_ok-put_optional.ensures.written,
+      c.in_ok-put_command.ensures.written,
+      c.in_ok-put_place.ensures.written,
     )

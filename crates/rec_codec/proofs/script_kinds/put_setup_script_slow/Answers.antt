@@ -5,10 +5,8 @@ pub returns-clause-written : goal.returns-clause-written
 returns-clause-written c =
     rw (
       c.in-SetupScriptSlow.is,
-      c.in_ok-put_field-5.ensures.written,
-      c.in_ok-put_field-4.ensures.written,
-      c.in_ok-put_field-3.ensures.written,
       c.in_ok-put_field-2.ensures.written,
       c.in_ok-put_field.ensures.written,
+      c.in_ok-put_command.ensures.written,
       c.in_ok-put_optional.ensures.written,
     )

@@ -5,11 +5,7 @@ pub returns-clause-written : goal.returns-clause-written
 returns-clause-written c =
     rw (
       c.in-SetupScriptStarted.is,
-      c.in_ok-put_field-6.ensures.written,
-      c.in_ok-put_field-5.ensures.written,
-      c.in_ok-put_field-4.ensures.written,
-      c.in_ok-put_field-3.ensures.written,
-      c.in_ok-put_field-2.ensures.written,
       c.in_ok-put_field.ensures.written,
-      c.in_ok-put_optional.ensures.written,
+      c.in_ok-put_command.ensures.written,
+      c.in_ok-put_place.ensures.written,
     )
