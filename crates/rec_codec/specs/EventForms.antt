@@ -1,5 +1,5 @@
 -- The values and forms of events, over those of an output.
-use Rattle.std.specs.Prelude.{ℕ, Bool, true, List, [], ◌∷◌, Option, Some, codes, map}
+use Rattle.std.specs.Prelude.{ℕ, Bool, true, List, ◌∷◌, Option, Some, codes, map}
 use Rattle.serde_json.specs.Data.{Data, Members}
 use Rattle.serde_json.specs.Find.{as_object, as_str}
 use Rattle.rec_events.specs.declared.events.CoreEventKind.{CoreEventKind}

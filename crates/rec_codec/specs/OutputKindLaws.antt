@@ -11,7 +11,7 @@ use Rattle.rec_forms.specs.Instances.{stress_index_value, stress_index_form, IsS
 use Rattle.rec_forms.specs.InstanceLaws.{test_instance_back, test_instance_writable, stress_index_back, stress_index_writable, stress_index_known, test_instance_known}
 use Rattle.rec_forms.specs.ListLaws.{list_back, maybe_back}
 use Rattle.rec_forms.specs.Members.{get_member-members_of}
-use Rattle.rec_forms.specs.NumberLaws.{u64_back, text_back, text_known, u64_known}
+use Rattle.rec_forms.specs.NumberLaws.{u64_back, text_back, u64_known}
 use Rattle.rec_forms.specs.ReportingLaws.{output_display_back, output_display_writable, flaky_fail_status_back, flaky_fail_status_writable}
 use Rattle.rec_forms.specs.Shape.{text_of}
 use Rattle.rec_forms.specs.StatsLaws.{run_stats_back, run_stats_writable, run_stats_known}
@@ -25,10 +25,9 @@ use Rattle.rec_codec.specs.OutputKinds.{reporting_form, output_fields, script_fi
 use Rattle.rec_codec.specs.ScriptStatusLaws.{script_status_back, script_status_writable, script_status_known}
 use Rattle.rec_codec.specs.StatusLaws.{status_known, status_back, status_writable, statuses_back, statuses_writable, statuses_known}
 use Rattle.rec_forms.specs.Known.{Holds, Known}
-use Rattle.rec_forms.specs.KnownLaws.{any_known, anything, then_holds, required_then, maybe_then, list_known}
+use Rattle.rec_forms.specs.KnownLaws.{any_known, anything, then_holds, required_then, maybe_then}
 use Rattle.rec_codec.specs.ScriptStatus.{script_status_form}
 use Rattle.rec_codec.specs.Status.{statuses_form, status_form}
-use Rattle.rec_forms.specs.Lists.{list_form}
 use Rattle.rec_forms.specs.Numbers.{u64_form}
 use Rattle.rec_forms.specs.Reporting.{output_display_form}
 use Rattle.rec_forms.specs.Stats.{run_stats_form}

@@ -1,15 +1,14 @@
 -- The kinds of events that hold outputs: their names, members and forms, and what holds of their fields.
 use Rattle.std.specs.Prelude.{ℕ, ◌^◌, ◌<◌, IfSome, Bool, List, [], ◌∷◌, ◌++◌, Option, Some, codes}
-use Rattle.serde_json.specs.Data.{Data, Members, string, boolean}
+use Rattle.serde_json.specs.Data.{Data, Members, boolean}
 use Rattle.serde_json.specs.Find.{as_bool}
 use Rattle.rec_events.specs.Names.{IsText, AreTexts}
 use Rattle.rec_events.specs.declared.events.OutputEventKind.{OutputEventKind}
 use Rattle.rec_events.specs.declared.events.OutputEventKind.TheVariants.{SetupScriptFinished, TestAttemptFailedWillRetry, TestFinished}
 use Rattle.rec_forms.specs.Instances.{test_instance_value, test_instance_form, IsTestInstance, stress_index_value, stress_index_form, IsStressIndex}
-use Rattle.rec_forms.specs.Lists.{list_value, list_form}
 use Rattle.rec_forms.specs.Numbers.{u64_form}
 use Rattle.rec_forms.specs.Reporting.{output_display_value, output_display_form, flaky_fail_status_value, flaky_fail_status_form}
-use Rattle.rec_forms.specs.Shape.{◌>>=◌, Field, natural, field, optional, required, maybe, text_of}
+use Rattle.rec_forms.specs.Shape.{◌>>=◌, Field, natural, field, optional, required, maybe}
 use Rattle.rec_forms.specs.Stats.{run_stats_value, run_stats_form, IsRunStats}
 use Rattle.rec_forms.specs.Times.{duration_value, duration_form, IsDuration}
 use Rattle.rec_codec.specs.CoreKinds.{kind_field, place_fields, command_fields}
