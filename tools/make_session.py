@@ -2,14 +2,17 @@
 """Prints a session of a number of tests, for trying things out and for measuring.
 
     tools/make_session.py 10000 > large.session
+    tools/make_session.py 20000 --distinct 200 > distinct.session
+    tools/make_session.py 100 --distinct 1048576 > outputs.session
 
 Test i is `t{i}` of the binary `bin-{i mod 4}`, on slot i mod 8. Eight tests run at a time, in
-batches four seconds apart. Each test writes one line on standard output, and every hundredth one
-fails. With a second number, each test writes so many further bytes.
+batches four seconds apart, and every hundredth one fails. Each test writes one of sixteen lines on
+standard output; with `--distinct N` it writes N bytes of its own, on standard output and again on
+standard error.
 """
 
+import argparse
 import json
-import sys
 
 SLOTS = 8
 RUN_ID = "550e8400-e29b-41d4-a716-446655440000"
@@ -69,13 +72,22 @@ def started(i, batch, count, running):
     )
 
 
-def finished(i, batch, count, running, extra):
+def outputs(i, distinct):
+    """The outputs of a test, as they were captured."""
+    if distinct is None:
+        return {"stdout": f"output {i % 16}\n".encode().hex()}
+    return {
+        stream: f"{stream} of test {i}\n".encode().ljust(distinct, b".")[:distinct].hex()
+        for stream in ("stdout", "stderr")
+    }
+
+
+def finished(i, batch, count, running, distinct):
     failed = i % 100 == 99
-    output = f"output {i % 16}\n".encode() + b"x" * extra
     result = {"fail": {"failure": {"exit-code": 1}, "leaked": False}} if failed else "pass"
     status = {
         "retry-data": {"attempt": 1, "total-attempts": 1},
-        "output": {"output": {"output": {"split": {"stdout": output.hex()}}}},
+        "output": {"output": {"output": {"split": outputs(i, distinct)}}},
         "result": result, "start-time": instant(1000 + 4 * batch, 1000 * (i % SLOTS)),
         "time-taken": span(3), "is-slow": False, "delay-before-start": span(0),
     }
@@ -89,7 +101,7 @@ def finished(i, batch, count, running, extra):
     )
 
 
-def session(count, extra):
+def session(count, distinct):
     yield head(count)
     yield event("run-started", instant(1000), run_id=RUN_ID, profile_name="default", cli_args=[])
     for batch in range((count + SLOTS - 1) // SLOTS):
@@ -97,13 +109,15 @@ def session(count, extra):
         for place, i in enumerate(tests):
             yield started(i, batch, count, place + 1)
         for place, i in enumerate(tests):
-            yield finished(i, batch, count, len(tests) - place - 1, extra)
+            yield finished(i, batch, count, len(tests) - place - 1, distinct)
 
 
 def main():
-    count = int(sys.argv[1])
-    extra = int(sys.argv[2]) if len(sys.argv) > 2 else 0
-    for line in session(count, extra):
+    parser = argparse.ArgumentParser(description=__doc__, formatter_class=argparse.RawDescriptionHelpFormatter)
+    parser.add_argument("count", type=int, help="how many tests")
+    parser.add_argument("--distinct", type=int, metavar="N", help="the bytes of each of a test's two own outputs")
+    words = parser.parse_args()
+    for line in session(words.count, words.distinct):
         print(text(line))
 
 
