@@ -61,7 +61,7 @@ pub enum RecordExportError {
         event: u64,
     },
     /// The event finishes a test of which no attempt is open.
-    #[error("event {event} ends a test that isn't running")]
+    #[error("event {event} ends what isn't running")]
     MissingTestStart {
         event: u64,
         binary_id: RustBinaryId,
@@ -74,7 +74,7 @@ pub enum RecordExportError {
         span: SpanKey,
     },
     /// The event starts a test on a slot on which another runs.
-    #[error("event {event} starts a test on slot {slot}, on which another runs")]
+    #[error("event {event} takes slot {slot}, which is held")]
     SlotBusy {
         event: u64,
         slot: u64,
