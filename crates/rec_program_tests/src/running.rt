@@ -80,11 +80,19 @@ pub(crate) fn run<S: Source>(
     source: &mut S,
     faults: Faults,
 ) -> Result<Ran, AllocError> {
-    let words = words_of(alloc, words)?;
+    run_words(alloc, &words_of(alloc, words)?, source, faults)
+}
+
+fn run_words<S: Source>(
+    alloc: Global,
+    words: &[String],
+    source: &mut S,
+    faults: Faults,
+) -> Result<Ran, AllocError> {
     let mut bundle = sink(alloc, faults.piece, faults.bundle)?;
     let mut out = sink(alloc, faults.piece, faults.out)?;
     let mut diag = sink(alloc, faults.piece, faults.diag)?;
-    let status = run_program(alloc, &words, source, &mut bundle, &mut out, &mut diag);
+    let status = run_program(alloc, words, source, &mut bundle, &mut out, &mut diag);
     all_taken(alloc, status, &bundle, &out, &diag)
 }
 
@@ -122,12 +130,13 @@ pub(crate) fn told<S: Source>(
     run(alloc, words, source, SOUND)?.told(alloc)
 }
 
-/// What a recording with these options behind the bundle's path makes of a session.
+/// What a recording with these options after the bundle's path makes of a session.
 pub(crate) fn recorded(alloc: Global, options: &[&str], session: &[u8]) -> Result<Ran, AllocError> {
-    let mut words = ["record", "b"].to_vec(alloc)?;
-    words.extend_from_slice(options)?;
-    let mut source = SliceSource::new(session);
-    run(alloc, &words, &mut source, SOUND)
+    let mut words = words_of(alloc, &["record", "b"])?;
+    for option in options {
+        words.push(String::from_str(alloc, option)?)?;
+    }
+    run_words(alloc, &words, &mut SliceSource::new(session), SOUND)
 }
 
 /// What comes of these lines after a head, under a read limit.

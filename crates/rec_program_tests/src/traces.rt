@@ -48,6 +48,20 @@ fn traces_are_written(rt: HostRuntime) -> Result<(), Fail> {
     Ok(())
 }
 
+/// Whether the program tells this of two lines after a head.
+fn tells(alloc: Global, first: &str, second: &str, expected: &str) -> Result<bool, AllocError> {
+    let got = told_lines(alloc, &[first, second], "65536")?;
+    Ok(got.as_str() == expected)
+}
+
+fn missing_start() -> &'static str {
+    "8 MissingTestStart event=2 binary_id=alpha::a test_name=t1\n"
+}
+
+fn second_start() -> &'static str {
+    "8 SpanAlreadyOpen event=2 span=Test binary_id=alpha::a test_name=t1\n"
+}
+
 #[test]
 fn spans_that_do_not_fit_are_told(rt: HostRuntime) -> Result<(), Fail> {
     let alloc = rt.alloc();
@@ -55,27 +69,21 @@ fn spans_that_do_not_fit_are_told(rt: HostRuntime) -> Result<(), Fail> {
     let start = test_started();
     let test = finished(alloc, abc())?;
     let other = replaced(alloc, start, "\"t1\"", "\"t2", "\"")?;
-    for (first, second, expected) in [
-        (
-            run,
-            test.as_str(),
-            "8 MissingTestStart event=2 binary_id=alpha::a test_name=t1\n",
-        ),
-        (run, run, "8 SpanAlreadyOpen event=2 span=Run\n"),
-        (
-            start,
-            start,
-            "8 SpanAlreadyOpen event=2 span=Test binary_id=alpha::a test_name=t1\n",
-        ),
-        (start, other.as_str(), "8 SlotBusy event=2 slot=0\n"),
-        (run, run_paused(), "20 KindNotBuilt event=2\n"),
-        // A line that fails comes first, wherever it stands.
-        (run_paused(), "{}", "5 ParseEvent line_number=3\n"),
-        (test.as_str(), "{}", "5 ParseEvent line_number=3\n"),
-    ] {
-        let got = told_lines(alloc, &[first, second], "65536")?;
-        assert!(rt; got.as_str() == expected, "{got}");
-    }
+    assert!(rt; tells(alloc, run, test.as_str(), missing_start())?);
+    assert!(rt; tells(alloc, run, run, "8 SpanAlreadyOpen event=2 span=Run\n")?);
+    assert!(rt; tells(alloc, start, start, second_start())?);
+    assert!(rt; tells(alloc, start, other.as_str(), "8 SlotBusy event=2 slot=0\n")?);
+    Ok(())
+}
+
+#[test]
+fn a_line_that_fails_comes_before_the_trace(rt: HostRuntime) -> Result<(), Fail> {
+    let alloc = rt.alloc();
+    let pause = run_paused();
+    let test = finished(alloc, abc())?;
+    assert!(rt; tells(alloc, run_started(), pause, "20 KindNotBuilt event=2\n")?);
+    assert!(rt; tells(alloc, pause, "{}", "5 ParseEvent line_number=3\n")?);
+    assert!(rt; tells(alloc, test.as_str(), "{}", "5 ParseEvent line_number=3\n")?);
     Ok(())
 }
 
@@ -98,6 +106,10 @@ fn too_many_failed(alloc: Global) -> Result<String, AllocError> {
     replaced(alloc, failed.as_str(), "\"exec-failed\":0", key, "1")
 }
 
+fn last_slot_told() -> &'static str {
+    "9 RowOutOfRange event=2 number=18446744073709541616\n"
+}
+
 #[test]
 fn numbers_out_of_range_are_told(rt: HostRuntime) -> Result<(), Fail> {
     let alloc = rt.alloc();
@@ -105,21 +117,9 @@ fn numbers_out_of_range_are_told(rt: HostRuntime) -> Result<(), Fail> {
     let late = replaced(alloc, run, "\"secs\":1000", "\"secs\":", "9223372036855")?;
     let last = started_on(alloc, "18446744073709541616")?;
     let failed = too_many_failed(alloc)?;
-    for (first, second, expected) in [
-        (late.as_str(), run, "9 TimestampOutOfRange event=1\n"),
-        (
-            run,
-            last.as_str(),
-            "9 RowOutOfRange event=2 number=18446744073709541616\n",
-        ),
-        (
-            test_started(),
-            failed.as_str(),
-            "9 CountOutOfRange event=2\n",
-        ),
-    ] {
-        let got = told_lines(alloc, &[first, second], "65536")?;
-        assert!(rt; got.as_str() == expected, "{got}");
-    }
+    let start = test_started();
+    assert!(rt; tells(alloc, late.as_str(), run, "9 TimestampOutOfRange event=1\n")?);
+    assert!(rt; tells(alloc, run, last.as_str(), last_slot_told())?);
+    assert!(rt; tells(alloc, start, failed.as_str(), "9 CountOutOfRange event=2\n")?);
     Ok(())
 }
