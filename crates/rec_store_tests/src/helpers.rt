@@ -77,16 +77,17 @@ pub(crate) fn recorded<N: OutputNamer>(
     let mut recorder = RunRecorder::new(alloc, store, log, setup.namer, setup.max_size);
     let answers = answers(alloc, &mut recorder, calls);
     let end = recorder.finish();
-    let left = told_end(alloc, &end);
-    drop(end);
-    let answers = answers?;
-    let [sizes, store, log] = left?;
-    Ok(Left {
-        answers,
-        sizes,
-        store,
-        log,
-    })
+    match answers {
+        Ok(answers) => {
+            let left = told_end(alloc, answers, &end);
+            drop(end);
+            Ok(left?)
+        }
+        Err(fail) => {
+            drop(end);
+            Err(fail)
+        }
+    }
 }
 
 /// A sink with room, of which a write fails.
@@ -244,15 +245,21 @@ fn told(alloc: Global, answer: &Result<(), RunStoreError>) -> Result<String, All
     }
 }
 
-/// What a recording left: sizes, store and log.
+/// What a recording left, beside its answers.
 fn told_end(
     alloc: Global,
+    answers: String,
     end: &RecorderEnd<FailingSink, FailingSink>,
-) -> Result<[String; 3], AllocError> {
+) -> Result<Left, AllocError> {
     let sizes = told_sizes(alloc, end)?;
     let store = told_store(alloc, end.store.bytes())?;
     let log = String::from_str(alloc, str::from_utf8(end.log.bytes()).unwrap_or("no text"))?;
-    Ok([sizes, store, log])
+    Ok(Left {
+        answers,
+        sizes,
+        store,
+        log,
+    })
 }
 
 fn told_sizes(
