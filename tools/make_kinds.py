@@ -48,7 +48,7 @@ def test_id(name):
 
 
 def counts(reason=None, **changed):
-    """The counts of a run of three tests behind its script, with what has changed since."""
+    """The counts of a run of three tests after its script, with what has changed since."""
     changed = {name.replace("_", "-"): count for name, count in changed.items()}
     cancel = {"cancel-reason": Option(reason)} if reason else {}
     scripts = ["initial-count", "finished-count", "passed"]
@@ -177,10 +177,10 @@ def pause(base):
 def start_fault(run, base):
     """The test that can't be started, on the slot of the flaky one."""
     before = counts(finished_count=1, passed=1, flaky=1, skipped=1)
-    behind = counts(finished_count=2, passed=1, flaky=1, exec_failed=1, skipped=1)
+    after = counts(finished_count=2, passed=1, flaky=1, exec_failed=1, skipped=1)
     tried = attempt(base + 46, 0, (1, 1), {"start-error": "no such file"}, "exec-fail")
     yield started(run, base + 46, "cannot_start", 1, before, 2)
-    yield finished(run, base + 47, "cannot_start", [tried], behind, 1)
+    yield finished(run, base + 47, "cannot_start", [tried], after, 1)
 
 
 def slow_test(run, base, cancelled):

@@ -65,10 +65,10 @@ def sweep(tool, name, session, words):
         status, bundle, out, line, _ = tool.run(session, words, ("write", n))
         if bundle == whole:
             demand((status, line) == (11, b"TraceFault\n"), f"{name}: write {n} gives {status} {line}")
-            demand(trace.startswith(out) and out != trace, f"{name}: write {n} leaves no front of the trace")
+            demand(trace.startswith(out) and out != trace, f"{name}: write {n} leaves no prefix of the trace")
         else:
             demand((status, line) == (10, b"BundleFault\n"), f"{name}: write {n} gives {status} {line}")
-            demand(whole.startswith(bundle) and out == b"", f"{name}: write {n} leaves no front of the bundle")
+            demand(whole.startswith(bundle) and out == b"", f"{name}: write {n} leaves no prefix of the bundle")
     counts = f"{calls['allocation']} allocations ({smaller} done with less)"
     print(f"{name}: {counts}, {calls['read']} reads and {calls['write']} writes refused in turn")
 

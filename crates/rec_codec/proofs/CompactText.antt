@@ -134,7 +134,7 @@ mutual
 regroup : (a b c d e : List ℕ) → a ++ (b ++ 58 ∷ (c ++ (d ++ e))) ≡ (a ++ (b ++ 58 ∷ (c ++ d))) ++ e
 regroup a b c d e = simp append_assoc
 
-pub members_text_end : (later : Bool) (ms : Members) → (front : List ℕ) × (members_text later ms ≡ front ++ 125 ∷ [])
+pub members_text_end : (later : Bool) (ms : Members) → (prefix : List ℕ) × (members_text later ms ≡ prefix ++ 125 ∷ [])
 members_text_end later no_members = ([], refl)
 members_text_end later (member k d ms) =
     let end = members_text_end true ms in (

@@ -73,7 +73,7 @@ none_at false n h = refl
 take_drop : (bytes : List ℕ) (n : ℕ) → take (length bytes - n) (drop n bytes) ≡ drop n bytes
 take_drop bytes n = grind (arith, common_steps)
 
--- a newline was found: what stands before it, and the lines behind it
+-- a newline was found: what stands before it, and the lines after it
 pub lines_found : (bytes : List ℕ) (end : ℕ) → position is_newline bytes ≡ Some end → lines bytes ≡ take end bytes ∷ lines (take (length bytes - (end + 1)) (drop (end + 1) bytes))
 lines_found bytes end h =
     let f = found_at (nat_lt (position_or_len is_newline bytes) (length bytes)) (position_or_len is_newline bytes) end h in

@@ -35,23 +35,23 @@ drop_none (d ∷ cs) c e =
     ap (λ t. cond (is_whitespace d && (length t == 0)) [] (d ∷ t)) rest ∙ not_both (is_whitespace d) _ [] (d ∷ (cs ++ c ∷ [])) some
 
 -- what stands before an ASCII byte is UTF-8
-before_ascii : (front : List ℕ) (b : ℕ) → b < 128 → IsUtf8 (front ++ b ∷ []) → IsUtf8 front
-before_ascii front b small u =
-    let here : get_or (front ++ b ∷ []) (length front + 0) 0 ≡ b = get_or-append-add front (b ∷ []) 0 0 in
-    let at : get_or (front ++ b ∷ []) (length front) 0 ≡ b = let n : length front ≡ length front + 0 = omega arith in ap (λ i. get_or (front ++ b ∷ []) i 0) n ∙ here in
-    let boundary = IsCharBoundary-before_ascii (front ++ b ∷ []) (length front) (omega (arith, length-append front (b ∷ []))) (omega (arith, at)) in
-    subst IsUtf8 (take-append_seam front (b ∷ [])) (IsUtf8-take (front ++ b ∷ []) (length front) u boundary)
+before_ascii : (prefix : List ℕ) (b : ℕ) → b < 128 → IsUtf8 (prefix ++ b ∷ []) → IsUtf8 prefix
+before_ascii prefix b small u =
+    let here : get_or (prefix ++ b ∷ []) (length prefix + 0) 0 ≡ b = get_or-append-add prefix (b ∷ []) 0 0 in
+    let at : get_or (prefix ++ b ∷ []) (length prefix) 0 ≡ b = let n : length prefix ≡ length prefix + 0 = omega arith in ap (λ i. get_or (prefix ++ b ∷ []) i 0) n ∙ here in
+    let boundary = IsCharBoundary-before_ascii (prefix ++ b ∷ []) (length prefix) (omega (arith, length-append prefix (b ∷ []))) (omega (arith, at)) in
+    subst IsUtf8 (take-append_seam prefix (b ∷ [])) (IsUtf8-take (prefix ++ b ∷ []) (length prefix) u boundary)
 
-trim_end_none : (front : List ℕ) (b : ℕ) → b < 128 → is_whitespace b ≡ false → IsUtf8 (front ++ b ∷ []) → trim_end (front ++ b ∷ []) ≡ front ++ b ∷ []
+trim_end_none : (prefix : List ℕ) (b : ℕ) → b < 128 → is_whitespace b ≡ false → IsUtf8 (prefix ++ b ∷ []) → trim_end (prefix ++ b ∷ []) ≡ prefix ++ b ∷ []
 unfolding trim_end
-trim_end_none front b small e u =
+trim_end_none prefix b small e u =
     let one : IsUtf8 (b ∷ []) = subst IsUtf8 (encode_ascii b small) (IsUtf8-encode b (low_scalar b (omega arith))) in
-    let is : chars (front ++ b ∷ []) ≡ chars front ++ b ∷ [] =
-    chars-append front (b ∷ []) (before_ascii front b small u) ∙ ap (λ t. chars front ++ t) (chars-cons_ascii b [] small one ∙ ap (λ t. b ∷ t) chars-nil) in
+    let is : chars (prefix ++ b ∷ []) ≡ chars prefix ++ b ∷ [] =
+    chars-append prefix (b ∷ []) (before_ascii prefix b small u) ∙ ap (λ t. chars prefix ++ t) (chars-cons_ascii b [] small one ∙ ap (λ t. b ∷ t) chars-nil) in
     ap (λ cs. encode_utf8_all (drop_trailing_whitespace cs)) is
-    ∙ ap encode_utf8_all (drop_none (chars front) b e)
+    ∙ ap encode_utf8_all (drop_none (chars prefix) b e)
     ∙ ap encode_utf8_all (sym is)
-    ∙ encodes-chars (front ++ b ∷ []) u
+    ∙ encodes-chars (prefix ++ b ∷ []) u
 
 -- the text between braces
 pub trim_braces : (middle : List ℕ) → IsUtf8 (123 ∷ (middle ++ 125 ∷ [])) → trim (123 ∷ (middle ++ 125 ∷ [])) ≡ 123 ∷ (middle ++ 125 ∷ [])

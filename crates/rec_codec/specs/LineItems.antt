@@ -6,7 +6,7 @@ use Rattle.rec_codec.specs.Lines.{NumberedLine, text_of}
 use Rattle.rec_codec.specs.declared.line_events.LineError.{LineError}
 use Rattle.rec_codec.specs.declared.line_events.LineError.TheVariants.{ReadRunLog, ParseEvent, OutOfMemory}
 
--- what is left behind a fault: nothing where memory was short, all others else
+-- what is left after a fault: nothing where memory was short, all others else
 abbrev pub left_after_fault : LineError → List NumberedLine → List NumberedLine
 left_after_fault (ReadRunLog n) rest = rest
 left_after_fault (ParseEvent n) rest = rest

@@ -3,7 +3,7 @@ use Rattle.std.specs.Prelude.{ℕ, ◌+◌, ◌==◌, List, [], ◌∷◌, lengt
 use Rattle.std.specs.List.{onto_first}
 use Rattle.std.specs.Str.{is_utf8, trim}
 
--- the pieces between newlines; what stands behind the last newline is a line where it isn't empty
+-- the pieces between newlines; what stands after the last newline is a line where it isn't empty
 abbrev pub lines : List ℕ → List (List ℕ)
 lines [] = []
 lines (b ∷ bytes) = if b == 10 then [] ∷ lines bytes else onto_first b (lines bytes)

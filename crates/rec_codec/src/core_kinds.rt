@@ -111,7 +111,7 @@ pub fn core_from(
     }
 }
 
-// The kinds of setup scripts, and behind them those of tests.
+// The kinds of setup scripts, and after them those of tests.
 #[tactic(auto, unfolding(crate::specs::CoreKindForms::kind_in))]
 fn script_or_test_from(
     alloc: Global,

@@ -8,7 +8,7 @@ use rec_events::TestEventSummary;
 use std::alloc::Global;
 use std::marker::{Model, PhantomData};
 
-/// Goes over the lines of a log: an item for each line that isn't blank. It goes on behind a line
+/// Goes over the lines of a log: an item for each line that isn't blank. It goes on after a line
 /// that gives no event, and ends where there was not enough memory for one.
 #[derive(Drop)]
 pub struct LineIter<'a, S: OutputForm> {

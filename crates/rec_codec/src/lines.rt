@@ -26,7 +26,7 @@ impl<'a> Line<'a> {
     }
 }
 
-/// Goes over the lines of a text. A line ends at LF, and what stands behind the last LF is a line
+/// Goes over the lines of a text. A line ends at LF, and what stands after the last LF is a line
 /// where it isn't empty.
 #[derive(Drop)]
 pub struct Lines<'a> {
@@ -66,7 +66,7 @@ fn line_end(bytes: &[u8]) -> Option<usize>
     bytes.iter().position(|b| *b == b'\n')
 }
 
-/// The first line of what isn't empty, and what stands behind it.
+/// The first line of what isn't empty, and what stands after it.
 fn split_line(bytes: &[u8]) -> (&[u8], &[u8])
     requires { 0 < length bytes.now }
     ensures lines { lines bytes.now ≡ result.0.now ∷ lines result.1.now }
@@ -95,7 +95,7 @@ impl<'a> Iterator for Lines<'a> {
         let (bytes, rest) = split_line(self.rest);
         let number = self.number;
         self.rest = rest;
-        // behind a line with the greatest number nothing stands
+        // after a line with the greatest number nothing stands
         self.number = number.saturating_add(1);
         Some(Line { number, bytes })
     }

@@ -78,7 +78,7 @@ fn a_session_by_its_items(rt: HostRuntime) -> Result<(), Fail> {
 
 // After a line that is no text, the lines go on.
 #[test]
-fn the_line_behind_one_that_is_no_text(rt: HostRuntime) -> Result<(), Fail> {
+fn the_line_after_one_that_is_no_text(rt: HostRuntime) -> Result<(), Fail> {
     let alloc = rt.alloc();
     let log = log(alloc, &[run_start().as_bytes(), b"", b"\xff", b"{}"])?;
     let items = told::<LiveSpec>(alloc, log.as_slice(), 2)?;

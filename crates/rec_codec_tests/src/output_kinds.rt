@@ -197,7 +197,7 @@ fn no_attempts_that_failed(rt: HostRuntime) -> Result<(), Fail> {
     check_required::<LiveSpec>(&rt, rt.alloc(), &members, &others)
 }
 
-// With each of these members in the place of another one, the status behind `before` makes no event.
+// With each of these members in the place of another one, the status after `before` makes no event.
 fn check_statuses(
     rt: &impl Abort,
     alloc: Global,

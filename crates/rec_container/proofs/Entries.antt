@@ -34,16 +34,16 @@ content_found (m ∷ ms) n = found_cons (bytes_eq n (string_bytes m.0)) m.1 _ _ 
 test_true : (a b : ℕ) → a < b → nat_lt a b ≡ true
 test_true a b h = grind (arith, nat_tests)
 
--- what is judged behind the name
-abbrev pub refusal_behind : List Entry → List ℕ → List ℕ → Option (List ℕ) → Option ContainerWriteError
-refusal_behind es name content held =
+-- what is judged after the name
+abbrev pub refusal_after : List Entry → List ℕ → List ℕ → Option (List ℕ) → Option ContainerWriteError
+refusal_after es name content held =
     option_map_or (λ c. if bytes_eq c content then None else Some NameCollision) held (if nat_lt (length (spell (es ++ named name content ∷ []))) (2 ^ 64) then None else Some CountOutOfRange)
 
 pub refusal_named : (failed : Bool) (es : List Entry) (name content : List ℕ) (held : Option (List ℕ)) → failed ≡ false → 0 < length name → length name < 65536 → content_of es name ≡ held
-    → refusal failed es name content ≡ refusal_behind es name content held
+    → refusal failed es name content ≡ refusal_after es name content held
 refusal_named failed es name content held sound some short h =
     let fine : has_name_length name ≡ true = grind (arith, nat_tests) in
-    rw (sound, fine) (ap (refusal_behind es name content) h)
+    rw (sound, fine) (ap (refusal_after es name content) h)
 
 pub refusal_none : (failed : Bool) (es : List Entry) (name content : List ℕ) (n : ℕ) → failed ≡ false → 0 < length name → length name < 65536 → content_of es name ≡ None
     → n ≡ length (spell es) → n + (11 + length name + length content) < 2 ^ 64 → refusal failed es name content ≡ None

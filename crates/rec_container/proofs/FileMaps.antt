@@ -145,15 +145,15 @@ and_parts false c h = absurd cc
 is_slash : (b : ℕ) → nat_eq b 47 ≡ true → b ≡ 47
 is_slash b h = grind (arith, nat_tests)
 
-behind : (path file rest : List ℕ) → file ≡ path ++ rest → begins_below rest ≡ true → (file ≡ path) ⊎ ((below : List ℕ) × (file ≡ path ++ 47 ∷ below))
-behind path file [] whole h = inl (whole ∙ append-nil path)
-behind path file (b ∷ rest) whole h = inr (rest, whole ∙ ap (λ n. path ++ n ∷ rest) (is_slash b h))
+after : (path file rest : List ℕ) → file ≡ path ++ rest → begins_below rest ≡ true → (file ≡ path) ⊎ ((below : List ℕ) × (file ≡ path ++ 47 ∷ below))
+after path file [] whole h = inl (whole ∙ append-nil path)
+after path file (b ∷ rest) whole h = inr (rest, whole ∙ ap (λ n. path ++ n ∷ rest) (is_slash b h))
 
 lies : (path file : List ℕ) → lies_at path file ≡ true → (file ≡ path) ⊎ ((below : List ℕ) × (file ≡ path ++ 47 ∷ below))
 lies path file h =
     let n = length path in
     let parts = and_parts (bytes_eq (take n file) path) (begins_below (drop n file)) h in
-    behind path file (drop n file) (sym (take-append-drop n file) ∙ ap (λ l. l ++ drop n file) ((bytes_eq-Decides (take n file) path).0 parts.0)) parts.1
+    after path file (drop n file) (sym (take-append-drop n file) ∙ ap (λ l. l ++ drop n file) ((bytes_eq-Decides (take n file) path).0 parts.0)) parts.1
 
 lies-back : (path rest : List ℕ) → lies_at path (path ++ rest) ≡ begins_below rest
 lies-back path rest =

@@ -10,11 +10,11 @@ use Rattle.rec_container.specs.declared.errors.ContainerError.{ContainerError}
 use Rattle.rec_container.specs.declared.errors.ContainerError.TheVariants.{Truncated, BadName, BadTag, DuplicateName}
 use Rattle.rec_container.specs.Container.{Entry, IsName, entry, entry_head, content_of, IsEntry}
 use Rattle.rec_container.specs.Reading.{◌>>=◌, name_from, name_at, content_from, content_at, with_name, entry_from, entry_at, some_entry, end_at, step_at, number_at}
-use Rattle.rec_container.proofs.Octets.{AreOctets, AreOctets-behind}
+use Rattle.rec_container.proofs.Octets.{AreOctets, AreOctets-after}
 use Rattle.rec_container.proofs.Results.{then_ok, unless_ok, if_ok, Ok-injective}
-use Rattle.rec_container.proofs.Integers.{two_bytes, eight_bytes, number_at-spelled, number_at-ok, text_behind}
+use Rattle.rec_container.proofs.Integers.{two_bytes, eight_bytes, number_at-spelled, number_at-ok, text_after}
 
--- what is behind the tag of an entry
+-- what is after the tag of an entry
 abbrev pub entry_fields : Entry → List ℕ
 entry_fields e = to_be_bytes w16 (length e.name) ++ e.name ++ to_be_bytes w64 (length e.content) ++ e.content
 
@@ -47,12 +47,12 @@ content_at-spelled p content rest short =
 entry_at-spelled : (p : ℕ) (seen : List Entry) (e : Entry) (rest : List ℕ) → IsEntry e → content_of seen e.name ≡ None → entry_at p seen (entry_fields e ++ rest) ≡ Ok (e, rest)
 unfolding entry_at
 entry_at-spelled p seen e rest is new =
-    let behind = to_be_bytes w64 (length e.content) ++ (e.content ++ rest) in
+    let after = to_be_bytes w64 (length e.content) ++ (e.content ++ rest) in
     let place = p + 2 + length e.name in
-    let fields : entry_fields e ++ rest ≡ to_be_bytes w16 (length e.name) ++ (e.name ++ behind) = simp append_assoc in
+    let fields : entry_fields e ++ rest ≡ to_be_bytes w16 (length e.name) ++ (e.name ++ after) = simp append_assoc in
     ap (λ b. name_at p b >>= entry_from p seen) fields
-    ∙ ap (λ r. r >>= entry_from p seen) (name_at-spelled p e.name behind is.name)
-    ∙ ap (λ o. cond (is_some o) (Err (DuplicateName (p + 2))) (content_at place behind >>= with_name e.name)) new
+    ∙ ap (λ r. r >>= entry_from p seen) (name_at-spelled p e.name after is.name)
+    ∙ ap (λ o. cond (is_some o) (Err (DuplicateName (p + 2))) (content_at place after >>= with_name e.name)) new
     ∙ ap (λ r. r >>= with_name e.name) (content_at-spelled place e.content rest is.content)
 
 pub step_at-spelled : (p : ℕ) (seen : List Entry) (e : Entry) (rest : List ℕ) → IsEntry e → content_of seen e.name ≡ None → step_at p seen (entry e ++ rest) ≡ Ok (Some (e, rest))
@@ -80,7 +80,7 @@ name_at-ok p bytes name rest octets e =
     let long : n ≤ length more = ltb-false _ _ whole.0 in
     let count : length (take n more) ≡ n = omega (arith, length-take n more, long) in
     let is : IsName (take n more) = record { some = omega (arith, count, from_zero n some.0); short = omega (arith, count, number.1); text = IsUtf8-from_is_utf8 (take n more) text.0 } in
-    subst (λ (q : List ℕ × List ℕ). (bytes ≡ (to_be_bytes w16 (length q.0) ++ q.0) ++ q.1) × IsName q.0) text.1 (text_behind w16 (2 ^ 16) two_bytes bytes n more number.0 long, is)
+    subst (λ (q : List ℕ × List ℕ). (bytes ≡ (to_be_bytes w16 (length q.0) ++ q.0) ++ q.1) × IsName q.0) text.1 (text_after w16 (2 ^ 16) two_bytes bytes n more number.0 long, is)
 
 content_at-ok : (p : ℕ) (bytes content rest : List ℕ) → AreOctets bytes → content_at p bytes ≡ Ok (content, rest)
     → (bytes ≡ (to_be_bytes w64 (length content) ++ content) ++ rest) × (length content < 2 ^ 64)
@@ -95,7 +95,7 @@ content_at-ok p bytes content rest octets e =
     let long : n ≤ length more = ltb-false _ _ whole.0 in
     let short : length (take n more) < 2 ^ 64 = omega (arith, number.1, length-take n more) in
     subst (λ (q : List ℕ × List ℕ). (bytes ≡ (to_be_bytes w64 (length q.0) ++ q.0) ++ q.1) × (length q.0 < 2 ^ 64)) (Ok-injective ContainerError found (content, rest) whole.1)
-    (text_behind w64 (2 ^ 64) eight_bytes bytes n more number.0 long, short)
+    (text_after w64 (2 ^ 64) eight_bytes bytes n more number.0 long, short)
 
 -- an entry that was read: its bytes begin the ones that it was read from, and its name is new
 pub record IsNext (seen : List Entry) (bytes text : List ℕ) (e : Entry) (rest : List ℕ) : Type 0 where
@@ -107,13 +107,13 @@ nothing : (o : Option (List ℕ)) → is_some o ≡ false → o ≡ None
 nothing None h = refl
 nothing (Some x) h = absurd cc
 
--- the fields of an entry, one behind the other
-entry_fields-joined : (bytes name more content behind : List ℕ) → bytes ≡ (to_be_bytes w16 (length name) ++ name) ++ more → more ≡ (to_be_bytes w64 (length content) ++ content) ++ behind
-    → bytes ≡ entry_fields (record { name = name; content = content }) ++ behind
-entry_fields-joined bytes name more content behind first second =
+-- the fields of an entry, one after the other
+entry_fields-joined : (bytes name more content after : List ℕ) → bytes ≡ (to_be_bytes w16 (length name) ++ name) ++ more → more ≡ (to_be_bytes w64 (length content) ++ content) ++ after
+    → bytes ≡ entry_fields (record { name = name; content = content }) ++ after
+entry_fields-joined bytes name more content after first second =
     let head = to_be_bytes w16 (length name) ++ name in
     let size = to_be_bytes w64 (length content) in
-    first ∙ ap (λ l. head ++ l) second ∙ sym (append_assoc head (size ++ content) behind) ∙ ap (λ l. l ++ behind) (sym (append_assoc head size content))
+    first ∙ ap (λ l. head ++ l) second ∙ sym (append_assoc head (size ++ content) after) ∙ ap (λ l. l ++ after) (sym (append_assoc head size content))
 
 entry_at-ok : (p : ℕ) (seen : List Entry) (bytes : List ℕ) (e : Entry) (rest : List ℕ) → AreOctets bytes → entry_at p seen bytes ≡ Ok (e, rest) → IsNext seen bytes (entry_fields e) e rest
 unfolding entry_at
@@ -125,13 +125,13 @@ entry_at-ok p seen bytes e rest octets h =
     let fresh = unless_ok (is_some (content_of seen name)) (DuplicateName (p + 2)) (content_at place more >>= with_name name) (e, rest) first.2 in
     let second = then_ok (content_at place more) (with_name name) (e, rest) fresh.1 in
     let content = second.0.0 in
-    let behind = second.0.1 in
+    let after = second.0.1 in
     let n = name_at-ok p bytes name more octets first.1 in
-    let c = content_at-ok place more content behind (AreOctets-behind bytes (to_be_bytes w16 (length name) ++ name) more n.0 octets) second.1 in
+    let c = content_at-ok place more content after (AreOctets-after bytes (to_be_bytes w16 (length name) ++ name) more n.0 octets) second.1 in
     let made : Entry = record { name = name; content = content } in
-    let spelled : bytes ≡ entry_fields made ++ behind = entry_fields-joined bytes name more content behind n.0 c.0 in
-    let found : IsNext seen bytes (entry_fields made) made behind = record { spelled = spelled; is = record { name = n.1; content = c.1 }; new = nothing _ fresh.0 } in
-    subst (λ (x : Entry × List ℕ). IsNext seen bytes (entry_fields x.0) x.0 x.1) (Ok-injective ContainerError (made, behind) (e, rest) second.2) found
+    let spelled : bytes ≡ entry_fields made ++ after = entry_fields-joined bytes name more content after n.0 c.0 in
+    let found : IsNext seen bytes (entry_fields made) made after = record { spelled = spelled; is = record { name = n.1; content = c.1 }; new = nothing _ fresh.0 } in
+    subst (λ (x : Entry × List ℕ). IsNext seen bytes (entry_fields x.0) x.0 x.1) (Ok-injective ContainerError (made, after) (e, rest) second.2) found
 
 tag_is_one : (n : ℕ) → nat_eq n 1 ≡ true → n ≡ 1
 tag_is_one n h = grind (arith, nat_tests)
@@ -166,7 +166,7 @@ step_at-some p seen (tag ∷ bytes) e rest octets h = by (nat_eq tag 0) (nat_eq 
           new = next.new;
         }
 
--- the end mark was there, and nothing behind it
+-- the end mark was there, and nothing after it
 pub step_at-none : (p : ℕ) (seen : List Entry) (bytes : List ℕ) → step_at p seen bytes ≡ Ok None → bytes ≡ 0 ∷ []
 unfolding step_at
 step_at-none p seen [] h = absurd cc

@@ -44,20 +44,20 @@ module _ (w : Width) (limit : ℕ) (spells : Spells w limit) where
   -- a number that is read stands there
   pub number_at-ok : (p : ℕ) (bytes : List ℕ) (n : ℕ) (rest : List ℕ) → AreOctets bytes → number_at w p bytes ≡ Ok (n, rest) → (bytes ≡ to_be_bytes w n ++ rest) × (n < limit)
   number_at-ok p bytes n rest octets e =
-      let front = take (byte_len w) bytes in
-      let found : ℕ × List ℕ = (from_be_bytes w front, drop (byte_len w) bytes) in
+      let prefix = take (byte_len w) bytes in
+      let found : ℕ × List ℕ = (from_be_bytes w prefix, drop (byte_len w) bytes) in
       let there = unless_ok (ltb (length bytes) (byte_len w)) (Truncated p) (Ok found) (n, rest) e in
       let same = Ok-injective ContainerError found (n, rest) there.1 in
-      let size : length front ≡ byte_len w = omega (arith, length-take (byte_len w) bytes, ltb-false _ _ there.0) in
+      let size : length prefix ≡ byte_len w = omega (arith, length-take (byte_len w) bytes, ltb-false _ _ there.0) in
       let octets' = AreOctets-take (byte_len w) bytes octets in
       let spelled : bytes ≡ to_be_bytes w found.0 ++ found.1 =
-      sym (take-append-drop (byte_len w) bytes) ∙ ap (λ l. l ++ drop (byte_len w) bytes) (sym (spells.written front size octets')) in
-      subst (λ (q : ℕ × List ℕ). (bytes ≡ to_be_bytes w q.0 ++ q.1) × (q.0 < limit)) same (spelled, spells.below front octets')
+      sym (take-append-drop (byte_len w) bytes) ∙ ap (λ l. l ++ drop (byte_len w) bytes) (sym (spells.written prefix size octets')) in
+      subst (λ (q : ℕ × List ℕ). (bytes ≡ to_be_bytes w q.0 ++ q.1) × (q.0 < limit)) same (spelled, spells.below prefix octets')
 
-  -- a text of this length, behind it
-  pub text_behind : (bytes : List ℕ) (n : ℕ) (more : List ℕ) → bytes ≡ to_be_bytes w n ++ more → n ≤ length more
+  -- a text of this length, after it
+  pub text_after : (bytes : List ℕ) (n : ℕ) (more : List ℕ) → bytes ≡ to_be_bytes w n ++ more → n ≤ length more
       → bytes ≡ (to_be_bytes w (length (take n more)) ++ take n more) ++ drop n more
-  text_behind bytes n more e long =
+  text_after bytes n more e long =
       let size : length (take n more) ≡ n = omega (arith, length-take n more) in
       e ∙ ap (λ l. to_be_bytes w n ++ l) (sym (take-append-drop n more)) ∙ sym (append_assoc (to_be_bytes w n) (take n more) (drop n more))
       ∙ ap (λ k. (to_be_bytes w k ++ take n more) ++ drop n more) (sym size)

@@ -1,7 +1,7 @@
 pub mod Contents
 pub mod Entries
 pub mod FileMaps
-pub mod Fronts
+pub mod Prefixes
 pub mod Grammar
 pub mod Integers
 pub mod Lengths

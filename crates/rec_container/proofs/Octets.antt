@@ -16,7 +16,7 @@ AreOctets-take n bytes octets i =
 pub AreOctets-drop : (n : ℕ) (bytes : List ℕ) → AreOctets bytes → AreOctets (drop n bytes)
 AreOctets-drop n bytes octets i = rw get_or-drop (octets (n + i))
 
--- what stands behind a part
-pub AreOctets-behind : (bytes part rest : List ℕ) → bytes ≡ part ++ rest → AreOctets bytes → AreOctets rest
-AreOctets-behind bytes part rest e octets =
+-- what stands after a part
+pub AreOctets-after : (bytes part rest : List ℕ) → bytes ≡ part ++ rest → AreOctets bytes → AreOctets rest
+AreOctets-after bytes part rest e octets =
     subst AreOctets (ap (drop (length part)) e ∙ drop_at part rest (length part) refl) (AreOctets-drop (length part) bytes octets)

@@ -5,7 +5,7 @@ use Rattle.std.proofs.lemmas.Slice.Eq.{bytes_eq-Decides}
 use Rattle.std.proofs.lemmas.List.{append_cancel_left, take_at}
 use Rattle.rec_container.specs.declared.errors.ContainerError.{ContainerError}
 use Rattle.rec_container.specs.declared.errors.ContainerError.TheVariants.{OutOfMemory}
-use Rattle.rec_container.specs.Container.{Entry, entry, magic, content_of, IsEntry, AreFrom, place_behind, IsContainer, IsFront}
+use Rattle.rec_container.specs.Container.{Entry, entry, magic, content_of, IsEntry, AreFrom, place_after, IsContainer, IsPrefix}
 use Rattle.rec_container.specs.Reading.{step_at, IsFault, has_magic}
 use Rattle.rec_container.proofs.Grammar.{step_at-spelled, step_at-same, entry-tagged, entry_fields}
 
@@ -13,13 +13,13 @@ use Rattle.rec_container.proofs.Grammar.{step_at-spelled, step_at-same, entry-ta
 abbrev pub IsStuck : List Entry → List ℕ → Type 0
 IsStuck seen x = (e : Entry) (r : List ℕ) → IsEntry e → content_of seen e.name ≡ None → x ≡ entry e ++ r → ⊥
 
-pub fronts_unique : (seen es fs : List Entry) (x y : List ℕ) → AreFrom seen es → AreFrom seen fs → flat_map entry es ++ x ≡ flat_map entry fs ++ y → IsStuck (seen ++ es) x → IsStuck (seen ++ fs) y → (es ≡ fs) × (x ≡ y)
-fronts_unique seen [] [] x y p q h s t = (refl, h)
-fronts_unique seen [] (f ∷ fs) x y p q h s t =
+pub prefixes_unique : (seen es fs : List Entry) (x y : List ℕ) → AreFrom seen es → AreFrom seen fs → flat_map entry es ++ x ≡ flat_map entry fs ++ y → IsStuck (seen ++ es) x → IsStuck (seen ++ fs) y → (es ≡ fs) × (x ≡ y)
+prefixes_unique seen [] [] x y p q h s t = (refl, h)
+prefixes_unique seen [] (f ∷ fs) x y p q h s t =
     absurd (s f (flat_map entry fs ++ y) q.0 (ap (λ l. content_of l f.name) (append-nil seen) ∙ q.1) (h ∙ append_assoc (entry f) (flat_map entry fs) y))
-fronts_unique seen (e ∷ es) [] x y p q h s t =
+prefixes_unique seen (e ∷ es) [] x y p q h s t =
     absurd (t e (flat_map entry es ++ x) p.0 (ap (λ l. content_of l e.name) (append-nil seen) ∙ p.1) (sym h ∙ append_assoc (entry e) (flat_map entry es) x))
-fronts_unique seen (e ∷ es) (f ∷ fs) x y p q h s t =
+prefixes_unique seen (e ∷ es) (f ∷ fs) x y p q h s t =
     let r = flat_map entry es ++ x in
     let u = flat_map entry fs ++ y in
     let same : entry e ++ r ≡ entry f ++ u = sym (append_assoc (entry e) (flat_map entry es) x) ∙ h ∙ append_assoc (entry f) (flat_map entry fs) y in
@@ -30,7 +30,7 @@ fronts_unique seen (e ∷ es) (f ∷ fs) x y p q h s t =
     let s' : IsStuck ((seen ++ e ∷ []) ++ es) x = subst (λ (l : List Entry). IsStuck l x) (sym (append_assoc seen (e ∷ []) es)) s in
     let t' : IsStuck ((seen ++ e ∷ []) ++ fs) y =
     subst (λ (l : List Entry). IsStuck l y) (ap (λ (d : Entry). seen ++ d ∷ fs) (sym one) ∙ sym (append_assoc seen (e ∷ []) fs)) t in
-    let ih = fronts_unique (seen ++ e ∷ []) es fs x y p.2 qs rest s' t' in
+    let ih = prefixes_unique (seen ++ e ∷ []) es fs x y p.2 qs rest s' t' in
     ((λ i. one i ∷ ih.0 i), ih.1)
 
 -- an end mark is no entry
@@ -46,46 +46,46 @@ pub fault_stuck : (p : ℕ) (seen : List Entry) (x : List ℕ) (f : ContainerErr
 fault_stuck p seen x f h e r is new w = let g = sym h ∙ ap (step_at p seen) w ∙ step_at-spelled p seen e r is new in cc
 
 -- what follows the magic
-pub behind_magic : (es fs : List Entry) (x y : List ℕ) → magic ++ flat_map entry es ++ x ≡ magic ++ flat_map entry fs ++ y → flat_map entry es ++ x ≡ flat_map entry fs ++ y
-behind_magic es fs x y h =
+pub after_magic : (es fs : List Entry) (x y : List ℕ) → magic ++ flat_map entry es ++ x ≡ magic ++ flat_map entry fs ++ y → flat_map entry es ++ x ≡ flat_map entry fs ++ y
+after_magic es fs x y h =
     append_cancel_left magic _ _ (sym (append_assoc magic (flat_map entry es) x) ∙ h ∙ append_assoc magic (flat_map entry fs) y)
 
 pub one_reading_spec : (bytes : List ℕ) (es fs : List Entry) → IsContainer bytes es → IsContainer bytes fs → es ≡ fs
 one_reading_spec bytes es fs p q =
-    (fronts_unique [] es fs (0 ∷ []) (0 ∷ []) p.entries q.entries (behind_magic es fs (0 ∷ []) (0 ∷ []) (sym p.spelled ∙ q.spelled)) (end_stuck es []) (end_stuck fs [])).0
+    (prefixes_unique [] es fs (0 ∷ []) (0 ∷ []) p.entries q.entries (after_magic es fs (0 ∷ []) (0 ∷ []) (sym p.spelled ∙ q.spelled)) (end_stuck es []) (end_stuck fs [])).0
 
 tail_of : (x y : List ℕ) → 0 ∷ x ≡ 0 ∷ y → x ≡ y
 tail_of x y h = cc
 
-pub no_front_spec : (bytes more : List ℕ) (es fs : List Entry) → IsContainer bytes es → IsContainer (bytes ++ more) fs → more ≡ []
-no_front_spec bytes more es fs p q =
+pub no_prefix_spec : (bytes more : List ℕ) (es fs : List Entry) → IsContainer bytes es → IsContainer (bytes ++ more) fs → more ≡ []
+no_prefix_spec bytes more es fs p q =
     let longer : bytes ++ more ≡ magic ++ flat_map entry es ++ 0 ∷ more = ap (λ l. l ++ more) p.spelled ∙ append_assoc (magic ++ flat_map entry es) (0 ∷ []) more in
-    let both = fronts_unique [] es fs (0 ∷ more) (0 ∷ []) p.entries q.entries (behind_magic es fs (0 ∷ more) (0 ∷ []) (sym longer ∙ q.spelled)) (end_stuck es more) (end_stuck fs []) in
+    let both = prefixes_unique [] es fs (0 ∷ more) (0 ∷ []) p.entries q.entries (after_magic es fs (0 ∷ more) (0 ∷ []) (sym longer ∙ q.spelled)) (end_stuck es more) (end_stuck fs []) in
     tail_of more [] both.1
 
 no_end_fault : (p : ℕ) (seen : List Entry) (f : ContainerError) → step_at p seen (0 ∷ []) ≡ Err f → ⊥
 unfolding step_at
 no_end_fault p seen f h = cc
 
--- a front begins with the magic
-front_has_magic : (bytes : List ℕ) (es : List Entry) (rest : List ℕ) → IsFront bytes es rest → has_magic bytes ≡ true
-front_has_magic bytes es rest front =
+-- a prefix begins with the magic
+prefix_has_magic : (bytes : List ℕ) (es : List Entry) (rest : List ℕ) → IsPrefix bytes es rest → has_magic bytes ≡ true
+prefix_has_magic bytes es rest prefix =
     (bytes_eq-Decides (take (length magic) bytes) magic).1
-    (ap (take (length magic)) (front.spelled ∙ append_assoc magic (flat_map entry es) rest) ∙ take_at magic (flat_map entry es ++ rest) (length magic) refl)
+    (ap (take (length magic)) (prefix.spelled ∙ append_assoc magic (flat_map entry es) rest) ∙ take_at magic (flat_map entry es ++ rest) (length magic) refl)
 
 not_both : (b : Bool) → b ≡ true → b ≡ false → ⊥
 not_both b holds fails = cc
 
 -- what spells entries has no fault
 pub no_fault : (bytes : List ℕ) (es : List Entry) (f : ContainerError) → IsContainer bytes es → IsFault bytes f → ⊥
-no_fault bytes es f p (inl q) = not_both _ (front_has_magic bytes es (0 ∷ []) (record { spelled = p.spelled; entries = p.entries })) q.0
+no_fault bytes es f p (inl q) = not_both _ (prefix_has_magic bytes es (0 ∷ []) (record { spelled = p.spelled; entries = p.entries })) q.0
 no_fault bytes es f p (inr q) =
     let gs = q.0 in
     let rest = q.1 in
-    let front = q.2 in
-    let both = fronts_unique [] es gs (0 ∷ []) rest p.entries front.entries (behind_magic es gs (0 ∷ []) rest (sym p.spelled ∙ front.spelled)) (end_stuck es []) (fault_stuck (place_behind gs) gs rest f q.3) in
-    let ends : step_at (place_behind gs) gs (0 ∷ []) ≡ Err f = ap (step_at (place_behind gs) gs) both.1 ∙ q.3 in
-    no_end_fault (place_behind gs) gs f ends
+    let prefix = q.2 in
+    let both = prefixes_unique [] es gs (0 ∷ []) rest p.entries prefix.entries (after_magic es gs (0 ∷ []) rest (sym p.spelled ∙ prefix.spelled)) (end_stuck es []) (fault_stuck (place_after gs) gs rest f q.3) in
+    let ends : step_at (place_after gs) gs (0 ∷ []) ≡ Err f = ap (step_at (place_after gs) gs) both.1 ∙ q.3 in
+    no_end_fault (place_after gs) gs f ends
 
 same_fault : (r : Result (Option (Entry × List ℕ)) ContainerError) (e f : ContainerError) → r ≡ Err e → r ≡ Err f → e ≡ f
 same_fault r e f p q = cc
@@ -93,14 +93,14 @@ same_fault r e f p q = cc
 -- other bytes have at most one
 pub one_fault : (bytes : List ℕ) (e f : ContainerError) → IsFault bytes e → IsFault bytes f → e ≡ f
 one_fault bytes e f (inl p) (inl q) = p.1 ∙ sym q.1
-one_fault bytes e f (inl p) (inr q) = absurd (not_both _ (front_has_magic bytes q.0 q.1 q.2) p.0)
-one_fault bytes e f (inr p) (inl q) = absurd (not_both _ (front_has_magic bytes p.0 p.1 p.2) q.0)
+one_fault bytes e f (inl p) (inr q) = absurd (not_both _ (prefix_has_magic bytes q.0 q.1 q.2) p.0)
+one_fault bytes e f (inr p) (inl q) = absurd (not_both _ (prefix_has_magic bytes p.0 p.1 p.2) q.0)
 one_fault bytes e f (inr p) (inr q) =
     let es = p.0 in
     let gs = q.0 in
-    let both = fronts_unique [] es gs p.1 q.1 p.2.entries q.2.entries (behind_magic es gs p.1 q.1 (sym p.2.spelled ∙ q.2.spelled))
-    (fault_stuck (place_behind es) es p.1 e p.3) (fault_stuck (place_behind gs) gs q.1 f q.3) in
-    let again : step_at (place_behind es) es p.1 ≡ Err f = ap (λ (l : List Entry). step_at (place_behind l) l p.1) both.0 ∙ ap (step_at (place_behind gs) gs) both.1 ∙ q.3 in
+    let both = prefixes_unique [] es gs p.1 q.1 p.2.entries q.2.entries (after_magic es gs p.1 q.1 (sym p.2.spelled ∙ q.2.spelled))
+    (fault_stuck (place_after es) es p.1 e p.3) (fault_stuck (place_after gs) gs q.1 f q.3) in
+    let again : step_at (place_after es) es p.1 ≡ Err f = ap (λ (l : List Entry). step_at (place_after l) l p.1) both.0 ∙ ap (step_at (place_after gs) gs) both.1 ∙ q.3 in
     same_fault _ e f p.3 again
 
 -- what spells entries is read as these, unless memory runs out

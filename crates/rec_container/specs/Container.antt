@@ -12,7 +12,7 @@ pub record Entry : Type 0 where
 unfoldable pub magic : List ℕ
 magic = codes "nxtcont1"
 
--- what stands before an entry's content: the tag, the name behind its length, and the content's length
+-- what stands before an entry's content: the tag, the name after its length, and the content's length
 unfoldable pub entry_head : List ℕ → ℕ → List ℕ
 entry_head name content = 1 ∷ to_be_bytes w16 (length name) ++ name ++ to_be_bytes w64 content
 
@@ -25,16 +25,16 @@ abbrev pub spell : List Entry → List ℕ
 spell es = magic ++ flat_map entry es ++ 0 ∷ []
 
 -- what stands before the end mark, as it is written: the magic goes before the first entry
-abbrev pub front : List Entry → List ℕ
-front [] = []
-front (e ∷ es) = magic ++ flat_map entry (e ∷ es)
+abbrev pub prefix : List Entry → List ℕ
+prefix [] = []
+prefix (e ∷ es) = magic ++ flat_map entry (e ∷ es)
 
--- what one more entry adds to the front
+-- what one more entry adds to the prefix
 abbrev pub addition : List Entry → Entry → List ℕ
 addition [] e = magic ++ entry e
 addition (d ∷ es) e = entry e
 
--- what the end adds to the front
+-- what the end adds to the prefix
 abbrev pub ending : List Entry → List ℕ
 ending [] = magic ++ 0 ∷ []
 ending (d ∷ es) = 0 ∷ []
@@ -70,13 +70,13 @@ pub record IsContainer (bytes : List ℕ) (es : List Entry) : Type 0 where
   pub entries : AreFrom [] es
 
 -- the bytes begin with the magic and whole entries
-pub record IsFront (bytes : List ℕ) (es : List Entry) (rest : List ℕ) : Type 0 where
+pub record IsPrefix (bytes : List ℕ) (es : List Entry) (rest : List ℕ) : Type 0 where
   pub spelled : bytes ≡ magic ++ flat_map entry es ++ rest
   pub entries : AreFrom [] es
 
--- the place behind them
-abbrev pub place_behind : List Entry → ℕ
-place_behind es = length (magic ++ flat_map entry es)
+-- the place after them
+abbrev pub place_after : List Entry → ℕ
+place_after es = length (magic ++ flat_map entry es)
 
 -- where the content of the entry at an index begins, in a spelling that has the entries from the place p on
 abbrev pub place_from : ℕ → List Entry → ℕ → ℕ

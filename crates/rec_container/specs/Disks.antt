@@ -63,7 +63,7 @@ HasLength None (Ok n) = ⊥
 HasLength (Some bytes) (Ok n) = n ≡ length bytes
 HasLength file (Err e) = Refuses file e
 
--- the front of the buffer has what the file has from the place on; nothing only at the file's end, or without room
+-- the prefix of the buffer has what the file has from the place on; nothing only at the file's end, or without room
 abbrev pub ReadsBytes : Option (List ℕ) → ℕ → Result ℕ DiskError → List ℕ → Type 0
 ReadsBytes None at (Ok n) buf = ⊥
 ReadsBytes (Some bytes) at (Ok n) buf = (n ≤ length (drop at bytes)) × (take n buf ≡ take n (drop at bytes)) × (0 < length buf → at < length bytes → 0 < n)

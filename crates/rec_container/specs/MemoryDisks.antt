@@ -42,7 +42,7 @@ IsRefusal file Missing = file ≡ None
 IsRefusal file DiskFailed = ⊥
 IsRefusal file OutOfMemory = Unit {0}
 
--- a piece was put behind a file, or all files are as they were
+-- a piece was put after a file, or all files are as they were
 abbrev pub Extends : List (List ℕ × List ℕ) → List (List ℕ × List ℕ) → List ℕ → Option (List ℕ) → List ℕ → Result (Unit {0}) DiskError → Type 0
 Extends old new path None piece (Ok x) = ⊥
 Extends old new path (Some bytes) piece (Ok x) = HasFile old new path (Some (bytes ++ piece))

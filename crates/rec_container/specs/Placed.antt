@@ -14,7 +14,7 @@ placed_entry h = record { name = h.name.now; content = h.content.now }
 abbrev pub placed_entries : List PlacedEntry → List Entry
 placed_entries hs = map placed_entry hs
 
--- each content begins where its entry, behind those before it, has it
+-- each content begins where its entry, after those before it, has it
 abbrev pub PlacedFrom : ℕ → List PlacedEntry → Type 0
 PlacedFrom p [] = Unit {0}
 PlacedFrom p (h ∷ hs) = (h.place ≡ p + 11 + length h.name.now) × PlacedFrom (p + (11 + length h.name.now + length h.content.now)) hs

@@ -61,7 +61,7 @@ pub trait Disk {
         ensures same { files self.new ≡ files self.old }
         ensures cause { HasDiskCause (faults self.old) (faults self.new) result };
 
-    /// Moves bytes of a file, from `at` on, to the front of `buf`, and answers how many.
+    /// Moves bytes of a file, from `at` on, to the start of `buf`, and answers how many.
     ///
     /// With room in `buf`, 0 means that the file ends at `at` or before it. `Missing` means that
     /// there is no such file.
@@ -77,7 +77,7 @@ pub trait Disk {
         ensures present { IfErr result NotMissing }
         ensures cause { HasDiskCause (faults self.old) (faults self.new) result };
 
-    /// Puts the first bytes of `piece` behind a file's, and answers how many: at least one, unless it
+    /// Puts the first bytes of `piece` after a file's, and answers how many: at least one, unless it
     /// is empty. `Missing` means that there is no such file.
     fn append(&mut self, path: &str, piece: &[u8]) -> Result<usize, DiskError>
         ensures bound { IfOk result (λ n. n ≤ length piece.now) }

@@ -69,7 +69,7 @@ pub enum ContainerError {
     #[error("a name seen before at byte {at}")]
     DuplicateName { at: usize },
     /// Bytes follow the end mark, from `at` on.
-    #[error("bytes behind the end mark, from byte {at} on")]
+    #[error("bytes after the end mark, from byte {at} on")]
     TrailingBytes { at: usize },
     /// Memory ran out.
     #[error("out of memory")]

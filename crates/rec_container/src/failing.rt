@@ -81,8 +81,8 @@ impl Source for FailingSource<'_> {
             return Err(SourceFailed);
         }
         let count = bounded(buf.len().min(self.rest.len()), self.piece);
-        let (front, rest) = self.rest.split_at(count);
-        buf[..count].copy_from_slice(front);
+        let (prefix, rest) = self.rest.split_at(count);
+        buf[..count].copy_from_slice(prefix);
         self.rest = rest;
         Ok(count)
     }

@@ -66,7 +66,7 @@ impl FileMap {
         drop(self.files.remove(path));
     }
 
-    /// Puts a piece behind a file's bytes. An error means that the file is missing, or that memory
+    /// Puts a piece after a file's bytes. An error means that the file is missing, or that memory
     /// ran out, and leaves all files as they were.
     pub(crate) fn extend(&mut self, path: &str, piece: &[u8]) -> Result<(), DiskError>
         ensures { Extends self.old self.new path.now (file_at self.old path.now) piece.now result }

@@ -46,7 +46,7 @@ impl<'a> IndexedEntries<'a> {
         }
     }
 
-    /// Adds an entry of a new name behind the others. Without memory they stay as they are.
+    /// Adds an entry of a new name after the others. Without memory they stay as they are.
     pub(crate) fn push(&mut self, held: PlacedEntry<'a>) -> Result<(), AllocError>
         requires { content_of (placed_entries self.old) held.name.now ≡ None }
         ensures added { OnOk result (self.new ≡ self.old ++ held.entry ∷ []) }

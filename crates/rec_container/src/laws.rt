@@ -1,6 +1,6 @@
 //! Laws of the container's grammar. The functions do nothing: their contracts are what they are for.
 ghost use Rattle.std.specs.Prelude.{◌≡◌, ◌<◌, ◌≤◌, [], ◌∷◌, ◌++◌, length, map, slice_get, List, ℕ, Some};
-ghost use Rattle.rec_container.specs.Container.{Entry, addition, content_bytes, ending, front, spell, AreFrom, IsContainer, StandsAt, place_from};
+ghost use Rattle.rec_container.specs.Container.{Entry, addition, content_bytes, ending, prefix, spell, AreFrom, IsContainer, StandsAt, place_from};
 ghost use Rattle.rec_container.specs.Reading.{IsFault};
 ghost use Rattle.rec_container.specs.declared.errors.ContainerError.{ContainerError};
 
@@ -10,7 +10,7 @@ pub fn one_reading()
 {}
 
 /// No container begins a longer one: its end is known without what follows.
-pub fn no_front()
+pub fn no_prefix()
     ensures { (bytes more : List ℕ) (es fs : List Entry) → IsContainer bytes es → IsContainer (bytes ++ more) fs → more ≡ [] }
 {}
 
@@ -20,10 +20,10 @@ pub fn one_fault()
     ensures others { (bytes : List ℕ) (e f : ContainerError) → IsFault bytes e → IsFault bytes f → e ≡ f }
 {}
 
-/// What the calls of a writer write, one behind the other, is the spelling of its entries.
+/// What the calls of a writer write, one after the other, is the spelling of its entries.
 pub fn one_spelling()
-    ensures push { (es : List Entry) (e : Entry) → front (es ++ e ∷ []) ≡ front es ++ addition es e }
-    ensures end { (es : List Entry) → front es ++ ending es ≡ spell es }
+    ensures push { (es : List Entry) (e : Entry) → prefix (es ++ e ∷ []) ≡ prefix es ++ addition es e }
+    ensures end { (es : List Entry) → prefix es ++ ending es ≡ spell es }
     ensures whole { (es : List Entry) → AreFrom [] es → IsContainer (spell es) es }
 {}
 

@@ -1,4 +1,4 @@
-//! Sources and sinks of bytes, disks, and the container: a file of named contents, one behind the other.
+//! Sources and sinks of bytes, disks, and the container: a file of named contents, one after the other.
 #![tactic(auto)]
 
 mod adapters;

@@ -43,8 +43,8 @@ impl Source for SliceSource<'_> {
         ensures whole { result ≡ Ok (min (length buf.old) (length self.old)) }
     {
         let count = buf.len().min(self.rest.len());
-        let (front, rest) = self.rest.split_at(count);
-        buf[..count].copy_from_slice(front);
+        let (prefix, rest) = self.rest.split_at(count);
+        buf[..count].copy_from_slice(prefix);
         self.rest = rest;
         Ok(count)
     }

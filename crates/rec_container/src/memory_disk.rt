@@ -157,7 +157,7 @@ impl Disk for MemoryDisk {
     }
 }
 
-/// Moves bytes from `at` on to the front of a buffer, and answers how many.
+/// Moves bytes from `at` on to the start of a buffer, and answers how many.
 fn copy_from(bytes: &[u8], at: u64, buf: &mut [u8]) -> usize
     ensures bound { result ≤ length buf.new }
     ensures bytes { ReadsBytes (Some bytes.now) at (Ok result) buf.new }

@@ -179,7 +179,7 @@ fn create_file<R: Files>(rt: &R, path: &str) -> io::Result<()> {
     Ok(())
 }
 
-/// Puts bytes behind a file's, and answers how many: at least one, of a piece that isn't empty.
+/// Puts bytes after a file's, and answers how many: at least one, of a piece that isn't empty.
 fn append_to<R: Files>(rt: &R, path: &str, piece: &[u8]) -> io::Result<Option<usize>>
     ensures bound { IfOk result (λ o. IfSome o (λ n. n ≤ length piece.now)) }
     ensures progress { IfOk result (λ o. IfSome o (λ n. 0 < length piece.now → 0 < n)) }

@@ -17,8 +17,8 @@ fn read_u16(bytes: &[u8], at: usize) -> Result<(u16, &[u8]), ContainerError>
     if bytes.len() < 2 {
         return Err(ContainerError::Truncated { at });
     }
-    let (front, rest) = bytes.split_at(2);
-    let number = u16::from_be_bytes([front[0], front[1]]);
+    let (prefix, rest) = bytes.split_at(2);
+    let number = u16::from_be_bytes([prefix[0], prefix[1]]);
     Ok((number, rest))
 }
 
@@ -30,9 +30,9 @@ fn read_u64(bytes: &[u8], at: usize) -> Result<(u64, &[u8]), ContainerError>
     if bytes.len() < 8 {
         return Err(ContainerError::Truncated { at });
     }
-    let (front, rest) = bytes.split_at(8);
+    let (prefix, rest) = bytes.split_at(8);
     let number = u64::from_be_bytes([
-        front[0], front[1], front[2], front[3], front[4], front[5], front[6], front[7],
+        prefix[0], prefix[1], prefix[2], prefix[3], prefix[4], prefix[5], prefix[6], prefix[7],
     ]);
     Ok((number, rest))
 }
@@ -47,7 +47,7 @@ fn text_of(bytes: &[u8]) -> Option<&str>
     }
 }
 
-/// A name behind its length, and what follows.
+/// A name after its length, and what follows.
 #[tactic(auto, unfolding(crate::specs::Reading::name_at))]
 fn read_name(bytes: &[u8], at: usize) -> Result<(&str, &[u8]), ContainerError>
     requires { at + length bytes.now < 2 ^ 64 }
@@ -69,7 +69,7 @@ fn read_name(bytes: &[u8], at: usize) -> Result<(&str, &[u8]), ContainerError>
     }
 }
 
-/// A content behind its length, and what follows.
+/// A content after its length, and what follows.
 #[tactic(auto, unfolding(crate::specs::Reading::content_at))]
 fn read_content(bytes: &[u8], at: usize) -> Result<(&[u8], &[u8]), ContainerError>
     requires { at + length bytes.now < 2 ^ 64 }
@@ -84,7 +84,7 @@ fn read_content(bytes: &[u8], at: usize) -> Result<(&[u8], &[u8]), ContainerErro
     Ok(rest.split_at(len))
 }
 
-/// An entry behind its tag, and what follows, after the entries seen.
+/// An entry after its tag, and what follows, after the entries seen.
 #[tactic(auto, unfolding(crate::specs::Reading::entry_at))]
 fn read_entry<'a>(
     bytes: &'a [u8],

@@ -29,7 +29,7 @@ pub trait Source {
     /// How often it has failed. The count stays at u64's greatest once it is there.
     ghost faults: { Self → ℕ };
 
-    /// Moves the first bytes that are left to the front of `buf`, and answers how many.
+    /// Moves the first bytes that are left to the start of `buf`, and answers how many.
     ///
     /// With room in `buf`, 0 means that nothing is left. A read that fails takes nothing.
     fn read(&mut self, buf: &mut [u8]) -> Result<usize, SourceFailed>

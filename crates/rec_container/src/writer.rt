@@ -5,7 +5,7 @@ ghost use Rattle.std.specs.Io.KnownBytes.{Appends};
 ghost use Rattle.std.specs.declared.option.Option.{Option};
 ghost use Rattle.rec_container.specs.Causes.{HasCause, Rose};
 ghost use Rattle.rec_container.specs.Taking.{TookPart};
-ghost use Rattle.rec_container.specs.Container.{entry_head, addition, ending, magic, content_of, front, spell, AreFrom};
+ghost use Rattle.rec_container.specs.Container.{entry_head, addition, ending, magic, content_of, prefix, spell, AreFrom};
 ghost use Rattle.rec_container.specs.Writing.{named, refusal, Accepts, Adds, Refuses, RefusesLate, HasSizesOf, Unfinished, entries_of};
 
 use crate::errors::{ContainerSizes, ContainerWriteError};
@@ -63,7 +63,7 @@ fn head(alloc: Global, is_first: bool, name: &str, content: usize) -> Result<Vec
     Ok(head)
 }
 
-/// Writes one piece behind the other.
+/// Writes one piece after the other.
 fn write_two<K: Sink>(sink: &mut K, first: &[u8], second: &[u8]) -> Result<(), SinkFailed>
     ensures ok { OnOk result (Appends (K.taken sink.old) (K.taken sink.new) (first.now ++ second.now)) }
     ensures fault { OnErr result (TookPart (K.taken sink.old) (K.taken sink.new) (first.now ++ second.now)) }
@@ -111,9 +111,9 @@ impl<K: Sink> ContainerWriter<K> {
         // Names are distinct, and each entry has a spelling.
         ensures entries { AreFrom [] self.new.entries }
 
-        // What the sink took since any time before goes on as the front of the entries.
-        ensures front { (start : Option (List ℕ)) → Appends start (K.taken self.old.sink) (front self.old.entries) →
-            OnOk result (Appends start (K.taken self.new.sink) (front self.new.entries)) }
+        // What the sink took since any time before goes on as the prefix of the entries.
+        ensures prefix { (start : Option (List ℕ)) → Appends start (K.taken self.old.sink) (prefix self.old.entries) →
+            OnOk result (Appends start (K.taken self.new.sink) (prefix self.new.entries)) }
     {
         let judged = judge(self.failed, &self.entries, self.compressed, name, bytes);
         match judged {
@@ -151,7 +151,7 @@ impl<K: Sink> ContainerWriter<K> {
         Ok(())
     }
 
-    /// Writes the end mark, behind the magic where there is no entry, and hands the sink back.
+    /// Writes the end mark, after the magic where there is no entry, and hands the sink back.
     pub fn finish(self) -> ContainerEnd<K>
         ensures ok { IfOk result.result (λ sizes. (self.failed ≡ false) × HasSizesOf self.entries sizes
             × Appends (K.taken self.sink) (K.taken result.sink) (ending self.entries)) }
@@ -159,8 +159,8 @@ impl<K: Sink> ContainerWriter<K> {
         ensures later { K.faults self.sink ≤ K.faults result.sink }
         ensures entries { AreFrom [] self.entries }
 
-        // What the sink took since any time before, if it is the front of the entries, is now their spelling.
-        ensures whole { (start : Option (List ℕ)) → Appends start (K.taken self.sink) (front self.entries) →
+        // What the sink took since any time before, if it is the prefix of the entries, is now their spelling.
+        ensures whole { (start : Option (List ℕ)) → Appends start (K.taken self.sink) (prefix self.entries) →
             OnOk result.result (Appends start (K.taken result.sink) (spell self.entries)) }
     {
         let ContainerWriter {
@@ -203,7 +203,7 @@ impl<K: Sink> ContainerWriter<K> {
     }
 }
 
-/// The end mark, behind the magic where there is no entry.
+/// The end mark, after the magic where there is no entry.
 #[tactic(auto, unfolding(crate::specs::Container::magic))]
 fn end_of(is_empty: bool) -> &'static [u8]
     ensures { result.now ≡ (if is_empty then magic ++ 0 ∷ [] else 0 ∷ []) }

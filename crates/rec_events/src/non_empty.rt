@@ -62,7 +62,7 @@ impl<T> NonEmpty<T> {
         self.inner.as_slice()
     }
 
-    /// The first item, and those behind it.
+    /// The first item, and those after it.
     pub fn split_first(&self) -> (&T, &[T])
         ensures { self.now ≡ result.0.now ∷ result.1.now }
     {

@@ -14,7 +14,7 @@ BeginsWith prefix text = (rest : List ℕ) × (prefix ++ rest ≡ text)
 abbrev pub IsUnique : List (List ℕ) → List ℕ → List ℕ → Type 0
 IsUnique ids id prefix = (other : List ℕ) → Contains ids other → BeginsWith prefix (id_text other) → other ≡ id
 
--- the id is one of these, and its text is cut behind the shortest prefix that is unique and not empty
+-- the id is one of these, and its text is cut after the shortest prefix that is unique and not empty
 pub record IsShortest (ids : List (List ℕ)) (id : List ℕ) (cut : ShortestRunIdPrefix) : Type 0 where
   pub known : Contains ids id
   pub whole : string_bytes cut.prefix ++ string_bytes cut.rest ≡ id_text id

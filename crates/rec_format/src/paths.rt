@@ -91,7 +91,7 @@ fn last_name(path: &str) -> Option<&str>
         .last()
 }
 
-// A last dot that isn't the first byte, and `zip` behind it.
+// A last dot that isn't the first byte, and `zip` after it.
 fn ends_in_zip(name: &[u8]) -> bool
     ensures { result ≡ is_zip_name name.now }
 {

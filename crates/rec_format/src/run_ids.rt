@@ -11,7 +11,7 @@ use std::marker::Model;
 use std::ops::Bound;
 use uuid::Uuid;
 
-/// Cuts a run's id behind the shortest prefix that stands for it.
+/// Cuts a run's id after the shortest prefix that stands for it.
 #[derive(Drop)]
 pub struct ShortestRunIdPrefix {
     pub prefix: String,

@@ -8,7 +8,7 @@ use Rattle.rec_forms.specs.Known.{Holds, Known}
 use Rattle.rec_forms.specs.Lists.{each, list_form}
 use Rattle.rec_forms.specs.Shape.{◌>>=◌, only, if_there, at_member, required, maybe, given_or, defaulted, named, only_of, cased, variant}
 
--- ---- one step behind another
+-- ---- one step after another
 
 -- of what is not known nothing is said
 pub anything : {T : Type 0} (o : Option T) → Holds (λ _. Unit {0}) o

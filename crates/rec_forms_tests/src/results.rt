@@ -245,7 +245,7 @@ fn refused_stats(rt: HostRuntime) -> Result<(), Fail> {
     Ok(())
 }
 
-// The text of all counts but the one at `key`, with `last` behind them.
+// The text of all counts but the one at `key`, with `last` after them.
 fn stats_without(alloc: Global, key: &str, last: &str) -> Result<String, Fail> {
     let mut text = String::from_str(alloc, "{\"cancel-reason\":\"signal\"")?;
     for count in all_counts() {

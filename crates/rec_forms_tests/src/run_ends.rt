@@ -240,7 +240,7 @@ fn stress_final_stats(rt: HostRuntime) -> Result<(), Fail> {
     refuse::<StressFinalRunStats>(&rt, alloc, &refused)
 }
 
-// What the counts of a stress run are written as, with these members behind the first.
+// What the counts of a stress run are written as, with these members after the first.
 fn rewritten_stats(alloc: Global, rest: &str) -> Result<String, Fail> {
     let mut text = String::from_str(alloc, r#"{"completed":{"current":2},"#)?;
     text.push_str(rest)?;

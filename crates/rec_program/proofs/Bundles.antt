@@ -19,10 +19,10 @@ use Rattle.rec_program.specs.declared.refusal.RecordExportError.TheVariants.{Cou
 abbrev pub IsTooLong : ℕ → RecordExportError → Type 0
 IsTooLong n e = (e ≡ OutOfMemory) ⊎ ((e ≡ CountOutOfRange None) × (2 ^ 64 ≤ n))
 
--- what is too long for a front is so for the whole
-pub too_long_front : (es fs all : List Entry) (e : RecordExportError) → es ++ fs ≡ all → IsTooLong (length (spell es)) e → IsTooLong (length (spell all)) e
-too_long_front es fs all e is (inl h) = inl h
-too_long_front es fs all e is (inr h) = inr (h.0, omega (arith, h.1, length-spell-append es fs, ap (λ l. length (spell l)) is))
+-- what is too long for a prefix is so for the whole
+pub too_long_prefix : (es fs all : List Entry) (e : RecordExportError) → es ++ fs ≡ all → IsTooLong (length (spell es)) e → IsTooLong (length (spell all)) e
+too_long_prefix es fs all e is (inl h) = inl h
+too_long_prefix es fs all e is (inr h) = inr (h.0, omega (arith, h.1, length-spell-append es fs, ap (λ l. length (spell l)) is))
 
 module _ (number : List ℕ → ℕ) (m : ℕ) (head : SessionHead) (events : List LiveEvent) (sizes : RecordedSizes) (manifest : List ℕ) (same : sizes ≡ run_sizes number m head events)
     (text : manifest ≡ compact_text (manifest_value (manifest_of (recorded_info head sizes)))) where

@@ -7,7 +7,7 @@ use Rattle.rec_program.specs.Sizes.{entries_refusal, entry_refusal}
 use Rattle.rec_program.specs.declared.refusal.RecordExportError.{RecordExportError}
 use Rattle.rec_program.specs.declared.refusal.RecordExportError.TheVariants.{OutOfMemory}
 
--- the entry at an index, and those behind it
+-- the entry at an index, and those after it
 entry_at : (es : List Entry) (i : ℕ) (name content : List ℕ) → slice_get (map (λ (e : Entry). e.name) es) i ≡ Some name → slice_get (map (λ (e : Entry). e.content) es) i ≡ Some content
     → drop i es ≡ named name content ∷ drop (suc i) es
 entry_at [] i name content n c = absurd (let none = n in cc)
@@ -27,6 +27,6 @@ module _ (limit : ℕ) (es : List Entry) (i : ℕ) (name content : List ℕ) (ha
   refused_at e (inl h) = inl h
   refused_at e (inr h) = inr (here ∙ ap (λ o. option_or o (entries_refusal limit (drop (i + 1) es))) h)
 
-  -- behind one that isn't, the rest decides
+  -- after one that isn't, the rest decides
   pub passed_at : entry_refusal limit (named name content) ≡ None → entries_refusal limit (drop (i + 1) es) ≡ entries_refusal limit es
   passed_at h = sym (here ∙ ap (λ o. option_or o (entries_refusal limit (drop (i + 1) es))) h)

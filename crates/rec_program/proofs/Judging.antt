@@ -6,7 +6,7 @@ use Rattle.rec_codec.specs.Event.{LiveEvent}
 use Rattle.rec_codec.specs.Lines.{NumberedLine}
 use Rattle.rec_format.specs.declared.head.SessionHead.{SessionHead}
 use Rattle.rec_store.specs.Bundle.{run_bundle}
-use Rattle.rec_program.specs.Bundle.{count_refusal, refusal, refusal_behind, session_events, session_head, size_refusal, sizes_refusal}
+use Rattle.rec_program.specs.Bundle.{count_refusal, refusal, refusal_after, session_events, session_head, size_refusal, sizes_refusal}
 use Rattle.rec_program.specs.Session.{event_lines, events_of, lines_refusal, session_lines}
 use Rattle.rec_program.specs.SessionTraces.{trace_refusal}
 use Rattle.rec_program.specs.declared.settings.Settings.{Settings}
@@ -31,32 +31,32 @@ none_first None None c h = refl
 none_first None (Some y) c h = absurd cc
 none_first (Some x) b c h = absurd cc
 
--- the events of a session are those of the lines behind its head
-pub events_behind : (session : List ℕ) → events_of (event_lines (session_lines session)) ≡ session_events session
+-- the events of a session are those of the lines after its head
+pub events_after : (session : List ℕ) → events_of (event_lines (session_lines session)) ≡ session_events session
 unfolding session_events
-events_behind session = refl
+events_after session = refl
 
 module _ (number : List ℕ → ℕ) (settings : Settings) where
   pub refused_head : (session : List ℕ) → session_head session ≡ None → refusal number settings session ≡ Some ParseHead
   unfolding refusal
-  refused_head session h = ap (λ o. refusal_behind number settings o (event_lines (session_lines session))) h
+  refused_head session h = ap (λ o. refusal_after number settings o (event_lines (session_lines session))) h
 
-  pub behind_head : (session : List ℕ) (head : SessionHead) → session_head session ≡ Some head
-      → refusal number settings session ≡ refusal_behind number settings (Some head) (event_lines (session_lines session))
+  pub after_head : (session : List ℕ) (head : SessionHead) → session_head session ≡ Some head
+      → refusal number settings session ≡ refusal_after number settings (Some head) (event_lines (session_lines session))
   unfolding refusal
-  behind_head session head h = ap (λ o. refusal_behind number settings o (event_lines (session_lines session))) h
+  after_head session head h = ap (λ o. refusal_after number settings o (event_lines (session_lines session))) h
 
-  -- why a session is refused behind the sum of its sizes
-  abbrev pub behind_count : SessionHead → List NumberedLine → Option RecordExportError
-  behind_count head lines = option_or (size_refusal number settings head (events_of lines)) (trace_refusal settings (events_of lines))
+  -- why a session is refused after the sum of its sizes
+  abbrev pub after_count : SessionHead → List NumberedLine → Option RecordExportError
+  after_count head lines = option_or (size_refusal number settings head (events_of lines)) (trace_refusal settings (events_of lines))
 
-  -- why a session is refused behind its lines
-  abbrev pub behind_lines : SessionHead → List NumberedLine → Option RecordExportError
-  behind_lines head lines = option_or (count_refusal number settings head (events_of lines)) (behind_count head lines)
+  -- why a session is refused after its lines
+  abbrev pub after_lines : SessionHead → List NumberedLine → Option RecordExportError
+  after_lines head lines = option_or (count_refusal number settings head (events_of lines)) (after_count head lines)
 
   pub refused_line : (head : SessionHead) (lines : List NumberedLine) (e : RecordExportError) → lines_refusal number settings.max_output [] lines ≡ Some e
-      → refusal_behind number settings (Some head) lines ≡ Some e
-  refused_line head lines e h = ap (λ o. option_or o (behind_lines head lines)) h
+      → refusal_after number settings (Some head) lines ≡ Some e
+  refused_line head lines e h = ap (λ o. option_or o (after_lines head lines)) h
 
   -- a sum that is refused comes first among the sizes
   pub refused_count : (head : SessionHead) (events : List LiveEvent) (e : RecordExportError)
@@ -77,17 +77,17 @@ module _ (number : List ℕ → ℕ) (settings : Settings) where
   refused_size head events e left (inl h) = inl h
   refused_size head events e left (inr h) = inr (left ∙ h)
 
-  -- behind lines that are no fault, sizes that are refused come first
+  -- after lines that are no fault, sizes that are refused come first
   pub refused_sizes : (head : SessionHead) (lines : List NumberedLine) (e : RecordExportError) → lines_refusal number settings.max_output [] lines ≡ None
-      → (e ≡ OutOfMemory) ⊎ (sizes_refusal number settings head (events_of lines) ≡ Some e) → (e ≡ OutOfMemory) ⊎ (refusal_behind number settings (Some head) lines ≡ Some e)
+      → (e ≡ OutOfMemory) ⊎ (sizes_refusal number settings head (events_of lines) ≡ Some e) → (e ≡ OutOfMemory) ⊎ (refusal_after number settings (Some head) lines ≡ Some e)
   refused_sizes head lines e h (inl k) = inl k
   refused_sizes head lines e h (inr k) =
-      inr (ap (λ o. option_or o (behind_lines head lines)) h
+      inr (ap (λ o. option_or o (after_lines head lines)) h
       ∙ found_first (count_refusal number settings head (events_of lines)) (size_refusal number settings head (events_of lines)) (trace_refusal settings (events_of lines)) e k)
 
   -- lines and sizes that are no fault leave the trace
   pub trace_left : (head : SessionHead) (lines : List NumberedLine) → lines_refusal number settings.max_output [] lines ≡ None
-      → sizes_refusal number settings head (events_of lines) ≡ None → refusal_behind number settings (Some head) lines ≡ trace_refusal settings (events_of lines)
+      → sizes_refusal number settings head (events_of lines) ≡ None → refusal_after number settings (Some head) lines ≡ trace_refusal settings (events_of lines)
   trace_left head lines h k =
-      ap (λ o. option_or o (behind_lines head lines)) h
+      ap (λ o. option_or o (after_lines head lines)) h
       ∙ none_first (count_refusal number settings head (events_of lines)) (size_refusal number settings head (events_of lines)) (trace_refusal settings (events_of lines)) k

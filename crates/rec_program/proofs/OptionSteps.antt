@@ -7,17 +7,17 @@ use Rattle.rec_program.specs.Words.{texts}
 use Rattle.rec_program.specs.declared.options.Limits.{Limits}
 use Rattle.rec_program.specs.declared.options.OptionName.{OptionName}
 
--- behind an option and its value, the other words give the rest
+-- after an option and its value, the other words give the rest
 limits_from-option : (limits : Limits) (at : ℕ) (word value : List ℕ) (words : List (List ℕ)) (name : OptionName) (limit : ℕ) → new_option limits at (option_named word) ≡ Ok name
     → number_of value ≡ Some limit → limits_from limits at (word ∷ value ∷ words) ≡ limits_from (with_limit limits name limit) (at + 2) words
 limits_from-option limits at word value words name limit new read = rw (new, read) refl
 
-pub limits_from-read : (limits : Limits) (at : ℕ) (rest others behind : List (String Global)) (word value : String Global) (word_text value_text : List ℕ) (name : OptionName) (limit : ℕ)
-    → rest ≡ word ∷ others → others ≡ value ∷ behind → word_text ≡ string_bytes word → value_text ≡ string_bytes value
+pub limits_from-read : (limits : Limits) (at : ℕ) (rest others after : List (String Global)) (word value : String Global) (word_text value_text : List ℕ) (name : OptionName) (limit : ℕ)
+    → rest ≡ word ∷ others → others ≡ value ∷ after → word_text ≡ string_bytes word → value_text ≡ string_bytes value
     → new_option limits at (option_named word_text) ≡ Ok name → number_of value_text ≡ Some limit
-    → limits_from (with_limit limits name limit) (at + 2) (texts behind) ≡ limits_from limits at (texts rest)
-limits_from-read limits at rest others behind word value word_text value_text name limit first second word_is value_is new read =
+    → limits_from (with_limit limits name limit) (at + 2) (texts after) ≡ limits_from limits at (texts rest)
+limits_from-read limits at rest others after word value word_text value_text name limit first second word_is value_is new read =
     let named = ap (λ text. new_option limits at (option_named text)) (sym word_is) ∙ new in
     let valued = ap number_of (sym value_is) ∙ read in
     let words = first ∙ ap (λ l. word ∷ l) second in
-    sym (ap (λ l. limits_from limits at (texts l)) words ∙ limits_from-option limits at (string_bytes word) (string_bytes value) (texts behind) name limit named valued)
+    sym (ap (λ l. limits_from limits at (texts l)) words ∙ limits_from-option limits at (string_bytes word) (string_bytes value) (texts after) name limit named valued)

@@ -3,8 +3,8 @@ use Rattle.std.proofs.Common.{◌≡◌, ℕ, ◌+◌, List, [], ◌∷◌, ◌+
 use Rattle.std.specs.Bool.{⊤}
 use Rattle.std.specs.Io.KnownBytes.{Appends}
 use Rattle.std.specs.List.{AllByRecursion}
-use Rattle.rec_container.specs.Container.{Entry, AreFrom, ending, front, spell}
-use Rattle.rec_container.proofs.Spelling.{front-ending}
+use Rattle.rec_container.specs.Container.{Entry, AreFrom, ending, prefix, spell}
+use Rattle.rec_container.proofs.Spelling.{prefix-ending}
 use Rattle.rec_codec.specs.Event.{LiveEvent, IsLogged, event_line}
 use Rattle.rec_events.specs.declared.recording.TestListSummary.{TestListSummary}
 use Rattle.rec_events.specs.declared.recording.RecordOpts.{RecordOpts}
@@ -98,8 +98,8 @@ module _ {N : Type 0} (number : N → List ℕ → ℕ) (faults : GrowingSinkSta
   pub ended : (namer : N) (m : ℕ) (events : List LiveEvent) (now : Recording GrowingSinkState GrowingSinkState N) (store : GrowingSinkState) (sizes : StoreSizes) → HasRecorded number namer m head events now
       → AreRead head → AreFrom [] now.store.entries → Appends (text_taken now.store.sink) (text_taken store) (ending now.store.entries) → sizes ≡ sizes_of now
       → IsRunOf (number namer) m head events store.bytes now.log.bytes (record { log = sizes.log; store = sizes.store })
-  ended namer m events now store sizes has read sound behind same = record {
-    store_spelled = behind ∙ ap (λ l. l ++ ending now.store.entries) has.store_taken ∙ front-ending now.store.entries ∙ ap spell has.entries_stored;
+  ended namer m events now store sizes has read sound after same = record {
+    store_spelled = after ∙ ap (λ l. l ++ ending now.store.entries) has.store_taken ∙ prefix-ending now.store.entries ∙ ap spell has.entries_stored;
     sound = subst (AreFrom []) has.entries_stored sound;
     log_written = has.log_taken;
     sized =
@@ -116,7 +116,7 @@ module _ {N : Type 0} (number : N → List ℕ → ℕ) (faults : GrowingSinkSta
   store_sound : old.store.failed ≡ false
   store_sound = first_false old.store.failed old.log_failed has.sound
 
-  -- the metadata in front makes no clash
+  -- the metadata in prefix makes no clash
   same_clash : clash (outputs_stored (number old.namer) old.max_output events) (event_entries (number old.namer) old.max_output event)
       ≡ clash old.store.entries (event_entries (number old.namer) old.max_output event)
   same_clash =

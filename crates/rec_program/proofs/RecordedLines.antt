@@ -55,7 +55,7 @@ module _ (number : List ℕ → ℕ) (m : ℕ) (stored : List Entry) (n : ℕ) w
       inr (ap (λ b. if b then None else event_refusal number m stored n (live_event_of text)) h ∙ ap (event_refusal number m stored n) e.2 ∙ ap (λ i. Some (ParseEvent i)) (sym e.0))
   line_of_fault lines.OutOfMemory text h e = inl refl
 
--- ---- the lines behind
+-- ---- the lines after
 
 -- the event of a line stands before those of the rest
 events_next : (events : List LiveEvent) (o : Option LiveEvent) (rest : List LiveEvent) → (events ++ option_to_list o) ++ rest ≡ events ++ cons_option o rest
@@ -81,7 +81,7 @@ module _ {N : Type 0} (number : N → List ℕ → ℕ) (namer : N) (m : ℕ) (h
   refused_here e (inr h) =
       inr (ap (λ o. option_or o (lines_refusal (number namer) m (with_entries (outputs_stored (number namer) m events) (outputs_at (number namer) m (event_at line))) rest)) h)
 
-  -- behind a line that was recorded, what the rest gives is what all give
+  -- after a line that was recorded, what the rest gives is what all give
   pub recorded_here : (r : Result ⊤ RecordExportError) → line_refusal (number namer) m (outputs_stored (number namer) m events) line ≡ None
       → RecordsLines number namer m head (events ++ option_to_list (event_at line)) rest new r → RecordsLines number namer m head events (line ∷ rest) new r
   recorded_here (Ok u) none h = (

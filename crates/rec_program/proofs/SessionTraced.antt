@@ -3,20 +3,20 @@ use Rattle.std.proofs.Common.{◌≡◌, List, [], ◌∷◌, ◌++◌, map, app
 use Rattle.std.specs.List.{cons_option}
 use Rattle.std.specs.Option.{option_or, option_to_list}
 use Rattle.rec_codec.specs.Event.{LiveEvent}
-use Rattle.rec_trace.specs.History.{behind, known}
+use Rattle.rec_trace.specs.History.{after, known}
 use Rattle.rec_trace.specs.Kinds.{happening}
 use Rattle.rec_trace.specs.Past.{Happening}
-use Rattle.rec_trace.specs.Refusals.{refusal, refusal_behind}
+use Rattle.rec_trace.specs.Refusals.{refusal, refusal_after}
 use Rattle.rec_trace.specs.declared.errors.ChromeTraceError.{ChromeTraceError}
 use Rattle.rec_trace.specs.declared.settings.ChromeTraceGroupBy.{ChromeTraceGroupBy}
-use Rattle.rec_trace.proofs.Acceptance.{refusal_behind-append}
+use Rattle.rec_trace.proofs.Acceptance.{refusal_after-append}
 use Rattle.rec_trace.specs.declared.builder.TraceBuilder.{TraceBuilder}
 use Rattle.rec_program.specs.SessionTraces.{IsTracedOr}
 
 -- a history that is refused stays so with an event more
 pub refused_more : (history : List Happening) (h : Happening) (e : ChromeTraceError) → refusal history ≡ Some e → refusal (history ++ h ∷ []) ≡ Some e
 refused_more history h e refused =
-    refusal_behind-append [] history (h ∷ []) ∙ ap (λ o. option_or o (refusal_behind (known (behind [] history)) (h ∷ []))) refused
+    refusal_after-append [] history (h ∷ []) ∙ ap (λ o. option_or o (refusal_after (known (after [] history)) (h ∷ []))) refused
 
 -- so does what holds its refusal
 pub refused_stays : (g : ChromeTraceGroupBy) (history : List Happening) (h : Happening) (builder : TraceBuilder) (o : Option ChromeTraceError) → is_some o ≡ true

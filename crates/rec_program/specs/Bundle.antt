@@ -46,18 +46,18 @@ module _ (number : List ℕ → ℕ) (settings : Settings) where
   abbrev pub sizes_refusal : SessionHead → List LiveEvent → Option RecordExportError
   sizes_refusal head events = option_or (count_refusal head events) (size_refusal head events)
 
-  -- why lines are refused behind a head, if they are: the first failing line, then the sum of all sizes, then the first size, then the
+  -- why lines are refused after a head, if they are: the first failing line, then the sum of all sizes, then the first size, then the
   -- first event that has no trace
-  abbrev pub refusal_behind : Option SessionHead → List NumberedLine → Option RecordExportError
-  refusal_behind None lines = Some ParseHead
-  refusal_behind (Some head) lines =
+  abbrev pub refusal_after : Option SessionHead → List NumberedLine → Option RecordExportError
+  refusal_after None lines = Some ParseHead
+  refusal_after (Some head) lines =
       option_or (lines_refusal number settings.max_output [] lines)
       (option_or (count_refusal head (events_of lines))
       (option_or (size_refusal head (events_of lines)) (trace_refusal settings (events_of lines))))
 
   -- why a session is refused that was read whole, if it is
   unfoldable pub refusal : List ℕ → Option RecordExportError
-  refusal session = refusal_behind (session_head session) (event_lines (session_lines session))
+  refusal session = refusal_after (session_head session) (event_lines (session_lines session))
 
   -- The session is valid, this is its bundle, and the bundle is read as what was recorded of the session. This is the text of its
   -- trace: begins and ends on every row take turns, and are the slices that the pauses leave, at their events' instants

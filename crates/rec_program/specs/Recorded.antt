@@ -3,7 +3,7 @@ use Rattle.std.specs.Prelude.{◌≡◌, ℕ, List, [], ◌∷◌, ◌++◌, len
 use Rattle.std.specs.List.{AllByRecursion}
 use Rattle.std.specs.Bool.{⊤}
 use Rattle.std.specs.Option.{option_to_list}
-use Rattle.rec_container.specs.Container.{AreFrom, front, spell}
+use Rattle.rec_container.specs.Container.{AreFrom, prefix, spell}
 use Rattle.rec_codec.specs.Event.{LiveEvent, IsLogged}
 use Rattle.rec_codec.specs.Lines.{NumberedLine}
 use Rattle.rec_format.specs.declared.head.SessionHead.{SessionHead}
@@ -41,20 +41,20 @@ module _ {N : Type 0} (number : N → List ℕ → ℕ) (namer : N) (m : ℕ) (h
     pub limit_kept : r.max_output ≡ m
     pub sound : has_failed r ≡ false
     pub entries_stored : r.store.entries ≡ run_store (number namer) m head events
-    pub store_taken : r.store.sink.bytes ≡ front r.store.entries
+    pub store_taken : r.store.sink.bytes ≡ prefix r.store.entries
     pub log_taken : r.log.bytes ≡ run_log (number namer) m events
     pub log_counted : r.log_bytes ≡ length (run_log (number namer) m events)
     pub events_counted : r.events ≡ length events
     pub recorded : AreRecorded (number namer) m events
 
-  -- an event was recorded behind these; or one of its outputs clashes with theirs, or memory ran out
+  -- an event was recorded after these; or one of its outputs clashes with theirs, or memory ran out
   abbrev pub RecordsEvent : List LiveEvent → LiveEvent → Recording GrowingSinkState GrowingSinkState N → Result ⊤ RecordExportError → Type 0
   RecordsEvent events event new (Ok u) =
       (clash (outputs_stored (number namer) m events) (event_entries (number namer) m event) ≡ None) × HasRecorded (events ++ event ∷ []) new
   RecordsEvent events event new (Err e) =
       (e ≡ OutOfMemory) ⊎ (option_map NameCollision (clash (outputs_stored (number namer) m events) (event_entries (number namer) m event)) ≡ Some e)
 
-  -- the event of a line, if it has one, was recorded behind these; or the line is refused, or memory ran out
+  -- the event of a line, if it has one, was recorded after these; or the line is refused, or memory ran out
   abbrev pub RecordsLine : List LiveEvent → NumberedLine → Recording GrowingSinkState GrowingSinkState N → Result ⊤ RecordExportError → Type 0
   RecordsLine events line new (Ok u) =
       (line_refusal (number namer) m (outputs_stored (number namer) m events) line ≡ None) × HasRecorded (events ++ option_to_list (event_at line)) new

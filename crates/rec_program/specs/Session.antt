@@ -18,7 +18,7 @@ abbrev pub head_text : List NumberedLine → Option (List ℕ)
 head_text [] = None
 head_text (line ∷ lines) = text_of line.bytes
 
--- the lines behind the first
+-- the lines after the first
 abbrev pub event_lines : List NumberedLine → List NumberedLine
 event_lines [] = []
 event_lines (line ∷ lines) = lines
@@ -48,7 +48,7 @@ module _ (number : List ℕ → ℕ) (m : ℕ) where
   text_refusal stored n None = Some (ReadRunLog n)
   text_refusal stored n (Some text) = if is_blank text then None else event_refusal stored n (live_event_of text)
 
-  -- why a line behind the first is refused, if it is
+  -- why a line after the first is refused, if it is
   abbrev pub line_refusal : List Entry → NumberedLine → Option RecordExportError
   line_refusal stored line = text_refusal stored line.number (text_of line.bytes)
 

@@ -26,12 +26,12 @@ asked commands.Version = version
 abbrev pub texts : List (String Global) → List (List ℕ)
 texts words = map string_bytes words
 
--- what stands behind `record`: a bundle, and options from the word 2 on
+-- what stands after `record`: a bundle, and options from the word 2 on
 abbrev pub record_command : List (List ℕ) → Result Asked WordsError
 record_command [] = Err (MissingPositional 1)
 record_command (bundle ∷ words) = limits_from no_limits 2 words >>= (λ limits. Ok (recording bundle (settings_of limits)))
 
--- what a word that isn't `record` asks for, with the words behind it
+-- what a word that isn't `record` asks for, with the words after it
 abbrev pub other_command : List ℕ → List (List ℕ) → Result Asked WordsError
 other_command word [] =
     if bytes_eq word (codes "--help") then Ok help else if bytes_eq word (codes "--version") then Ok version else Err (UnknownCommand 0)

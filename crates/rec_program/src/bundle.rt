@@ -1,7 +1,7 @@
 //! Builds a bundle in memory.
 ghost use Rattle.std.specs.Prelude.{◌≡◌, ◌≤◌, ◌<◌, ◌^◌, [], ◌∷◌, ◌++◌, false, true, None, Some, List, ℕ, length, IfOk, IfErr, OnOk, ◌⊎◌};
 ghost use Rattle.std.specs.Io.KnownBytes.{Appends};
-ghost use Rattle.rec_container.specs.Container.{spell, front, content_of};
+ghost use Rattle.rec_container.specs.Container.{spell, prefix, content_of};
 ghost use Rattle.rec_container.specs.Container.{AreFrom};
 ghost use Rattle.rec_container.specs.Writing.{named, has_name_length};
 ghost use Rattle.rec_forms.specs.TextForm.{bytes_form};
@@ -70,7 +70,7 @@ fn add_entry(
     ensures entries { OnOk result (writer.new.entries ≡ writer.old.entries ++ named name.now content.now ∷ []) }
     ensures sound { OnOk result (writer.new.failed ≡ false) }
     ensures fits { OnOk result (length (spell writer.new.entries) < 2 ^ 64) }
-    ensures front { writer.old.sink.bytes ≡ front writer.old.entries → OnOk result (writer.new.sink.bytes ≡ front writer.new.entries) }
+    ensures prefix { writer.old.sink.bytes ≡ prefix writer.old.entries → OnOk result (writer.new.sink.bytes ≡ prefix writer.new.entries) }
     ensures err { IfErr result (λ e. (e ≡ OutOfMemory)
         ⊎ ((e ≡ CountOutOfRange None) × (2 ^ 64 ≤ length (spell (writer.old.entries ++ named name.now content.now ∷ []))))) }
 {

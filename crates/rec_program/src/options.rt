@@ -81,7 +81,7 @@ impl Limits {
     }
 }
 
-/// Reads the words behind the bundle, the first of which is the word 2.
+/// Reads the words after the bundle, the first of which is the word 2.
 pub fn read_options(words: &[String]) -> Result<Limits, WordsError>
     ensures { result ≡ limits_from no_limits 2 (texts words.now) }
 {
@@ -90,7 +90,7 @@ pub fn read_options(words: &[String]) -> Result<Limits, WordsError>
     let mut rest = words;
     'options: while let Some((word, others)) = rest.split_first() {
         let name = limits.new_option(at, word.as_str())?;
-        let Some((value, behind)) = others.split_first() else {
+        let Some((value, after)) = others.split_first() else {
             return Err(WordsError::MissingValue { at: at + 1 });
         };
         let Some(limit) = number(value.as_str()) else {
@@ -98,7 +98,7 @@ pub fn read_options(words: &[String]) -> Result<Limits, WordsError>
         };
         limits.set(name, limit);
         at += 2;
-        rest = behind;
+        rest = after;
     }
     Ok(limits)
 }

@@ -1,6 +1,6 @@
 //! The judging of a session, and its bundle and its trace in memory.
 ghost use Rattle.std.specs.Prelude.{◌≡◌, ◌⊎◌, ◌<◌, ◌^◌, [], length, Some, None, IfOk, IfErr, OnOk, string_bytes, List, ℕ};
-ghost use Rattle.rec_program.specs.Bundle.{AreOf, refusal, refusal_behind, session_events, sizes_refusal};
+ghost use Rattle.rec_program.specs.Bundle.{AreOf, refusal, refusal_after, session_events, sizes_refusal};
 ghost use Rattle.rec_codec.specs.Event.{LiveEvent};
 ghost use Rattle.rec_program.specs.Recorded.{IsRunOf};
 ghost use Rattle.rec_program.specs.Session.{events_of, lines_refusal};
@@ -56,7 +56,7 @@ pub fn prepare<N: OutputNamer>(
     result
 }
 
-/// The bundle and the trace of a run with this head, and the events of the lines behind it.
+/// The bundle and the trace of a run with this head, and the events of the lines after it.
 fn bundle_run<N: OutputNamer>(
     alloc: Global,
     settings: &Settings,
@@ -71,12 +71,12 @@ fn bundle_run<N: OutputNamer>(
     ensures trace { IfOk result (λ p. string_bytes p.trace
         ≡ run_trace settings.now head.now (events_of lines.entry)) }
     ensures accepted { OnOk result (traces.refusal (session_history settings.now (events_of lines.entry)) ≡ None) }
-    ensures valid { OnOk result (refusal_behind (N.number namer.now) settings.now (Some head.now) lines.entry ≡ None) }
+    ensures valid { OnOk result (refusal_after (N.number namer.now) settings.now (Some head.now) lines.entry ≡ None) }
     ensures events { IfOk result (λ p. p.events ≡ length (events_of lines.entry)) }
     ensures outputs { IfOk result (λ p. p.outputs
         ≡ length (outputs_stored (N.number namer.now) settings.now.max_output (events_of lines.entry))) }
     ensures err { IfErr result (λ e. (e ≡ OutOfMemory)
-        ⊎ (refusal_behind (N.number namer.now) settings.now (Some head.now) lines.entry ≡ Some e)) }
+        ⊎ (refusal_after (N.number namer.now) settings.now (Some head.now) lines.entry ≡ Some e)) }
 {
     let run = record_run(alloc, settings, namer, head, lines)?;
     let bundle = match bundle_recorded(alloc, settings, head, &run) {

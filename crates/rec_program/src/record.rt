@@ -41,7 +41,7 @@ pub struct RecordedInMemory {
 /// A recorder of a run into memory.
 type MemoryRecorder<'n, N> = RunRecorder<'n, GrowingSink, GrowingSink, N>;
 
-/// Records a head, and the events of the lines behind it.
+/// Records a head, and the events of the lines after it.
 ///
 /// Sinks in memory fail only for want of it, and a log or store of more bytes than a u64 counts
 /// doesn't fit into it. So a line's refusal is the only other one.

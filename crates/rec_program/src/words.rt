@@ -51,7 +51,7 @@ pub fn read_words(words: &[String]) -> Result<Command<'_>, WordsError>
     }
 }
 
-/// Reads a word that isn't `record`, and the words behind it.
+/// Reads a word that isn't `record`, and the words after it.
 fn read_other<'w>(word: &str, others: &'w [String]) -> Result<Command<'w>, WordsError>
     ensures { Reads result (other_command word.now (texts others.now)) }
 {
@@ -65,7 +65,7 @@ fn read_other<'w>(word: &str, others: &'w [String]) -> Result<Command<'w>, Words
     }
 }
 
-/// Reads the words behind `record`: the bundle, and options with their values.
+/// Reads the words after `record`: the bundle, and options with their values.
 fn read_record(words: &[String]) -> Result<Command<'_>, WordsError>
     ensures { Reads result (record_command (texts words.now)) }
 {

@@ -1,4 +1,4 @@
-//! Texts of sessions, bundles and traces, hidden behind functions, since no proof looks into them.
+//! Texts of sessions, bundles and traces, hidden after functions, since no proof looks into them.
 
 use std::alloc::{AllocError, Global};
 

@@ -5,12 +5,12 @@ use Rattle.std.specs.Option.{option_map_or}
 use Rattle.std.specs.Str.{bytes_eq}
 use Rattle.std.specs.Io.KnownBytes.{Appends}
 use Rattle.std.proofs.KnownBytes.{Appends-trans}
-use Rattle.rec_container.specs.Container.{Entry, spell, front, addition, content_of}
+use Rattle.rec_container.specs.Container.{Entry, spell, prefix, addition, content_of}
 use Rattle.rec_container.specs.Writing.{Writing, Adds, named, refusal, has_name_length}
 use Rattle.rec_container.specs.declared.errors.ContainerWriteError.{ContainerWriteError}
 use Rattle.rec_container.specs.declared.errors.ContainerWriteError.TheVariants as writing
 use Rattle.rec_container.proofs.Lengths.{length-spell-push}
-use Rattle.rec_container.proofs.Spelling.{front-push}
+use Rattle.rec_container.proofs.Spelling.{prefix-push}
 use Rattle.rec_store.specs.declared.error.RunStoreError.{RunStoreError}
 use Rattle.rec_store.specs.declared.error.RunStoreError.TheVariants.{NameCollision, CountOutOfRange}
 use Rattle.rec_store.specs.Clashes.{with_entry, with_entries}
@@ -41,14 +41,14 @@ spell-grows es (f ∷ fs) = omega (arith, spell-grows_at es f (content_of es f.n
 
 -- ---- refusals before memory is taken
 
-abbrev behind : List Entry → List ℕ → List ℕ → Option (List ℕ) → Option ContainerWriteError
-behind es name content held =
+abbrev after : List Entry → List ℕ → List ℕ → Option (List ℕ) → Option ContainerWriteError
+after es name content held =
     option_map_or (λ c. if bytes_eq c content then None else Some writing.NameCollision) held
     (if nat_lt (length (spell (es ++ named name content ∷ []))) (2 ^ 64) then None else Some writing.CountOutOfRange)
 
 -- a name of a good length is refused for what is there, or for a sum
-refusal-named : (es : List Entry) (name content : List ℕ) → has_name_length name ≡ true → refusal false es name content ≡ behind es name content (content_of es name)
-refusal-named es name content h = ap (λ b. if not b then Some writing.BadName else behind es name content (content_of es name)) h
+refusal-named : (es : List Entry) (name content : List ℕ) → has_name_length name ≡ true → refusal false es name content ≡ after es name content (content_of es name)
+refusal-named es name content h = ap (λ b. if not b then Some writing.BadName else after es name content (content_of es name)) h
 
 if_long : (n : ℕ) (b : Bool) → nat_lt n (2 ^ 64) ≡ b → (if b then None else Some writing.CountOutOfRange) ≡ Some writing.CountOutOfRange → 2 ^ 64 ≤ n
 if_long n true is h = absurd cc
@@ -58,24 +58,24 @@ no_sum : (b : Bool) → (if b then None else Some writing.NameCollision) ≡ Som
 no_sum true h = cc
 no_sum false h = cc
 
-behind-sum : (es : List Entry) (name content : List ℕ) (o : Option (List ℕ)) → behind es name content o ≡ Some writing.CountOutOfRange
+after-sum : (es : List Entry) (name content : List ℕ) (o : Option (List ℕ)) → after es name content o ≡ Some writing.CountOutOfRange
     → (o ≡ None) × (2 ^ 64 ≤ length (spell (es ++ named name content ∷ [])))
-behind-sum es name content None h = (refl, if_long _ _ refl h)
-behind-sum es name content (Some c) h = absurd (no_sum (bytes_eq c content) h)
+after-sum es name content None h = (refl, if_long _ _ refl h)
+after-sum es name content (Some c) h = absurd (no_sum (bytes_eq c content) h)
 
 -- what is refused for a sum is not refused for a collision
 pub no_collision : (b : Bool) → (if b then None else Some writing.CountOutOfRange) ≡ Some writing.NameCollision → ⊥
 no_collision true h = cc
 no_collision false h = cc
 
-behind-collision : (es : List Entry) (name content : List ℕ) (o : Option (List ℕ)) → o ≡ None → behind es name content o ≡ Some writing.NameCollision → ⊥
-behind-collision es name content None n h = no_collision _ h
-behind-collision es name content (Some c) n h = cc
+after-collision : (es : List Entry) (name content : List ℕ) (o : Option (List ℕ)) → o ≡ None → after es name content o ≡ Some writing.NameCollision → ⊥
+after-collision es name content None n h = no_collision _ h
+after-collision es name content (Some c) n h = cc
 
-bad_name : (es : List Entry) (name content : List ℕ) (b : Bool) (e : ContainerWriteError) → has_name_length name ≡ b → refusal false es name content ≡ Some e → (e ≡ writing.BadName) ⊎ (behind es name content (content_of es name) ≡ Some e)
+bad_name : (es : List Entry) (name content : List ℕ) (b : Bool) (e : ContainerWriteError) → has_name_length name ≡ b → refusal false es name content ≡ Some e → (e ≡ writing.BadName) ⊎ (after es name content (content_of es name) ≡ Some e)
 bad_name es name content true e is h = inr (sym (refusal-named es name content is) ∙ h)
 bad_name es name content false e is h =
-    let w : Some writing.BadName ≡ Some e = sym (ap (λ b. if not b then Some writing.BadName else behind es name content (content_of es name)) is) ∙ h in inl (let k = sym w in cc)
+    let w : Some writing.BadName ≡ Some e = sym (ap (λ b. if not b then Some writing.BadName else after es name content (content_of es name)) is) ∙ h in inl (let k = sym w in cc)
 
 pub refused_sum : (failed : Bool) (es : List Entry) (name content : List ℕ) → refusal failed es name content ≡ Some writing.CountOutOfRange
     → (content_of es name ≡ None) × (2 ^ 64 ≤ length (spell (es ++ named name content ∷ [])))
@@ -83,7 +83,7 @@ refused_sum true es name content h = absurd cc
 refused_sum false es name content h =
     elim (bad_name es name content (has_name_length name) writing.CountOutOfRange refl h) [
       | inl w ↦ absurd (let k = w in cc)
-      | inr w ↦ behind-sum es name content (content_of es name) w
+      | inr w ↦ after-sum es name content (content_of es name) w
     ]
 
 pub refused_collision : (failed : Bool) (es : List Entry) (name content : List ℕ) → content_of es name ≡ None → refusal failed es name content ≡ Some writing.NameCollision → ⊥
@@ -91,7 +91,7 @@ refused_collision true es name content n h = cc
 refused_collision false es name content n h =
     elim (bad_name es name content (has_name_length name) writing.NameCollision refl h) [
       | inl w ↦ (let k = w in cc)
-      | inr w ↦ behind-collision es name content (content_of es name) n w
+      | inr w ↦ after-collision es name content (content_of es name) n w
     ]
 
 module _ {S : Type 0} (taken : S → Option (List ℕ)) (faults : S → ℕ) where
@@ -111,18 +111,18 @@ module _ {S : Type 0} (taken : S → Option (List ℕ)) (faults : S → ℕ) whe
 
   grown_at : (start : Option (List ℕ)) (old new : Writing S) (e : Entry) (o : Option (List ℕ))
       → MatchOption o ((new.entries ≡ old.entries ++ named e.name e.content ∷ []) × (new.failed ≡ false) × Appends (taken old.sink) (taken new.sink) (addition old.entries (named e.name e.content))) (λ c. new ≡ old)
-      → Appends start (taken old.sink) (front old.entries) → Appends start (taken new.sink) (front new.entries)
+      → Appends start (taken old.sink) (prefix old.entries) → Appends start (taken new.sink) (prefix new.entries)
   grown_at start old new e None h p =
-      subst (λ l. Appends start (taken new.sink) l) (sym (ap front h.0 ∙ front-push old.entries e)) (Appends-trans start (taken old.sink) (taken new.sink) (front old.entries) (addition old.entries e) p h.2)
-  grown_at start old new e (Some c) h p = subst (λ (w : Writing S). Appends start (taken w.sink) (front w.entries)) (sym h) p
+      subst (λ l. Appends start (taken new.sink) l) (sym (ap prefix h.0 ∙ prefix-push old.entries e)) (Appends-trans start (taken old.sink) (taken new.sink) (prefix old.entries) (addition old.entries e) p h.2)
+  grown_at start old new e (Some c) h p = subst (λ (w : Writing S). Appends start (taken w.sink) (prefix w.entries)) (sym h) p
 
   -- what the sink took since it was empty
   pub taken_after : (start : Option (List ℕ)) (old new : Writing S) (es : List Entry) → AddsEach taken faults old new es
-      → Appends start (taken old.sink) (front old.entries) → Appends start (taken new.sink) (front new.entries)
-  taken_after start old new [] h p = subst (λ (w : Writing S). Appends start (taken w.sink) (front w.entries)) (sym h) p
+      → Appends start (taken old.sink) (prefix old.entries) → Appends start (taken new.sink) (prefix new.entries)
+  taken_after start old new [] h p = subst (λ (w : Writing S). Appends start (taken w.sink) (prefix w.entries)) (sym h) p
   taken_after start old new (e ∷ es) h p = taken_after start h.0 new es h.2 (grown_at start old h.0 e (content_of old.entries e.name) h.1.1 p)
 
-  -- entries behind entries
+  -- entries after entries
   pub AddsEach-append : (a b c : Writing S) (es fs : List Entry) → AddsEach taken faults a b es → AddsEach taken faults b c fs → AddsEach taken faults a c (es ++ fs)
   AddsEach-append a b c [] fs p q = subst (λ (w : Writing S). AddsEach taken faults w c fs) p q
   AddsEach-append a b c (e ∷ es) fs p q = (p.0, p.1, AddsEach-append p.0 b c es fs p.2 q)
@@ -158,12 +158,12 @@ module _ {S : Type 0} (taken : S → Option (List ℕ)) (faults : S → ℕ) whe
   sound_after old new [] h p = ap (λ (w : Writing S). w.failed) h ∙ p
   sound_after old new (e ∷ es) h p = sound_after h.0 new es h.2 (sound_added old h.0 e h.1.1 p)
 
-  -- a refusal among the first entries, or among those behind them
-  pub AddsUpTo-front : (old new : Writing S) (es fs : List Entry) (e : RunStoreError) → AddsUpTo taken faults old new es e → AddsUpTo taken faults old new (es ++ fs) e
-  AddsUpTo-front old new [] fs e h = absurd h
-  AddsUpTo-front old new (x ∷ xs) fs e (inl h) = inl h
-  AddsUpTo-front old new (x ∷ xs) fs e (inr h) = inr (h.0, h.1, AddsUpTo-front h.0 new xs fs e h.2)
+  -- a refusal among the first entries, or among those after them
+  pub AddsUpTo-prefix : (old new : Writing S) (es fs : List Entry) (e : RunStoreError) → AddsUpTo taken faults old new es e → AddsUpTo taken faults old new (es ++ fs) e
+  AddsUpTo-prefix old new [] fs e h = absurd h
+  AddsUpTo-prefix old new (x ∷ xs) fs e (inl h) = inl h
+  AddsUpTo-prefix old new (x ∷ xs) fs e (inr h) = inr (h.0, h.1, AddsUpTo-prefix h.0 new xs fs e h.2)
 
-  pub AddsUpTo-behind : (a b c : Writing S) (es fs : List Entry) (e : RunStoreError) → AddsEach taken faults a b es → AddsUpTo taken faults b c fs e → AddsUpTo taken faults a c (es ++ fs) e
-  AddsUpTo-behind a b c [] fs e p q = subst (λ (w : Writing S). AddsUpTo taken faults w c fs e) p q
-  AddsUpTo-behind a b c (x ∷ xs) fs e p q = inr (p.0, p.1, AddsUpTo-behind p.0 b c xs fs e p.2 q)
+  pub AddsUpTo-after : (a b c : Writing S) (es fs : List Entry) (e : RunStoreError) → AddsEach taken faults a b es → AddsUpTo taken faults b c fs e → AddsUpTo taken faults a c (es ++ fs) e
+  AddsUpTo-after a b c [] fs e p q = subst (λ (w : Writing S). AddsUpTo taken faults w c fs e) p q
+  AddsUpTo-after a b c (x ∷ xs) fs e p q = inr (p.0, p.1, AddsUpTo-after p.0 b c xs fs e p.2 q)

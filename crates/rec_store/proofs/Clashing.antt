@@ -59,7 +59,7 @@ clash-here : (es : List Entry) (f : Entry) (fs : List Entry) → differs (conten
 clash-here es f fs h = ap (λ b. if b then Some f.name else clash (with_entry es f) fs) h
 
 module _ {S : Type 0} (taken : S → Option (List ℕ)) (faults : S → ℕ) where
-  -- behind an entry that was taken the rest clashes as it does behind what stands then
+  -- after an entry that was taken the rest clashes as it does after what stands then
   clash-taken : (old mid : Writing S) (f : Entry) (fs : List Entry) → old.failed ≡ false → Takes taken faults old mid f → clash old.entries (f ∷ fs) ≡ clash mid.entries fs
   clash-taken old mid f fs sound h =
       clash-next old.entries f fs (differs_taken old.failed old.entries f.name f.content sound h.0) ∙ ap (λ es. clash es fs) (sym (added taken faults old mid f h.1))

@@ -11,7 +11,7 @@ use Rattle.rec_events.specs.declared.events.TestEventKindSummary.{TestEventKindS
 use Rattle.rec_events.specs.declared.events.TestEventKindSummary.TheVariants as event
 use Rattle.rec_events.specs.declared.events.TestEventSummary.{TestEventSummary}
 use Rattle.rec_events.specs.EventMaps.{execution_with, status_with, script_status_with, kind_with, event_with, of_execution, of_status, of_kind, of_event}
-use Rattle.rec_store.proofs.Held.{all_append, all_front, all_back}
+use Rattle.rec_store.proofs.Held.{all_append, all_prefix, all_back}
 
 -- ---- what holds of all that is gathered of each output
 
@@ -45,7 +45,7 @@ module _ (T : Type 0) {S O P A B : Type 0} (replaced : O → P) (gathered : P �
   of_statuses-with : (l : List (ExecuteStatus S O)) → flat_map (of_status {S = T} gathered) (map (status_with replaced) l) ≡ map h (flat_map (of_status before) l)
   of_statuses-with [] = refl
   of_statuses-with (s ∷ l) =
-      ap (λ front. front ++ flat_map (of_status {S = T} gathered) (map (status_with replaced) l)) (of_execution-with s.output)
+      ap (λ prefix. prefix ++ flat_map (of_status {S = T} gathered) (map (status_with replaced) l)) (of_execution-with s.output)
       ∙ ap (λ rest. map h (of_status before s) ++ rest) (of_statuses-with l)
       ∙ sym (map-append h (of_status before s) (flat_map (of_status before) l))
 
@@ -75,7 +75,7 @@ module _ (T U : Type 0) {S O P Q A : Type 0} (first : O → P) (then : P → Q) 
       → map (status_with then) (map (status_with {T = T} first) l) ≡ map (status_with {T = U} once) l
   statuses_twice [] h = refl
   statuses_twice (s ∷ l) h =
-      ap (λ x. x ∷ map (status_with {T = U} then) (map (status_with {T = T} first) l)) (status_twice s (all_front F (of_status gathered s) (flat_map (of_status gathered) l) h))
+      ap (λ x. x ∷ map (status_with {T = U} then) (map (status_with {T = T} first) l)) (status_twice s (all_prefix F (of_status gathered s) (flat_map (of_status gathered) l) h))
       ∙ ap (λ rest. status_with {T = U} once s ∷ rest) (statuses_twice l (all_back F (of_status gathered s) (flat_map (of_status gathered) l) h))
 
   script_status_twice : (s : SetupScriptExecuteStatus S O) → AllByRecursion F (of_execution gathered s.output)

@@ -14,9 +14,9 @@ pub all_append : {A : Type 0} (P : A → Type 0) (xs ys : List A) → AllByRecur
 all_append P [] ys p q = q
 all_append P (x ∷ xs) ys p q = (p.0, all_append P xs ys p.1 q)
 
-pub all_front : {A : Type 0} (P : A → Type 0) (xs ys : List A) → AllByRecursion P (xs ++ ys) → AllByRecursion P xs
-all_front P [] ys p = tt
-all_front P (x ∷ xs) ys p = (p.0, all_front P xs ys p.1)
+pub all_prefix : {A : Type 0} (P : A → Type 0) (xs ys : List A) → AllByRecursion P (xs ++ ys) → AllByRecursion P xs
+all_prefix P [] ys p = tt
+all_prefix P (x ∷ xs) ys p = (p.0, all_prefix P xs ys p.1)
 
 pub all_back : {A : Type 0} (P : A → Type 0) (xs ys : List A) → AllByRecursion P (xs ++ ys) → AllByRecursion P ys
 all_back P [] ys p = p
@@ -76,7 +76,7 @@ all_held es (f ∷ fs) h =
     let agree = first_agrees (differs (content_of es f.name) f.content) f.name (clash (with_entry es f) fs) h in
     (found_with (with_entry es f) fs f.name f.content (held_with_entry es f agree.0), all_held (with_entry es f) fs agree.1)
 
--- ---- entries behind entries
+-- ---- entries after entries
 
 pub with_entries-append : (es fs gs : List Entry) → with_entries es (fs ++ gs) ≡ with_entries (with_entries es fs) gs
 with_entries-append es [] gs = refl
@@ -92,26 +92,26 @@ clash-append es (f ∷ fs) gs =
     ap (λ o. if differs (content_of es f.name) f.content then Some f.name else o) (clash-append (with_entry es f) fs gs)
     ∙ sym (clash_then (differs (content_of es f.name) f.content) f.name (clash (with_entry es f) fs) (clash (with_entries (with_entry es f) fs) gs))
 
--- ---- entries in front, among which the names don't stand
+-- ---- entries in prefix, among which the names don't stand
 
 abbrev pub IsAbsent : List Entry → Entry → Type 0
 IsAbsent es f = content_of es f.name ≡ None
 
-push_unless : (b : Bool) (front es : List Entry) (f : Entry) → (if b then front ++ es else (front ++ es) ++ f ∷ []) ≡ front ++ (if b then es else es ++ f ∷ [])
-push_unless true front es f = refl
-push_unless false front es f = append_assoc front es (f ∷ [])
+push_unless : (b : Bool) (prefix es : List Entry) (f : Entry) → (if b then prefix ++ es else (prefix ++ es) ++ f ∷ []) ≡ prefix ++ (if b then es else es ++ f ∷ [])
+push_unless true prefix es f = refl
+push_unless false prefix es f = append_assoc prefix es (f ∷ [])
 
-with_entry-behind : (front es : List Entry) (f : Entry) → IsAbsent front f → with_entry (front ++ es) f ≡ front ++ with_entry es f
-with_entry-behind front es f h =
-    ap (λ o. if is_some o then front ++ es else (front ++ es) ++ f ∷ []) (content_of-missing front es f.name h) ∙ push_unless (is_some (content_of es f.name)) front es f
+with_entry-after : (prefix es : List Entry) (f : Entry) → IsAbsent prefix f → with_entry (prefix ++ es) f ≡ prefix ++ with_entry es f
+with_entry-after prefix es f h =
+    ap (λ o. if is_some o then prefix ++ es else (prefix ++ es) ++ f ∷ []) (content_of-missing prefix es f.name h) ∙ push_unless (is_some (content_of es f.name)) prefix es f
 
-pub with_entries-behind : (front es fs : List Entry) → AllByRecursion (IsAbsent front) fs → with_entries (front ++ es) fs ≡ front ++ with_entries es fs
-with_entries-behind front es [] h = refl
-with_entries-behind front es (f ∷ fs) h = ap (λ l. with_entries l fs) (with_entry-behind front es f h.0) ∙ with_entries-behind front (with_entry es f) fs h.1
+pub with_entries-after : (prefix es fs : List Entry) → AllByRecursion (IsAbsent prefix) fs → with_entries (prefix ++ es) fs ≡ prefix ++ with_entries es fs
+with_entries-after prefix es [] h = refl
+with_entries-after prefix es (f ∷ fs) h = ap (λ l. with_entries l fs) (with_entry-after prefix es f h.0) ∙ with_entries-after prefix (with_entry es f) fs h.1
 
-pub clash-behind : (front es fs : List Entry) → AllByRecursion (IsAbsent front) fs → clash (front ++ es) fs ≡ clash es fs
-clash-behind front es [] h = refl
-clash-behind front es (f ∷ fs) h =
-    ap (λ o. if differs o f.content then Some f.name else clash (with_entry (front ++ es) f) fs) (content_of-missing front es f.name h.0)
-    ∙ ap (λ l. if differs (content_of es f.name) f.content then Some f.name else clash l fs) (with_entry-behind front es f h.0)
-    ∙ ap (λ o. if differs (content_of es f.name) f.content then Some f.name else o) (clash-behind front (with_entry es f) fs h.1)
+pub clash-after : (prefix es fs : List Entry) → AllByRecursion (IsAbsent prefix) fs → clash (prefix ++ es) fs ≡ clash es fs
+clash-after prefix es [] h = refl
+clash-after prefix es (f ∷ fs) h =
+    ap (λ o. if differs o f.content then Some f.name else clash (with_entry (prefix ++ es) f) fs) (content_of-missing prefix es f.name h.0)
+    ∙ ap (λ l. if differs (content_of es f.name) f.content then Some f.name else clash l fs) (with_entry-after prefix es f h.0)
+    ∙ ap (λ o. if differs (content_of es f.name) f.content then Some f.name else o) (clash-after prefix (with_entry es f) fs h.1)

@@ -17,7 +17,7 @@ use Rattle.rec_store.specs.EventOutputs.{file_name, output_entries, captured_ent
 use Rattle.rec_store.specs.Kept.{empty, full, truncated, split, combined, kept, outputs_kept, event_kept, bytes_under, resolved, outputs_resolved, event_resolved, output_paths, captured_paths, description_paths, event_paths}
 use Rattle.rec_store.specs.OutputPaths.{output_path}
 use Rattle.rec_store.proofs.EventMapLaws.{of_event-with, event_twice}
-use Rattle.rec_store.proofs.Held.{all_front, all_back, IsHeld}
+use Rattle.rec_store.proofs.Held.{all_prefix, all_back, IsHeld}
 
 -- the names of entries
 abbrev pub names : List Entry → List (List ℕ)
@@ -86,7 +86,7 @@ module _ (number : List ℕ → ℕ) (m : ℕ) where
     resolved_description : (o : ChildOutputDescription) → AllByRecursion (IsHeld es) (description_entries number m o) → outputs_resolved es (description_recorded number m o) ≡ outputs_kept m o
     resolved_description (live.Split out err) h =
         ap (λ o. split o (option_map (resolved es) (option_map (stored_as number m kind.Stderr) err)))
-        (resolved_captured kind.Stdout out (all_front (IsHeld es) (captured_entries number m kind.Stdout out) (captured_entries number m kind.Stderr err) h))
+        (resolved_captured kind.Stdout out (all_prefix (IsHeld es) (captured_entries number m kind.Stdout out) (captured_entries number m kind.Stderr err) h))
         ∙ ap (λ o. split (option_map (kept m) out) o)
         (resolved_captured kind.Stderr err (all_back (IsHeld es) (captured_entries number m kind.Stdout out) (captured_entries number m kind.Stderr err) h))
     resolved_description (live.Combined both) h = ap combined (resolved_output kind.Combined both h)
@@ -101,5 +101,5 @@ module _ (number : List ℕ → ℕ) (m : ℕ) where
         → map (event_resolved es) (map (event_recorded number m) events) ≡ map (event_kept m) events
     resolved_events [] h = refl
     resolved_events (e ∷ events) h =
-        ap (λ x. x ∷ map (event_resolved es) (map (event_recorded number m) events)) (resolved_event e (all_front (IsHeld es) (event_entries number m e) (flat_map (event_entries number m) events) h))
+        ap (λ x. x ∷ map (event_resolved es) (map (event_recorded number m) events)) (resolved_event e (all_prefix (IsHeld es) (event_entries number m e) (flat_map (event_entries number m) events) h))
         ∙ ap (λ l. event_kept m e ∷ l) (resolved_events events (all_back (IsHeld es) (event_entries number m e) (flat_map (event_entries number m) events) h))

@@ -28,7 +28,7 @@ use Rattle.rec_store.specs.OutputPaths.{output_path}
 use Rattle.rec_store.specs.Reading.{is_metadata}
 use Rattle.rec_store.specs.Store.{metadata_of, store_entries}
 use Rattle.rec_store.proofs.EventMapLaws.{all_of_event}
-use Rattle.rec_store.proofs.Held.{IsAbsent, all_append, all_weaker, all_with, with_entries-append, clash-append, with_entries-behind, clash-behind}
+use Rattle.rec_store.proofs.Held.{IsAbsent, all_append, all_weaker, all_with, with_entries-append, clash-append, with_entries-after, clash-after}
 
 -- an entry that stands where an output does
 abbrev pub IsOutputEntry : Entry → Type 0
@@ -81,13 +81,13 @@ absent head fs h =
     all_weaker IsOutputEntry (IsAbsent store)
     (λ f is. ap (content_of store) is.1 ∙ metadata_without head.build_scope head.rerun_info head.cargo_metadata head.test_list head.record_opts is.0) fs h
 
--- outputs go behind the metadata, as if it were not there
+-- outputs go after the metadata, as if it were not there
 pub with_outputs : (head : SessionHead) (outs fs : List Entry) → AllByRecursion IsOutputEntry fs → with_entries (store_entries head ++ outs) fs ≡ store_entries head ++ with_entries outs fs
-with_outputs head outs fs h = with_entries-behind (store_entries head) outs fs (absent head fs h)
+with_outputs head outs fs h = with_entries-after (store_entries head) outs fs (absent head fs h)
 
 -- and don't clash with it
 pub clash_outputs : (head : SessionHead) (outs fs : List Entry) → AllByRecursion IsOutputEntry fs → clash (store_entries head ++ outs) fs ≡ clash outs fs
-clash_outputs head outs fs h = clash-behind (store_entries head) outs fs (absent head fs h)
+clash_outputs head outs fs h = clash-after (store_entries head) outs fs (absent head fs h)
 
 path_of_rerun : (f : OutputFileName) → bytes_eq rerun_info_path (output_path f) ≡ false
 unfolding output_path
@@ -129,7 +129,7 @@ flat_map-push : {A B : Type 0} (f : A → List B) (xs : List A) (x : A) → flat
 flat_map-push f xs x = flat_map-append f xs (x ∷ []) ∙ ap (λ l. flat_map f xs ++ l) (append-nil (f x))
 
 module _ (number : List ℕ → ℕ) (m : ℕ) (events : List LiveEvent) (e : LiveEvent) where
-  -- its outputs go behind those before it
+  -- its outputs go after those before it
   pub outputs_push : outputs_stored number m (events ++ e ∷ []) ≡ with_entries (outputs_stored number m events) (event_entries number m e)
   outputs_push = ap (with_entries []) (flat_map-push (event_entries number m) events e) ∙ with_entries-append [] (run_outputs number m events) (event_entries number m e)
 
@@ -141,13 +141,13 @@ module _ (number : List ℕ → ℕ) (m : ℕ) (events : List LiveEvent) (e : Li
       ∙ ap (λ o. option_or o (clash (outputs_stored number m events) (event_entries number m e))) before
       ∙ now
 
-  -- its line goes behind those of the log
+  -- its line goes after those of the log
   pub log_push : run_log number m (events ++ e ∷ []) ≡ run_log number m events ++ event_line (event_recorded number m e)
   log_push =
       ap (flat_map event_line) (map-append (event_recorded number m) events (e ∷ []))
       ∙ flat_map-push event_line (events_recorded number m events) (event_recorded number m e)
 
--- and so its outputs go behind those in the store
+-- and so its outputs go after those in the store
 pub store_push : (number : List ℕ → ℕ) (m : ℕ) (head : SessionHead) (events : List LiveEvent) (e : LiveEvent)
     → run_store number m head (events ++ e ∷ []) ≡ with_entries (run_store number m head events) (event_entries number m e)
 store_push number m head events e =

@@ -6,7 +6,7 @@ use Rattle.rec_container.specs.Writing.{Writing}
 use Rattle.rec_store.specs.declared.error.RunStoreError.{RunStoreError}
 use Rattle.rec_store.specs.Recording.{Takes, RefusesEntry, AddsEach}
 use Rattle.rec_store.specs.Stopping.{TakesFirst, Stops, StoresAs}
-use Rattle.rec_store.proofs.Adding.{AddsUpTo-front, AddsUpTo-behind}
+use Rattle.rec_store.proofs.Adding.{AddsUpTo-prefix, AddsUpTo-after}
 
 module _ {S : Type 0} (taken : S → Option (List ℕ)) (faults : S → ℕ) where
   pub one_stored : (old new : Writing S) (e : Entry) (r : Result ⊤ RunStoreError) → OnOk r (Takes taken faults old new e) → OnOk r (new.failed ≡ false)
@@ -24,20 +24,20 @@ module _ {S : Type 0} (taken : S → Option (List ℕ)) (faults : S → ℕ) whe
   all_taken old new [] h = h
   all_taken old new (e ∷ es) h = inr (h.0, h.1, all_taken h.0 new es h.2)
 
-  first_front : (old new : Writing S) (es fs : List Entry) → TakesFirst taken faults old new es → TakesFirst taken faults old new (es ++ fs)
-  first_front old new [] fs h = rw h (none_taken old fs)
-  first_front old new (e ∷ es) fs (inl h) = inl h
-  first_front old new (e ∷ es) fs (inr h) = inr (h.0, h.1, first_front h.0 new es fs h.2)
+  first_prefix : (old new : Writing S) (es fs : List Entry) → TakesFirst taken faults old new es → TakesFirst taken faults old new (es ++ fs)
+  first_prefix old new [] fs h = rw h (none_taken old fs)
+  first_prefix old new (e ∷ es) fs (inl h) = inl h
+  first_prefix old new (e ∷ es) fs (inr h) = inr (h.0, h.1, first_prefix h.0 new es fs h.2)
 
-  first_behind : (old mid new : Writing S) (es fs : List Entry) → AddsEach taken faults old mid es → TakesFirst taken faults mid new fs → TakesFirst taken faults old new (es ++ fs)
-  first_behind old mid new [] fs p q = rw (sym p) q
-  first_behind old mid new (e ∷ es) fs p q = inr (p.0, p.1, first_behind p.0 mid new es fs p.2 q)
+  first_after : (old mid new : Writing S) (es fs : List Entry) → AddsEach taken faults old mid es → TakesFirst taken faults mid new fs → TakesFirst taken faults old new (es ++ fs)
+  first_after old mid new [] fs p q = rw (sym p) q
+  first_after old mid new (e ∷ es) fs p q = inr (p.0, p.1, first_after p.0 mid new es fs p.2 q)
 
-  pub Stops-front : (old new : Writing S) (es fs : List Entry) (e : RunStoreError) → Stops taken faults old new es e → Stops taken faults old new (es ++ fs) e
-  Stops-front old new es fs e (inl h) = inl (AddsUpTo-front taken faults old new es fs e h)
-  Stops-front old new es fs e (inr h) = inr (h.0, first_front old new es fs h.1)
+  pub Stops-prefix : (old new : Writing S) (es fs : List Entry) (e : RunStoreError) → Stops taken faults old new es e → Stops taken faults old new (es ++ fs) e
+  Stops-prefix old new es fs e (inl h) = inl (AddsUpTo-prefix taken faults old new es fs e h)
+  Stops-prefix old new es fs e (inr h) = inr (h.0, first_prefix old new es fs h.1)
 
-  pub Stops-behind : (old mid new : Writing S) (es fs : List Entry) (e : RunStoreError) → AddsEach taken faults old mid es → Stops taken faults mid new fs e
+  pub Stops-after : (old mid new : Writing S) (es fs : List Entry) (e : RunStoreError) → AddsEach taken faults old mid es → Stops taken faults mid new fs e
       → Stops taken faults old new (es ++ fs) e
-  Stops-behind old mid new es fs e p (inl q) = inl (AddsUpTo-behind taken faults old mid new es fs e p q)
-  Stops-behind old mid new es fs e p (inr q) = inr (q.0, first_behind old mid new es fs p q.1)
+  Stops-after old mid new es fs e p (inl q) = inl (AddsUpTo-after taken faults old mid new es fs e p q)
+  Stops-after old mid new es fs e p (inr q) = inr (q.0, first_after old mid new es fs p q.1)

@@ -3,7 +3,7 @@ use Rattle.std.proofs.Common.{◌≡◌, ℕ, List, ◌++◌, Bool, true, false,
 use Rattle.rec_container.specs.Container.{Entry}
 use Rattle.rec_store.specs.declared.error.RunStoreError.{RunStoreError}
 use Rattle.rec_store.specs.Recording.{Recording, has_failed, Stores, Unstored}
-use Rattle.rec_store.proofs.Adding.{AddsEach-append, AddsUpTo-front, AddsUpTo-behind, sound_after}
+use Rattle.rec_store.proofs.Adding.{AddsEach-append, AddsUpTo-prefix, AddsUpTo-after, sound_after}
 
 both_false : (a b : Bool) → (a || b) ≡ false → (a ≡ false) × (b ≡ false)
 both_false true b h = absurd (let k = h in cc)
@@ -29,12 +29,12 @@ module _ {S L N : Type 0} (taken : S → Option (List ℕ)) (faults : S → ℕ)
       let was = both_false a.store.failed a.log_failed h in
       ap (λ (r : Recording S L N). has_failed r) p.kept ∙ ap (λ failed. failed || a.log_failed) (sound_after taken faults a.store b.store es p.added was.0) ∙ was.1
 
-  pub Unstored-front : (a b : Recording S L N) (es fs : List Entry) (e : RunStoreError) → Unstored taken faults a b es e → Unstored taken faults a b (es ++ fs) e
-  Unstored-front a b es fs e (inl h) = inl h
-  Unstored-front a b es fs e (inr h) = inr (h.0, h.1, AddsUpTo-front taken faults a.store b.store es fs e h.2)
+  pub Unstored-prefix : (a b : Recording S L N) (es fs : List Entry) (e : RunStoreError) → Unstored taken faults a b es e → Unstored taken faults a b (es ++ fs) e
+  Unstored-prefix a b es fs e (inl h) = inl h
+  Unstored-prefix a b es fs e (inr h) = inr (h.0, h.1, AddsUpTo-prefix taken faults a.store b.store es fs e h.2)
 
-  pub Unstored-behind : (a b c : Recording S L N) (es fs : List Entry) (e : RunStoreError) → has_failed a ≡ false → Stores taken faults a b es → Unstored taken faults b c fs e
+  pub Unstored-after : (a b c : Recording S L N) (es fs : List Entry) (e : RunStoreError) → has_failed a ≡ false → Stores taken faults a b es → Unstored taken faults b c fs e
       → Unstored taken faults a c (es ++ fs) e
-  Unstored-behind a b c es fs e h p (inl q) = absurd (let k = sym q.1 ∙ sound_stores a b es p h in cc)
-  Unstored-behind a b c es fs e h p (inr q) =
-      inr (h, kept_then a b c p.kept q.1, AddsUpTo-behind taken faults a.store b.store c.store es fs e p.added q.2)
+  Unstored-after a b c es fs e h p (inl q) = absurd (let k = sym q.1 ∙ sound_stores a b es p h in cc)
+  Unstored-after a b c es fs e h p (inr q) =
+      inr (h, kept_then a b c p.kept q.1, AddsUpTo-after taken faults a.store b.store c.store es fs e p.added q.2)

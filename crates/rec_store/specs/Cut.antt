@@ -12,13 +12,13 @@ marker n = codes "\n\n... [truncated " ++ (decimal n ++ codes " bytes] ...\n\n")
 abbrev pub last : ℕ → List ℕ → List ℕ
 last k b = drop (length b - k) b
 
--- b where its length is at most m; else its two ends around the marker, which take half of the space each, the front rounded down
+-- b where its length is at most m; else its two ends around the marker, which take half of the space each, the prefix rounded down
 abbrev pub cut : List ℕ → ℕ → List ℕ
 cut b m =
     let n = length b - m in
     let space = m - length (marker n) in
-    let front = space / 2 in
-    if nat_le (length b) m then b else take front b ++ (marker n ++ last (space - front) b)
+    let prefix = space / 2 in
+    if nat_le (length b) m then b else take prefix b ++ (marker n ++ last (space - prefix) b)
 
 -- the bytes of a cut
 abbrev pub cut_bytes : CutOutput → List ℕ

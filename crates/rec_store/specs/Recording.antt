@@ -30,7 +30,7 @@ IsCollisionAt path CountOutOfRange = ⊥
 IsCollisionAt path StoreWrite = ⊥
 IsCollisionAt path RunLogWrite = ⊥
 
--- no entry was taken out of a store or changed: what is new stands behind them
+-- no entry was taken out of a store or changed: what is new stands after them
 abbrev pub KeepsEntries : {S : Type 0} → Writing S → Writing S → Type 0
 KeepsEntries old new = (more : List Entry) × (new.entries ≡ old.entries ++ more)
 

@@ -11,7 +11,7 @@ use std::alloc::{AllocError, Global};
 pub enum CutOutput<'a> {
     /// The output itself, which is within the limit.
     Borrowed(&'a [u8]),
-    /// The front and the back of the output, around a marker.
+    /// The prefix and the suffix of the output, around a marker.
     Owned(Vec<u8>),
 }
 
@@ -33,7 +33,7 @@ const MARKER_END: &[u8] = b" bytes] ...\n\n";
 
 /// An output, cut to a limit of `max_size` bytes.
 ///
-/// An output of at most this many bytes is lent as it is. Of a longer one the front and the back
+/// An output of at most this many bytes is lent as it is. Of a longer one the prefix and the suffix
 /// are kept, and a marker between them that says by how many bytes the output exceeds the limit.
 /// What is cut has `max_size` bytes, or is the marker alone where this is longer.
 pub fn truncate_output(
@@ -54,13 +54,13 @@ pub fn truncate_output(
     let digits = buffer.format(excess).as_bytes();
     let marker_len = MARKER_START.len() + digits.len() + MARKER_END.len();
     let space = max_size.saturating_sub(marker_len);
-    let front = space / 2;
-    let back = space - front;
+    let prefix = space / 2;
+    let suffix = space - prefix;
     let mut bytes = Vec::with_capacity(alloc, space + marker_len)?;
-    bytes.extend_from_slice(&buf[..front])?;
+    bytes.extend_from_slice(&buf[..prefix])?;
     bytes.extend_from_slice(MARKER_START)?;
     bytes.extend_from_slice(digits)?;
     bytes.extend_from_slice(MARKER_END)?;
-    bytes.extend_from_slice(&buf[buf.len() - back..])?;
+    bytes.extend_from_slice(&buf[buf.len() - suffix..])?;
     Ok(CutOutput::Owned(bytes))
 }

@@ -88,9 +88,9 @@ fn a_cut_keeps_the_bytes_of_both_ends(rt: HostRuntime) -> Result<(), Fail> {
     let cut = truncate_output(alloc, &bytes, 100)?;
     let cut = cut.as_bytes();
     assert!(rt; cut.len() == 100);
-    let (front, behind) = cut.split_at(33);
-    let (marker, back) = behind.split_at(33);
-    assert!(rt; bytes.starts_with(front));
+    let (prefix, after) = cut.split_at(33);
+    let (marker, back) = after.split_at(33);
+    assert!(rt; bytes.starts_with(prefix));
     assert!(rt; marker == marker_of_a_hundred());
     assert!(rt; bytes.ends_with(back));
     Ok(())

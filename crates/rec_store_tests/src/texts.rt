@@ -1,4 +1,4 @@
-//! The texts of calls and of what they leave, hidden behind functions, since no proof looks into them.
+//! The texts of calls and of what they leave, hidden after functions, since no proof looks into them.
 
 use std::alloc::Global;
 use std::test::Fail;

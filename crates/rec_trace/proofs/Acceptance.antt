@@ -2,11 +2,11 @@
 use Rattle.std.proofs.Common.{◌≡◌, ℕ, suc, List, [], ◌∷◌, ◌++◌, length, Option, Some, None, refl, sym, ◌∙◌, ap, subst, cond}
 use Rattle.std.specs.Option.{option_or}
 use Rattle.rec_events.specs.declared.events.TestEventSummary.{TestEventSummary}
-use Rattle.rec_trace.specs.History.{behind, Known, known}
+use Rattle.rec_trace.specs.History.{after, Known, known}
 use Rattle.rec_trace.specs.Kinds.{history}
 use Rattle.rec_trace.specs.Past.{Change, Happening, of_key, in_place, is_paused, pause_after, open_after, open_spans}
 use Rattle.rec_trace.specs.Past.Change.{Start, Stop, Pause, Resume, Other}
-use Rattle.rec_trace.specs.Refusals.{is_none_open, number_refusal, kind_refusal, instant_refusal, missing_refusal, open_refusal, busy, slot_refusal, row_refusal, count_refusal, change_refusal, event_refusal, refusal_of, refusal_behind, refusal}
+use Rattle.rec_trace.specs.Refusals.{is_none_open, number_refusal, kind_refusal, instant_refusal, missing_refusal, open_refusal, busy, slot_refusal, row_refusal, count_refusal, change_refusal, event_refusal, refusal_of, refusal_after, refusal}
 use Rattle.rec_trace.specs.declared.errors.ChromeTraceError.TheVariants.{SpanAlreadyOpen}
 use Rattle.rec_trace.specs.declared.settings.ChromeTraceGroupBy.{ChromeTraceGroupBy}
 use Rattle.rec_trace.specs.declared.spans.Place.{Place}
@@ -49,16 +49,16 @@ or-assoc : {X : Type 0} (a b c : Option X) → option_or a (option_or b c) ≡ o
 or-assoc None b c = refl
 or-assoc (Some x) b c = refl
 
--- the refusal of two histories, one behind the other
-pub refusal_behind-append : (past xs ys : List Happening) → refusal_behind (known past) (xs ++ ys) ≡ option_or (refusal_behind (known past) xs) (refusal_behind (known (behind past xs)) ys)
-refusal_behind-append past [] ys = refl
-refusal_behind-append past (h ∷ xs) ys =
-    ap (option_or (refusal_of (known past) h)) (refusal_behind-append (h ∷ past) xs ys)
-    ∙ or-assoc (refusal_of (known past) h) (refusal_behind (known (h ∷ past)) xs) (refusal_behind (known (behind (h ∷ past) xs)) ys)
+-- the refusal of two histories, one after the other
+pub refusal_after-append : (past xs ys : List Happening) → refusal_after (known past) (xs ++ ys) ≡ option_or (refusal_after (known past) xs) (refusal_after (known (after past xs)) ys)
+refusal_after-append past [] ys = refl
+refusal_after-append past (h ∷ xs) ys =
+    ap (option_or (refusal_of (known past) h)) (refusal_after-append (h ∷ past) xs ys)
+    ∙ or-assoc (refusal_of (known past) h) (refusal_after (known (h ∷ past)) xs) (refusal_after (known (after (h ∷ past) xs)) ys)
 
 -- a history that is not refused has no first part that is
 pub accepted-prefix : (xs ys : List Happening) → refusal (xs ++ ys) ≡ None → refusal xs ≡ None
-accepted-prefix xs ys ok = (or-none (refusal xs) (refusal_behind (known (behind [] xs)) ys) (sym (refusal_behind-append [] xs ys) ∙ ok)).0
+accepted-prefix xs ys ok = (or-none (refusal xs) (refusal_after (known (after [] xs)) ys) (sym (refusal_after-append [] xs ys) ∙ ok)).0
 
 -- an event that is not refused is not refused for an open span or a busy slot
 pub refusal_of-none : (k : Known) (h : Happening) → refusal_of k h ≡ None → (open_refusal (suc k.number) k.spans h.change ≡ None) × (slot_refusal (suc k.number) k.spans h.change ≡ None)
@@ -119,11 +119,11 @@ room-from_accepted past h all fits e =
     room-from_none (suc k.number) h.change (open_spans past) fits all
     (subst (λ v. open_refusal (suc k.number) v h.change ≡ None) same no_open) (subst (λ v. slot_refusal (suc k.number) v h.change ≡ None) same no_slot)
 
--- behind a past whose open spans fit, events that fit and are not refused find room
-pub rooms-from_accepted : (past hs : List Happening) → AllFit (open_spans past) → StartsFit hs → refusal_behind (known past) hs ≡ None → AllFindRoom past hs
+-- after a past whose open spans fit, events that fit and are not refused find room
+pub rooms-from_accepted : (past hs : List Happening) → AllFit (open_spans past) → StartsFit hs → refusal_after (known past) hs ≡ None → AllFindRoom past hs
 rooms-from_accepted past [] all fits e = tt
 rooms-from_accepted past (h ∷ hs) all fits e =
-    let p = or-none (refusal_of (known past) h) (refusal_behind (known (h ∷ past)) hs) e in
+    let p = or-none (refusal_of (known past) h) (refusal_after (known (h ∷ past)) hs) e in
     (room-from_accepted past h all fits.0 p.0, rooms-from_accepted (h ∷ past) hs (AllFit-open_after h.change (open_spans past) fits.0 all) fits.1 p.1)
 
 -- in a history that fits and is not refused each start finds room

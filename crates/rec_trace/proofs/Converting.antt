@@ -8,7 +8,7 @@ use Rattle.rec_codec.specs.declared.line_events.LineError.{LineError}
 use Rattle.rec_codec.specs.declared.line_events.LineError.TheVariants as faults
 use Rattle.rec_trace.specs.Converting.{Converts, HasNoTrace, KeepsPrefixes, fault_error}
 use Rattle.rec_trace.specs.Drawing.{trace_text}
-use Rattle.rec_trace.specs.History.{behind, shown_after, trace_marks}
+use Rattle.rec_trace.specs.History.{after, shown_after, trace_marks}
 use Rattle.rec_trace.specs.Kinds.{happening, history}
 use Rattle.rec_trace.specs.Past.{Happening}
 use Rattle.rec_trace.specs.Refusals.{refusal}
@@ -37,7 +37,7 @@ pub keeps-prefixes : (g : ChromeTraceGroupBy) (events : List RecordedEvent) → 
 keeps-prefixes g events ok xs ys is =
     let parts : history g events ≡ history g xs ++ history g ys = ap (history g) is ∙ history-append g xs ys in (
       accepted-prefix (history g xs) (history g ys) (ap refusal (sym parts) ∙ ok),
-      (shown_after (behind [] (history g xs)) (history g ys), ap trace_marks parts ∙ shown_after-append [] (history g xs) (history g ys)),
+      (shown_after (after [] (history g xs)) (history g ys), ap trace_marks parts ∙ shown_after-append [] (history g xs) (history g ys)),
     )
 
 -- ---- one item more
@@ -83,7 +83,7 @@ module _ (g : ChromeTraceGroupBy) (b : TraceBuilder) (items : List (Result Recor
           }))
         ]
 
-    -- a fault behind events that have a trace
+    -- a fault after events that have a trace
     pub unread-event : (item : Result RecordedEvent LineError) (fault : LineError) (e : ChromeTraceError) → item ≡ Err fault → steps mid (Some item) rest → e ≡ fault_error fault → HasNoTrace steps s g e
     unread-event item fault e is step told = go fault is told
       where

@@ -8,7 +8,7 @@ use Rattle.rec_events.specs.declared.events.OutputEventKind.TheVariants.{TestFin
 use Rattle.rec_events.specs.declared.events.TestEventKindSummary.{TestEventKindSummary}
 use Rattle.rec_events.specs.declared.events.TestEventKindSummary.TheVariants.{Core, Output}
 use Rattle.rec_events.specs.declared.events.TestEventSummary.{TestEventSummary}
-use Rattle.rec_trace.specs.History.{behind}
+use Rattle.rec_trace.specs.History.{after}
 use Rattle.rec_trace.specs.Keys.{key_eq, row_eq}
 use Rattle.rec_trace.specs.Kinds.{core_change, output_change, change_of, happening, history}
 use Rattle.rec_trace.specs.Past.{Change, Happening, of_key, in_place, in_row, put_in, open_after, open_spans}
@@ -150,7 +150,7 @@ AllFit-filter p (x ∷ spans) g = go (p x) (AllFit-filter p spans g.1)
     go true ih = (g.0, ih)
     go false ih = ih
 
--- where what a change starts fits, what is open behind it fits
+-- where what a change starts fits, what is open after it fits
 pub AllFit-open_after : (c : Change) (spans : List Span) → StartFits c → AllFit spans → AllFit (open_after c spans)
 AllFit-open_after (Start s) spans f g = AllFit-put_in s spans f g
 AllFit-open_after (Stop k) spans f g = AllFit-filter (λ s. not (key_eq s.key k)) spans g
@@ -158,15 +158,15 @@ AllFit-open_after Pause spans f g = g
 AllFit-open_after Resume spans f g = g
 AllFit-open_after Other spans f g = g
 
--- where what a past started fits, what is open behind it fits
+-- where what a past started fits, what is open after it fits
 pub AllFit-open : (past : List Happening) → StartsFit past → AllFit (open_spans past)
 AllFit-open [] f = tt
 AllFit-open (h ∷ past) f = AllFit-open_after h.change (open_spans past) f.0 (AllFit-open past f.1)
 
--- where what a past and the events behind it start fits, that of both does
-pub StartsFit-behind : (past hs : List Happening) → StartsFit past → StartsFit hs → StartsFit (behind past hs)
-StartsFit-behind past [] f g = f
-StartsFit-behind past (h ∷ hs) f g = StartsFit-behind (h ∷ past) hs (g.0, f) g.1
+-- where what a past and the events after it start fits, that of both does
+pub StartsFit-after : (past hs : List Happening) → StartsFit past → StartsFit hs → StartsFit (after past hs)
+StartsFit-after past [] f g = f
+StartsFit-after past (h ∷ hs) f g = StartsFit-after (h ∷ past) hs (g.0, f) g.1
 
 -- ---- events
 
@@ -193,10 +193,10 @@ module _ {S O : Type 0} where
   history-fits g [] = tt
   history-fits g (event ∷ events) = (happening-fits g event, history-fits g events)
 
-  -- what is open behind a history of events fits
-  pub open-fits : (g : ChromeTraceGroupBy) (events : List (TestEventSummary S O)) → AllFit (open_spans (behind [] (history g events)))
-  open-fits g events = AllFit-open (behind [] (history g events)) (StartsFit-behind [] (history g events) tt (history-fits g events))
+  -- what is open after a history of events fits
+  pub open-fits : (g : ChromeTraceGroupBy) (events : List (TestEventSummary S O)) → AllFit (open_spans (after [] (history g events)))
+  open-fits g events = AllFit-open (after [] (history g events)) (StartsFit-after [] (history g events) tt (history-fits g events))
 
-  -- what is open behind a past of events, the newest first, fits
+  -- what is open after a past of events, the newest first, fits
   pub open-fits_newest_first : (g : ChromeTraceGroupBy) (events : List (TestEventSummary S O)) → AllFit (open_spans (history g events))
   open-fits_newest_first g events = AllFit-open (history g events) (history-fits g events)

@@ -1,7 +1,7 @@
 -- On each row of the trace of events begins and ends take turns.
 use Rattle.std.proofs.Common.{◌≡◌, List, [], None}
 use Rattle.rec_events.specs.declared.events.TestEventSummary.{TestEventSummary}
-use Rattle.rec_trace.specs.History.{behind, trace_marks}
+use Rattle.rec_trace.specs.History.{after, trace_marks}
 use Rattle.rec_trace.specs.Kinds.{history}
 use Rattle.rec_trace.specs.Past.{Happening, in_row, is_paused, open_spans}
 use Rattle.rec_trace.specs.Refusals.{refusal}
@@ -14,10 +14,10 @@ use Rattle.rec_trace.proofs.Rows.{room-turns}
 
 -- on each row of an accepted history begins and ends take turns, and what they leave open is the span that is open there
 pub accepted-turns : (hs : List Happening) → StartsFit hs → refusal hs ≡ None → (r : Row) →
-    TakeTurns None (on_row r (trace_marks hs)) (left_open (is_paused (behind [] hs)) (in_row r (open_spans (behind [] hs))))
+    TakeTurns None (on_row r (trace_marks hs)) (left_open (is_paused (after [] hs)) (in_row r (open_spans (after [] hs))))
 accepted-turns hs fits ok r = room-turns hs (accepted-room hs fits ok) r
 
 -- so for the histories of events
 pub history-turns : {S O : Type 0} (g : ChromeTraceGroupBy) (events : List (TestEventSummary S O)) → refusal (history g events) ≡ None → (r : Row) →
-    TakeTurns None (on_row r (trace_marks (history g events))) (left_open (is_paused (behind [] (history g events))) (in_row r (open_spans (behind [] (history g events)))))
+    TakeTurns None (on_row r (trace_marks (history g events))) (left_open (is_paused (after [] (history g events))) (in_row r (open_spans (after [] (history g events)))))
 history-turns g events ok r = room-turns (history g events) (history-room g events ok) r

@@ -1,14 +1,14 @@
--- What a history shows, from its first event on, and what is known behind it.
+-- What a history shows, from its first event on, and what is known after it.
 use Rattle.std.specs.Prelude.{ℕ, suc, Bool, false, List, [], ◌∷◌, ◌++◌}
 use Rattle.rec_trace.specs.Past.{Happening, Mark, open_after, pause_after, shown, shown_of}
 use Rattle.rec_trace.specs.declared.spans.Span.{Span}
 
--- the past with these events behind it
-abbrev pub behind : List Happening → List Happening → List Happening
-behind past [] = past
-behind past (h ∷ history) = behind (h ∷ past) history
+-- the past with these events after it
+abbrev pub after : List Happening → List Happening → List Happening
+after past [] = past
+after past (h ∷ history) = after (h ∷ past) history
 
--- what these events show behind a past, in order
+-- what these events show after a past, in order
 abbrev pub shown_after : List Happening → List Happening → List Mark
 shown_after past [] = []
 shown_after past (h ∷ history) = shown past h ++ shown_after (h ∷ past) history

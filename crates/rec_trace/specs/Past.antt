@@ -1,4 +1,4 @@
--- What each event of a run shows in its trace, behind what came before. A past is the list of what happened so far, the newest first.
+-- What each event of a run shows in its trace, after what came before. A past is the list of what happened so far, the newest first.
 use Rattle.std.specs.Prelude.{ℕ, ℤ, Bool, true, false, not, List, [], ◌∷◌, ◌++◌, map, filter, if◌then◌else◌}
 use Rattle.rec_trace.specs.Keys.{key_eq, row_eq}
 use Rattle.rec_trace.specs.Places.{place_eq, place_lt}
@@ -73,7 +73,7 @@ open_after Pause spans = spans
 open_after Resume spans = spans
 open_after Other spans = spans
 
--- the spans that are open behind the past, by place
+-- the spans that are open after the past, by place
 abbrev pub open_spans : List Happening → List Span
 open_spans [] = []
 open_spans (h ∷ past) = open_after h.change (open_spans past)
@@ -96,6 +96,6 @@ shown_of in_pause spans t Pause = if in_pause then [] else marks End t spans
 shown_of in_pause spans t Resume = if in_pause then marks Begin t spans else []
 shown_of in_pause spans t Other = []
 
--- what an event shows behind the past
+-- what an event shows after the past
 abbrev pub shown : List Happening → Happening → List Mark
 shown past h = shown_of (is_paused past) (open_spans past) h.at h.change

@@ -98,20 +98,20 @@ event_refusal n spans h =
     (option_or (instant_refusal n h.at)
     (change_refusal n spans h.change h.failures))
 
--- the first cause of an event, if it has one, behind what is known
+-- the first cause of an event, if it has one, after what is known
 abbrev pub refusal_of : Known → Happening → Option ChromeTraceError
 refusal_of k h =
     option_or (number_refusal (suc k.number))
     (event_refusal (suc k.number) k.spans h)
 
 -- the cause of the first event that has one
-abbrev pub refusal_behind : Known → List Happening → Option ChromeTraceError
-refusal_behind k [] = None
-refusal_behind k (h ∷ history) = option_or (refusal_of k h) (refusal_behind (known_after h k) history)
+abbrev pub refusal_after : Known → List Happening → Option ChromeTraceError
+refusal_after k [] = None
+refusal_after k (h ∷ history) = option_or (refusal_of k h) (refusal_after (known_after h k) history)
 
 -- why a history has no trace, if it has none
 abbrev pub refusal : List Happening → Option ChromeTraceError
-refusal history = refusal_behind nothing_known history
+refusal history = refusal_after nothing_known history
 
 -- a refusal is answered, exactly where there is one; or memory runs out
 abbrev pub Judges : {T : Type 0} → Result T ChromeTraceError → Option ChromeTraceError → Type 0

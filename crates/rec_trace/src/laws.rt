@@ -5,7 +5,7 @@ ghost use Rattle.rec_trace.specs.declared.settings.ChromeTraceGroupBy as group_b
 ghost use Rattle.rec_trace.specs.declared.spans.Phase.TheVariants as phases;
 ghost use Rattle.rec_trace.specs.declared.spans.Row as rows;
 ghost use Rattle.rec_trace.specs.declared.spans.Span as spans;
-ghost use Rattle.rec_trace.specs.History.{behind, shown_after, trace_marks};
+ghost use Rattle.rec_trace.specs.History.{after, shown_after, trace_marks};
 ghost use Rattle.rec_trace.specs.Kinds as kinds;
 ghost use Rattle.rec_trace.specs.Past.{Happening, in_row, is_paused, mark, open_spans, shown};
 ghost use Rattle.rec_trace.specs.Positions.{past_at, Has, IsOnce, IsInPause, IsOpen, IsSpan, IsSlice, SliceBegins, SliceEnds};
@@ -20,7 +20,7 @@ pub fn pauses()
     ensures { (history : List Happening) (i : ℕ) → i ≤ length history → (IsInPause history i ↔ (is_paused (past_at history i) ≡ true)) }
 {}
 
-/// A span is open behind the past at a position exactly where some start of it before the position has no stop of
+/// A span is open after the past at a position exactly where some start of it before the position has no stop of
 /// its key between.
 pub fn open_at()
     ensures { (history : List Happening) (i : ℕ) (s : spans.Span) → i ≤ length history → (IsOpen history i s ↔ Has (open_spans (past_at history i)) s) }
@@ -46,12 +46,12 @@ pub fn slices<S: OutputSpec>()
 /// what they leave open is the span that is open there, or nothing in a pause.
 pub fn turns<S: OutputSpec>()
     ensures { (group : group_by.ChromeTraceGroupBy) (events : List (TestEventSummary S S.ChildOutput)) → let history = kinds.history group events in
-        refusal history ≡ None → (r : rows.Row) → TakeTurns None (on_row r (trace_marks history)) (left_open (is_paused (behind [] history)) (in_row r (open_spans (behind [] history)))) }
+        refusal history ≡ None → (r : rows.Row) → TakeTurns None (on_row r (trace_marks history)) (left_open (is_paused (after [] history)) (in_row r (open_spans (after [] history)))) }
 {}
 
 /// The first part of a history that has a trace has one too, and its marks are the first of those of the
 /// whole.
 pub fn prefixes()
     ensures accepted { (history more : List Happening) → refusal (history ++ more) ≡ None → refusal history ≡ None }
-    ensures marks { (history more : List Happening) → trace_marks (history ++ more) ≡ trace_marks history ++ shown_after (behind [] history) more }
+    ensures marks { (history more : List Happening) → trace_marks (history ++ more) ≡ trace_marks history ++ shown_after (after [] history) more }
 {}

@@ -11,7 +11,7 @@ use std::process::ExitCode;
 use std::rt::Env;
 use std::{env, fs, io};
 
-/// The words behind the program's name. A word that isn't UTF-8 is an error.
+/// The words after the program's name. A word that isn't UTF-8 is an error.
 fn words_of<R: Env + AllocGlobal>(rt: &R) -> io::Result<Vec<String>> {
     let words = env::args(rt)?.skip(1).collect(rt.alloc())?;
     Ok(words)

@@ -1,8 +1,8 @@
-use Rattle.rec_container.proofs.Spelling.{front-push, front-ending}
+use Rattle.rec_container.proofs.Spelling.{prefix-push, prefix-ending}
 use Rattle.rec_container.proofs.laws.one_spelling.Goals as goal
 
 pub returns-clause-push : goal.returns-clause-push
-returns-clause-push c = front-push
+returns-clause-push c = prefix-push
 
 pub returns-clause-end : goal.returns-clause-end
-returns-clause-end c = front-ending
+returns-clause-end c = prefix-ending

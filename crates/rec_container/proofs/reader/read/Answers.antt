@@ -5,7 +5,7 @@ use Rattle.rec_container.specs.declared.indexed.PlacedEntry.{PlacedEntry}
 use Rattle.rec_container.specs.Container.{Entry}
 use Rattle.rec_container.specs.Reading.{step_at}
 use Rattle.rec_container.specs.Placed.{placed_entry, placed_entries}
-use Rattle.rec_container.proofs.Fronts.{reading_begins, reading_goes_on, reading_ends, magic_tested}
+use Rattle.rec_container.proofs.Prefixes.{reading_begins, reading_goes_on, reading_ends, magic_tested}
 use Rattle.rec_container.proofs.Grammar.{step_at-some}
 use Rattle.rec_container.proofs.reader.read.Goals as goal
 

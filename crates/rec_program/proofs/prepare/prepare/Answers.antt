@@ -4,7 +4,7 @@ use Rattle.rec_codec.specs.Event.{LiveEvent}
 use Rattle.rec_codec.specs.Lines.{NumberedLine}
 use Rattle.rec_store.specs.Bundle.{outputs_stored, run_bundle}
 use Rattle.rec_store.specs.Reading.{IsReading, recorded}
-use Rattle.rec_program.specs.Bundle.{head_in, refusal_behind, session_events}
+use Rattle.rec_program.specs.Bundle.{head_in, refusal_after, session_events}
 use Rattle.rec_program.specs.Session.{event_lines, events_of, head_text}
 use Rattle.rec_trace.specs.Refusals as traces
 use Rattle.rec_trace.proofs.Timelines.{timeline}
@@ -12,7 +12,7 @@ use Rattle.rec_program.specs.SessionTraces.{run_trace, session_history}
 use Rattle.rec_program.specs.declared.prepare.Prepared.{Prepared}
 use Rattle.rec_program.specs.declared.refusal.RecordExportError.{RecordExportError}
 use Rattle.rec_program.specs.declared.refusal.RecordExportError.TheVariants.{OutOfMemory}
-use Rattle.rec_program.proofs.Judging.{behind_head, events_behind, refused_head}
+use Rattle.rec_program.proofs.Judging.{after_head, events_after, refused_head}
 use Rattle.rec_program.proofs.prepare.prepare.Goals as goal
 
 -- five facts of an answer make a sixth
@@ -38,11 +38,11 @@ returns-clause-texts g c =
     let text = c.take_head.ensures.text ∙ ap head_text c.new-lines.ensures in
     let has_head = ap head_in (sym text) ∙ c.in_ok-head.ensures.head in
     let lines = c.take_head.ensures.others ∙ ap event_lines c.new-lines.ensures in
-    let events = ap events_of lines ∙ events_behind session in
+    let events = ap events_of lines ∙ events_after session in
     joined c.bundle_run-result.result (λ prepared spelled reads traced valid accepted. record {
       head = head;
       has_head = has_head;
-      valid = behind_head number settings session head has_head ∙ ap (refusal_behind number settings (Some head)) (sym lines) ∙ valid;
+      valid = after_head number settings session head has_head ∙ ap (refusal_after number settings (Some head)) (sym lines) ∙ valid;
       spelled = spelled ∙ ap (run_bundle number settings.max_output head) events;
       reads = subst (λ (es : List LiveEvent). IsReading prepared.bundle.bytes (recorded number settings.max_output head es)) events reads;
       traced = traced ∙ ap (run_trace settings head) events;
@@ -53,7 +53,7 @@ returns-clause-texts g c =
 pub returns-clause-events : goal.returns-clause-events
 returns-clause-events g c =
     let lines = c.take_head.ensures.others ∙ ap event_lines c.new-lines.ensures in
-    let events = ap events_of lines ∙ events_behind c.args.session.now in
+    let events = ap events_of lines ∙ events_after c.args.session.now in
     subst (λ (es : List LiveEvent). IfOk c.bundle_run-result.result (λ p. p.events ≡ length es)) events c.bundle_run-result.ensures.events
 
 pub returns-clause-outputs : goal.returns-clause-outputs
@@ -61,7 +61,7 @@ returns-clause-outputs g c =
     let number = g.N.OutputNamer.number c.args.namer.now in
     let m = c.args.settings.now.max_output in
     let lines = c.take_head.ensures.others ∙ ap event_lines c.new-lines.ensures in
-    let events = ap events_of lines ∙ events_behind c.args.session.now in
+    let events = ap events_of lines ∙ events_after c.args.session.now in
     subst (λ (es : List LiveEvent). IfOk c.bundle_run-result.result (λ p. p.outputs ≡ length (outputs_stored number m es))) events c.bundle_run-result.ensures.outputs
 
 pub returns-clause-err : goal.returns-clause-err
@@ -72,5 +72,5 @@ returns-clause-err g c =
     let text = c.take_head.ensures.text ∙ ap head_text c.new-lines.ensures in
     let has_head = ap head_in (sym text) ∙ c.in_ok-head.ensures.head in
     let lines = c.take_head.ensures.others ∙ ap event_lines c.new-lines.ensures in
-    let same = ap (refusal_behind number settings (Some head)) lines ∙ sym (behind_head number settings c.args.session.now head has_head) in
+    let same = ap (refusal_after number settings (Some head)) lines ∙ sym (after_head number settings c.args.session.now head has_head) in
     subst (λ (o : Option RecordExportError). IfErr c.bundle_run-result.result (λ e. (e ≡ OutOfMemory) ⊎ (o ≡ Some e))) same c.bundle_run-result.ensures.err

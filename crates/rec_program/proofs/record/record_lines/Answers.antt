@@ -34,8 +34,8 @@ loop-line-preserved g c = record {
       (c.in_ok-record_line.ensures.recorded head before.0 (made_with number namer m head before.0 old before.1)) in (
         before.0 ++ option_to_list (event_at line),
         here.1,
-        λ r new behind. before.2 r new (subst (λ (ls : List NumberedLine). RecordsLines number namer m head before.0 ls new r) (sym c.in-Some.ensures.steps)
-            (recorded_here number namer m head before.0 line rest new r here.0 behind)),
+        λ r new after. before.2 r new (subst (λ (ls : List NumberedLine). RecordsLines number namer m head before.0 ls new r) (sym c.in-Some.ensures.steps)
+            (recorded_here number namer m head before.0 line rest new r here.0 after)),
       );
   traced = λ group history had.
       let line = line_view c.in-Some.line in

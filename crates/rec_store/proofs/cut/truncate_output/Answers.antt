@@ -17,7 +17,7 @@ length_of_three s d e = rw (length-append s (d ++ e), length-append d e) (omega 
 marker_length : (n : ℕ) → length (marker n) ≡ 17 + length (decimal n) + 13
 marker_length n = length_of_three start (decimal n) end
 
--- five pieces, one behind the other
+-- five pieces, one after the other
 joined : (p s d e t v0 v1 v2 v3 v4 v5 : List ℕ) → v0 ≡ [] → v1 ≡ v0 ++ p → v2 ≡ v1 ++ s → v3 ≡ v2 ++ d → v4 ≡ v3 ++ e → v5 ≡ v4 ++ t
     → v5 ≡ p ++ (s ++ (d ++ e) ++ t)
 joined p s d e t v0 v1 v2 v3 v4 v5 e0 e1 e2 e3 e4 e5 =
@@ -32,7 +32,7 @@ otherwise : (x y : List ℕ) (q : Bool) → q ≡ false → (if q then x else y)
 otherwise x y true is = cc is
 otherwise x y false is = refl
 
--- the front and the back of b that fill this space, around the marker of n
+-- the prefix and the suffix of b that fill this space, around the marker of n
 abbrev around : List ℕ → ℕ → ℕ → List ℕ
 around b n space = take (space / 2) b ++ (marker n ++ last (space - space / 2) b)
 
@@ -49,14 +49,14 @@ returns-clause-bytes c =
     let m = c.args.max_size in
     let n = length b - m in
     let space = c.saturating_sub-space.result in
-    let front = take (space / 2) b in
+    let prefix = take (space / 2) b in
     let first = length b - (space - space / 2) in
     let written = c.as_bytes-digits.ensures.value ∙ c.format.ensures.text in
-    let pieces = joined front start c.as_bytes-digits.result.now end (take (length b - first) (drop first b))
+    let pieces = joined prefix start c.as_bytes-digits.result.now end (take (length b - first) (drop first b))
     c.in_ok-bytes.bytes.items c.extend_from_slice.new.self.items c.extend_from_slice-2.new.self.items
     c.extend_from_slice-3.new.self.items c.extend_from_slice-4.new.self.items c.extend_from_slice-5.new.self.items
     c.in_ok-bytes.ensures.items c.in_ok-extend_from_slice.ensures.items c.in_ok-extend_from_slice-2.ensures.items
     c.in_ok-extend_from_slice-3.ensures.items c.in_ok-extend_from_slice-4.ensures.items c.in_ok-extend_from_slice-5.ensures.items in
     let room = c.saturating_sub-space.ensures ∙ ap (λ d. m - (17 + length d + 13)) written in
-    pieces ∙ ap (λ t. front ++ (start ++ (c.as_bytes-digits.result.now ++ end) ++ t)) (rest first b)
-    ∙ ap (λ d. front ++ (start ++ (d ++ end) ++ drop first b)) written ∙ cut_around b m space c.if-buf-max_size.false room
+    pieces ∙ ap (λ t. prefix ++ (start ++ (c.as_bytes-digits.result.now ++ end) ++ t)) (rest first b)
+    ∙ ap (λ d. prefix ++ (start ++ (d ++ end) ++ drop first b)) written ∙ cut_around b m space c.if-buf-max_size.false room

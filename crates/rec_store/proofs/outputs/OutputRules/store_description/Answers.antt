@@ -3,7 +3,7 @@ use Rattle.std.proofs.lemmas.Result.{err_from_is_err_and}
 use Rattle.rec_events.specs.declared.outputs.ZipStoreOutput.{ZipStoreOutput}
 use Rattle.rec_events.specs.declared.outputs.ZipStoreOutputDescription.TheVariants.{Split, Combined}
 use Rattle.rec_store.proofs.Adding.{AddsEach-append}
-use Rattle.rec_store.proofs.Stopped.{Stops-front, Stops-behind}
+use Rattle.rec_store.proofs.Stopped.{Stops-prefix, Stops-after}
 use Rattle.rec_store.proofs.outputs.OutputRules.store_description.Goals as goal
 
 split : {a b c d : Option ZipStoreOutput} → a ≡ c → b ≡ d → Split a b ≡ Split c d
@@ -12,12 +12,12 @@ split p q = rw (p, q)
 pub returns-in_err-stdout-in-Split : goal.returns-in_err-stdout-in-Split
 returns-in_err-stdout-in-Split g c =
     let p = err_from_is_err_and c.from_residual.result c.from_residual.ensures.1 in
-    rw (p.1, p.2, c.in-Split.is) (Stops-front g.S.Sink.taken g.S.Sink.faults c.args.store.now c.store_captured.new.store _ _ _ c.in_err-stdout-in-Split.ensures)
+    rw (p.1, p.2, c.in-Split.is) (Stops-prefix g.S.Sink.taken g.S.Sink.faults c.args.store.now c.store_captured.new.store _ _ _ c.in_err-stdout-in-Split.ensures)
 
 pub returns-in_err-stderr-in-Split : goal.returns-in_err-stderr-in-Split
 returns-in_err-stderr-in-Split g c =
     let p = err_from_is_err_and c.from_residual-in_err-stderr-in-Split.result c.from_residual-in_err-stderr-in-Split.ensures.1 in
-    rw (p.1, p.2, c.in-Split.is) (Stops-behind
+    rw (p.1, p.2, c.in-Split.is) (Stops-after
     g.S.Sink.taken
     g.S.Sink.faults
     c.args.store.now

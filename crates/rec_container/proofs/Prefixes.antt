@@ -1,4 +1,4 @@
--- The front of a container that was read.
+-- The prefix of a container that was read.
 use Rattle.std.proofs.Common.{◌≡◌, ℕ, ◌+◌, List, [], ◌∷◌, ◌++◌, length, take, drop, Some, None, Ok, Err, sym, ap, subst, ◌∙◌, append_assoc, append-nil, arith, length-append, take-append-drop, inr, true, Bool}
 use Rattle.std.specs.List.{flat_map}
 use Rattle.std.specs.Str.{bytes_eq}
@@ -6,25 +6,25 @@ use Rattle.std.proofs.lemmas.Slice.Eq.{bytes_eq-Decides}
 use Rattle.std.proofs.lemmas.Grind.{flat_map-append}
 use Rattle.std.proofs.lemmas.List.{map-append}
 use Rattle.rec_container.specs.declared.errors.ContainerError.{ContainerError}
-use Rattle.rec_container.specs.Container.{Entry, entry, magic, AreFrom, IsFront, place_behind, IsContainer}
+use Rattle.rec_container.specs.Container.{Entry, entry, magic, AreFrom, IsPrefix, place_after, IsContainer}
 use Rattle.rec_container.specs.Reading.{step_at, IsFault, has_magic}
 use Rattle.rec_container.specs.Placed.{placed_entry, placed_entries, PlacedFrom}
 use Rattle.rec_container.specs.declared.indexed.PlacedEntry.{PlacedEntry}
 use Rattle.rec_container.proofs.Lengths.{length-entry, length-magic}
 use Rattle.rec_container.proofs.Spelling.{AreFrom-push}
-use Rattle.rec_container.proofs.Octets.{AreOctets, AreOctets-drop, AreOctets-behind}
+use Rattle.rec_container.proofs.Octets.{AreOctets, AreOctets-drop, AreOctets-after}
 use Rattle.rec_container.proofs.Grammar.{step_at-some, step_at-none}
 
--- one more entry behind those that are placed
+-- one more entry after those that are placed
 PlacedFrom-push : (p : ℕ) (hs : List PlacedEntry) (h : PlacedEntry) → PlacedFrom p hs → h.place ≡ p + length (flat_map entry (placed_entries hs)) + 11 + length h.name.now → PlacedFrom p (hs ++ h ∷ [])
 PlacedFrom-push p [] h q e = (omega (arith, e), tt)
 PlacedFrom-push p (g ∷ hs) h q e =
     (q.0, PlacedFrom-push (p + (11 + length g.name.now + length g.content.now)) hs h q.1 (omega (arith, e, length-append (entry (placed_entry g)) (flat_map entry (placed_entries hs)), length-entry (placed_entry g))))
 
--- the bytes so far: whole entries, and the place behind them
+-- the bytes so far: whole entries, and the place after them
 pub record IsReading (bytes : List ℕ) (hs : List PlacedEntry) (rest : List ℕ) (at : ℕ) : Type 0 where
-  pub front : IsFront bytes (placed_entries hs) rest
-  pub place : at ≡ place_behind (placed_entries hs)
+  pub prefix : IsPrefix bytes (placed_entries hs) rest
+  pub place : at ≡ place_after (placed_entries hs)
   pub fits : at + length rest ≡ length bytes
   pub octets : AreOctets rest
   pub placed : PlacedFrom 8 hs
@@ -36,7 +36,7 @@ reading_begins bytes rest hs octets tested r long none =
     let cut : take 8 bytes ≡ magic = ap (λ n. take n bytes) (sym length-magic) ∙ same in
     let parts : bytes ≡ magic ++ rest = sym (take-append-drop 8 bytes) ∙ ap (λ l. l ++ drop 8 bytes) cut ∙ ap (λ l. magic ++ l) (sym r) in
     let begun : IsReading bytes [] rest 8 = record {
-      front = record { spelled = parts ∙ ap (λ l. l ++ rest) (sym (append-nil magic)); entries = tt };
+      prefix = record { spelled = parts ∙ ap (λ l. l ++ rest) (sym (append-nil magic)); entries = tt };
       place = sym (ap length (append-nil magic) ∙ length-magic);
       fits = omega (arith, long);
       octets = subst AreOctets (sym r) (AreOctets-drop 8 bytes octets);
@@ -55,25 +55,25 @@ reading_goes_on bytes hs gs h rest after at r s g next n there =
     let texts : flat_map entry (es ++ e ∷ []) ≡ flat_map entry es ++ entry e = flat_map-append entry es (e ∷ []) ∙ ap (λ l. flat_map entry es ++ l) (append-nil (entry e)) in
     let whole : magic ++ flat_map entry (es ++ e ∷ []) ≡ (magic ++ flat_map entry es) ++ entry e = ap (λ l. magic ++ l) texts ∙ sym (append_assoc magic (flat_map entry es) (entry e)) in
     let spelled : bytes ≡ magic ++ flat_map entry (es ++ e ∷ []) ++ after =
-    r.front.spelled ∙ ap (λ l. magic ++ flat_map entry es ++ l) f.spelled ∙ sym (append_assoc (magic ++ flat_map entry es) (entry e) after) ∙ ap (λ l. l ++ after) (sym whole) in
-    let entries : AreFrom [] (es ++ e ∷ []) = AreFrom-push [] es e r.front.entries f.is f.new in
-    let place : next ≡ place_behind (es ++ e ∷ []) = omega (arith, n, r.place, ap length whole, length-append (magic ++ flat_map entry es) (entry e), length-entry e) in
+    r.prefix.spelled ∙ ap (λ l. magic ++ flat_map entry es ++ l) f.spelled ∙ sym (append_assoc (magic ++ flat_map entry es) (entry e) after) ∙ ap (λ l. l ++ after) (sym whole) in
+    let entries : AreFrom [] (es ++ e ∷ []) = AreFrom-push [] es e r.prefix.entries f.is f.new in
+    let place : next ≡ place_after (es ++ e ∷ []) = omega (arith, n, r.place, ap length whole, length-append (magic ++ flat_map entry es) (entry e), length-entry e) in
     let fits : next + length after ≡ length bytes = omega (arith, place, ap length spelled, length-append (magic ++ flat_map entry (es ++ e ∷ [])) after) in
     let placed : PlacedFrom 8 (hs ++ h ∷ []) =
     PlacedFrom-push 8 hs h r.placed (omega (arith, there, r.place, length-append magic (flat_map entry es), length-magic)) in
-    let all = λ (ds : List Entry). IsFront bytes ds after × (next ≡ place_behind ds) in
+    let all = λ (ds : List Entry). IsPrefix bytes ds after × (next ≡ place_after ds) in
     let both = subst all (sym pushed) (record { spelled = spelled; entries = entries }, place) in
-    let now : IsReading bytes (hs ++ h ∷ []) after next = record { front = both.0; place = both.1; fits = fits; octets = AreOctets-behind rest (entry e) after f.spelled r.octets; placed = placed } in
+    let now : IsReading bytes (hs ++ h ∷ []) after next = record { prefix = both.0; place = both.1; fits = fits; octets = AreOctets-after rest (entry e) after f.spelled r.octets; placed = placed } in
     subst (λ (l : List PlacedEntry). IsReading bytes l after next) (sym g) now
 
 -- at the end
 pub reading_ends : (bytes : List ℕ) (hs : List PlacedEntry) (rest : List ℕ) (at : ℕ) → IsReading bytes hs rest at → step_at at (placed_entries hs) rest ≡ Ok None → IsContainer bytes (placed_entries hs)
 reading_ends bytes hs rest at r s =
-    record { spelled = r.front.spelled ∙ ap (λ l. magic ++ flat_map entry (placed_entries hs) ++ l) (step_at-none at (placed_entries hs) rest s); entries = r.front.entries }
+    record { spelled = r.prefix.spelled ∙ ap (λ l. magic ++ flat_map entry (placed_entries hs) ++ l) (step_at-none at (placed_entries hs) rest s); entries = r.prefix.entries }
 
 -- at a fault
 pub reading_fails : (bytes : List ℕ) (hs : List PlacedEntry) (rest : List ℕ) (at : ℕ) (e : ContainerError) → IsReading bytes hs rest at → step_at at (placed_entries hs) rest ≡ Err e → IsFault bytes e
-reading_fails bytes hs rest at e r s = inr (placed_entries hs, rest, r.front, ap (λ n. step_at n (placed_entries hs) rest) (sym r.place) ∙ s)
+reading_fails bytes hs rest at e r s = inr (placed_entries hs, rest, r.prefix, ap (λ n. step_at n (placed_entries hs) rest) (sym r.place) ∙ s)
 
 -- the test of the magic, as a prefix is tested
 pub magic_tested : (bytes prefix : List ℕ) (b : Bool) → prefix ≡ 110 ∷ 120 ∷ 116 ∷ 99 ∷ 111 ∷ 110 ∷ 116 ∷ 49 ∷ [] → bytes_eq (take (length prefix) bytes) prefix ≡ b → has_magic bytes ≡ b
