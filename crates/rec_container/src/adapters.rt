@@ -1,6 +1,6 @@
 //! Real readers, writers and files. They tell no bytes, since no contract can know what such a thing
 //! holds. Each error counts as a fault, and so does a write that takes nothing of a piece.
-ghost use Rattle.std.specs.Prelude.{◌≡◌, ◌≤◌, ◌<◌, length, take, IfOk, IfSome, None};
+ghost use Rattle.std.specs.Prelude.{◌≡◌, ◌≤◌, ◌<◌, length, take, IfOk, IfSome, OnOk, None};
 ghost use Rattle.std.specs.Io.{ReadsAtMost};
 ghost use Rattle.std.specs.Io.KnownBytes.{Appends, ReadConsumes, WriteAppends};
 ghost use Rattle.rec_container.specs.Causes.{Counts, HasCause};
@@ -35,6 +35,7 @@ impl<R: Read> Source for StdSource<R> {
         ensures bound { ReadsAtMost result buf.new }
         ensures bytes { ReadConsumes None None result buf.new }
         ensures cause { HasCause self.old.faults self.new.faults result }
+        ensures faultless { OnOk result (self.new.faults ≡ self.old.faults) }
 
         // It gives what the reader gives, where that is known.
         ensures given { ReadConsumes (R.remaining self.old.reader) (R.remaining self.new.reader) result buf.new }

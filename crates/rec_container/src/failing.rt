@@ -66,6 +66,7 @@ impl Source for FailingSource<'_> {
         ensures bound { ReadsAtMost result buf.new }
         ensures bytes { ReadConsumes (Some self.old.rest) (Some self.new.rest) result buf.new }
         ensures cause { HasCause self.old.faults self.new.faults result }
+        ensures faultless { OnOk result (self.new.faults ≡ self.old.faults) }
 
         // The call's number, what it gives, and when it fails.
         ensures numbered { self.new.calls ≡ next_count self.old.calls }

@@ -31,11 +31,13 @@ pub trait Source {
 
     /// Moves the first bytes that are left to the start of `buf`, and answers how many.
     ///
-    /// With room in `buf`, 0 means that nothing is left. A read that fails takes nothing.
+    /// With room in `buf`, 0 means that nothing is left. A read that fails takes nothing, and one
+    /// that doesn't fail counts no fault.
     fn read(&mut self, buf: &mut [u8]) -> Result<usize, SourceFailed>
         ensures bound { ReadsAtMost result buf.new }
         ensures bytes { ReadConsumes (left self.old) (left self.new) result buf.new }
-        ensures cause { HasCause (faults self.old) (faults self.new) result };
+        ensures cause { HasCause (faults self.old) (faults self.new) result }
+        ensures faultless { OnOk result (faults self.new ≡ faults self.old) };
 }
 
 /// Where bytes go.
