@@ -1,5 +1,5 @@
 -- What the parts of a step gave, where the step gave Ok.
-use Rattle.std.proofs.Common.{◌≡◌, Bool, true, false, cond, Result, Ok, Err, OnErr, OnOk, refl, subst}
+use Rattle.std.proofs.Common.{◌≡◌, Bool, true, false, cond, Result, Ok, Err, OnErr, OnOk, IfErr, IsErrAnd, refl, sym, subst}
 use Rattle.rec_container.specs.Reading.{◌>>=◌}
 
 -- a step that goes on with another
@@ -43,3 +43,8 @@ ok_then (Err e) f p = tt
 pub err_then : {T E P Q : Type 0} (r : Result T E) → (P → Q) → OnErr r P → OnErr r Q
 err_then (Ok x) f p = tt
 err_then (Err e) f p = f p
+
+-- what holds of the error that it is
+pub err_is : {T E : Type 0} (r : Result T E) (x : E) (P : E → Type 0) → IsErrAnd r (λ e. e ≡ x) → P x → IfErr r P
+err_is (Ok y) x P h p = tt
+err_is (Err e) x P h p = subst P (sym h) p

@@ -49,7 +49,7 @@ pub trait Disk {
     /// How often it has failed. The count stays at u64's greatest once it is there.
     ghost faults: { Self → ℕ };
 
-    /// Tells whether the path is a file's, or a file lies below it.
+    /// Returns whether the path is a file's, or a file lies below it.
     fn exists(&mut self, path: &str) -> Result<bool, DiskError>
         ensures answer { Exists (files self.old) path.now result }
         ensures same { files self.new ≡ files self.old }

@@ -98,7 +98,7 @@ impl FileMap {
         Ok(())
     }
 
-    /// Tells whether a file lies at a path or below it.
+    /// Returns whether a file lies at a path or below it.
     pub(crate) fn has_any(&self, path: &str) -> bool
         ensures { result ≡ list_any (λ f. lies_at path.now f.0) self.now }
     {
@@ -111,7 +111,7 @@ impl FileMap {
     }
 }
 
-/// Tells whether the file of this name lies at a path or below it.
+/// Returns whether the file of this name lies at a path or below it.
 fn is_at_or_below(name: &str, path: &str) -> bool
     ensures { result ≡ lies_at path.now name.now }
 {

@@ -58,7 +58,7 @@ impl<'a> IndexedEntries<'a> {
         Ok(())
     }
 
-    /// Tells how many entries there are.
+    /// Returns how many entries there are.
     pub(crate) fn len(&self) -> usize
         ensures { result ≡ length self.now }
     {
@@ -73,7 +73,7 @@ impl<'a> IndexedEntries<'a> {
         &self.entries[i]
     }
 
-    /// Tells whether an entry has this name.
+    /// Returns whether an entry has this name.
     pub(crate) fn contains(&self, name: &str) -> bool
         ensures { result ≡ is_some (content_of (placed_entries self.now) name.now) }
     {

@@ -38,7 +38,7 @@ impl Source for SliceSource<'_> {
         ensures bound { ReadsAtMost result buf.new }
         ensures bytes { ReadConsumes (Some self.old) (Some self.new) result buf.new }
         ensures cause { HasCause 0 0 result }
-        ensures faultless { OnOk result (0 ≡ 0) }
+        ensures faultless { OnOk result (◌≡◌ {A = ℕ} 0 0) }
 
         // It gives what there is room for.
         ensures whole { result ≡ Ok (min (length buf.old) (length self.old)) }
@@ -82,7 +82,7 @@ impl Source for EndlessSource {
         ensures bound { ReadsAtMost result buf.new }
         ensures bytes { ReadConsumes None None result buf.new }
         ensures cause { HasCause 0 0 result }
-        ensures faultless { OnOk result (0 ≡ 0) }
+        ensures faultless { OnOk result (◌≡◌ {A = ℕ} 0 0) }
 
         // It fills the buffer, and goes on as before.
         ensures whole { result ≡ Ok (length buf.old) }

@@ -133,7 +133,7 @@ fn none_or<T>(error: io::Error) -> io::Result<Option<T>>
     Err(error)
 }
 
-/// Tells whether a file or a directory stands at a path.
+/// Returns whether a file or a directory stands at a path.
 fn stands<R: Files>(rt: &R, path: &str) -> io::Result<bool> {
     match fs::metadata(rt, path) {
         Ok(_) => Ok(true),

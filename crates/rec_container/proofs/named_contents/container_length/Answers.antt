@@ -1,4 +1,4 @@
-use Rattle.std.proofs.Common.{◌≡◌, ℕ, ◌+◌, ◌<◌, ◌^◌, length, map, sym, ap, subst, SomeIff, arith}
+use Rattle.std.proofs.Common.{◌≡◌, ◌+◌, ◌<◌, ◌^◌, length, map, sym, ap, subst, SomeIff, arith}
 use Rattle.rec_container.specs.NamedContents.{container_of, entry_of}
 use Rattle.rec_container.proofs.ContentsLeft.{left, left_none, length-left, nothing}
 use Rattle.rec_container.proofs.Lengths.{length-spell}

@@ -1,4 +1,4 @@
-use Rattle.std.proofs.Common.{◌≡◌, ◌++◌, [], ◌∷◌, get_or, sym, ap, ◌∙◌, arith}
+use Rattle.std.proofs.Common.{◌++◌, get_or, arith}
 use Rattle.rec_container.specs.Container.{entry}
 use Rattle.rec_container.specs.NamedContents.{entry_of}
 use Rattle.rec_container.proofs.ContentsLeft.{left_parts, left_step, left_end, nothing, all_more}

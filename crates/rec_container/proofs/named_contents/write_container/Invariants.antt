@@ -1,8 +1,7 @@
-use Rattle.std.proofs.Common.{◌≡◌, ◌≤◌, [], ◌∷◌, ◌++◌, List, ℕ, length, ◌<◌, drop, map}
-use Rattle.std.specs.List.{flat_map, AllByRecursion}
+use Rattle.std.proofs.Common.{◌≡◌, ◌≤◌, [], ◌∷◌, ◌++◌, List, ℕ, length, ◌<◌, drop}
+use Rattle.std.specs.List.{AllByRecursion}
 use Rattle.std.specs.Io.KnownBytes.{Appends}
-use Rattle.rec_container.specs.Container.{entry}
-use Rattle.rec_container.specs.NamedContents.{container_of, entry_of}
+use Rattle.rec_container.specs.NamedContents.{container_of}
 use Rattle.rec_container.proofs.ContentsLeft.{left}
 use Rattle.rec_container.proofs.named_contents.write_container.Given as goal
 
