@@ -37,7 +37,7 @@ impl FileMap {
         }
     }
 
-    /// Answers the bytes of a file, or none where there is no such file.
+    /// Returns the bytes of a file, or none where there is no such file.
     pub(crate) fn get(&self, path: &str) -> Option<&[u8]>
         ensures { option_map (λ b. b.now) result ≡ file_at self.now path.now }
     {

@@ -65,7 +65,7 @@ impl<'a> IndexedEntries<'a> {
         self.entries.len()
     }
 
-    /// Answers the entry at a place in their order.
+    /// Returns the entry at a place in their order.
     pub(crate) fn entry(&self, i: usize) -> &PlacedEntry<'a>
         requires { i < length self.now }
         ensures { slice_get self.now i ≡ Some result.now }
@@ -80,7 +80,7 @@ impl<'a> IndexedEntries<'a> {
         self.index.contains_key(name)
     }
 
-    /// Answers the content of the entry of a name.
+    /// Returns the content of the entry of a name.
     pub(crate) fn get(&self, name: &str) -> Option<&'a [u8]>
         ensures { option_map (λ c. c.now) result ≡ content_of (placed_entries self.now) name.now }
     {

@@ -21,7 +21,7 @@ impl<'a> Model for SliceSource<'a> {
 }
 
 impl<'a> SliceSource<'a> {
-    /// A source of these bytes.
+    /// Makes a source of these bytes.
     pub fn new(bytes: &'a [u8]) -> SliceSource<'a>
         ensures { result ≡ bytes.now }
     {
@@ -64,7 +64,7 @@ impl Model for EndlessSource {
 }
 
 impl EndlessSource {
-    /// A source of this byte, again and again.
+    /// Makes a source of this byte, again and again.
     pub fn new(byte: u8) -> EndlessSource
         ensures { result ≡ byte }
     {
@@ -112,7 +112,7 @@ impl Model for MemorySink {
 }
 
 impl MemorySink {
-    /// A sink without bytes, faults or spare room.
+    /// Makes a sink without bytes, faults or spare room.
     pub fn new(alloc: Global) -> MemorySink
         ensures bytes { result.bytes ≡ [] }
         ensures faults { result.faults ≡ 0 }
@@ -132,14 +132,14 @@ impl MemorySink {
         self.bytes.reserve(room)
     }
 
-    /// The bytes taken so far.
+    /// Returns the bytes taken so far.
     pub fn bytes(&self) -> &[u8]
         ensures { result.now ≡ self.now.bytes }
     {
         &self.bytes
     }
 
-    /// How many writes have failed.
+    /// Returns how many writes have failed.
     pub fn faults(&self) -> u64
         ensures { result ≡ self.now.faults }
     {

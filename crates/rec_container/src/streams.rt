@@ -1,7 +1,7 @@
 //! Where bytes come from and where they go.
 //!
 //! An implementation counts its faults, and answers an error only where that count rises. So a
-//! caller that is told of a fault can show that there was one.
+//! caller that gets a fault can show that there was one.
 ghost use Rattle.std.specs.Prelude.{◌≡◌, ◌<◌, ◌≤◌, List, ℕ, length, IfOk, OnOk, OnErr};
 ghost use Rattle.std.specs.Io.{ReadsAtMost};
 ghost use Rattle.std.specs.Io.KnownBytes.{Appends, ReadConsumes, WriteAppends};
@@ -23,7 +23,7 @@ pub struct SinkFailed;
 
 /// Where bytes come from.
 pub trait Source {
-    /// The bytes that are left, where the source tells them.
+    /// The bytes that are left, where they are known.
     ghost left: { Self → Option (List ℕ) };
 
     /// How often it has failed. The count stays at u64's greatest once it is there.
@@ -42,7 +42,7 @@ pub trait Source {
 
 /// Where bytes go.
 pub trait Sink {
-    /// The bytes taken so far, where the sink tells them.
+    /// The bytes taken so far, where they are known.
     ghost taken: { Self → Option (List ℕ) };
 
     /// How often it has failed. The count stays at u64's greatest once it is there.
@@ -71,7 +71,7 @@ pub fn write_all<K: Sink>(sink: &mut K, bytes: &[u8]) -> Result<(), SinkFailed>
     Ok(())
 }
 
-/// As [`write_all`], for a sink whose type isn't known.
+/// Writes as [`write_all`] does, for a sink whose type isn't known.
 pub fn write_all_dyn(sink: &mut dyn Sink, bytes: &[u8]) -> Result<(), SinkFailed>
     ensures ok { OnOk result (Appends (taken sink.old) (taken sink.new) bytes.now) }
     ensures fault { OnErr result (TookPart (taken sink.old) (taken sink.new) bytes.now) }

@@ -40,9 +40,9 @@ impl From<AllocError> for ReadError {
 ///
 /// # Errors
 ///
-/// `SourceFault` means that a read failed before more bytes than the limit had come. `TooLarge` means
-/// that one byte more than the limit came, and no read failed. `OutOfMemory` means that there was no
-/// memory for the bytes; at most one byte more than the limit came, and no read failed.
+/// `SourceFault` means that a read failed before more bytes than the limit had come. `TooLarge`
+/// means that one byte more than the limit came, and no read failed. `OutOfMemory` means that there
+/// was no memory for the bytes; at most one byte more than the limit came, and no read failed.
 pub fn read_within<S: Source>(
     alloc: Global,
     limit: u64,

@@ -46,7 +46,7 @@ impl<K: Sink> Model for ContainerWriter<K> {
     ghost invariant = { λ w. IsSound (entries_of w.entries.entries) w.compressed w.uncompressed };
 }
 
-/// What goes before an entry's content. The magic goes before the first entry.
+/// Returns what goes before an entry's content. The magic goes before the first entry.
 #[tactic(auto, unfolding(crate::specs::Container::magic, crate::specs::Container::entry_head))]
 fn head(alloc: Global, is_first: bool, name: &str, content: usize) -> Result<Vec<u8>, AllocError>
     requires { length name.now < 65536 }
@@ -79,7 +79,7 @@ pub(crate) fn write_two<K: Sink>(
 }
 
 impl<K: Sink> ContainerWriter<K> {
-    /// A writer without entries. Nothing is written yet.
+    /// Makes a writer without entries. Nothing is written yet.
     pub fn new(alloc: Global, sink: K) -> ContainerWriter<K>
         ensures entries { result.entries ≡ [] }
         ensures sink { result.sink ≡ sink }
@@ -95,7 +95,7 @@ impl<K: Sink> ContainerWriter<K> {
         }
     }
 
-    /// Whether the sink has failed.
+    /// Returns whether the sink has failed.
     pub fn is_failed(&self) -> bool
         ensures { result ≡ self.now.failed }
     {
@@ -109,7 +109,7 @@ impl<K: Sink> ContainerWriter<K> {
         self.entries.len()
     }
 
-    /// Whether there is no entry.
+    /// Returns whether there is no entry.
     pub fn is_empty(&self) -> bool
         ensures { IsTrue result ↔ (self.now.entries ≡ []) }
     {
@@ -237,7 +237,7 @@ impl<K: Sink> ContainerWriter<K> {
     }
 }
 
-/// The end mark, after the magic where there is no entry.
+/// Returns the end mark, after the magic where there is no entry.
 #[tactic(auto, unfolding(crate::specs::Container::magic))]
 fn end_of(is_empty: bool) -> &'static [u8]
     ensures { result.now ≡ (if is_empty then magic ++ 0 ∷ [] else 0 ∷ []) }
@@ -245,7 +245,7 @@ fn end_of(is_empty: bool) -> &'static [u8]
     if is_empty { b"nxtcont1\0" } else { &[0] }
 }
 
-/// Why an entry is refused, or none where it is there, or the container's length with it.
+/// Returns why an entry is refused, or none where it is there, or the container's length with it.
 fn judge(
     failed: bool,
     entries: &IndexMap<String, Vec<u8>>,
