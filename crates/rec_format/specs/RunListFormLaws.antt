@@ -1,16 +1,16 @@
 -- A run list reads back, and is writable.
-use Rattle.std.specs.Prelude.{◌≡◌, [], Some, codes}
+use Rattle.std.specs.Prelude.{◌≡◌, [], Some, refl, codes}
 use Rattle.std.proofs.Common.{arith}
 use Rattle.rec_forms.specs.Members.{get_member-members_of}
 use Rattle.rec_forms.specs.Known.{Known}
 use Rattle.rec_forms.specs.KnownLaws.{object_then, required_then, maybe_then, defaulted_then, list_known}
 use Rattle.rec_forms.specs.ListLaws.{each_back, maybe_back}
 use Rattle.rec_forms.specs.Lists.{list_form}
-use Rattle.rec_forms.specs.NumberLaws.{u32_back, u32_known}
+use Rattle.rec_forms.specs.NumberLaws.{u32_back, u32_writable, u32_known}
 use Rattle.rec_forms.specs.Numbers.{u32_form}
 use Rattle.rec_forms.specs.TimeLaws.{stamp_back, stamp_writable, stamp_known}
 use Rattle.rec_forms.specs.Times.{stamp_value, stamp_form, IsStamp}
-use Rattle.rec_forms.specs.Writable.{IsWritable, weaker, struct_writable, natural_writable, list_writable, optional_writable}
+use Rattle.rec_forms.specs.Writable.{IsWritable, weaker, struct_writable, list_writable, optional_writable}
 use Rattle.rec_format.specs.declared.run_list.RecordedRunList.{RecordedRunList}
 use Rattle.rec_format.specs.RunForms.{run_value, run_form, IsRun}
 use Rattle.rec_format.specs.RunFormLaws.{run_back, run_writable, run_known}
@@ -26,13 +26,13 @@ run_list_back l is =
       each_back IsRun run_value run_form run_back _ is.runs,
     )
 
-pub run_list_writable : (l : RecordedRunList) → IsWritable 5 (run_list_value l)
-run_list_writable l =
-    struct_writable _ (
-      natural_writable l.format_version,
+pub run_list_writable : (l : RecordedRunList) → IsRunList l → IsWritable 5 (run_list_value l)
+run_list_writable l is =
+    struct_writable _ refl (
+      u32_writable l.format_version is.format_version,
       (
-        optional_writable stamp_value (λ s. weaker 1 4 (omega arith) (stamp_writable s)) l.last_pruned_at,
-        (list_writable run_value run_writable l.runs, tt),
+        optional_writable stamp_value (λ s s_is. weaker 1 4 (omega arith) (stamp_writable s s_is)) l.last_pruned_at is.last_pruned_at,
+        (list_writable run_value run_writable l.runs is.runs, tt),
       ),
     )
 

@@ -1,5 +1,5 @@
 -- Sizes read back, and are writable.
-use Rattle.std.specs.Prelude.{◌≡◌, Some, codes}
+use Rattle.std.specs.Prelude.{◌≡◌, Some, refl, codes}
 use Rattle.rec_forms.specs.Members.{get_member-members_of}
 use Rattle.rec_forms.specs.NumberLaws.{u64_back, u64_known}
 use Rattle.rec_forms.specs.Writable.{IsWritable, struct_writable, natural_writable}
@@ -18,26 +18,27 @@ pub component_format_back : (s : ComponentSizesFormat) → IsComponentFormat s �
 unfolding component_format_form
 component_format_back s h = simp (get_member-members_of, u64_back _ h.compressed, u64_back _ h.uncompressed, u64_back _ h.entries)
 
-pub component_format_writable : (s : ComponentSizesFormat) → IsWritable 1 (component_format_value s)
-component_format_writable s = struct_writable _ (natural_writable s.compressed, (natural_writable s.uncompressed, (natural_writable s.entries, tt)))
+pub component_format_writable : (s : ComponentSizesFormat) → IsComponentFormat s → IsWritable 1 (component_format_value s)
+component_format_writable s h =
+    struct_writable _ refl (natural_writable s.compressed h.compressed, (natural_writable s.uncompressed h.uncompressed, (natural_writable s.entries h.entries, tt)))
 
 pub sizes_format_back : (s : RecordedSizesFormat) → IsSizesFormat s → sizes_format_form (sizes_format_value s) ≡ Some s
 unfolding sizes_format_form
 sizes_format_back s h = simp (get_member-members_of, component_format_back _ h.log, component_format_back _ h.store)
 
-pub sizes_format_writable : (s : RecordedSizesFormat) → IsWritable 2 (sizes_format_value s)
-sizes_format_writable s = struct_writable _ (component_format_writable s.log, (component_format_writable s.store, tt))
+pub sizes_format_writable : (s : RecordedSizesFormat) → IsSizesFormat s → IsWritable 2 (sizes_format_value s)
+sizes_format_writable s h = struct_writable _ refl (component_format_writable s.log h.log, (component_format_writable s.store h.store, tt))
 
 pub component_back : (s : ComponentSizes) → IsComponent s → component_form (component_value s) ≡ Some s
 component_back s h = rw (component_format_back (component_format s) h)
 
-pub component_writable : (s : ComponentSizes) → IsWritable 1 (component_value s)
+pub component_writable : (s : ComponentSizes) → IsComponent s → IsWritable 1 (component_value s)
 component_writable s = component_format_writable (component_format s)
 
 pub sizes_back : (s : RecordedSizes) → AreSizes s → sizes_form (sizes_value s) ≡ Some s
 sizes_back s h = rw (sizes_format_back (sizes_format s) h)
 
-pub sizes_writable : (s : RecordedSizes) → IsWritable 2 (sizes_value s)
+pub sizes_writable : (s : RecordedSizes) → AreSizes s → IsWritable 2 (sizes_value s)
 sizes_writable s = sizes_format_writable (sizes_format s)
 
 -- ---- what is read is well-formed

@@ -1,12 +1,14 @@
 -- Statuses read back, and are writable.
 use Rattle.std.specs.Prelude.{◌≡◌, ℕ, List, Some, option_map, refl, None, Option, codes}
 use Rattle.std.proofs.Common.{ap, ◌∙◌}
+use Rattle.rec_events.specs.Names.{IsText}
 use Rattle.rec_forms.specs.Numbers.{count_form, IsCount, i32_form, u32_form, u64_form}
 use Rattle.rec_forms.specs.Shape.{natural, named}
 use Rattle.rec_forms.specs.Members.{get_member-members_of}
-use Rattle.rec_forms.specs.NumberLaws.{u32_back, u64_back, i32_back, count_back, count_known, i32_known, u32_known, u64_known}
+use Rattle.rec_forms.specs.NumberLaws.{u32_back, u64_back, i32_back, count_back, u32_writable, i32_writable, count_writable, count_known, i32_known, u32_known, u64_known}
 use Rattle.rec_forms.specs.ListLaws.{maybe_back}
-use Rattle.rec_forms.specs.Writable.{IsWritable, struct_writable, natural_writable, integer_writable, string_writable, optional_writable}
+use Rattle.rec_forms.specs.Writable.{IsWritable, struct_writable, natural_writable, string_writable, optional_writable}
+use Rattle.rec_forms.specs.TextLaws.{IsText-are_ascii}
 use Rattle.rec_format.specs.declared.status.CompletedRunStats.{CompletedRunStats}
 use Rattle.rec_format.specs.declared.status.StressCompletedRunStats.{StressCompletedRunStats}
 use Rattle.rec_format.specs.declared.status.RecordedRunStatus.{RecordedRunStatus}
@@ -32,7 +34,7 @@ status_back (Cancelled s) h =
 status_back (StressCompleted s) h =
     simp (
       get_member-members_of,
-      maybe_back IsCount natural count_form count_back (λ k. natural_writable {n = 0} k) s.initial_iteration_count h.initial_iteration_count,
+      maybe_back IsCount natural count_form count_back (count_writable {n = 0}) s.initial_iteration_count h.initial_iteration_count,
       u32_back _ h.success_count,
       u32_back _ h.failed_count,
       i32_back _ h.exit_code,
@@ -40,55 +42,55 @@ status_back (StressCompleted s) h =
 status_back (StressCancelled s) h =
     simp (
       get_member-members_of,
-      maybe_back IsCount natural count_form count_back (λ k. natural_writable {n = 0} k) s.initial_iteration_count h.initial_iteration_count,
+      maybe_back IsCount natural count_form count_back (count_writable {n = 0}) s.initial_iteration_count h.initial_iteration_count,
       u32_back _ h.success_count,
       u32_back _ h.failed_count,
       i32_back _ h.exit_code,
     )
 status_back Unknown h = simp get_member-members_of
 
-bare_writable : (name : List ℕ) → IsWritable 1 (bare_value name)
-bare_writable name = struct_writable _ (string_writable name, tt)
+bare_writable : (name : List ℕ) → IsText name → IsWritable 1 (bare_value name)
+bare_writable name text = struct_writable _ refl (string_writable name text, tt)
 
-completed_writable : (name : List ℕ) (s : CompletedRunStats) → IsWritable 1 (completed_value name s)
-completed_writable name s =
-    struct_writable _ (
-      string_writable name,
+completed_writable : (name : List ℕ) (s : CompletedRunStats) → IsText name → AreCompleted s → IsWritable 1 (completed_value name s)
+completed_writable name s text h =
+    struct_writable _ refl (
+      string_writable name text,
       (
-        natural_writable s.initial_run_count,
+        natural_writable s.initial_run_count h.initial_run_count,
         (
-          natural_writable s.passed,
+          natural_writable s.passed h.passed,
           (
-            natural_writable s.failed,
-            (integer_writable s.exit_code, tt),
+            natural_writable s.failed h.failed,
+            (i32_writable s.exit_code h.exit_code, tt),
           ),
         ),
       ),
     )
 
-stress_writable : (name : List ℕ) (s : StressCompletedRunStats) → IsWritable 1 (stress_value name s)
-stress_writable name s =
-    struct_writable _ (
-      string_writable name,
+stress_writable : (name : List ℕ) (s : StressCompletedRunStats) → IsText name → AreStress s → IsWritable 1 (stress_value name s)
+stress_writable name s text h =
+    struct_writable _ refl (
+      string_writable name text,
       (
-        optional_writable natural (λ k. natural_writable k) s.initial_iteration_count,
+        optional_writable natural count_writable s.initial_iteration_count h.initial_iteration_count,
         (
-          natural_writable s.success_count,
+          u32_writable s.success_count h.success_count,
           (
-            natural_writable s.failed_count,
-            (integer_writable s.exit_code, tt),
+            u32_writable s.failed_count h.failed_count,
+            (i32_writable s.exit_code h.exit_code, tt),
           ),
         ),
       ),
     )
 
-pub status_writable : (s : RecordedRunStatus) → IsWritable 1 (status_value s)
-status_writable Incomplete = bare_writable _
-status_writable (Completed s) = completed_writable _ s
-status_writable (Cancelled s) = completed_writable _ s
-status_writable (StressCompleted s) = stress_writable _ s
-status_writable (StressCancelled s) = stress_writable _ s
-status_writable Unknown = bare_writable _
+pub status_writable : (s : RecordedRunStatus) → IsStatus s → IsWritable 1 (status_value s)
+status_writable Incomplete h = bare_writable _ (IsText-are_ascii _ refl)
+status_writable (Completed s) h = completed_writable _ s (IsText-are_ascii _ refl) h
+status_writable (Cancelled s) h = completed_writable _ s (IsText-are_ascii _ refl) h
+status_writable (StressCompleted s) h = stress_writable _ s (IsText-are_ascii _ refl) h
+status_writable (StressCancelled s) h = stress_writable _ s (IsText-are_ascii _ refl) h
+status_writable Unknown h = bare_writable _ (IsText-are_ascii _ refl)
 
 -- a format is that of the status that it stands for
 format-of : (f : RecordedRunStatusFormat) → status_format (status_of f) ≡ f
@@ -102,7 +104,7 @@ format-of (format.StressCancelled initial_iteration_count success_count failed_c
 pub status_format_back : (f : RecordedRunStatusFormat) → IsStatusFormat f → status_format_form (status_format_value f) ≡ Some f
 status_format_back f h = ap (option_map status_format) (status_back (status_of f) h) ∙ ap Some (format-of f)
 
-pub status_format_writable : (f : RecordedRunStatusFormat) → IsWritable 1 (status_format_value f)
+pub status_format_writable : (f : RecordedRunStatusFormat) → IsStatusFormat f → IsWritable 1 (status_format_value f)
 status_format_writable f = status_writable (status_of f)
 
 -- ---- what is read is well-formed
@@ -157,8 +159,7 @@ status_known = record {
       with_known (named statuses name) ms (named_holds GivesStatuses statuses each_known name)));
 }
 
--- a format of a status stands for that status
--- a status comes back from its form in JSON
+-- a status is what its format stands for
 pub of-format : (s : RecordedRunStatus) → status_of (status_format s) ≡ s
 of-format Incomplete = refl
 of-format (Completed s) = refl

@@ -10,7 +10,8 @@ use Rattle.std.proofs.lemmas.Map.Text.{is_eq-slice_cmp}
 use Rattle.serde_json.specs.View.{items_of}
 use Rattle.rec_forms.specs.Members.{get_member-members_of}
 use Rattle.rec_forms.specs.NumberLaws.{text_back, text_known}
-use Rattle.rec_forms.specs.NameLaws.{names_back, names_writable, match_holds, Rise-with_name, names_known}
+use Rattle.rec_forms.specs.NameLaws.{names_back, names_writable, names_known}
+use Rattle.rec_forms.specs.RiseLaws.{match_holds, Rise-with_name}
 use Rattle.rec_forms.specs.Writable.{IsWritable, struct_writable, string_writable, list_writable}
 use Rattle.rec_format.specs.declared.suites.RerunTestSuiteInfo.{RerunTestSuiteInfo}
 use Rattle.rec_format.specs.Suites.{put_suite, suite_of, SuitesRise}
@@ -28,8 +29,9 @@ pub suite_back : (s : RerunTestSuiteInfo) → IsSuite s → suite_form (suite_va
 unfolding suite_form
 suite_back s h = simp (get_member-members_of, text_back _ h.binary_id, names_back _ h.passing, names_back _ h.outstanding)
 
-pub suite_writable : (s : RerunTestSuiteInfo) → IsWritable 2 (suite_value s)
-suite_writable s = struct_writable _ (string_writable s.binary_id, (names_writable s.passing, (names_writable s.outstanding, tt)))
+pub suite_writable : (s : RerunTestSuiteInfo) → IsSuite s → IsWritable 2 (suite_value s)
+suite_writable s h =
+    struct_writable _ refl (string_writable s.binary_id h.binary_id, (names_writable s.passing h.passing, (names_writable s.outstanding h.outstanding, tt)))
 
 -- ---- what goes last
 
@@ -85,8 +87,8 @@ pub suites_back : (suites : List RerunTestSuiteInfo) → AreSuites suites → su
 unfolding suites_form
 suites_back suites h = each_back suites [] h.rise h.each
 
-pub suites_writable : (suites : List RerunTestSuiteInfo) → IsWritable 3 (suites_value suites)
-suites_writable suites = list_writable suite_value suite_writable suites
+pub suites_writable : (suites : List RerunTestSuiteInfo) → AreSuites suites → IsWritable 3 (suites_value suites)
+suites_writable suites h = list_writable suite_value suite_writable suites h.each
 
 -- ---- what is read is well-formed
 

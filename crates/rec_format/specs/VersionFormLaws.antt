@@ -1,8 +1,8 @@
 -- Versions read back, and are writable.
-use Rattle.std.specs.Prelude.{◌≡◌, Some, codes}
+use Rattle.std.specs.Prelude.{◌≡◌, Some, refl, codes}
 use Rattle.rec_forms.specs.Members.{get_member-members_of}
-use Rattle.rec_forms.specs.NumberLaws.{u32_back, u32_known}
-use Rattle.rec_forms.specs.Writable.{IsWritable, struct_writable, natural_writable}
+use Rattle.rec_forms.specs.NumberLaws.{u32_back, u32_writable, u32_known}
+use Rattle.rec_forms.specs.Writable.{IsWritable, struct_writable}
 use Rattle.rec_format.specs.declared.versions.PortableRecordingFormatVersion.{PortableRecordingFormatVersion}
 use Rattle.rec_format.specs.VersionForms.{portable_version_value, portable_version_form, IsPortableVersion}
 use Rattle.rec_forms.specs.Known.{Known}
@@ -13,8 +13,8 @@ pub portable_version_back : (v : PortableRecordingFormatVersion) → IsPortableV
 unfolding portable_version_form
 portable_version_back v h = simp (get_member-members_of, u32_back _ h.major, u32_back _ h.minor)
 
-pub portable_version_writable : (v : PortableRecordingFormatVersion) → IsWritable 1 (portable_version_value v)
-portable_version_writable v = struct_writable _ (natural_writable v.major, (natural_writable v.minor, tt))
+pub portable_version_writable : (v : PortableRecordingFormatVersion) → IsPortableVersion v → IsWritable 1 (portable_version_value v)
+portable_version_writable v h = struct_writable _ refl (u32_writable v.major h.major, (u32_writable v.minor h.minor, tt))
 
 -- ---- what is read is well-formed
 

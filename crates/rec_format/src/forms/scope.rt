@@ -21,7 +21,7 @@ impl Form for BuildKind {
 
     ghost reads_known = { any_known build_kind_form };
 
-    ghost writable = { build_kind_writable };
+    ghost writable = { λ x _. build_kind_writable x };
 
     fn to_value(&self, alloc: Global) -> Result<Value, AllocError> {
         let name = match self {

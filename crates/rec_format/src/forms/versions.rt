@@ -10,9 +10,8 @@ use std::alloc::{AllocError, Global};
 
 impl Form for StoreFormatMajorVersion {
     ghost use Rattle.rec_forms.specs.Numbers.{u32_form};
-    ghost use Rattle.rec_forms.specs.NumberLaws.{u32_back, u32_known};
+    ghost use Rattle.rec_forms.specs.NumberLaws.{u32_back, u32_known, u32_writable};
     ghost use Rattle.rec_forms.specs.Shape.{natural};
-    ghost use Rattle.rec_forms.specs.Writable.{natural_writable};
     ghost use Rattle.rec_format.specs.VersionForms.{IsNumber};
 
     ghost well_formed = { IsNumber };
@@ -27,7 +26,7 @@ impl Form for StoreFormatMajorVersion {
 
     ghost reads_known = { u32_known };
 
-    ghost writable = { λ n. natural_writable n };
+    ghost writable = { u32_writable };
 
     fn to_value(&self, alloc: Global) -> Result<Value, AllocError> {
         self.number().to_value(alloc)
@@ -40,9 +39,8 @@ impl Form for StoreFormatMajorVersion {
 
 impl Form for StoreFormatMinorVersion {
     ghost use Rattle.rec_forms.specs.Numbers.{u32_form};
-    ghost use Rattle.rec_forms.specs.NumberLaws.{u32_back, u32_known};
+    ghost use Rattle.rec_forms.specs.NumberLaws.{u32_back, u32_known, u32_writable};
     ghost use Rattle.rec_forms.specs.Shape.{natural};
-    ghost use Rattle.rec_forms.specs.Writable.{natural_writable};
     ghost use Rattle.rec_format.specs.VersionForms.{IsNumber};
 
     ghost well_formed = { IsNumber };
@@ -57,7 +55,7 @@ impl Form for StoreFormatMinorVersion {
 
     ghost reads_known = { u32_known };
 
-    ghost writable = { λ n. natural_writable n };
+    ghost writable = { u32_writable };
 
     fn to_value(&self, alloc: Global) -> Result<Value, AllocError> {
         self.number().to_value(alloc)
@@ -70,9 +68,8 @@ impl Form for StoreFormatMinorVersion {
 
 impl Form for PortableRecordingFormatMajorVersion {
     ghost use Rattle.rec_forms.specs.Numbers.{u32_form};
-    ghost use Rattle.rec_forms.specs.NumberLaws.{u32_back, u32_known};
+    ghost use Rattle.rec_forms.specs.NumberLaws.{u32_back, u32_known, u32_writable};
     ghost use Rattle.rec_forms.specs.Shape.{natural};
-    ghost use Rattle.rec_forms.specs.Writable.{natural_writable};
     ghost use Rattle.rec_format.specs.VersionForms.{IsNumber};
 
     ghost well_formed = { IsNumber };
@@ -87,7 +84,7 @@ impl Form for PortableRecordingFormatMajorVersion {
 
     ghost reads_known = { u32_known };
 
-    ghost writable = { λ n. natural_writable n };
+    ghost writable = { u32_writable };
 
     fn to_value(&self, alloc: Global) -> Result<Value, AllocError> {
         self.number().to_value(alloc)
@@ -103,9 +100,8 @@ impl Form for PortableRecordingFormatMajorVersion {
 
 impl Form for PortableRecordingFormatMinorVersion {
     ghost use Rattle.rec_forms.specs.Numbers.{u32_form};
-    ghost use Rattle.rec_forms.specs.NumberLaws.{u32_back, u32_known};
+    ghost use Rattle.rec_forms.specs.NumberLaws.{u32_back, u32_known, u32_writable};
     ghost use Rattle.rec_forms.specs.Shape.{natural};
-    ghost use Rattle.rec_forms.specs.Writable.{natural_writable};
     ghost use Rattle.rec_format.specs.VersionForms.{IsNumber};
 
     ghost well_formed = { IsNumber };
@@ -120,7 +116,7 @@ impl Form for PortableRecordingFormatMinorVersion {
 
     ghost reads_known = { u32_known };
 
-    ghost writable = { λ n. natural_writable n };
+    ghost writable = { u32_writable };
 
     fn to_value(&self, alloc: Global) -> Result<Value, AllocError> {
         self.number().to_value(alloc)
@@ -136,9 +132,8 @@ impl Form for PortableRecordingFormatMinorVersion {
 
 impl Form for RunsJsonFormatVersion {
     ghost use Rattle.rec_forms.specs.Numbers.{u32_form};
-    ghost use Rattle.rec_forms.specs.NumberLaws.{u32_back, u32_known};
+    ghost use Rattle.rec_forms.specs.NumberLaws.{u32_back, u32_known, u32_writable};
     ghost use Rattle.rec_forms.specs.Shape.{natural};
-    ghost use Rattle.rec_forms.specs.Writable.{natural_writable};
     ghost use Rattle.rec_format.specs.VersionForms.{IsNumber};
 
     ghost well_formed = { IsNumber };
@@ -153,7 +148,7 @@ impl Form for RunsJsonFormatVersion {
 
     ghost reads_known = { u32_known };
 
-    ghost writable = { λ n. natural_writable n };
+    ghost writable = { u32_writable };
 
     fn to_value(&self, alloc: Global) -> Result<Value, AllocError> {
         self.number().to_value(alloc)
