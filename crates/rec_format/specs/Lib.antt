@@ -30,4 +30,4 @@ pub mod RunIds
 pub mod RunIdEntries
 pub mod RunListForms
 pub mod RunListFormLaws
-pub mod TextLaws
+pub mod HeadTexts

@@ -8,7 +8,7 @@ use Rattle.rec_forms.specs.IdLaws.{uuid_back, uuid_writable, version_back}
 use Rattle.rec_forms.specs.Ids.{uuid_value, uuid_form, IsUuid}
 use Rattle.rec_forms.specs.ListLaws.{each_back, maybe_back}
 use Rattle.rec_forms.specs.MapLaws.{map_back}
-use Rattle.rec_forms.specs.NumberLaws.{text_back, u32_back, u32_writable, u32_known}
+use Rattle.rec_forms.specs.NumberLaws.{text_back, u32_back, u32_writable, u32_well_formed}
 use Rattle.rec_forms.specs.Shape.{text_of}
 use Rattle.rec_forms.specs.TimeLaws.{stamp_back, duration_back, duration_writable}
 use Rattle.rec_forms.specs.Times.{duration_value, duration_form, IsDuration}
@@ -17,12 +17,12 @@ use Rattle.rec_format.specs.declared.run.RecordedRun.{RecordedRun}
 use Rattle.rec_format.specs.declared.manifest.PortableManifest.{PortableManifest}
 use Rattle.rec_format.specs.PartForms.{identity_fields, identity_form, invocation_fields, invocation_form}
 use Rattle.rec_format.specs.RunForms.{run_value, run_form, run_identity, run_invocation, store_fields, IsRun, manifest_value, manifest_form, IsManifest}
-use Rattle.rec_format.specs.SizeFormLaws.{sizes_format_back, sizes_format_writable, sizes_format_known}
-use Rattle.rec_format.specs.StatusFormLaws.{status_format_back, status_format_writable, status_format_known}
-use Rattle.rec_format.specs.VersionFormLaws.{portable_version_back, portable_version_writable, portable_version_known}
-use Rattle.rec_forms.specs.Known.{Known}
-use Rattle.rec_forms.specs.KnownLaws.{then_holds, object_then, required_then, defaulted_then}
-use Rattle.rec_format.specs.PartFormLaws.{appended, identity_written, invocation_written, identity_known, invocation_known}
+use Rattle.rec_format.specs.SizeFormLaws.{sizes_format_back, sizes_format_writable, sizes_format_well_formed}
+use Rattle.rec_format.specs.StatusFormLaws.{status_format_back, status_format_writable, status_format_well_formed}
+use Rattle.rec_format.specs.VersionFormLaws.{portable_version_back, portable_version_writable, portable_version_well_formed}
+use Rattle.rec_forms.specs.GivesWellFormed.{GivesWellFormed}
+use Rattle.rec_forms.specs.WellFormedLaws.{then_holds, object_then, required_then, defaulted_then}
+use Rattle.rec_format.specs.PartFormLaws.{appended, identity_written, invocation_written, identity_well_formed, invocation_well_formed}
 use Rattle.rec_format.specs.SizeForms.{sizes_format_form}
 use Rattle.rec_format.specs.StatusForms.{status_format_form}
 use Rattle.rec_format.specs.VersionForms.{portable_version_form}
@@ -76,17 +76,17 @@ manifest_writable m is =
 
 -- ---- what is read is well-formed
 
-pub run_known : Known IsRun run_form
+pub run_well_formed : GivesWellFormed IsRun run_form
 unfolding run_form
-run_known = record {
+run_well_formed = record {
   each = λ d.
       object_then d _ (λ ms.
-      required_then u32_form (codes "store-format-version") ms _ u32_known (λ major major_is.
-      defaulted_then u32_form (codes "store-format-minor-version") ms 0 _ (omega arith) u32_known (λ minor minor_is.
-      required_then sizes_format_form (codes "sizes") ms _ sizes_format_known (λ sizes sizes_is.
-      required_then status_format_form (codes "status") ms _ status_format_known (λ status status_is.
-      then_holds (identity_form ms) _ (identity_known ms) (λ i i_is.
-      then_holds (invocation_form ms) _ (invocation_known ms) (λ v v_is.
+      required_then u32_form (codes "store-format-version") ms _ u32_well_formed (λ major major_is.
+      defaulted_then u32_form (codes "store-format-minor-version") ms 0 _ (omega arith) u32_well_formed (λ minor minor_is.
+      required_then sizes_format_form (codes "sizes") ms _ sizes_format_well_formed (λ sizes sizes_is.
+      required_then status_format_form (codes "status") ms _ status_format_well_formed (λ status status_is.
+      then_holds (identity_form ms) _ (identity_well_formed ms) (λ i i_is.
+      then_holds (invocation_form ms) _ (invocation_well_formed ms) (λ v v_is.
       record {
         is = record {
           identity = i_is;
@@ -99,12 +99,12 @@ run_known = record {
       })))))));
 }
 
-pub manifest_known : Known IsManifest manifest_form
+pub manifest_well_formed : GivesWellFormed IsManifest manifest_form
 unfolding manifest_form
-manifest_known = record {
+manifest_well_formed = record {
   each = λ d.
       object_then d _ (λ ms.
-      required_then portable_version_form (codes "format-version") ms _ portable_version_known (λ format_version format_version_is.
-      required_then run_form (codes "run") ms _ run_known (λ run run_is.
+      required_then portable_version_form (codes "format-version") ms _ portable_version_well_formed (λ format_version format_version_is.
+      required_then run_form (codes "run") ms _ run_well_formed (λ run run_is.
       record { is = record { format_version = format_version_is; run = run_is } })));
 }

@@ -5,7 +5,7 @@ use Rattle.rec_events.specs.Names.{IsText}
 use Rattle.rec_forms.specs.Numbers.{count_form, IsCount, i32_form, u32_form, u64_form}
 use Rattle.rec_forms.specs.Shape.{natural, named}
 use Rattle.rec_forms.specs.Members.{get_member-members_of}
-use Rattle.rec_forms.specs.NumberLaws.{u32_back, u64_back, i32_back, count_back, u32_writable, i32_writable, count_writable, count_known, i32_known, u32_known, u64_known}
+use Rattle.rec_forms.specs.NumberLaws.{u32_back, u64_back, i32_back, count_back, u32_writable, i32_writable, count_writable, count_well_formed, i32_well_formed, u32_well_formed, u64_well_formed}
 use Rattle.rec_forms.specs.ListLaws.{maybe_back}
 use Rattle.rec_forms.specs.Writable.{IsWritable, struct_writable, natural_writable, string_writable, optional_writable}
 use Rattle.rec_forms.specs.TextLaws.{IsText-are_ascii}
@@ -17,8 +17,8 @@ use Rattle.rec_format.specs.declared.status.RecordedRunStatusFormat.{RecordedRun
 use Rattle.rec_format.specs.declared.status.RecordedRunStatusFormat.TheVariants as format
 use Rattle.rec_format.specs.Status.{status_format, status_of}
 use Rattle.rec_format.specs.StatusForms.{bare_value, completed_value, completed_form, stress_value, stress_form, status_value, status_form, IsStatus, status_format_value, status_format_form, IsStatusFormat, AreCompleted, AreStress, statuses}
-use Rattle.rec_forms.specs.Known.{Holds, Known}
-use Rattle.rec_forms.specs.KnownLaws.{any_known, map_holds, object_then, required_then, maybe_then, named_holds}
+use Rattle.rec_forms.specs.GivesWellFormed.{Holds, GivesWellFormed}
+use Rattle.rec_forms.specs.WellFormedLaws.{any_well_formed, map_holds, object_then, required_then, maybe_then, named_holds}
 use Rattle.std.specs.Option.{option_map_or}
 use Rattle.serde_json.specs.Data.{Members}
 use Rattle.serde_json.specs.Find.{as_str}
@@ -109,54 +109,54 @@ status_format_writable f = status_writable (status_of f)
 
 -- ---- what is read is well-formed
 
-completed_known : (ms : Members) → Holds AreCompleted (completed_form ms)
+completed_well_formed : (ms : Members) → Holds AreCompleted (completed_form ms)
 unfolding completed_form
-completed_known ms =
-    required_then u64_form (codes "initial-run-count") ms _ u64_known (λ initial_run_count initial_run_count_is.
-    required_then u64_form (codes "passed") ms _ u64_known (λ passed passed_is.
-    required_then u64_form (codes "failed") ms _ u64_known (λ failed failed_is.
-    required_then i32_form (codes "exit-code") ms _ i32_known (λ exit_code exit_code_is.
+completed_well_formed ms =
+    required_then u64_form (codes "initial-run-count") ms _ u64_well_formed (λ initial_run_count initial_run_count_is.
+    required_then u64_form (codes "passed") ms _ u64_well_formed (λ passed passed_is.
+    required_then u64_form (codes "failed") ms _ u64_well_formed (λ failed failed_is.
+    required_then i32_form (codes "exit-code") ms _ i32_well_formed (λ exit_code exit_code_is.
     record { is = record { initial_run_count = initial_run_count_is; passed = passed_is; failed = failed_is; exit_code = exit_code_is } }))))
 
-stress_known : (ms : Members) → Holds AreStress (stress_form ms)
+stress_well_formed : (ms : Members) → Holds AreStress (stress_form ms)
 unfolding stress_form
-stress_known ms =
-    maybe_then count_form (codes "initial-iteration-count") ms _ count_known (λ initial_iteration_count initial_iteration_count_is.
-    required_then u32_form (codes "success-count") ms _ u32_known (λ success_count success_count_is.
-    required_then u32_form (codes "failed-count") ms _ u32_known (λ failed_count failed_count_is.
-    required_then i32_form (codes "exit-code") ms _ i32_known (λ exit_code exit_code_is.
+stress_well_formed ms =
+    maybe_then count_form (codes "initial-iteration-count") ms _ count_well_formed (λ initial_iteration_count initial_iteration_count_is.
+    required_then u32_form (codes "success-count") ms _ u32_well_formed (λ success_count success_count_is.
+    required_then u32_form (codes "failed-count") ms _ u32_well_formed (λ failed_count failed_count_is.
+    required_then i32_form (codes "exit-code") ms _ i32_well_formed (λ exit_code exit_code_is.
     record { is = record { initial_iteration_count = initial_iteration_count_is; success_count = success_count_is; failed_count = failed_count_is; exit_code = exit_code_is } }))))
 
 -- what stands beside a name gives statuses that are well-formed
 abbrev GivesStatuses : (Members → Option RecordedRunStatus) → Type 0
 GivesStatuses form = (ms : Members) → Holds IsStatus (form ms)
 
-each_known : AllByRecursion (λ (s : List ℕ × (Members → Option RecordedRunStatus)). GivesStatuses s.1) statuses
-each_known = (
+each_well_formed : AllByRecursion (λ (s : List ℕ × (Members → Option RecordedRunStatus)). GivesStatuses s.1) statuses
+each_well_formed = (
   λ ms. record { is = tt },
   (
-    λ ms. map_holds Completed (completed_form ms) (completed_known ms) (λ s is. is),
+    λ ms. map_holds Completed (completed_form ms) (completed_well_formed ms) (λ s is. is),
     (
-      λ ms. map_holds Cancelled (completed_form ms) (completed_known ms) (λ s is. is),
+      λ ms. map_holds Cancelled (completed_form ms) (completed_well_formed ms) (λ s is. is),
       (
-        λ ms. map_holds StressCompleted (stress_form ms) (stress_known ms) (λ s is. is),
-        (λ ms. map_holds StressCancelled (stress_form ms) (stress_known ms) (λ s is. is), tt),
+        λ ms. map_holds StressCompleted (stress_form ms) (stress_well_formed ms) (λ s is. is),
+        (λ ms. map_holds StressCancelled (stress_form ms) (stress_well_formed ms) (λ s is. is), tt),
       ),
     ),
   ),
 )
 
-with_known : (o : Option (Members → Option RecordedRunStatus)) (ms : Members) → Holds GivesStatuses o → Holds IsStatus (option_map_or (λ form. form ms) o (Some Unknown))
-with_known None ms h = record { is = tt }
-with_known (Some form) ms h = h.is ms
+with_well_formed : (o : Option (Members → Option RecordedRunStatus)) (ms : Members) → Holds GivesStatuses o → Holds IsStatus (option_map_or (λ form. form ms) o (Some Unknown))
+with_well_formed None ms h = record { is = tt }
+with_well_formed (Some form) ms h = h.is ms
 
-pub status_known : Known IsStatus status_form
+pub status_well_formed : GivesWellFormed IsStatus status_form
 unfolding status_form
-status_known = record {
+status_well_formed = record {
   each = λ d.
       object_then d _ (λ ms.
-      required_then as_str (codes "status") ms _ (any_known as_str) (λ name _.
-      with_known (named statuses name) ms (named_holds GivesStatuses statuses each_known name)));
+      required_then as_str (codes "status") ms _ (any_well_formed as_str) (λ name _.
+      with_well_formed (named statuses name) ms (named_holds GivesStatuses statuses each_well_formed name)));
 }
 
 -- a status is what its format stands for
@@ -168,5 +168,5 @@ of-format (StressCompleted s) = refl
 of-format (StressCancelled s) = refl
 of-format Unknown = refl
 
-pub status_format_known : Known IsStatusFormat status_format_form
-status_format_known = record { each = λ d. map_holds status_format (status_form d) (status_known.each d) (λ s is. rw (of-format s) is) }
+pub status_format_well_formed : GivesWellFormed IsStatusFormat status_format_form
+status_format_well_formed = record { each = λ d. map_holds status_format (status_form d) (status_well_formed.each d) (λ s is. rw (of-format s) is) }

@@ -8,7 +8,7 @@ ghost use Rattle.rec_format.specs.HeadForms.{head_form, IsHead};
 ghost use Rattle.rec_format.specs.RunForms.{manifest_form, manifest_value};
 ghost use Rattle.rec_format.specs.Runs.{manifest_of, recorded_info};
 ghost use Rattle.rec_format.specs.SizeForms.{AreSizes};
-ghost use Rattle.rec_format.specs.TextLaws.{AreTextsRead};
+ghost use Rattle.rec_format.specs.HeadTexts.{AreTextsRead};
 ghost use Rattle.rec_format.specs.declared.head.SessionHead.{SessionHead};
 ghost use Rattle.rec_format.specs.declared.sizes.RecordedSizes.{RecordedSizes};
 ghost use Rattle.rec_format.specs.contracts.versions.StoreFormatMajorVersionOrd.TheImpl as store_major;

@@ -10,7 +10,7 @@ use std::alloc::{AllocError, Global};
 
 impl Form for StoreFormatMajorVersion {
     ghost use Rattle.rec_forms.specs.Numbers.{u32_form};
-    ghost use Rattle.rec_forms.specs.NumberLaws.{u32_back, u32_known, u32_writable};
+    ghost use Rattle.rec_forms.specs.NumberLaws.{u32_back, u32_well_formed, u32_writable};
     ghost use Rattle.rec_forms.specs.Shape.{natural};
     ghost use Rattle.rec_format.specs.VersionForms.{IsNumber};
 
@@ -24,7 +24,7 @@ impl Form for StoreFormatMajorVersion {
 
     ghost reads_back = { u32_back };
 
-    ghost reads_known = { u32_known };
+    ghost reads_well_formed = { u32_well_formed };
 
     ghost writable = { u32_writable };
 
@@ -39,7 +39,7 @@ impl Form for StoreFormatMajorVersion {
 
 impl Form for StoreFormatMinorVersion {
     ghost use Rattle.rec_forms.specs.Numbers.{u32_form};
-    ghost use Rattle.rec_forms.specs.NumberLaws.{u32_back, u32_known, u32_writable};
+    ghost use Rattle.rec_forms.specs.NumberLaws.{u32_back, u32_well_formed, u32_writable};
     ghost use Rattle.rec_forms.specs.Shape.{natural};
     ghost use Rattle.rec_format.specs.VersionForms.{IsNumber};
 
@@ -53,7 +53,7 @@ impl Form for StoreFormatMinorVersion {
 
     ghost reads_back = { u32_back };
 
-    ghost reads_known = { u32_known };
+    ghost reads_well_formed = { u32_well_formed };
 
     ghost writable = { u32_writable };
 
@@ -68,7 +68,7 @@ impl Form for StoreFormatMinorVersion {
 
 impl Form for PortableRecordingFormatMajorVersion {
     ghost use Rattle.rec_forms.specs.Numbers.{u32_form};
-    ghost use Rattle.rec_forms.specs.NumberLaws.{u32_back, u32_known, u32_writable};
+    ghost use Rattle.rec_forms.specs.NumberLaws.{u32_back, u32_well_formed, u32_writable};
     ghost use Rattle.rec_forms.specs.Shape.{natural};
     ghost use Rattle.rec_format.specs.VersionForms.{IsNumber};
 
@@ -82,7 +82,7 @@ impl Form for PortableRecordingFormatMajorVersion {
 
     ghost reads_back = { u32_back };
 
-    ghost reads_known = { u32_known };
+    ghost reads_well_formed = { u32_well_formed };
 
     ghost writable = { u32_writable };
 
@@ -100,7 +100,7 @@ impl Form for PortableRecordingFormatMajorVersion {
 
 impl Form for PortableRecordingFormatMinorVersion {
     ghost use Rattle.rec_forms.specs.Numbers.{u32_form};
-    ghost use Rattle.rec_forms.specs.NumberLaws.{u32_back, u32_known, u32_writable};
+    ghost use Rattle.rec_forms.specs.NumberLaws.{u32_back, u32_well_formed, u32_writable};
     ghost use Rattle.rec_forms.specs.Shape.{natural};
     ghost use Rattle.rec_format.specs.VersionForms.{IsNumber};
 
@@ -114,7 +114,7 @@ impl Form for PortableRecordingFormatMinorVersion {
 
     ghost reads_back = { u32_back };
 
-    ghost reads_known = { u32_known };
+    ghost reads_well_formed = { u32_well_formed };
 
     ghost writable = { u32_writable };
 
@@ -132,7 +132,7 @@ impl Form for PortableRecordingFormatMinorVersion {
 
 impl Form for RunsJsonFormatVersion {
     ghost use Rattle.rec_forms.specs.Numbers.{u32_form};
-    ghost use Rattle.rec_forms.specs.NumberLaws.{u32_back, u32_known, u32_writable};
+    ghost use Rattle.rec_forms.specs.NumberLaws.{u32_back, u32_well_formed, u32_writable};
     ghost use Rattle.rec_forms.specs.Shape.{natural};
     ghost use Rattle.rec_format.specs.VersionForms.{IsNumber};
 
@@ -146,7 +146,7 @@ impl Form for RunsJsonFormatVersion {
 
     ghost reads_back = { u32_back };
 
-    ghost reads_known = { u32_known };
+    ghost reads_well_formed = { u32_well_formed };
 
     ghost writable = { u32_writable };
 
@@ -161,7 +161,7 @@ impl Form for RunsJsonFormatVersion {
 
 impl Form for PortableRecordingFormatVersion {
     ghost use Rattle.rec_format.specs.VersionForms.{portable_version_value, portable_version_form, IsPortableVersion};
-    ghost use Rattle.rec_format.specs.VersionFormLaws.{portable_version_back, portable_version_writable, portable_version_known};
+    ghost use Rattle.rec_format.specs.VersionFormLaws.{portable_version_back, portable_version_writable, portable_version_well_formed};
 
     ghost well_formed = { IsPortableVersion };
 
@@ -173,7 +173,7 @@ impl Form for PortableRecordingFormatVersion {
 
     ghost reads_back = { portable_version_back };
 
-    ghost reads_known = { portable_version_known };
+    ghost reads_well_formed = { portable_version_well_formed };
 
     ghost writable = { portable_version_writable };
 

@@ -1,4 +1,4 @@
-use Rattle.rec_format.specs.TextLaws.{IsHead-read}
+use Rattle.rec_format.proofs.TextLaws.{IsHead-read}
 use Rattle.rec_format.proofs.laws.read_heads_are_well_formed.Goals as goal
 
 pub returns : goal.returns

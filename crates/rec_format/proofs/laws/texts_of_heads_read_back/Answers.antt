@@ -1,4 +1,4 @@
-use Rattle.rec_format.specs.TextLaws.{head_texts}
+use Rattle.rec_format.proofs.TextLaws.{head_texts}
 use Rattle.rec_format.proofs.laws.texts_of_heads_read_back.Goals as goal
 
 pub returns : goal.returns

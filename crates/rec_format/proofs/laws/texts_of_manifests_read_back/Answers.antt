@@ -1,4 +1,4 @@
-use Rattle.rec_format.specs.TextLaws.{recorded_manifest_text}
+use Rattle.rec_format.proofs.TextLaws.{recorded_manifest_text}
 use Rattle.rec_format.proofs.laws.texts_of_manifests_read_back.Goals as goal
 
 pub returns : goal.returns

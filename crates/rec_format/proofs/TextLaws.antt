@@ -1,7 +1,6 @@
 -- The texts of what is recorded of a run are read as what they were written of.
-use Rattle.std.specs.Prelude.{◌≡◌, ℕ, ◌≤◌, Option, Some, None, IfSome, IsTrue}
+use Rattle.std.specs.Prelude.{◌≡◌, ℕ, ◌≤◌, Option, Some, None, IfSome}
 use Rattle.std.proofs.Common.{arith, subst}
-use Rattle.std.specs.Str.{is_utf8}
 use Rattle.serde_json.specs.Data.{Data}
 use Rattle.serde_json.specs.Read.{max_depth}
 use Rattle.serde_json.specs.Written.{compact_text}
@@ -18,7 +17,8 @@ use Rattle.rec_format.specs.declared.rerun.RerunInfo.{RerunInfo}
 use Rattle.rec_format.specs.declared.scope.RecordedBuildScope.{RecordedBuildScope}
 use Rattle.rec_format.specs.declared.sizes.RecordedSizes.{RecordedSizes}
 use Rattle.rec_format.specs.HeadForms.{head_form, IsHead}
-use Rattle.rec_format.specs.HeadFormLaws.{head_known}
+use Rattle.rec_format.specs.HeadFormLaws.{head_well_formed}
+use Rattle.rec_format.specs.HeadTexts.{AreTextsRead}
 use Rattle.rec_format.specs.RerunForms.{rerun_info_value, rerun_info_form, IsRerunInfo}
 use Rattle.rec_format.specs.RerunFormLaws.{rerun_info_back, rerun_info_writable}
 use Rattle.rec_format.specs.RunForms.{manifest_value, manifest_form, IsManifest}
@@ -39,7 +39,7 @@ text_back n value form x writable deep back = let whole = IsWritable-read_back n
 
 -- a head that stands for a value is well-formed
 pub IsHead-read : (d : Data) (h : SessionHead) → head_form d ≡ Some h → IsHead h
-IsHead-read d h e = let Q : Option SessionHead → Type 0 = λ o. IfSome o IsHead in subst Q e (head_known.each d).is
+IsHead-read d h e = let Q : Option SessionHead → Type 0 = λ o. IfSome o IsHead in subst Q e (head_well_formed.each d).is
 
 pub recorded_scope_text : (s : RecordedBuildScope) → IsRecordedScope s → bytes_form recorded_scope_form (compact_text (recorded_scope_value s)) ≡ Some s
 recorded_scope_text s is = text_back 5 recorded_scope_value recorded_scope_form s (recorded_scope_writable s is) (omega arith) (recorded_scope_back s is)
@@ -52,14 +52,6 @@ test_list_text t is = text_back 3 test_list_value test_list_form t (test_list_wr
 
 pub record_opts_text : (o : RecordOpts) → bytes_form record_opts_form (compact_text (record_opts_value o)) ≡ Some o
 record_opts_text o = text_back 1 record_opts_value record_opts_form o (record_opts_writable o) (omega arith) (record_opts_back o)
-
--- what is read of the texts of a head's parts, and that cargo's metadata is UTF-8
-pub record AreTextsRead (h : SessionHead) : Type 0 where
-  pub build_scope : bytes_form recorded_scope_form (compact_text (recorded_scope_value h.build_scope)) ≡ Some h.build_scope
-  pub rerun_info : IfSome h.rerun_info (λ r. bytes_form rerun_info_form (compact_text (rerun_info_value r)) ≡ Some r)
-  pub test_list : bytes_form test_list_form (compact_text (test_list_value h.test_list)) ≡ Some h.test_list
-  pub record_opts : bytes_form record_opts_form (compact_text (record_opts_value h.record_opts)) ≡ Some h.record_opts
-  pub cargo_metadata : IsTrue (is_utf8 h.cargo_metadata)
 
 if_rerun_info : (o : Option RerunInfo) → IfSome o IsRerunInfo → IfSome o (λ r. bytes_form rerun_info_form (compact_text (rerun_info_value r)) ≡ Some r)
 if_rerun_info None is = tt
