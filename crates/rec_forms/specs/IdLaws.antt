@@ -1,5 +1,5 @@
 -- Run numbers and versions read back.
-use Rattle.std.specs.Prelude.{◌≡◌, ℕ, zero, suc, ◌+◌, ◌*◌, ◌<◌, List, [], ◌∷◌, take, drop, slice_index, Bool, true, false, if◌then◌else◌, Option, Some, None, refl, Err, Ok, Result, length, ◌&&◌, ◌==◌}
+use Rattle.std.specs.Prelude.{◌≡◌, ℕ, zero, suc, ◌+◌, ◌*◌, ◌<◌, List, [], ◌∷◌, take, drop, slice_index, Bool, true, false, if◌then◌else◌, Option, Some, None, IfSome, refl, Err, Ok, Result, length, ◌&&◌, ◌==◌}
 use Rattle.semver.specs.Parse.{Parts, version_parts}
 use Rattle.rec_events.specs.Versions.{IsVersion}
 use Rattle.rec_forms.specs.Ids.{uuid_value, uuid_form, IsUuid, version_value, version_form}
@@ -12,7 +12,7 @@ use Rattle.semver.specs.declared.error.Error.{Error}
 use Rattle.serde_json.specs.Find.{as_str}
 use Rattle.std.specs.Result.{result_ok}
 use Rattle.std.specs.List.{list_all}
-use Rattle.std.proofs.Common.{arith, sym, inl}
+use Rattle.std.proofs.Common.{arith, sym, subst, inl}
 use Rattle.std.proofs.lemmas.Bool.Decides.{nat_tests}
 use Rattle.std.proofs.lemmas.Str.{IsUtf8-from_ascii, is_utf8-from_IsUtf8}
 use Rattle.semver.specs.Identifiers.{parts_text}
@@ -104,6 +104,10 @@ uuid_in s =
     if_well_formed (length s == 32) (parsed_simple s) _ (spelled s)
     (if_well_formed (length s == 36) (parsed_hyphenated s) _ (hyphenated s)
     (if_well_formed (length s == 38) (parsed_braced s) _ (braced s) (if_well_formed (length s == 45) (parsed_urn s) None (urn s) nothing)))
+
+-- what a text is read as
+pub IsUuid-parsed : (s u : List ℕ) → Some u ≡ parsed s → IsUuid u
+IsUuid-parsed s u e = subst (λ o. IfSome o IsUuid) (sym e) (uuid_in s).is
 
 pub uuid_well_formed : GivesWellFormed IsUuid uuid_form
 unfolding uuid_form
