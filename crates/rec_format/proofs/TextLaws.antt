@@ -27,7 +27,6 @@ use Rattle.rec_format.specs.Runs.{recorded_info, manifest_of}
 use Rattle.rec_format.specs.ScopeForms.{recorded_scope_value, recorded_scope_form, IsRecordedScope}
 use Rattle.rec_format.specs.ScopeFormLaws.{recorded_scope_back, recorded_scope_writable}
 use Rattle.rec_format.specs.SizeForms.{AreSizes}
-use Rattle.rec_format.specs.StatusForms.{IsStatus}
 use Rattle.rec_format.specs.StatusFormLaws.{of-format}
 
 -- the text of a value that stands for the item is read as the item

@@ -1,5 +1,5 @@
 -- The fields that a head and a run share are writable, and well-formed where they are read.
-use Rattle.std.specs.Prelude.{ℕ, suc, ◌≤◌, List, [], ◌∷◌, ◌++◌, codes}
+use Rattle.std.specs.Prelude.{ℕ, ◌≤◌, List, [], ◌∷◌, ◌++◌, codes}
 use Rattle.std.proofs.Common.{arith}
 use Rattle.rec_forms.specs.GivesWellFormed.{Holds}
 use Rattle.rec_forms.specs.WellFormedLaws.{required_then, maybe_then, defaulted_then, list_well_formed}
