@@ -26,7 +26,12 @@ fn recorded_value(
     }
 }
 
-/// The line of an event in a log: its compact JSON text and LF.
+/// Makes the line of an event in a log: its compact JSON text and LF. The line is read as this event
+/// again.
+///
+/// # Errors
+///
+/// `AllocError` comes where there was not enough memory.
 pub fn log_line(
     alloc: Global,
     event: &TestEventSummary<RecordingSpec>,

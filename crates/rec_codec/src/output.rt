@@ -13,7 +13,7 @@ use rec_forms::{Form, FromValueError};
 use serde_json::Value;
 use std::alloc::Global;
 
-/// A form of outputs that are written as JSON values, and read from them.
+/// Writes the outputs of one form as JSON values, and reads them.
 pub trait OutputForm: OutputSpec {
     // What holds of each output that a program has, if it is loaded.
     ghost output_well_formed: { Self.ChildOutput → Type 0 };
@@ -30,13 +30,22 @@ pub trait OutputForm: OutputSpec {
     // How deep the objects of a written value nest at most.
     ghost output_levels: { ℕ };
 
-    /// The value of the output; `NotLoaded` exactly where it isn't loaded, unless memory runs
-    /// out first.
+    /// Makes the value of the output. It is read as this output again.
+    ///
+    /// # Errors
+    ///
+    /// `NotLoaded` comes exactly where the output isn't loaded, and `OutOfMemory` where there was
+    /// not enough memory.
     fn output_to_value(alloc: Global, output: &Self::ChildOutput) -> Result<Value, ToValueError>
         ensures written { Writes result (output_value output.now) (loaded output.now) }
         ensures known { OnOk result (output_well_formed output.now) };
 
-    /// The output for which `value` stands; `NotAValue` exactly where it stands for none.
+    /// Reads the output for which `value` stands.
+    ///
+    /// # Errors
+    ///
+    /// `NotAValue` comes exactly where the value stands for no output, and `OutOfMemory` where there
+    /// was not enough memory.
     fn output_from_value(alloc: Global, value: &Value) -> Result<Self::ChildOutput, FromValueError>
         ensures read { Gives result (output_form (view value.now)) };
 
