@@ -4,7 +4,7 @@ ghost use Rattle.std.specs.List.{AllByRecursion};
 ghost use Rattle.serde_json.specs.Data.{Data};
 ghost use Rattle.serde_json.specs.View.{view, members_view};
 ghost use Rattle.rec_forms.specs.Gives.{Gives};
-ghost use Rattle.rec_forms.specs.Known.{Known};
+ghost use Rattle.rec_forms.specs.GivesWellFormed.{GivesWellFormed};
 ghost use Rattle.rec_forms.specs.Shape.{with_member, required};
 ghost use Rattle.rec_forms.specs.Lists.{list_value, list_form, some_form};
 ghost use Rattle.rec_forms.specs.Writable.{IsWritable};
@@ -56,10 +56,11 @@ pub trait LoadedForm: Sized {
     ghost reads_back: { (x : Self) → well_formed x → form_of (value_of x) ≡ Some x };
 
     // What is read is well-formed.
-    ghost reads_known: { Known well_formed form_of };
+    ghost reads_well_formed: { GivesWellFormed well_formed form_of };
 
-    // What is written is no null, has no float, and nests no deeper than `levels`.
-    ghost writable: { (x : Self) → IsWritable levels (value_of x) };
+    // What is written is no null, is given back by its text, has no float, and nests no deeper than
+    // `levels`.
+    ghost writable: { (x : Self) → well_formed x → IsWritable levels (value_of x) };
 }
 
 /// Writes a field that holds outputs.

@@ -12,7 +12,7 @@ use std::alloc::Global;
 impl<S: OutputForm> LoadedForm for SetupScriptExecuteStatus<S> {
     ghost use Rattle.std.specs.Prelude.{◌+◌};
     ghost use Rattle.rec_codec.specs.ScriptStatus.{script_status_value, script_status_form, script_status_loaded, IsScriptStatus};
-    ghost use Rattle.rec_codec.specs.ScriptStatusLaws.{script_status_back, script_status_writable, script_status_known};
+    ghost use Rattle.rec_codec.specs.ScriptStatusLaws.{script_status_back, script_status_writable, script_status_well_formed};
 
     ghost well_formed = { IsScriptStatus S.output_well_formed };
 
@@ -26,9 +26,9 @@ impl<S: OutputForm> LoadedForm for SetupScriptExecuteStatus<S> {
 
     ghost reads_back = { script_status_back S.output_well_formed S.output_value S.output_form S.output_reads_back };
 
-    ghost reads_known = { script_status_known S.output_well_formed S.output_form S.output_reads_known };
+    ghost reads_well_formed = { script_status_well_formed S.output_well_formed S.output_form S.output_reads_well_formed };
 
-    ghost writable = { script_status_writable S.output_levels S.output_value S.output_writable };
+    ghost writable = { script_status_writable S.output_well_formed S.output_levels S.output_value S.output_writable };
 
     #[tactic(auto, unfolding(rec_forms::specs::Shape::members_of))]
     fn to_value(&self, alloc: Global) -> Result<Value, ToValueError> {

@@ -74,7 +74,7 @@ fn output_from<S: OutputForm>(
 impl<S: OutputForm> LoadedForm for ChildExecutionOutputDescription<S> {
     ghost use Rattle.std.specs.Prelude.{◌+◌};
     ghost use Rattle.rec_codec.specs.Status.{description_value, description_form, description_loaded, IsDescription};
-    ghost use Rattle.rec_codec.specs.StatusLaws.{description_back, description_writable, description_known};
+    ghost use Rattle.rec_codec.specs.StatusLaws.{description_back, description_writable, description_well_formed};
 
     ghost well_formed = { IsDescription S.output_well_formed };
 
@@ -88,9 +88,9 @@ impl<S: OutputForm> LoadedForm for ChildExecutionOutputDescription<S> {
 
     ghost reads_back = { description_back S.output_well_formed S.output_value S.output_form S.output_reads_back };
 
-    ghost reads_known = { description_known S.output_well_formed S.output_form S.output_reads_known };
+    ghost reads_well_formed = { description_well_formed S.output_well_formed S.output_form S.output_reads_well_formed };
 
-    ghost writable = { description_writable S.output_levels S.output_value S.output_writable };
+    ghost writable = { description_writable S.output_well_formed S.output_levels S.output_value S.output_writable };
 
     #[tactic(auto, unfolding(rec_forms::specs::Shape::members_of))]
     fn to_value(&self, alloc: Global) -> Result<Value, ToValueError> {
@@ -167,7 +167,7 @@ impl Course {
 impl<S: OutputForm> LoadedForm for ExecuteStatus<S> {
     ghost use Rattle.std.specs.Prelude.{◌+◌};
     ghost use Rattle.rec_codec.specs.Status.{status_value, status_form, status_loaded, IsStatus};
-    ghost use Rattle.rec_codec.specs.StatusLaws.{status_back, status_writable, status_known};
+    ghost use Rattle.rec_codec.specs.StatusLaws.{status_back, status_writable, status_well_formed};
 
     ghost well_formed = { IsStatus S.output_well_formed };
 
@@ -181,9 +181,9 @@ impl<S: OutputForm> LoadedForm for ExecuteStatus<S> {
 
     ghost reads_back = { status_back S.output_well_formed S.output_value S.output_form S.output_reads_back };
 
-    ghost reads_known = { status_known S.output_well_formed S.output_form S.output_reads_known };
+    ghost reads_well_formed = { status_well_formed S.output_well_formed S.output_form S.output_reads_well_formed };
 
-    ghost writable = { status_writable S.output_levels S.output_value S.output_writable };
+    ghost writable = { status_writable S.output_well_formed S.output_levels S.output_value S.output_writable };
 
     #[tactic(auto, unfolding(rec_forms::specs::Shape::members_of))]
     fn to_value(&self, alloc: Global) -> Result<Value, ToValueError> {
@@ -255,7 +255,7 @@ fn attempts_from<S: OutputForm>(
 impl<S: OutputForm> LoadedForm for ExecutionStatuses<S> {
     ghost use Rattle.std.specs.Prelude.{◌+◌};
     ghost use Rattle.rec_codec.specs.Status.{statuses_value, statuses_form, statuses_loaded, AreStatuses};
-    ghost use Rattle.rec_codec.specs.StatusLaws.{statuses_back, statuses_writable, statuses_known};
+    ghost use Rattle.rec_codec.specs.StatusLaws.{statuses_back, statuses_writable, statuses_well_formed};
 
     ghost well_formed = { AreStatuses S.output_well_formed };
 
@@ -269,9 +269,9 @@ impl<S: OutputForm> LoadedForm for ExecutionStatuses<S> {
 
     ghost reads_back = { statuses_back S.output_well_formed S.output_value S.output_form S.output_reads_back };
 
-    ghost reads_known = { statuses_known S.output_well_formed S.output_form S.output_reads_known };
+    ghost reads_well_formed = { statuses_well_formed S.output_well_formed S.output_form S.output_reads_well_formed };
 
-    ghost writable = { statuses_writable S.output_levels S.output_value S.output_writable };
+    ghost writable = { statuses_writable S.output_well_formed S.output_levels S.output_value S.output_writable };
 
     #[tactic(auto, unfolding(rec_forms::specs::Shape::members_of))]
     fn to_value(&self, alloc: Global) -> Result<Value, ToValueError> {
