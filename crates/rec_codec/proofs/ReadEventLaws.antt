@@ -1,5 +1,5 @@
 -- An event that is read is well-formed, and has its outputs.
-use Rattle.std.proofs.Common.{◌≡◌, ℕ, Bool, true, List, [], ◌∷◌, Option, Some, IfSome, Result, Ok, Err, IfOk, refl, subst}
+use Rattle.std.proofs.Common.{◌≡◌, ℕ, Bool, true, true≢false, List, [], ◌∷◌, Option, Some, IfSome, Result, Ok, Err, IfOk, refl, sym, ◌∙◌, subst}
 use Rattle.std.specs.List.{AllByRecursion}
 use Rattle.serde_json.specs.Data.{Data}
 use Rattle.serde_json.specs.Read.{read}
@@ -26,7 +26,9 @@ use Rattle.rec_codec.specs.Live.{is_loaded, live_form, IsLive}
 use Rattle.rec_codec.specs.LiveLaws.{live_well_formed, live_loaded}
 use Rattle.rec_codec.specs.OutputKinds.{output_loaded, IsOutput}
 use Rattle.rec_codec.specs.Status.{description_loaded, IsDescription, status_loaded, IsStatus}
-use Rattle.rec_codec.specs.Writes.{every}
+use Rattle.rec_codec.specs.Writes.{every, FailsUnloaded}
+use Rattle.rec_codec.specs.declared.errors.ToValueError.{ToValueError}
+use Rattle.rec_codec.specs.declared.errors.ToValueError.TheVariants.{NotLoaded, OutOfMemory}
 
 -- ---- what is read
 
@@ -105,3 +107,8 @@ module _ {S O : Type 0} (loaded : O → Bool) (loads : (o : O) → loaded o ≡ 
   pub kind_always : (k : TestEventKindSummary S O) → kind_loaded loaded k ≡ true
   kind_always (Core kind) = refl
   kind_always (Output kind) = output_always kind
+
+-- so where each output is loaded, a writer never answers that one isn't
+pub never_unloaded : {S O : Type 0} (e : ToValueError) (k : TestEventKindSummary S O) → e ≡ NotLoaded → FailsUnloaded e (kind_loaded (λ _. true) k) → ⊥
+never_unloaded NotLoaded k is h = true≢false (sym (kind_always (λ _. true) (λ _. refl) k) ∙ h)
+never_unloaded OutOfMemory k is h = absurd cc
