@@ -6,11 +6,15 @@ use Rattle.rec_events.specs.Names.{IsText, AreTexts}
 use Rattle.rec_events.specs.declared.instances.StressIndexSummary.{StressIndexSummary}
 use Rattle.rec_events.specs.Times.{Span, Moment}
 use Rattle.rec_events.specs.declared.events.CoreEventKind.{CoreEventKind}
-use Rattle.rec_events.specs.declared.events.CoreEventKind.TheVariants.{RunStarted, StressSubRunStarted, SetupScriptStarted, SetupScriptSlow, TestStarted, TestSlow, TestRetryStarted, TestSkipped, RunBeginCancel, RunPaused, RunContinued, StressSubRunFinished, RunFinished}
+use Rattle.rec_events.specs.declared.events.CoreEventKind.TheVariants.{RunStarted, StressSubRunStarted, SetupScriptStarted, SetupScriptSlow, TestStarted, TestSlow}
+use Rattle.rec_events.specs.declared.events.CoreEventKind.TheVariants.{TestRetryStarted, TestSkipped, RunBeginCancel, RunPaused, RunContinued, StressSubRunFinished}
+use Rattle.rec_events.specs.declared.events.CoreEventKind.TheVariants.{RunFinished}
 use Rattle.rec_events.specs.declared.events.TestEventKindSummary.TheVariants.{Core}
 use Rattle.rec_forms.specs.IdLaws.{uuid_back, uuid_writable, uuid_well_formed}
 use Rattle.rec_forms.specs.Instances.{stress_index_value, stress_index_form, IsStressIndex, retry_data_form, slot_assignment_form, test_instance_form}
-use Rattle.rec_forms.specs.InstanceLaws.{test_instance_back, test_instance_writable, slot_assignment_back, slot_assignment_writable, retry_data_back, retry_data_writable, stress_index_back, stress_index_writable, retry_data_well_formed, slot_assignment_well_formed, stress_index_well_formed, test_instance_well_formed}
+use Rattle.rec_forms.specs.InstanceLaws.{test_instance_back, test_instance_writable, slot_assignment_back, slot_assignment_writable, retry_data_back, retry_data_writable}
+use Rattle.rec_forms.specs.InstanceLaws.{stress_index_back, stress_index_writable, retry_data_well_formed, slot_assignment_well_formed, stress_index_well_formed}
+use Rattle.rec_forms.specs.InstanceLaws.{test_instance_well_formed}
 use Rattle.rec_forms.specs.ListLaws.{list_back, maybe_back}
 use Rattle.rec_forms.specs.Members.{get_member-members_of}
 use Rattle.rec_forms.specs.NumberLaws.{u64_back, text_back, text_well_formed, u64_well_formed}
@@ -26,7 +30,9 @@ use Rattle.rec_forms.specs.TimeLaws.{stamp_back, stamp_writable, duration_back, 
 use Rattle.rec_forms.specs.Times.{IsStamp, IsDuration, duration_form, stamp_form}
 use Rattle.rec_forms.specs.Writable.{IsWritable, IfWritten, EachWritten, keys_are_ascii, weaker, natural_writable, string_writable, word_writable, boolean_writable, list_writable, optional_writable}
 use Rattle.rec_codec.specs.CoreKinds.{core_fields, IsCore}
-use Rattle.rec_codec.specs.CoreKindForms.{place_form, IsPlace, command_form, IsCommand, run_started_form, stress_sub_run_started_form, setup_script_started_form, setup_script_slow_form, test_started_form, test_slow_form, test_retry_started_form, test_skipped_form, run_begin_cancel_form, run_paused_form, run_continued_form, stress_sub_run_finished_form, run_finished_form}
+use Rattle.rec_codec.specs.CoreKindForms.{place_form, IsPlace, command_form, IsCommand, run_started_form, stress_sub_run_started_form, setup_script_started_form}
+use Rattle.rec_codec.specs.CoreKindForms.{setup_script_slow_form, test_started_form, test_slow_form, test_retry_started_form, test_skipped_form, run_begin_cancel_form}
+use Rattle.rec_codec.specs.CoreKindForms.{run_paused_form, run_continued_form, stress_sub_run_finished_form, run_finished_form}
 use Rattle.rec_codec.specs.EventForms.{kind_named, kind_form, event_value, event_form}
 use Rattle.rec_forms.specs.GivesWellFormed.{Holds}
 use Rattle.rec_forms.specs.WellFormedLaws.{any_well_formed, then_holds, required_then, maybe_then, list_well_formed}
@@ -187,99 +193,220 @@ pub texts_written : (n : ℕ) (ts : List (List ℕ)) → AreTexts ts → IsWrita
 texts_written n ts h = weaker 1 (n + 9) (omega arith) (list_writable string string_writable ts h)
 
 pub core_written : (n : ℕ) (k : CoreEventKind) → IsCore k → FieldsWritten (n + 9) (core_fields k)
-core_written n (RunStarted run_id profile_name cli_args stress_condition) h =
-    (refl,
-    (word_writable (codes "run-started") refl,
-    (weaker 0 (n + 9) (omega arith) (uuid_writable run_id h.0),
-    (string_writable profile_name h.1,
-    (texts_written n cli_args h.2,
-    (optional_writable stress_condition_value (λ x is. weaker 2 (n + 9) (omega arith) (stress_condition_writable x is)) stress_condition h.3, tt))))))
-core_written n (StressSubRunStarted progress) h =
-    (refl,
-    (word_writable (codes "stress-sub-run-started") refl,
-    (weaker 3 (n + 9) (omega arith) (stress_progress_writable progress h), tt)))
-core_written n (SetupScriptStarted stress_index index total script_id program args no_capture) h =
-    (refl,
-    (word_writable (codes "setup-script-started") refl,
-    (stress_index_written n stress_index h.0,
-    (natural_writable index h.1,
-    (natural_writable total h.2,
-    (string_writable script_id h.3,
-    (string_writable program h.4,
-    (texts_written n args h.5,
-    (boolean_writable no_capture, tt)))))))))
-core_written n (SetupScriptSlow stress_index script_id program args elapsed will_terminate) h =
-    (refl,
-    (word_writable (codes "setup-script-slow") refl,
-    (stress_index_written n stress_index h.0,
-    (string_writable script_id h.1,
-    (string_writable program h.2,
-    (texts_written n args h.3,
-    (weaker 1 (n + 9) (omega arith) (duration_writable elapsed h.4),
-    (boolean_writable will_terminate, tt))))))))
-core_written n (TestStarted stress_index test_instance slot_assignment current_stats running command_line) h =
-    (refl,
-    (word_writable (codes "test-started") refl,
-    (stress_index_written n stress_index h.0,
-    (weaker 1 (n + 9) (omega arith) (test_instance_writable test_instance h.1),
-    (weaker 1 (n + 9) (omega arith) (slot_assignment_writable slot_assignment h.2),
-    (weaker 1 (n + 9) (omega arith) (run_stats_writable current_stats h.3),
-    (natural_writable running h.4,
-    (texts_written n command_line h.5, tt))))))))
-core_written n (TestSlow stress_index test_instance retry_data elapsed will_terminate) h =
-    (refl,
-    (word_writable (codes "test-slow") refl,
-    (stress_index_written n stress_index h.0,
-    (weaker 1 (n + 9) (omega arith) (test_instance_writable test_instance h.1),
-    (weaker 1 (n + 9) (omega arith) (retry_data_writable retry_data h.2),
-    (weaker 1 (n + 9) (omega arith) (duration_writable elapsed h.3),
-    (boolean_writable will_terminate, tt)))))))
-core_written n (TestRetryStarted stress_index test_instance slot_assignment retry_data running command_line) h =
-    (refl,
-    (word_writable (codes "test-retry-started") refl,
-    (stress_index_written n stress_index h.0,
-    (weaker 1 (n + 9) (omega arith) (test_instance_writable test_instance h.1),
-    (weaker 1 (n + 9) (omega arith) (slot_assignment_writable slot_assignment h.2),
-    (weaker 1 (n + 9) (omega arith) (retry_data_writable retry_data h.3),
-    (natural_writable running h.4,
-    (texts_written n command_line h.5, tt))))))))
-core_written n (TestSkipped stress_index test_instance reason junit_report_skipped) h =
-    (refl,
-    (word_writable (codes "test-skipped") refl,
-    (stress_index_written n stress_index h.0,
-    (weaker 1 (n + 9) (omega arith) (test_instance_writable test_instance h.1),
-    (weaker 0 (n + 9) (omega arith) (mismatch_reason_writable reason),
-    (weaker 0 (n + 9) (omega arith) (skip_policy_writable junit_report_skipped), tt))))))
-core_written n (RunBeginCancel setup_scripts_running running reason) h =
-    (refl,
-    (word_writable (codes "run-begin-cancel") refl,
-    (natural_writable setup_scripts_running h.0,
-    (natural_writable running h.1,
-    (weaker 0 (n + 9) (omega arith) (cancel_reason_writable reason), tt)))))
-core_written n (RunPaused setup_scripts_running running) h =
-    (refl,
-    (word_writable (codes "run-paused") refl,
-    (natural_writable setup_scripts_running h.0,
-    (natural_writable running h.1, tt))))
-core_written n (RunContinued setup_scripts_running running) h =
-    (refl,
-    (word_writable (codes "run-continued") refl,
-    (natural_writable setup_scripts_running h.0,
-    (natural_writable running h.1, tt))))
-core_written n (StressSubRunFinished progress sub_elapsed sub_stats) h =
-    (refl,
-    (word_writable (codes "stress-sub-run-finished") refl,
-    (weaker 3 (n + 9) (omega arith) (stress_progress_writable progress h.0),
-    (weaker 1 (n + 9) (omega arith) (duration_writable sub_elapsed h.1),
-    (weaker 1 (n + 9) (omega arith) (run_stats_writable sub_stats h.2), tt)))))
-core_written n (RunFinished run_id start_time elapsed run_stats outstanding_not_seen) h =
-    (refl,
-    (word_writable (codes "run-finished") refl,
-    (weaker 0 (n + 9) (omega arith) (uuid_writable run_id h.0),
-    (weaker 1 (n + 9) (omega arith) (stamp_writable start_time h.1),
-    (weaker 1 (n + 9) (omega arith) (duration_writable elapsed h.2),
-    (weaker 3 (n + 9) (omega arith) (run_finished_stats_writable run_stats h.3),
-    (optional_writable tests_not_seen_value (λ x is. weaker 3 (n + 9) (omega arith) (tests_not_seen_writable x is)) outstanding_not_seen h.4, tt)))))))
+core_written n (RunStarted run_id profile_name cli_args stress_condition) h = (
+  refl,
+  (
+    word_writable (codes "run-started") refl,
+    (
+      weaker 0 (n + 9) (omega arith) (uuid_writable run_id h.0),
+      (
+        string_writable profile_name h.1,
+        (
+          texts_written n cli_args h.2,
+          (optional_writable stress_condition_value (λ x is. weaker 2 (n + 9) (omega arith) (stress_condition_writable x is)) stress_condition h.3, tt),
+        ),
+      ),
+    ),
+  ),
+)
+core_written n (StressSubRunStarted progress) h = (
+  refl,
+  (
+    word_writable (codes "stress-sub-run-started") refl,
+    (weaker 3 (n + 9) (omega arith) (stress_progress_writable progress h), tt),
+  ),
+)
+core_written n (SetupScriptStarted stress_index index total script_id program args no_capture) h = (
+  refl,
+  (
+    word_writable (codes "setup-script-started") refl,
+    (
+      stress_index_written n stress_index h.0,
+      (
+        natural_writable index h.1,
+        (
+          natural_writable total h.2,
+          (
+            string_writable script_id h.3,
+            (
+              string_writable program h.4,
+              (
+                texts_written n args h.5,
+                (boolean_writable no_capture, tt),
+              ),
+            ),
+          ),
+        ),
+      ),
+    ),
+  ),
+)
+core_written n (SetupScriptSlow stress_index script_id program args elapsed will_terminate) h = (
+  refl,
+  (
+    word_writable (codes "setup-script-slow") refl,
+    (
+      stress_index_written n stress_index h.0,
+      (
+        string_writable script_id h.1,
+        (
+          string_writable program h.2,
+          (
+            texts_written n args h.3,
+            (
+              weaker 1 (n + 9) (omega arith) (duration_writable elapsed h.4),
+              (boolean_writable will_terminate, tt),
+            ),
+          ),
+        ),
+      ),
+    ),
+  ),
+)
+core_written n (TestStarted stress_index test_instance slot_assignment current_stats running command_line) h = (
+  refl,
+  (
+    word_writable (codes "test-started") refl,
+    (
+      stress_index_written n stress_index h.0,
+      (
+        weaker 1 (n + 9) (omega arith) (test_instance_writable test_instance h.1),
+        (
+          weaker 1 (n + 9) (omega arith) (slot_assignment_writable slot_assignment h.2),
+          (
+            weaker 1 (n + 9) (omega arith) (run_stats_writable current_stats h.3),
+            (
+              natural_writable running h.4,
+              (texts_written n command_line h.5, tt),
+            ),
+          ),
+        ),
+      ),
+    ),
+  ),
+)
+core_written n (TestSlow stress_index test_instance retry_data elapsed will_terminate) h = (
+  refl,
+  (
+    word_writable (codes "test-slow") refl,
+    (
+      stress_index_written n stress_index h.0,
+      (
+        weaker 1 (n + 9) (omega arith) (test_instance_writable test_instance h.1),
+        (
+          weaker 1 (n + 9) (omega arith) (retry_data_writable retry_data h.2),
+          (
+            weaker 1 (n + 9) (omega arith) (duration_writable elapsed h.3),
+            (boolean_writable will_terminate, tt),
+          ),
+        ),
+      ),
+    ),
+  ),
+)
+core_written n (TestRetryStarted stress_index test_instance slot_assignment retry_data running command_line) h = (
+  refl,
+  (
+    word_writable (codes "test-retry-started") refl,
+    (
+      stress_index_written n stress_index h.0,
+      (
+        weaker 1 (n + 9) (omega arith) (test_instance_writable test_instance h.1),
+        (
+          weaker 1 (n + 9) (omega arith) (slot_assignment_writable slot_assignment h.2),
+          (
+            weaker 1 (n + 9) (omega arith) (retry_data_writable retry_data h.3),
+            (
+              natural_writable running h.4,
+              (texts_written n command_line h.5, tt),
+            ),
+          ),
+        ),
+      ),
+    ),
+  ),
+)
+core_written n (TestSkipped stress_index test_instance reason junit_report_skipped) h = (
+  refl,
+  (
+    word_writable (codes "test-skipped") refl,
+    (
+      stress_index_written n stress_index h.0,
+      (
+        weaker 1 (n + 9) (omega arith) (test_instance_writable test_instance h.1),
+        (
+          weaker 0 (n + 9) (omega arith) (mismatch_reason_writable reason),
+          (weaker 0 (n + 9) (omega arith) (skip_policy_writable junit_report_skipped), tt),
+        ),
+      ),
+    ),
+  ),
+)
+core_written n (RunBeginCancel setup_scripts_running running reason) h = (
+  refl,
+  (
+    word_writable (codes "run-begin-cancel") refl,
+    (
+      natural_writable setup_scripts_running h.0,
+      (
+        natural_writable running h.1,
+        (weaker 0 (n + 9) (omega arith) (cancel_reason_writable reason), tt),
+      ),
+    ),
+  ),
+)
+core_written n (RunPaused setup_scripts_running running) h = (
+  refl,
+  (
+    word_writable (codes "run-paused") refl,
+    (
+      natural_writable setup_scripts_running h.0,
+      (natural_writable running h.1, tt),
+    ),
+  ),
+)
+core_written n (RunContinued setup_scripts_running running) h = (
+  refl,
+  (
+    word_writable (codes "run-continued") refl,
+    (
+      natural_writable setup_scripts_running h.0,
+      (natural_writable running h.1, tt),
+    ),
+  ),
+)
+core_written n (StressSubRunFinished progress sub_elapsed sub_stats) h = (
+  refl,
+  (
+    word_writable (codes "stress-sub-run-finished") refl,
+    (
+      weaker 3 (n + 9) (omega arith) (stress_progress_writable progress h.0),
+      (
+        weaker 1 (n + 9) (omega arith) (duration_writable sub_elapsed h.1),
+        (weaker 1 (n + 9) (omega arith) (run_stats_writable sub_stats h.2), tt),
+      ),
+    ),
+  ),
+)
+core_written n (RunFinished run_id start_time elapsed run_stats outstanding_not_seen) h = (
+  refl,
+  (
+    word_writable (codes "run-finished") refl,
+    (
+      weaker 0 (n + 9) (omega arith) (uuid_writable run_id h.0),
+      (
+        weaker 1 (n + 9) (omega arith) (stamp_writable start_time h.1),
+        (
+          weaker 1 (n + 9) (omega arith) (duration_writable elapsed h.2),
+          (
+            weaker 3 (n + 9) (omega arith) (run_finished_stats_writable run_stats h.3),
+            (optional_writable tests_not_seen_value (λ x is. weaker 3 (n + 9) (omega arith) (tests_not_seen_writable x is)) outstanding_not_seen h.4, tt),
+          ),
+        ),
+      ),
+    ),
+  ),
+)
 
 -- ---- what is read is well-formed
 

@@ -9,12 +9,17 @@ use Rattle.rec_events.specs.declared.events.TestEventSummary.{TestEventSummary}
 use Rattle.rec_forms.specs.TimeLaws.{stamp_writable, duration_writable, duration_well_formed, stamp_well_formed}
 use Rattle.rec_forms.specs.Times.{IsStamp, IsDuration, duration_form, stamp_form}
 use Rattle.rec_forms.specs.Writable.{IsWritable, weaker, struct_writable}
-use Rattle.rec_codec.specs.CoreKindLaws.{FieldsWritten, core_back, core_written, run_started_well_formed, stress_sub_run_started_well_formed, setup_script_started_well_formed, setup_script_slow_well_formed, test_started_well_formed, test_slow_well_formed, test_retry_started_well_formed, test_skipped_well_formed, run_begin_cancel_well_formed, run_paused_well_formed, run_continued_well_formed, stress_sub_run_finished_well_formed, run_finished_well_formed}
+use Rattle.rec_codec.specs.CoreKindLaws.{FieldsWritten, core_back, core_written, run_started_well_formed, stress_sub_run_started_well_formed}
+use Rattle.rec_codec.specs.CoreKindLaws.{setup_script_started_well_formed, setup_script_slow_well_formed, test_started_well_formed, test_slow_well_formed}
+use Rattle.rec_codec.specs.CoreKindLaws.{test_retry_started_well_formed, test_skipped_well_formed, run_begin_cancel_well_formed, run_paused_well_formed}
+use Rattle.rec_codec.specs.CoreKindLaws.{run_continued_well_formed, stress_sub_run_finished_well_formed, run_finished_well_formed}
 use Rattle.rec_codec.specs.EventForms.{kind_fields, IsKind, event_value, event_form, IsEvent, kinds, kind_named, kind_form}
 use Rattle.rec_codec.specs.OutputKindLaws.{output_back, output_written, script_finished_well_formed, attempt_failed_well_formed, test_finished_well_formed}
 use Rattle.rec_forms.specs.GivesWellFormed.{Holds, GivesWellFormed}
 use Rattle.rec_forms.specs.WellFormedLaws.{any_well_formed, named_holds, object_then, required_then, then_holds}
-use Rattle.rec_codec.specs.CoreKindForms.{run_started_form, stress_sub_run_started_form, setup_script_started_form, setup_script_slow_form, test_started_form, test_slow_form, test_retry_started_form, test_skipped_form, run_begin_cancel_form, run_paused_form, run_continued_form, stress_sub_run_finished_form, run_finished_form}
+use Rattle.rec_codec.specs.CoreKindForms.{run_started_form, stress_sub_run_started_form, setup_script_started_form, setup_script_slow_form, test_started_form}
+use Rattle.rec_codec.specs.CoreKindForms.{test_slow_form, test_retry_started_form, test_skipped_form, run_begin_cancel_form, run_paused_form, run_continued_form}
+use Rattle.rec_codec.specs.CoreKindForms.{stress_sub_run_finished_form, run_finished_form}
 use Rattle.rec_codec.specs.OutputKinds.{IsOutput, script_finished_form, attempt_failed_form, test_finished_form}
 use Rattle.rec_codec.specs.CoreKinds.{IsCore}
 use Rattle.rec_forms.specs.Shape.{◌>>=◌, named}
@@ -59,23 +64,52 @@ module _ {S O : Type 0} (P : O → Type 0) (output_form : Data → Option O) (gi
   output_kind form h ms = then_holds (form ms) (λ k. Some (Output k)) (h ms) (λ k is. record { is = is })
 
   each_well_formed : AllByRecursion (λ k. KnownKind k.1) (kinds output_form)
-  each_well_formed =
-      (output_kind (script_finished_form output_form) (script_finished_well_formed P output_form gives),
-      (output_kind (attempt_failed_form output_form) (attempt_failed_well_formed P output_form gives),
-      (output_kind (test_finished_form output_form) (test_finished_well_formed P output_form gives),
-      (core_kind run_started_form run_started_well_formed,
-      (core_kind stress_sub_run_started_form stress_sub_run_started_well_formed,
-      (core_kind run_begin_cancel_form run_begin_cancel_well_formed,
-      (core_kind run_paused_form run_paused_well_formed,
-      (core_kind run_continued_form run_continued_well_formed,
-      (core_kind stress_sub_run_finished_form stress_sub_run_finished_well_formed,
-      (core_kind run_finished_form run_finished_well_formed,
-      (core_kind setup_script_started_form setup_script_started_well_formed,
-      (core_kind setup_script_slow_form setup_script_slow_well_formed,
-      (core_kind test_started_form test_started_well_formed,
-      (core_kind test_slow_form test_slow_well_formed,
-      (core_kind test_retry_started_form test_retry_started_well_formed,
-      (core_kind test_skipped_form test_skipped_well_formed, tt))))))))))))))))
+  each_well_formed = (
+    output_kind (script_finished_form output_form) (script_finished_well_formed P output_form gives),
+    (
+      output_kind (attempt_failed_form output_form) (attempt_failed_well_formed P output_form gives),
+      (
+        output_kind (test_finished_form output_form) (test_finished_well_formed P output_form gives),
+        (
+          core_kind run_started_form run_started_well_formed,
+          (
+            core_kind stress_sub_run_started_form stress_sub_run_started_well_formed,
+            (
+              core_kind run_begin_cancel_form run_begin_cancel_well_formed,
+              (
+                core_kind run_paused_form run_paused_well_formed,
+                (
+                  core_kind run_continued_form run_continued_well_formed,
+                  (
+                    core_kind stress_sub_run_finished_form stress_sub_run_finished_well_formed,
+                    (
+                      core_kind run_finished_form run_finished_well_formed,
+                      (
+                        core_kind setup_script_started_form setup_script_started_well_formed,
+                        (
+                          core_kind setup_script_slow_form setup_script_slow_well_formed,
+                          (
+                            core_kind test_started_form test_started_well_formed,
+                            (
+                              core_kind test_slow_form test_slow_well_formed,
+                              (
+                                core_kind test_retry_started_form test_retry_started_well_formed,
+                                (core_kind test_skipped_form test_skipped_well_formed, tt),
+                              ),
+                            ),
+                          ),
+                        ),
+                      ),
+                    ),
+                  ),
+                ),
+              ),
+            ),
+          ),
+        ),
+      ),
+    ),
+  )
 
   named_well_formed : (name : List ℕ) → KnownKind (kind_named output_form name)
   unfolding kind_named

@@ -83,39 +83,90 @@ module _ {S O : Type 0} (P : O → Type 0) (output_value : O → Data) (output_f
 
 module _ {S O : Type 0} (P : O → Type 0) (n : ℕ) (output_value : O → Data) (writable : (o : O) → P o → IsWritable n (output_value o)) where
   pub output_written : (k : OutputEventKind S O) → IsOutput P k → FieldsWritten (n + 9) (output_fields output_value k)
-  output_written (SetupScriptFinished stress_index index total script_id program args no_capture run_status) h =
-      (refl,
-      (word_writable (codes "setup-script-finished") refl,
-      (stress_index_written n stress_index h.0,
-      (natural_writable index h.1,
-      (natural_writable total h.2,
-      (string_writable script_id h.3,
-      (string_writable program h.4,
-      (texts_written n args h.5,
-      (boolean_writable no_capture,
-      (weaker (n + 7) (n + 9) (omega arith) (script_status_writable P n output_value writable run_status h.6), tt))))))))))
-  output_written (TestAttemptFailedWillRetry stress_index test_instance run_status delay_before_next_attempt failure_output running) h =
-      (refl,
-      (word_writable (codes "test-attempt-failed-will-retry") refl,
-      (stress_index_written n stress_index h.0,
-      (weaker 1 (n + 9) (omega arith) (test_instance_writable test_instance h.1),
-      (weaker (n + 7) (n + 9) (omega arith) (status_writable P n output_value writable run_status h.2),
-      (weaker 1 (n + 9) (omega arith) (duration_writable delay_before_next_attempt h.3),
-      (weaker 0 (n + 9) (omega arith) (output_display_writable failure_output),
-      (natural_writable running h.4, tt))))))))
-  output_written (TestFinished stress_index test_instance success_output failure_output store_success store_failure flaky_fail_status run_statuses current_stats running) h =
-      (refl,
-      (word_writable (codes "test-finished") refl,
-      (stress_index_written n stress_index h.0,
-      (weaker 1 (n + 9) (omega arith) (test_instance_writable test_instance h.1),
-      (weaker 0 (n + 9) (omega arith) (output_display_writable success_output),
-      (weaker 0 (n + 9) (omega arith) (output_display_writable failure_output),
-      (boolean_writable store_success,
-      (boolean_writable store_failure,
-      (weaker 0 (n + 9) (omega arith) (flaky_fail_status_writable flaky_fail_status),
-      (statuses_writable P n output_value writable run_statuses h.2,
-      (weaker 1 (n + 9) (omega arith) (run_stats_writable current_stats h.3),
-      (natural_writable running h.4, tt))))))))))))
+  output_written (SetupScriptFinished stress_index index total script_id program args no_capture run_status) h = (
+    refl,
+    (
+      word_writable (codes "setup-script-finished") refl,
+      (
+        stress_index_written n stress_index h.0,
+        (
+          natural_writable index h.1,
+          (
+            natural_writable total h.2,
+            (
+              string_writable script_id h.3,
+              (
+                string_writable program h.4,
+                (
+                  texts_written n args h.5,
+                  (
+                    boolean_writable no_capture,
+                    (weaker (n + 7) (n + 9) (omega arith) (script_status_writable P n output_value writable run_status h.6), tt),
+                  ),
+                ),
+              ),
+            ),
+          ),
+        ),
+      ),
+    ),
+  )
+  output_written (TestAttemptFailedWillRetry stress_index test_instance run_status delay_before_next_attempt failure_output running) h = (
+    refl,
+    (
+      word_writable (codes "test-attempt-failed-will-retry") refl,
+      (
+        stress_index_written n stress_index h.0,
+        (
+          weaker 1 (n + 9) (omega arith) (test_instance_writable test_instance h.1),
+          (
+            weaker (n + 7) (n + 9) (omega arith) (status_writable P n output_value writable run_status h.2),
+            (
+              weaker 1 (n + 9) (omega arith) (duration_writable delay_before_next_attempt h.3),
+              (
+                weaker 0 (n + 9) (omega arith) (output_display_writable failure_output),
+                (natural_writable running h.4, tt),
+              ),
+            ),
+          ),
+        ),
+      ),
+    ),
+  )
+  output_written (TestFinished stress_index test_instance success_output failure_output store_success store_failure flaky_fail_status run_statuses current_stats running) h = (
+    refl,
+    (
+      word_writable (codes "test-finished") refl,
+      (
+        stress_index_written n stress_index h.0,
+        (
+          weaker 1 (n + 9) (omega arith) (test_instance_writable test_instance h.1),
+          (
+            weaker 0 (n + 9) (omega arith) (output_display_writable success_output),
+            (
+              weaker 0 (n + 9) (omega arith) (output_display_writable failure_output),
+              (
+                boolean_writable store_success,
+                (
+                  boolean_writable store_failure,
+                  (
+                    weaker 0 (n + 9) (omega arith) (flaky_fail_status_writable flaky_fail_status),
+                    (
+                      statuses_writable P n output_value writable run_statuses h.2,
+                      (
+                        weaker 1 (n + 9) (omega arith) (run_stats_writable current_stats h.3),
+                        (natural_writable running h.4, tt),
+                      ),
+                    ),
+                  ),
+                ),
+              ),
+            ),
+          ),
+        ),
+      ),
+    ),
+  )
 
 -- ---- what is read is well-formed
 

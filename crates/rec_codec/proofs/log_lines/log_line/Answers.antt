@@ -1,4 +1,4 @@
-use Rattle.std.proofs.Common.{◌≡◌, Bool, false, sym, subst}
+use Rattle.std.proofs.Common.{◌≡◌, false, sym, subst}
 use Rattle.serde_json.specs.Written.{has_float}
 use Rattle.rec_codec.specs.Event.{event_text}
 use Rattle.rec_codec.proofs.LogLaws.{event_logged, event_value_writable}
