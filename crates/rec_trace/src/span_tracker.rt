@@ -1,15 +1,15 @@
-//! Takes the events of a run one by one, and answers what each shows.
+//! Tracks the spans of a run, event by event, and answers the trace events of each.
 ghost use Rattle.std.specs.Prelude.{◌≡◌, ◌^◌, ◌⊎◌, suc, [], ◌∷◌, false, true, map, nat_lt, IfOk, OnOk, OnErr, MatchOption};
 ghost use Rattle.serde_json.specs.View.{view};
 ghost use Rattle.rec_events.specs.Stats as stats;
 ghost use Rattle.rec_events.specs.Times.{micros};
 ghost use Rattle.rec_trace.specs.Drawing.{mark_value};
-ghost use Rattle.rec_trace.specs.History.{nothing_known};
-ghost use Rattle.rec_trace.specs.Kinds.{core_happening, happening, output_happening, run_span, test_name, test_row, test_span};
-ghost use Rattle.rec_trace.specs.Machine.{Takes};
+ghost use Rattle.rec_trace.specs.History.{initial_state};
+ghost use Rattle.rec_trace.specs.Kinds.{core_trace_input, output_trace_input, run_span, test_name, test_row, test_span, trace_input};
 ghost use Rattle.rec_trace.specs.Past.{in_place, mark, marks, of_key};
 ghost use Rattle.rec_trace.specs.Past.Change.{Start, Stop};
-ghost use Rattle.rec_trace.specs.Refusals.{Judges, change_refusal, count_refusal, event_refusal, instant_refusal, number_refusal, refusal_of};
+ghost use Rattle.rec_trace.specs.Refusals.{Judges, change_refusal, count_refusal, event_refusal, instant_refusal, next_refusal, number_refusal};
+ghost use Rattle.rec_trace.specs.Tracking.{Tracks};
 ghost use Rattle.rec_trace.specs.declared.spans.Phase.TheVariants as phases;
 ghost use Rattle.rec_trace.specs.declared.spans.Place.TheVariants as places;
 ghost use Rattle.rec_trace.specs.declared.spans.SpanKey.TheVariants as keys;
@@ -27,51 +27,56 @@ use serde_json::Value;
 use std::alloc::{AllocError, Global};
 use std::marker::Model;
 
-/// What is known of the events so far. No kind of event that is drawn yet pauses a run.
+/// Keeps what the next event needs of those before it: how many there were, and which spans are open. No
+/// kind of event that is drawn yet pauses a run.
 #[derive(Drop)]
-pub struct Machine {
+pub struct SpanTracker {
     /// How many events there were.
     number: u64,
     open_spans: OpenSpans,
 }
 
-impl Model for Machine {
+impl Model for SpanTracker {
     ghost use Rattle.std.specs.Prelude.{false};
-    ghost use Rattle.rec_trace.specs.History.{Known};
+    ghost use Rattle.rec_trace.specs.History.{TraceState};
 
-    ghost Value = { Known };
+    ghost Value = { TraceState };
 
-    ghost view = { λ m. record { number = m.number; in_pause = false; spans = m.open_spans } };
+    ghost view = { λ tracker. record { number = tracker.number; in_pause = false; spans = tracker.open_spans } };
 }
 
-impl Machine {
-    /// There was no event.
-    pub fn new(alloc: Global) -> Machine
-        ensures { result ≡ nothing_known }
+impl SpanTracker {
+    /// Makes the tracker of a run without an event so far.
+    pub fn new(alloc: Global) -> SpanTracker
+        ensures { result ≡ initial_state }
     {
-        Machine {
+        SpanTracker {
             number: 0,
             open_spans: OpenSpans::new(alloc),
         }
     }
 
-    /// Takes an event, and answers the trace events that it shows. Where it is refused, or memory is
-    /// short, the machine stays as it was.
+    /// Tracks an event, and answers its trace events.
+    ///
+    /// # Errors
+    ///
+    /// Answers the first cause for which the event is refused, in the order that `ChromeTraceError` gives,
+    /// or `OutOfMemory`. The tracker then stays as it was.
     pub fn step<S: OutputSpec>(
         &mut self,
         alloc: Global,
         group_by: ChromeTraceGroupBy,
         event: &TestEventSummary<S>,
     ) -> Result<Vec<Value>, ChromeTraceError>
-        ensures { Takes (refusal_of self.old (happening group_by event.now)) (happening group_by event.now) self.old self.new result }
+        ensures { Tracks (next_refusal self.old (trace_input group_by event.now)) (trace_input group_by event.now) self.old self.new result }
     {
         let number = self.next_number()?;
         let timestamp = &event.timestamp;
         match &event.kind {
             TestEventKindSummary::Core(kind) => {
-                self.take_core(alloc, group_by, number, timestamp, kind)
+                self.track_core(alloc, group_by, number, timestamp, kind)
             }
-            TestEventKindSummary::Output(kind) => self.take_output(alloc, number, timestamp, kind),
+            TestEventKindSummary::Output(kind) => self.track_output(alloc, number, timestamp, kind),
         }
     }
 
@@ -137,9 +142,9 @@ fn one_event(alloc: Global, phase: Phase, span: &Span, at: i64) -> Result<Vec<Va
     Ok(events)
 }
 
-impl Machine {
-    /// Takes an event without outputs. Its kind is judged before its instant.
-    fn take_core(
+impl SpanTracker {
+    /// Tracks an event without outputs. Its kind is judged before its instant.
+    fn track_core(
         &mut self,
         alloc: Global,
         group_by: ChromeTraceGroupBy,
@@ -148,8 +153,8 @@ impl Machine {
         kind: &CoreEventKind,
     ) -> Result<Vec<Value>, ChromeTraceError>
         requires { number ≡ suc self.old.number }
-        ensures { Takes (event_refusal number self.old.spans (core_happening group_by (micros timestamp.now) kind.now))
-            (core_happening group_by (micros timestamp.now) kind.now) self.old self.new result }
+        ensures { Tracks (event_refusal number self.old.spans (core_trace_input group_by (micros timestamp.now) kind.now))
+            (core_trace_input group_by (micros timestamp.now) kind.now) self.old self.new result }
     {
         match kind {
             CoreEventKind::RunStarted { .. } => {
@@ -165,12 +170,24 @@ impl Machine {
                 let slot = slot_assignment.global_slot;
                 self.start_test(alloc, group_by, number, at, test_instance, slot)
             }
-            _ => Err(ChromeTraceError::KindNotBuilt { event: number }),
+            CoreEventKind::StressSubRunStarted { .. }
+            | CoreEventKind::SetupScriptStarted { .. }
+            | CoreEventKind::SetupScriptSlow { .. }
+            | CoreEventKind::TestSlow { .. }
+            | CoreEventKind::TestRetryStarted { .. }
+            | CoreEventKind::TestSkipped { .. }
+            | CoreEventKind::RunBeginCancel { .. }
+            | CoreEventKind::RunContinued { .. }
+            | CoreEventKind::StressSubRunFinished { .. }
+            | CoreEventKind::RunFinished { .. }
+            | CoreEventKind::RunPaused { .. } => {
+                Err(ChromeTraceError::KindNotBuilt { event: number })
+            }
         }
     }
 
-    /// Takes an event with outputs. Its kind is judged before its instant.
-    fn take_output<S: OutputSpec>(
+    /// Tracks an event with outputs. Its kind is judged before its instant.
+    fn track_output<S: OutputSpec>(
         &mut self,
         alloc: Global,
         number: u64,
@@ -178,8 +195,8 @@ impl Machine {
         kind: &OutputEventKind<S>,
     ) -> Result<Vec<Value>, ChromeTraceError>
         requires { number ≡ suc self.old.number }
-        ensures { Takes (event_refusal number self.old.spans (output_happening (micros timestamp.now) kind.now))
-            (output_happening (micros timestamp.now) kind.now) self.old self.new result }
+        ensures { Tracks (event_refusal number self.old.spans (output_trace_input (micros timestamp.now) kind.now))
+            (output_trace_input (micros timestamp.now) kind.now) self.old self.new result }
     {
         match kind {
             OutputEventKind::TestFinished {
@@ -190,7 +207,10 @@ impl Machine {
                 let at = instant(number, timestamp)?;
                 self.finish_test(alloc, number, at, test_instance, current_stats)
             }
-            _ => Err(ChromeTraceError::KindNotBuilt { event: number }),
+            OutputEventKind::SetupScriptFinished { .. }
+            | OutputEventKind::TestAttemptFailedWillRetry { .. } => {
+                Err(ChromeTraceError::KindNotBuilt { event: number })
+            }
         }
     }
 
@@ -202,7 +222,7 @@ impl Machine {
         at: i64,
     ) -> Result<Vec<Value>, ChromeTraceError>
         requires { number ≡ suc self.old.number }
-        ensures { Takes (change_refusal number self.old.spans (Start run_span) 0)
+        ensures { Tracks (change_refusal number self.old.spans (Start run_span) 0)
             (record { at = at; drawn = true; change = Start run_span; failures = 0 }) self.old self.new result }
     {
         if self.open_spans.run().is_some() {
@@ -234,7 +254,7 @@ impl Machine {
         slot: u64,
     ) -> Result<Vec<Value>, ChromeTraceError>
         requires { number ≡ suc self.old.number }
-        ensures { Takes (change_refusal number self.old.spans (Start (test_span group_by test.now slot)) 0)
+        ensures { Tracks (change_refusal number self.old.spans (Start (test_span group_by test.now slot)) 0)
             (record { at = at; drawn = true; change = Start (test_span group_by test.now slot); failures = 0 }) self.old self.new result }
     {
         let row = self.row_of_start(alloc, group_by, number, test, slot)?;
@@ -295,7 +315,7 @@ impl Machine {
         current_stats: &RunStats,
     ) -> Result<Vec<Value>, ChromeTraceError>
         requires { number ≡ suc self.old.number }
-        ensures { Takes (change_refusal number self.old.spans (Stop (keys.Test test.now)) (stats.failures current_stats.now))
+        ensures { Tracks (change_refusal number self.old.spans (Stop (keys.Test test.now)) (stats.failures current_stats.now))
             (record { at = at; drawn = true; change = Stop (keys.Test test.now); failures = stats.failures current_stats.now }) self.old self.new result }
     {
         let events = self.end_of_test(alloc, number, at, test, current_stats)?;
