@@ -68,8 +68,8 @@ where
     )
 }
 
-/// Adds the trace events of an event. The event is let go here: to drop one of that many kinds inside the
-/// loop is too much for a proof.
+/// Adds the trace events of an event. The event is let go here and by a call: to drop one of that many kinds
+/// in place is too much for a proof.
 pub(crate) fn add_event(
     alloc: Global,
     builder: &mut TraceBuilder,
@@ -78,5 +78,7 @@ pub(crate) fn add_event(
     ensures { (history : List TraceInput) → HasTraced builder.old.group_by history builder.old
         → Traces builder.old.group_by history (trace_input builder.old.group_by event) builder.old builder.new result }
 {
-    builder.process_event(alloc, &event)
+    let result = builder.process_event(alloc, &event);
+    drop(event);
+    result
 }

@@ -80,7 +80,7 @@ impl SpanTracker {
         }
     }
 
-    /// The number of the next event.
+    /// Returns the number of the next event.
     fn next_number(&self) -> Result<u64, ChromeTraceError>
         ensures number { IfOk result (λ n. n ≡ suc self.now.number) }
         ensures judged { Judges result (number_refusal (suc self.now.number)) }
@@ -92,7 +92,7 @@ impl SpanTracker {
     }
 }
 
-/// The instant of an event, in microseconds.
+/// Returns the instant of an event, in microseconds since the epoch.
 fn instant(number: u64, timestamp: &Stamp) -> Result<i64, ChromeTraceError>
     ensures value { IfOk result (λ t. t ≡ micros timestamp.now) }
     ensures judged { Judges result (instant_refusal number (micros timestamp.now)) }
@@ -103,7 +103,38 @@ fn instant(number: u64, timestamp: &Stamp) -> Result<i64, ChromeTraceError>
     }
 }
 
-/// The row of a test on a slot, where its number is a u64.
+/// Makes the span of the run.
+fn run_span(alloc: Global) -> Result<Span, AllocError>
+    ensures { IfOk result (λ span. span ≡ run_span) }
+{
+    Ok(Span {
+        key: SpanKey::Run,
+        place: Place::Run,
+        row: Row { pid: 0, tid: 1 },
+        name: Text::from_str(alloc, "test run")?,
+    })
+}
+
+/// Makes the span of an attempt of a test, on its slot and its row.
+fn test_span(
+    alloc: Global,
+    group_by: ChromeTraceGroupBy,
+    test: &OwnedTestInstanceId,
+    slot: u64,
+    row: Row,
+) -> Result<Span, AllocError>
+    requires { row ≡ test_row group_by slot }
+    ensures { IfOk result (λ span. span ≡ test_span group_by test.now slot) }
+{
+    Ok(Span {
+        key: SpanKey::Test(test.try_clone(alloc)?),
+        place: Place::Slot(slot),
+        row,
+        name: test_name(alloc, group_by, test)?,
+    })
+}
+
+/// Returns the row of a test on a slot, where its number is a u64.
 fn test_row(group_by: ChromeTraceGroupBy, slot: u64) -> Option<Row>
     ensures { MatchOption result (nat_lt (test_row group_by slot).tid (2 ^ 64) ≡ false)
         (λ row. (row ≡ test_row group_by slot) × (nat_lt (test_row group_by slot).tid (2 ^ 64) ≡ true)) }
@@ -116,7 +147,7 @@ fn test_row(group_by: ChromeTraceGroupBy, slot: u64) -> Option<Row>
     }
 }
 
-/// The name of the span of a test.
+/// Makes the name of the span of a test.
 fn test_name(
     alloc: Global,
     group_by: ChromeTraceGroupBy,
@@ -133,7 +164,7 @@ fn test_name(
     }
 }
 
-/// The trace event of one end of a slice.
+/// Draws one end of a slice.
 fn one_event(alloc: Global, phase: Phase, span: &Span, at: i64) -> Result<Vec<Value>, AllocError>
     ensures { IfOk result (λ events. map view events.items ≡ mark_value (mark phase at span.now) ∷ []) }
 {
@@ -231,12 +262,7 @@ impl SpanTracker {
                 span: SpanKey::Run,
             });
         }
-        let span = Span {
-            key: SpanKey::Run,
-            place: Place::Run,
-            row: Row { pid: 0, tid: 1 },
-            name: Text::from_str(alloc, "test run")?,
-        };
+        let span = run_span(alloc)?;
         let events = one_event(alloc, Phase::Begin, &span, at)?;
         self.open_spans.open(span)?;
         self.number = number;
@@ -258,19 +284,14 @@ impl SpanTracker {
             (record { at = at; drawn = true; change = Start (test_span group_by test.now slot); failures = 0 }) self.old self.new result }
     {
         let row = self.row_of_start(alloc, group_by, number, test, slot)?;
-        let span = Span {
-            key: SpanKey::Test(test.try_clone(alloc)?),
-            place: Place::Slot(slot),
-            row,
-            name: test_name(alloc, group_by, test)?,
-        };
+        let span = test_span(alloc, group_by, test, slot, row)?;
         let events = one_event(alloc, Phase::Begin, &span, at)?;
         self.open_spans.open_test(alloc, test, slot, span)?;
         self.number = number;
         Ok(events)
     }
 
-    /// The row of an attempt of a test that may start on a slot.
+    /// Judges whether an attempt of a test may start on a slot, and returns its row.
     fn row_of_start(
         &self,
         alloc: Global,
@@ -324,7 +345,7 @@ impl SpanTracker {
         Ok(events)
     }
 
-    /// The trace event that ends the span of a test, where an attempt of it is open.
+    /// Draws the end of the span of a test, where an attempt of it is open.
     fn end_of_test(
         &self,
         alloc: Global,

@@ -310,9 +310,12 @@ fn a_refused_kind_leaves_the_builder(rt: HostRuntime) -> Result<(), Fail> {
 }
 
 #[test]
-fn want_of_memory_is_no_fault_of_a_line(rt: HostRuntime) {
+fn want_of_memory_is_no_fault_of_a_line(rt: HostRuntime) -> Result<(), Fail> {
     let error = ChromeTraceError::from(LineError::OutOfMemory);
     assert!(rt; error == ChromeTraceError::OutOfMemory);
+    let debug = format!(in rt.alloc(); "{error:?}")?;
+    assert!(rt; !debug.is_empty());
+    Ok(())
 }
 
 // The printed text of the error of a log.
