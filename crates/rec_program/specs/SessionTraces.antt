@@ -7,7 +7,7 @@ use Rattle.rec_format.specs.declared.head.SessionHead.{SessionHead}
 use Rattle.rec_trace.specs.Drawing.{trace_text}
 use Rattle.rec_trace.specs.History.{trace_marks}
 use Rattle.rec_trace.specs.Kinds.{history}
-use Rattle.rec_trace.specs.Past.{Happening}
+use Rattle.rec_trace.specs.Past.{TraceInput}
 use Rattle.rec_trace.specs.Refusals as traces
 use Rattle.rec_trace.specs.Traces.{HasTraced}
 use Rattle.rec_trace.specs.declared.builder.TraceBuilder.{TraceBuilder}
@@ -20,27 +20,27 @@ use Rattle.rec_program.specs.declared.settings.Settings.{Settings}
 use Rattle.rec_program.specs.declared.trace.SessionTrace.{SessionTrace}
 
 -- the events of a session as a history
-abbrev pub session_history : Settings → List LiveEvent → List Happening
+abbrev pub session_history : Settings → List LiveEvent → List TraceInput
 session_history settings events = history settings.group_by events
 
 -- why events have no trace, if they have none
 abbrev pub trace_refusal : Settings → List LiveEvent → Option RecordExportError
-trace_refusal settings events = option_map trace_fault (traces.refusal (session_history settings events))
+trace_refusal settings events = option_map trace_fault (traces.history_refusal (session_history settings events))
 
 -- the text of the trace of a run with this head and these events
 unfoldable pub run_trace : Settings → SessionHead → List LiveEvent → List ℕ
 run_trace settings head events = trace_text settings.message_format head.nextest_version (trace_marks (session_history settings events))
 
 -- the builder has traced a history, or the history is refused
-abbrev pub IsTracedOr : ChromeTraceGroupBy → List Happening → TraceBuilder → Option ChromeTraceError → Type 0
-IsTracedOr g happenings builder None = HasTraced g happenings builder
-IsTracedOr g happenings builder (Some refusal) = traces.refusal happenings ≡ Some refusal
+abbrev pub IsTracedOr : ChromeTraceGroupBy → List TraceInput → TraceBuilder → Option ChromeTraceError → Type 0
+IsTracedOr g inputs builder None = HasTraced g inputs builder
+IsTracedOr g inputs builder (Some refusal) = traces.history_refusal inputs ≡ Some refusal
 
 -- this is the trace of a history, or it holds why there is none
-abbrev pub IsTraceOf : ChromeTraceGroupBy → List Happening → SessionTrace → Type 0
-IsTraceOf g happenings t = IsTracedOr g happenings t.builder t.refusal
+abbrev pub IsTraceOf : ChromeTraceGroupBy → List TraceInput → SessionTrace → Type 0
+IsTraceOf g inputs t = IsTracedOr g inputs t.builder t.refusal
 
 -- the text of the trace of a history is answered, or why there is none, or memory ran out
-abbrev pub TellsTrace : List Happening → List ℕ → Result (String Global) RecordExportError → Type 0
-TellsTrace happenings text (Ok t) = (traces.refusal happenings ≡ None) × (string_bytes t ≡ text)
-TellsTrace happenings text (Err e) = (e ≡ OutOfMemory) ⊎ (option_map trace_fault (traces.refusal happenings) ≡ Some e)
+abbrev pub TellsTrace : List TraceInput → List ℕ → Result (String Global) RecordExportError → Type 0
+TellsTrace inputs text (Ok t) = (traces.history_refusal inputs ≡ None) × (string_bytes t ≡ text)
+TellsTrace inputs text (Err e) = (e ≡ OutOfMemory) ⊎ (option_map trace_fault (traces.history_refusal inputs) ≡ Some e)

@@ -70,7 +70,7 @@ fn bundle_run<N: OutputNamer>(
         (recorded (N.number namer.now) settings.now.max_output head.now (events_of lines.entry))) }
     ensures trace { IfOk result (λ p. string_bytes p.trace
         ≡ run_trace settings.now head.now (events_of lines.entry)) }
-    ensures accepted { OnOk result (traces.refusal (session_history settings.now (events_of lines.entry)) ≡ None) }
+    ensures accepted { OnOk result (traces.history_refusal (session_history settings.now (events_of lines.entry)) ≡ None) }
     ensures valid { OnOk result (refusal_after (N.number namer.now) settings.now (Some head.now) lines.entry ≡ None) }
     ensures events { IfOk result (λ p. p.events ≡ length (events_of lines.entry)) }
     ensures outputs { IfOk result (λ p. p.outputs

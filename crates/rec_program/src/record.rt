@@ -8,8 +8,8 @@ ghost use Rattle.rec_store.specs.Recording.{Stores, has_failed};
 ghost use Rattle.rec_store.specs.Reading.{AreRead, IsRerunRead};
 ghost use Rattle.rec_store.specs.Store.{rerun_entries, store_entries};
 ghost use Rattle.rec_program.specs.Recorded.{HasRecorded, IsRunOf, RecordsEvent, RecordsLine, RecordsLines};
-ghost use Rattle.rec_trace.specs.Kinds.{happening};
-ghost use Rattle.rec_trace.specs.Past.{Happening};
+ghost use Rattle.rec_trace.specs.Kinds.{trace_input};
+ghost use Rattle.rec_trace.specs.Past.{TraceInput};
 ghost use Rattle.rec_trace.specs.declared.settings.ChromeTraceGroupBy.{ChromeTraceGroupBy};
 ghost use Rattle.rec_program.specs.Session.{event_at, events_of, lines_refusal};
 ghost use Rattle.rec_program.specs.SessionTraces.{IsTraceOf, session_history};
@@ -118,8 +118,8 @@ fn record_lines<N: OutputNamer>(
     ensures recorded { (head : SessionHead) (events : List LiveEvent)
         → HasRecorded N.number recorder.old.namer recorder.old.max_output head events recorder.old
         → RecordsLines N.number recorder.old.namer recorder.old.max_output head events lines.entry recorder.new result }
-    ensures traced { (g : ChromeTraceGroupBy) (history : List Happening) → IsTraceOf g history trace.old
-        → OnOk result (IsTraceOf g (history ++ map (happening g) (events_of lines.entry)) trace.new) }
+    ensures traced { (g : ChromeTraceGroupBy) (history : List TraceInput) → IsTraceOf g history trace.old
+        → OnOk result (IsTraceOf g (history ++ map (trace_input g) (events_of lines.entry)) trace.new) }
 {
     for line in lines {
         record_line(alloc, line, recorder, trace)?;
@@ -137,8 +137,8 @@ fn record_line<N: OutputNamer>(
     ensures recorded { (head : SessionHead) (events : List LiveEvent)
         → HasRecorded N.number recorder.old.namer recorder.old.max_output head events recorder.old
         → RecordsLine N.number recorder.old.namer recorder.old.max_output head events (line_view line.entry) recorder.new result }
-    ensures traced { (g : ChromeTraceGroupBy) (history : List Happening) → IsTraceOf g history trace.old
-        → OnOk result (IsTraceOf g (history ++ map (happening g) (option_to_list (event_at (line_view line.entry)))) trace.new) }
+    ensures traced { (g : ChromeTraceGroupBy) (history : List TraceInput) → IsTraceOf g history trace.old
+        → OnOk result (IsTraceOf g (history ++ map (trace_input g) (option_to_list (event_at (line_view line.entry)))) trace.new) }
 {
     match read_line(alloc, line) {
         None => Ok(()),
@@ -156,8 +156,8 @@ fn record_event<N: OutputNamer>(
     ensures recorded { (head : SessionHead) (events : List LiveEvent)
         → HasRecorded N.number recorder.old.namer recorder.old.max_output head events recorder.old
         → RecordsEvent N.number recorder.old.namer recorder.old.max_output head events event recorder.new result }
-    ensures traced { (g : ChromeTraceGroupBy) (history : List Happening) → IsTraceOf g history trace.old
-        → OnOk result (IsTraceOf g (history ++ happening g event ∷ []) trace.new) }
+    ensures traced { (g : ChromeTraceGroupBy) (history : List TraceInput) → IsTraceOf g history trace.old
+        → OnOk result (IsTraceOf g (history ++ trace_input g event ∷ []) trace.new) }
 {
     let Ok(()) = trace.add(alloc, &event) else {
         // By a call: in place, each kind of event would be a case of the proof.

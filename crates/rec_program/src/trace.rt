@@ -2,8 +2,8 @@
 ghost use Rattle.std.specs.Prelude.{◌≡◌, List, [], ◌∷◌, ◌++◌, OnOk};
 ghost use Rattle.rec_trace.specs.Drawing.{trace_text};
 ghost use Rattle.rec_trace.specs.History.{trace_marks};
-ghost use Rattle.rec_trace.specs.Kinds.{happening};
-ghost use Rattle.rec_trace.specs.Past.{Happening};
+ghost use Rattle.rec_trace.specs.Kinds.{trace_input};
+ghost use Rattle.rec_trace.specs.Past.{TraceInput};
 ghost use Rattle.rec_trace.specs.declared.settings.ChromeTraceGroupBy.{ChromeTraceGroupBy};
 ghost use Rattle.rec_program.specs.SessionTraces.{IsTraceOf, TellsTrace};
 
@@ -37,8 +37,8 @@ impl SessionTrace {
         alloc: Global,
         event: &TestEventSummary<LiveSpec>,
     ) -> Result<(), AllocError>
-        ensures { (g : ChromeTraceGroupBy) (history : List Happening) → IsTraceOf g history self.old
-            → OnOk result (IsTraceOf g (history ++ happening g event.now ∷ []) self.new) }
+        ensures { (g : ChromeTraceGroupBy) (history : List TraceInput) → IsTraceOf g history self.old
+            → OnOk result (IsTraceOf g (history ++ trace_input g event.now ∷ []) self.new) }
     {
         if self.refusal.is_some() {
             return Ok(());
@@ -60,7 +60,7 @@ impl SessionTrace {
         version: &Version,
         format: ChromeTraceMessageFormat,
     ) -> Result<String, RecordExportError>
-        ensures { (g : ChromeTraceGroupBy) (history : List Happening) → IsTraceOf g history self
+        ensures { (g : ChromeTraceGroupBy) (history : List TraceInput) → IsTraceOf g history self
             → TellsTrace history (trace_text format version.now (trace_marks history)) result }
     {
         let SessionTrace { builder, refusal } = self;

@@ -2,11 +2,11 @@
 use Rattle.std.proofs.Common.{◌≡◌, ℕ, suc, List, [], ◌∷◌, ◌++◌, length, Option, Some, None, refl, sym, ◌∙◌, ap, subst, cond}
 use Rattle.std.specs.Option.{option_or}
 use Rattle.rec_events.specs.declared.events.TestEventSummary.{TestEventSummary}
-use Rattle.rec_trace.specs.History.{after, Known, known}
+use Rattle.rec_trace.specs.History.{TraceState, after, state_after}
 use Rattle.rec_trace.specs.Kinds.{history}
-use Rattle.rec_trace.specs.Past.{Change, Happening, of_key, in_place, is_paused, pause_after, open_after, open_spans}
+use Rattle.rec_trace.specs.Past.{Change, TraceInput, in_place, is_paused, of_key, open_after, open_spans, pause_after}
 use Rattle.rec_trace.specs.Past.Change.{Start, Stop, Pause, Resume, Other}
-use Rattle.rec_trace.specs.Refusals.{is_none_open, number_refusal, kind_refusal, instant_refusal, missing_refusal, open_refusal, busy, slot_refusal, row_refusal, count_refusal, change_refusal, event_refusal, refusal_of, refusal_after, refusal}
+use Rattle.rec_trace.specs.Refusals.{busy, change_refusal, count_refusal, event_refusal, history_refusal, history_refusal_after, instant_refusal, is_none_open, kind_refusal, missing_refusal, next_refusal, number_refusal, open_refusal, row_refusal, slot_refusal}
 use Rattle.rec_trace.specs.declared.errors.ChromeTraceError.TheVariants.{SpanAlreadyOpen}
 use Rattle.rec_trace.specs.declared.settings.ChromeTraceGroupBy.{ChromeTraceGroupBy}
 use Rattle.rec_trace.specs.declared.spans.Place.{Place}
@@ -17,26 +17,26 @@ use Rattle.rec_trace.specs.declared.spans.SpanKey.TheVariants.{Run, SubRun, Scri
 use Rattle.rec_trace.proofs.Fits.{FitsAt, Fits, AllFit, StartFits, StartsFit, AllFit-open_after, row-free_from_place, place-free_from_key, only_run, only_sub_run, only_script, history-fits}
 use Rattle.rec_trace.proofs.Rows.{FindsRoom, AllFindRoom}
 
--- ---- what is known
+-- ---- the state
 
 -- the count of the events so far
-pub known-number : (past : List Happening) → (known past).number ≡ length past
-known-number [] = refl
-known-number (h ∷ past) = ap suc (known-number past)
+pub state_after-number : (past : List TraceInput) → (state_after past).number ≡ length past
+state_after-number [] = refl
+state_after-number (h ∷ past) = ap suc (state_after-number past)
 
 -- whether the last event left a pause
-pub known-in_pause : (past : List Happening) → (known past).in_pause ≡ is_paused past
-known-in_pause [] = refl
-known-in_pause (h ∷ past) = ap (pause_after h.change) (known-in_pause past)
+pub state_after-in_pause : (past : List TraceInput) → (state_after past).in_pause ≡ is_paused past
+state_after-in_pause [] = refl
+state_after-in_pause (h ∷ past) = ap (pause_after h.change) (state_after-in_pause past)
 
 -- what is open
-pub known-spans : (past : List Happening) → (known past).spans ≡ open_spans past
-known-spans [] = refl
-known-spans (h ∷ past) = ap (open_after h.change) (known-spans past)
+pub state_after-spans : (past : List TraceInput) → (state_after past).spans ≡ open_spans past
+state_after-spans [] = refl
+state_after-spans (h ∷ past) = ap (open_after h.change) (state_after-spans past)
 
--- all that is known of a past
-pub known-is : (past : List Happening) → known past ≡ record { number = length past; in_pause = is_paused past; spans = open_spans past }
-known-is past = λ i. record { number = known-number past i; in_pause = known-in_pause past i; spans = known-spans past i }
+-- the whole state after a past
+pub state_after-is : (past : List TraceInput) → state_after past ≡ record { number = length past; in_pause = is_paused past; spans = open_spans past }
+state_after-is past = λ i. record { number = state_after-number past i; in_pause = state_after-in_pause past i; spans = state_after-spans past i }
 
 -- ---- refusals
 
@@ -50,19 +50,19 @@ or-assoc None b c = refl
 or-assoc (Some x) b c = refl
 
 -- the refusal of two histories, one after the other
-pub refusal_after-append : (past xs ys : List Happening) → refusal_after (known past) (xs ++ ys) ≡ option_or (refusal_after (known past) xs) (refusal_after (known (after past xs)) ys)
-refusal_after-append past [] ys = refl
-refusal_after-append past (h ∷ xs) ys =
-    ap (option_or (refusal_of (known past) h)) (refusal_after-append (h ∷ past) xs ys)
-    ∙ or-assoc (refusal_of (known past) h) (refusal_after (known (h ∷ past)) xs) (refusal_after (known (after (h ∷ past) xs)) ys)
+pub history_refusal_after-append : (past xs ys : List TraceInput) → history_refusal_after (state_after past) (xs ++ ys) ≡ option_or (history_refusal_after (state_after past) xs) (history_refusal_after (state_after (after past xs)) ys)
+history_refusal_after-append past [] ys = refl
+history_refusal_after-append past (h ∷ xs) ys =
+    ap (option_or (next_refusal (state_after past) h)) (history_refusal_after-append (h ∷ past) xs ys)
+    ∙ or-assoc (next_refusal (state_after past) h) (history_refusal_after (state_after (h ∷ past)) xs) (history_refusal_after (state_after (after (h ∷ past) xs)) ys)
 
--- a history that is not refused has no first part that is
-pub accepted-prefix : (xs ys : List Happening) → refusal (xs ++ ys) ≡ None → refusal xs ≡ None
-accepted-prefix xs ys ok = (or-none (refusal xs) (refusal_after (known (after [] xs)) ys) (sym (refusal_after-append [] xs ys) ∙ ok)).0
+-- a history that is not refused has no prefix that is
+pub accepted-prefix : (xs ys : List TraceInput) → history_refusal (xs ++ ys) ≡ None → history_refusal xs ≡ None
+accepted-prefix xs ys ok = (or-none (history_refusal xs) (history_refusal_after (state_after (after [] xs)) ys) (sym (history_refusal_after-append [] xs ys) ∙ ok)).0
 
 -- an event that is not refused is not refused for an open span or a busy slot
-pub refusal_of-none : (k : Known) (h : Happening) → refusal_of k h ≡ None → (open_refusal (suc k.number) k.spans h.change ≡ None) × (slot_refusal (suc k.number) k.spans h.change ≡ None)
-refusal_of-none k h e =
+pub next_refusal-none : (k : TraceState) (h : TraceInput) → next_refusal k h ≡ None → (open_refusal (suc k.number) k.spans h.change ≡ None) × (slot_refusal (suc k.number) k.spans h.change ≡ None)
+next_refusal-none k h e =
     let n = suc k.number in
     let a = or-none (number_refusal n) (event_refusal n k.spans h) e in
     let b = or-none (kind_refusal n h.drawn) (option_or (instant_refusal n h.at) (change_refusal n k.spans h.change h.failures)) a.1 in
@@ -111,25 +111,25 @@ room-from_none n Resume spans fits all no_open no_slot = tt
 room-from_none n Other spans fits all no_open no_slot = tt
 
 -- an event that fits and is not refused finds room
-pub room-from_accepted : (past : List Happening) (h : Happening) → AllFit (open_spans past) → StartFits h.change → refusal_of (known past) h ≡ None → FindsRoom h.change (open_spans past)
+pub room-from_accepted : (past : List TraceInput) (h : TraceInput) → AllFit (open_spans past) → StartFits h.change → next_refusal (state_after past) h ≡ None → FindsRoom h.change (open_spans past)
 room-from_accepted past h all fits e =
-    let k = known past in
-    let (no_open, no_slot) = refusal_of-none k h e in
-    let same = known-spans past in
+    let k = state_after past in
+    let (no_open, no_slot) = next_refusal-none k h e in
+    let same = state_after-spans past in
     room-from_none (suc k.number) h.change (open_spans past) fits all
     (subst (λ v. open_refusal (suc k.number) v h.change ≡ None) same no_open) (subst (λ v. slot_refusal (suc k.number) v h.change ≡ None) same no_slot)
 
 -- after a past whose open spans fit, events that fit and are not refused find room
-pub rooms-from_accepted : (past hs : List Happening) → AllFit (open_spans past) → StartsFit hs → refusal_after (known past) hs ≡ None → AllFindRoom past hs
+pub rooms-from_accepted : (past hs : List TraceInput) → AllFit (open_spans past) → StartsFit hs → history_refusal_after (state_after past) hs ≡ None → AllFindRoom past hs
 rooms-from_accepted past [] all fits e = tt
 rooms-from_accepted past (h ∷ hs) all fits e =
-    let p = or-none (refusal_of (known past) h) (refusal_after (known (h ∷ past)) hs) e in
+    let p = or-none (next_refusal (state_after past) h) (history_refusal_after (state_after (h ∷ past)) hs) e in
     (room-from_accepted past h all fits.0 p.0, rooms-from_accepted (h ∷ past) hs (AllFit-open_after h.change (open_spans past) fits.0 all) fits.1 p.1)
 
 -- in a history that fits and is not refused each start finds room
-pub accepted-room : (hs : List Happening) → StartsFit hs → refusal hs ≡ None → AllFindRoom [] hs
+pub accepted-room : (hs : List TraceInput) → StartsFit hs → history_refusal hs ≡ None → AllFindRoom [] hs
 accepted-room hs fits ok = rooms-from_accepted [] hs tt fits ok
 
 -- in a history of events that is not refused each start finds room
-pub history-room : {S O : Type 0} (g : ChromeTraceGroupBy) (events : List (TestEventSummary S O)) → refusal (history g events) ≡ None → AllFindRoom [] (history g events)
+pub history-room : {S O : Type 0} (g : ChromeTraceGroupBy) (events : List (TestEventSummary S O)) → history_refusal (history g events) ≡ None → AllFindRoom [] (history g events)
 history-room g events ok = accepted-room (history g events) (history-fits g events) ok

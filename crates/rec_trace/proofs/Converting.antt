@@ -8,10 +8,10 @@ use Rattle.rec_codec.specs.declared.line_events.LineError.{LineError}
 use Rattle.rec_codec.specs.declared.line_events.LineError.TheVariants as faults
 use Rattle.rec_trace.specs.Converting.{Converts, HasNoTrace, KeepsPrefixes, fault_error}
 use Rattle.rec_trace.specs.Drawing.{trace_text}
-use Rattle.rec_trace.specs.History.{after, shown_after, trace_marks}
-use Rattle.rec_trace.specs.Kinds.{happening, history}
-use Rattle.rec_trace.specs.Past.{Happening}
-use Rattle.rec_trace.specs.Refusals.{refusal}
+use Rattle.rec_trace.specs.History.{after, marks_after, trace_marks}
+use Rattle.rec_trace.specs.Kinds.{history, trace_input}
+use Rattle.rec_trace.specs.Past.{TraceInput}
+use Rattle.rec_trace.specs.Refusals.{history_refusal}
 use Rattle.rec_trace.specs.Traces.{HasTraced}
 use Rattle.rec_trace.specs.declared.builder.TraceBuilder.{TraceBuilder}
 use Rattle.rec_trace.specs.declared.errors.ChromeTraceError.{ChromeTraceError}
@@ -19,7 +19,7 @@ use Rattle.rec_trace.specs.declared.errors.ChromeTraceError.TheVariants.{OutOfMe
 use Rattle.rec_trace.specs.declared.settings.ChromeTraceGroupBy.{ChromeTraceGroupBy}
 use Rattle.rec_trace.specs.declared.settings.ChromeTraceMessageFormat.{ChromeTraceMessageFormat}
 use Rattle.rec_trace.proofs.Acceptance.{accepted-prefix}
-use Rattle.rec_trace.proofs.Prefixes.{shown_after-append}
+use Rattle.rec_trace.proofs.Prefixes.{marks_after-append}
 use Rattle.rec_trace.proofs.Timelines.{timeline}
 
 -- the builder has traced the events that these items hold
@@ -30,14 +30,14 @@ HasConverted g items b = (events : List RecordedEvent) × (items ≡ map Ok even
 
 -- the history of two lists of events
 history-append : (g : ChromeTraceGroupBy) (xs ys : List RecordedEvent) → history g (xs ++ ys) ≡ history g xs ++ history g ys
-history-append g xs ys = map-append (happening g) xs ys
+history-append g xs ys = map-append (trace_input g) xs ys
 
--- the first part of events that have a trace has one too
-pub keeps-prefixes : (g : ChromeTraceGroupBy) (events : List RecordedEvent) → refusal (history g events) ≡ None → KeepsPrefixes g events
+-- each prefix of events that have a trace has one too
+pub keeps-prefixes : (g : ChromeTraceGroupBy) (events : List RecordedEvent) → history_refusal (history g events) ≡ None → KeepsPrefixes g events
 keeps-prefixes g events ok xs ys is =
     let parts : history g events ≡ history g xs ++ history g ys = ap (history g) is ∙ history-append g xs ys in (
-      accepted-prefix (history g xs) (history g ys) (ap refusal (sym parts) ∙ ok),
-      (shown_after (after [] (history g xs)) (history g ys), ap trace_marks parts ∙ shown_after-append [] (history g xs) (history g ys)),
+      accepted-prefix (history g xs) (history g ys) (ap history_refusal (sym parts) ∙ ok),
+      (marks_after (after [] (history g xs)) (history g ys), ap trace_marks parts ∙ marks_after-append [] (history g xs) (history g ys)),
     )
 
 -- ---- one item more
@@ -53,24 +53,24 @@ items-push : (items : List (Result RecordedEvent LineError)) (item : Result Reco
 items-push items item events event all is = ap (λ v. items ++ v ∷ []) is ∙ ap (λ v. v ++ Ok event ∷ []) all ∙ sym (map-append Ok events (event ∷ []))
 
 module _ (g : ChromeTraceGroupBy) (b : TraceBuilder) (items : List (Result RecordedEvent LineError)) (converted : HasConverted g items b) where
-  -- an event that was taken is converted with those before it
+  -- an event that was traced is converted with those before it
   pub converted-push : (new : TraceBuilder) (item : Result RecordedEvent LineError) (event : RecordedEvent) → item ≡ Ok event →
-      ((past : List Happening) → HasTraced b.group_by past b → HasTraced b.group_by (past ++ happening b.group_by event ∷ []) new) → HasConverted g (items ++ item ∷ []) new
+      ((past : List TraceInput) → HasTraced b.group_by past b → HasTraced b.group_by (past ++ trace_input b.group_by event ∷ []) new) → HasConverted g (items ++ item ∷ []) new
   converted-push new item event is step =
       let events = converted.0 in
       let has = converted.2 in
-      let taken = subst (λ k. HasTraced k (history g events ++ happening k event ∷ []) new) has.group_kept (step (history g events) (subst (λ k. HasTraced k (history g events) b) (sym has.group_kept) has)) in
-      (events ++ event ∷ [], items-push items item events event converted.1 is, subst (λ v. HasTraced g v new) (sym (history-append g events (event ∷ []))) taken)
+      let traced = subst (λ k. HasTraced k (history g events ++ trace_input k event ∷ []) new) has.group_kept (step (history g events) (subst (λ k. HasTraced k (history g events) b) (sym has.group_kept) has)) in
+      (events ++ event ∷ [], items-push items item events event converted.1 is, subst (λ v. HasTraced g v new) (sym (history-append g events (event ∷ []))) traced)
 
   module _ {S : Type 0} (steps : S → Option (Result RecordedEvent LineError) → S → Type 0) (s start mid rest : S) (from : start ≡ s) (yields : Yields steps start items mid) where
     -- an event that was refused is the first one
     pub refused-event : (new : TraceBuilder) (item : Result RecordedEvent LineError) (event : RecordedEvent) (e : ChromeTraceError) → item ≡ Ok event → steps mid (Some item) rest →
-        ((past : List Happening) → HasTraced b.group_by past b → (e ≡ OutOfMemory) ⊎ ((refusal (past ++ happening b.group_by event ∷ []) ≡ Some e) × (new ≡ b))) → HasNoTrace steps s g e
-    refused-event new item event e is step told =
+        ((past : List TraceInput) → HasTraced b.group_by past b → (e ≡ OutOfMemory) ⊎ ((history_refusal (past ++ trace_input b.group_by event ∷ []) ≡ Some e) × (new ≡ b))) → HasNoTrace steps s g e
+    refused-event new item event e is step answer =
         let events = converted.0 in
         let has = converted.2 in
-        elim (subst (λ k. (e ≡ OutOfMemory) ⊎ ((refusal (history g events ++ happening k event ∷ []) ≡ Some e) × (new ≡ b))) has.group_kept
-        (told (history g events) (subst (λ k. HasTraced k (history g events) b) (sym has.group_kept) has))) [
+        elim (subst (λ k. (e ≡ OutOfMemory) ⊎ ((history_refusal (history g events ++ trace_input k event ∷ []) ≡ Some e) × (new ≡ b))) has.group_kept
+        (answer (history g events) (subst (λ k. HasTraced k (history g events) b) (sym has.group_kept) has))) [
           | inl memory ↦ inl memory
           | inr refused ↦ inr (inr (record {
             before = events;
@@ -79,16 +79,16 @@ module _ (g : ChromeTraceGroupBy) (b : TraceBuilder) (items : List (Result Recor
             yielded = subst (λ v. Yields steps v (map Ok (events ++ event ∷ [])) rest) from
                 (subst (λ v. Yields steps start v rest) (items-push items item events event converted.1 is) (yields-push steps start items item mid rest yields step));
             accepted = has.accepted;
-            refused = ap refusal (history-append g events (event ∷ [])) ∙ refused.0;
+            refused = ap history_refusal (history-append g events (event ∷ [])) ∙ refused.0;
           }))
         ]
 
     -- a fault after events that have a trace
     pub unread-event : (item : Result RecordedEvent LineError) (fault : LineError) (e : ChromeTraceError) → item ≡ Err fault → steps mid (Some item) rest → e ≡ fault_error fault → HasNoTrace steps s g e
-    unread-event item fault e is step told = go fault is told
+    unread-event item fault e is step answer = go fault is answer
       where
         unread : (fault : LineError) → item ≡ Err fault → e ≡ ReadError fault → (fault ≡ faults.OutOfMemory → ⊥) → HasNoTrace steps s g e
-        unread fault is told no_memory = inr (inl (record {
+        unread fault is answer no_memory = inr (inl (record {
           events = converted.0;
           fault = fault;
           rest = rest;
@@ -97,19 +97,19 @@ module _ (g : ChromeTraceGroupBy) (b : TraceBuilder) (items : List (Result Recor
             subst (λ v. Yields steps v (map Ok converted.0) mid) from (subst (λ v. Yields steps start v mid) converted.1 yields),
             subst (λ v. steps mid (Some v) rest) is step,
           );
-          told = told;
+          answered = answer;
           no_memory = no_memory;
           accepted = converted.2.accepted;
         }))
 
         go : (fault : LineError) → item ≡ Err fault → e ≡ fault_error fault → HasNoTrace steps s g e
-        go (faults.ReadRunLog n) is told = unread (faults.ReadRunLog n) is told (λ same. cc)
-        go (faults.ParseEvent n) is told = unread (faults.ParseEvent n) is told (λ same. cc)
-        go faults.OutOfMemory is told = inl told
+        go (faults.ReadRunLog n) is answer = unread (faults.ReadRunLog n) is answer (λ same. cc)
+        go (faults.ParseEvent n) is answer = unread (faults.ParseEvent n) is answer (λ same. cc)
+        go faults.OutOfMemory is answer = inl answer
 
     -- events to the end, and the text of their trace
     pub converts-all : (format : ChromeTraceMessageFormat) (version : Parts) (text : List ℕ) → steps mid None rest →
-        ((k : ChromeTraceGroupBy) (past : List Happening) → HasTraced k past b → text ≡ trace_text format version (trace_marks past)) → Converts steps s g format version text
+        ((k : ChromeTraceGroupBy) (past : List TraceInput) → HasTraced k past b → text ≡ trace_text format version (trace_marks past)) → Converts steps s g format version text
     converts-all format version text step written =
         let events = converted.0 in
         let has = converted.2 in

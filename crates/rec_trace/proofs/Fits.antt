@@ -10,8 +10,8 @@ use Rattle.rec_events.specs.declared.events.TestEventKindSummary.TheVariants.{Co
 use Rattle.rec_events.specs.declared.events.TestEventSummary.{TestEventSummary}
 use Rattle.rec_trace.specs.History.{after}
 use Rattle.rec_trace.specs.Keys.{key_eq, row_eq}
-use Rattle.rec_trace.specs.Kinds.{core_change, output_change, change_of, happening, history}
-use Rattle.rec_trace.specs.Past.{Change, Happening, of_key, in_place, in_row, put_in, open_after, open_spans}
+use Rattle.rec_trace.specs.Kinds.{change_of, core_change, history, output_change, trace_input}
+use Rattle.rec_trace.specs.Past.{Change, TraceInput, in_place, in_row, of_key, open_after, open_spans, put_in}
 use Rattle.rec_trace.specs.Past.Change.{Start, Stop, Pause, Resume, Other}
 use Rattle.rec_trace.specs.Places.{place_eq, place_lt}
 use Rattle.rec_trace.specs.declared.settings.ChromeTraceGroupBy.{ChromeTraceGroupBy}
@@ -51,7 +51,7 @@ StartFits Resume = Unit {0}
 StartFits Other = Unit {0}
 
 -- what these events start fits
-abbrev pub StartsFit : List Happening → Type 0
+abbrev pub StartsFit : List TraceInput → Type 0
 StartsFit [] = Unit {0}
 StartsFit (h ∷ hs) = StartFits h.change × StartsFit hs
 
@@ -159,12 +159,12 @@ AllFit-open_after Resume spans f g = g
 AllFit-open_after Other spans f g = g
 
 -- where what a past started fits, what is open after it fits
-pub AllFit-open : (past : List Happening) → StartsFit past → AllFit (open_spans past)
+pub AllFit-open : (past : List TraceInput) → StartsFit past → AllFit (open_spans past)
 AllFit-open [] f = tt
 AllFit-open (h ∷ past) f = AllFit-open_after h.change (open_spans past) f.0 (AllFit-open past f.1)
 
 -- where what a past and the events after it start fits, that of both does
-pub StartsFit-after : (past hs : List Happening) → StartsFit past → StartsFit hs → StartsFit (after past hs)
+pub StartsFit-after : (past hs : List TraceInput) → StartsFit past → StartsFit hs → StartsFit (after past hs)
 StartsFit-after past [] f g = f
 StartsFit-after past (h ∷ hs) f g = StartsFit-after (h ∷ past) hs (g.0, f) g.1
 
@@ -185,13 +185,13 @@ module _ {S O : Type 0} where
   change-fits g (Output kind) = output-fits kind
 
   -- what an event starts fits
-  pub happening-fits : (g : ChromeTraceGroupBy) (event : TestEventSummary S O) → StartFits (happening g event).change
-  happening-fits g event = change-fits g event.kind
+  pub trace_input-fits : (g : ChromeTraceGroupBy) (event : TestEventSummary S O) → StartFits (trace_input g event).change
+  trace_input-fits g event = change-fits g event.kind
 
   -- what the events of a history start fits
   pub history-fits : (g : ChromeTraceGroupBy) (events : List (TestEventSummary S O)) → StartsFit (history g events)
   history-fits g [] = tt
-  history-fits g (event ∷ events) = (happening-fits g event, history-fits g events)
+  history-fits g (event ∷ events) = (trace_input-fits g event, history-fits g events)
 
   -- what is open after a history of events fits
   pub open-fits : (g : ChromeTraceGroupBy) (events : List (TestEventSummary S O)) → AllFit (open_spans (after [] (history g events)))

@@ -1,5 +1,6 @@
 pub mod Acceptance
 pub mod Converting
+pub mod EventMarks
 pub mod Filters
 pub mod Fits
 pub mod Keys
@@ -10,7 +11,6 @@ pub mod Orders
 pub mod PlacesOfHistory
 pub mod Prefixes
 pub mod Rows
-pub mod ShownMarks
 pub mod Slices
 pub mod SlicesOfHistory
 pub mod Timelines

@@ -2,17 +2,16 @@
 use Rattle.std.proofs.Common.{◌≡◌, List, None}
 use Rattle.rec_events.specs.declared.events.TestEventSummary.{TestEventSummary}
 use Rattle.rec_trace.specs.Kinds.{history}
-use Rattle.rec_trace.specs.Refusals.{refusal}
+use Rattle.rec_trace.specs.Refusals.{history_refusal}
 use Rattle.rec_trace.specs.Timeline.{IsTimeline}
 use Rattle.rec_trace.specs.declared.settings.ChromeTraceGroupBy.{ChromeTraceGroupBy}
-use Rattle.rec_trace.proofs.Slices.{shown-begins_are_slices, shown-ends_are_slices}
-use Rattle.rec_trace.proofs.SlicesOfHistory.{history-once}
+use Rattle.rec_trace.proofs.SlicesOfHistory.{history-one_begins, history-one_ends, history-slices}
 use Rattle.rec_trace.proofs.TurnsOfHistory.{history-turns}
 
-pub timeline : {S O : Type 0} (g : ChromeTraceGroupBy) (events : List (TestEventSummary S O)) → refusal (history g events) ≡ None → IsTimeline (history g events)
+pub timeline : {S O : Type 0} (g : ChromeTraceGroupBy) (events : List (TestEventSummary S O)) → history_refusal (history g events) ≡ None → IsTimeline (history g events)
 timeline g events accepted = record {
   turns = history-turns g events accepted;
-  begins = shown-begins_are_slices (history g events);
-  ends = shown-ends_are_slices (history g events);
-  once = history-once g events accepted;
+  slices = history-slices g events accepted;
+  one_begins = history-one_begins g events accepted;
+  one_ends = history-one_ends g events accepted;
 }

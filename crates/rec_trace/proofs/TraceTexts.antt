@@ -1,4 +1,4 @@
--- A trace has no number with a fraction, so its text is told by its value.
+-- A trace has no number with a fraction, so its value determines its text.
 use Rattle.std.proofs.Common.{◌≡◌, ℕ, List, false, ap, ◌∙◌}
 use Rattle.semver.specs.Parse.{Parts}
 use Rattle.serde_json.specs.Data.{Data}

@@ -9,7 +9,7 @@ use Rattle.rec_trace.specs.Drawing.{trace_text}
 use Rattle.rec_trace.specs.History.{trace_marks}
 use Rattle.rec_trace.specs.Kinds.{history}
 use Rattle.rec_trace.specs.Past.{Mark}
-use Rattle.rec_trace.specs.Refusals.{refusal}
+use Rattle.rec_trace.specs.Refusals.{history_refusal}
 use Rattle.rec_trace.specs.Timeline.{IsTimeline}
 use Rattle.rec_trace.specs.declared.errors.ChromeTraceError.{ChromeTraceError}
 use Rattle.rec_trace.specs.declared.errors.ChromeTraceError.TheVariants.{OutOfMemory, ReadError}
@@ -22,16 +22,16 @@ fault_error (faults.ReadRunLog n) = ReadError (faults.ReadRunLog n)
 fault_error (faults.ParseEvent n) = ReadError (faults.ParseEvent n)
 fault_error faults.OutOfMemory = OutOfMemory
 
--- each first part of these events has a trace, with the first marks of theirs
+-- each prefix of these events has a trace, whose marks are the first of theirs
 abbrev pub KeepsPrefixes : ChromeTraceGroupBy → List RecordedEvent → Type 0
 KeepsPrefixes g events = (xs ys : List RecordedEvent) → events ≡ xs ++ ys →
-    (refusal (history g xs) ≡ None) × ((more : List Mark) × (trace_marks (history g events) ≡ trace_marks (history g xs) ++ more))
+    (history_refusal (history g xs) ≡ None) × ((more : List Mark) × (trace_marks (history g events) ≡ trace_marks (history g xs) ++ more))
 
 -- the iterator gave events and ended, and the text is that of their trace, whose marks are their timeline
 pub record Converts {S : Type 0} (steps : S → Option (Result RecordedEvent LineError) → S → Type 0) (s : S) (g : ChromeTraceGroupBy) (format : ChromeTraceMessageFormat) (version : Parts) (text : List ℕ) : Type 0 where
   pub events : List RecordedEvent
   pub drained : Drains steps s (map Ok events)
-  pub accepted : refusal (history g events) ≡ None
+  pub accepted : history_refusal (history g events) ≡ None
   pub written : text ≡ trace_text format version (trace_marks (history g events))
   pub timeline : IsTimeline (history g events)
   pub prefixes : KeepsPrefixes g events
@@ -42,9 +42,9 @@ pub record IsUnread {S : Type 0} (steps : S → Option (Result RecordedEvent Lin
   pub fault : LineError
   pub rest : S
   pub yielded : YieldsThen steps s (map Ok events) (Some (Err fault)) rest
-  pub told : e ≡ ReadError fault
+  pub answered : e ≡ ReadError fault
   pub no_memory : fault ≡ faults.OutOfMemory → ⊥
-  pub accepted : refusal (history g events) ≡ None
+  pub accepted : history_refusal (history g events) ≡ None
 
 -- the iterator gave events, of which the last is the first with a cause to be refused, which is the error
 pub record IsRefused {S : Type 0} (steps : S → Option (Result RecordedEvent LineError) → S → Type 0) (s : S) (g : ChromeTraceGroupBy) (e : ChromeTraceError) : Type 0 where
@@ -52,8 +52,8 @@ pub record IsRefused {S : Type 0} (steps : S → Option (Result RecordedEvent Li
   pub event : RecordedEvent
   pub rest : S
   pub yielded : Yields steps s (map Ok (before ++ event ∷ [])) rest
-  pub accepted : refusal (history g before) ≡ None
-  pub refused : refusal (history g (before ++ event ∷ [])) ≡ Some e
+  pub accepted : history_refusal (history g before) ≡ None
+  pub refused : history_refusal (history g (before ++ event ∷ [])) ≡ Some e
 
 -- why there is no trace: memory ran out, or the history can't be read, or an event is refused
 abbrev pub HasNoTrace : {S : Type 0} → (S → Option (Result RecordedEvent LineError) → S → Type 0) → S → ChromeTraceGroupBy → ChromeTraceError → Type 0

@@ -10,7 +10,7 @@ use Rattle.rec_events.specs.declared.events.TestEventKindSummary.{TestEventKindS
 use Rattle.rec_events.specs.declared.events.TestEventKindSummary.TheVariants.{Core, Output}
 use Rattle.rec_events.specs.declared.events.TestEventSummary.{TestEventSummary}
 use Rattle.rec_events.specs.declared.instances.OwnedTestInstanceId.{OwnedTestInstanceId}
-use Rattle.rec_trace.specs.Past.{Change, Happening}
+use Rattle.rec_trace.specs.Past.{Change, TraceInput}
 use Rattle.rec_trace.specs.Past.Change.{Start, Stop, Other}
 use Rattle.rec_trace.specs.declared.settings.ChromeTraceGroupBy.{ChromeTraceGroupBy}
 use Rattle.rec_trace.specs.declared.settings.ChromeTraceGroupBy.TheVariants.{Slot}
@@ -48,8 +48,8 @@ core_change g (TestStarted stress_index test slot_assignment current_stats runni
 core_change g _ = Other
 
 -- an event without outputs, at an instant, as a trace sees it
-abbrev pub core_happening : ChromeTraceGroupBy → ℤ → CoreEventKind → Happening
-core_happening g t kind = record { at = t; drawn = core_drawn kind; change = core_change g kind; failures = 0 }
+abbrev pub core_trace_input : ChromeTraceGroupBy → ℤ → CoreEventKind → TraceInput
+core_trace_input g t kind = record { at = t; drawn = core_drawn kind; change = core_change g kind; failures = 0 }
 
 module _ {S O : Type 0} where
   abbrev pub output_drawn : OutputEventKind S O → Bool
@@ -72,19 +72,19 @@ module _ {S O : Type 0} where
   output_failures (TestFinished index test success failure store_success store_failure flaky statuses current_stats running) = stats.failures current_stats
   output_failures _ = 0
 
-  -- how many tests an event tells as failed
+  -- how many tests an event counts as failed
   abbrev pub failures_of : TestEventKindSummary S O → ℕ
   failures_of (Core kind) = 0
   failures_of (Output kind) = output_failures kind
 
   -- an event with outputs, at an instant, as a trace sees it
-  abbrev pub output_happening : ℤ → OutputEventKind S O → Happening
-  output_happening t kind = record { at = t; drawn = output_drawn kind; change = output_change kind; failures = output_failures kind }
+  abbrev pub output_trace_input : ℤ → OutputEventKind S O → TraceInput
+  output_trace_input t kind = record { at = t; drawn = output_drawn kind; change = output_change kind; failures = output_failures kind }
 
   -- an event as a trace sees it
-  abbrev pub happening : ChromeTraceGroupBy → TestEventSummary S O → Happening
-  happening g event = record { at = micros event.timestamp; drawn = drawn_of event.kind; change = change_of g event.kind; failures = failures_of event.kind }
+  abbrev pub trace_input : ChromeTraceGroupBy → TestEventSummary S O → TraceInput
+  trace_input g event = record { at = micros event.timestamp; drawn = drawn_of event.kind; change = change_of g event.kind; failures = failures_of event.kind }
 
   -- the history of events
-  abbrev pub history : ChromeTraceGroupBy → List (TestEventSummary S O) → List Happening
-  history g events = map (happening g) events
+  abbrev pub history : ChromeTraceGroupBy → List (TestEventSummary S O) → List TraceInput
+  history g events = map (trace_input g) events

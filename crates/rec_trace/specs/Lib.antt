@@ -8,7 +8,8 @@ pub mod Refusals
 pub mod Kinds
 pub mod Drawing
 pub mod Tied
-pub mod Machine
+pub mod Tracking
 pub mod Traces
 pub mod Timeline
+pub mod SpanTexts
 pub mod Converting

@@ -1,4 +1,4 @@
--- What each event of a run shows in its trace, after what came before. A past is the list of what happened so far, the newest first.
+-- The marks of each event of a run in its trace, after what came before. A past is the list of the trace inputs so far, the newest first.
 use Rattle.std.specs.Prelude.{ℕ, ℤ, Bool, true, false, not, List, [], ◌∷◌, ◌++◌, map, filter, if◌then◌else◌}
 use Rattle.rec_trace.specs.Keys.{key_eq, row_eq}
 use Rattle.rec_trace.specs.Places.{place_eq, place_lt}
@@ -17,9 +17,9 @@ pub data Change : Type 0 where
   Resume : Change
   Other : Change
 
--- an event as a trace sees it: its instant in microseconds, whether its kind is drawn yet, what it does, and how many tests it tells
+-- an event as a trace sees it: its instant in microseconds, whether its kind is drawn yet, what it does, and how many tests it counts
 -- as failed
-pub record Happening : Type 0 where
+pub record TraceInput : Type 0 where
   pub at : ℤ
   pub drawn : Bool
   pub change : Change
@@ -41,9 +41,9 @@ pause_after (Stop k) before = before
 pause_after Other before = before
 
 -- whether the last pause or continuation of the past is a pause
-abbrev pub is_paused : List Happening → Bool
+abbrev pub is_paused : List TraceInput → Bool
 is_paused [] = false
-is_paused (h ∷ past) = pause_after h.change (is_paused past)
+is_paused (input ∷ past) = pause_after input.change (is_paused past)
 
 -- ---- open spans
 
@@ -65,7 +65,7 @@ abbrev pub put_in : Span → List Span → List Span
 put_in s [] = s ∷ []
 put_in s (x ∷ spans) = if place_lt s.place x.place then s ∷ x ∷ spans else (x ∷ put_in s spans)
 
--- a start puts its span in, a stop takes that of its key out
+-- a start puts its span in, a stop removes that of its key
 abbrev pub open_after : Change → List Span → List Span
 open_after (Start s) spans = put_in s spans
 open_after (Stop k) spans = without k spans
@@ -74,9 +74,9 @@ open_after Resume spans = spans
 open_after Other spans = spans
 
 -- the spans that are open after the past, by place
-abbrev pub open_spans : List Happening → List Span
+abbrev pub open_spans : List TraceInput → List Span
 open_spans [] = []
-open_spans (h ∷ past) = open_after h.change (open_spans past)
+open_spans (input ∷ past) = open_after input.change (open_spans past)
 
 -- ---- marks
 
@@ -87,15 +87,15 @@ mark phase t s = record { phase = phase; span = s; at = t }
 abbrev pub marks : Phase → ℤ → List Span → List Mark
 marks phase t spans = map (mark phase t) spans
 
--- what a change shows at an instant, in a pause and outside one, where these spans are open. In a pause a start and a stop show
--- an instant: a begin and its end
-abbrev pub shown_of : Bool → List Span → ℤ → Change → List Mark
-shown_of in_pause spans t (Start s) = marks Begin t (s ∷ []) ++ (if in_pause then marks End t (s ∷ []) else [])
-shown_of in_pause spans t (Stop k) = (if in_pause then marks Begin t (of_key k spans) else []) ++ marks End t (of_key k spans)
-shown_of in_pause spans t Pause = if in_pause then [] else marks End t spans
-shown_of in_pause spans t Resume = if in_pause then marks Begin t spans else []
-shown_of in_pause spans t Other = []
+-- the marks of a change at an instant, in a pause and outside one, where these spans are open. In a pause a start and a stop have
+-- both marks: a begin and its end at one instant
+abbrev pub change_marks : Bool → List Span → ℤ → Change → List Mark
+change_marks in_pause spans t (Start s) = marks Begin t (s ∷ []) ++ (if in_pause then marks End t (s ∷ []) else [])
+change_marks in_pause spans t (Stop k) = (if in_pause then marks Begin t (of_key k spans) else []) ++ marks End t (of_key k spans)
+change_marks in_pause spans t Pause = if in_pause then [] else marks End t spans
+change_marks in_pause spans t Resume = if in_pause then marks Begin t spans else []
+change_marks in_pause spans t Other = []
 
--- what an event shows after the past
-abbrev pub shown : List Happening → Happening → List Mark
-shown past h = shown_of (is_paused past) (open_spans past) h.at h.change
+-- the marks of an event after the past
+abbrev pub event_marks : List TraceInput → TraceInput → List Mark
+event_marks past input = change_marks (is_paused past) (open_spans past) input.at input.change

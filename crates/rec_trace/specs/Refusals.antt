@@ -2,8 +2,8 @@
 use Rattle.std.specs.Prelude.{◌≡◌, ℕ, suc, ◌^◌, ℤ, List, [], ◌∷◌, nat_lt, Bool, true, false, Option, Some, None, Result, Ok, Err, if◌then◌else◌, ◌⊎◌}
 use Rattle.std.specs.Option.{option_or}
 use Rattle.rec_forms.specs.Shape.{fits}
-use Rattle.rec_trace.specs.History.{Known, known_after, nothing_known}
-use Rattle.rec_trace.specs.Past.{Change, Happening, in_place, of_key}
+use Rattle.rec_trace.specs.History.{TraceState, initial_state, next_state}
+use Rattle.rec_trace.specs.Past.{Change, TraceInput, in_place, of_key}
 use Rattle.rec_trace.specs.Past.Change.{Start, Stop, Pause, Resume, Other}
 use Rattle.rec_trace.specs.Places.{number}
 use Rattle.rec_trace.specs.declared.errors.ChromeTraceError.{ChromeTraceError}
@@ -76,7 +76,7 @@ row_refusal n Pause = None
 row_refusal n Resume = None
 row_refusal n Other = None
 
--- it tells more failed tests than a usize counts
+-- it counts more failed tests than a usize holds
 abbrev pub count_refusal : ℕ → ℕ → Option ChromeTraceError
 count_refusal n failures = if nat_lt failures (2 ^ 64) then None else Some (CountOutOfRange n)
 
@@ -92,26 +92,26 @@ change_refusal n spans change failures =
     (count_refusal n failures))))
 
 -- the first cause of an event but for its number
-abbrev pub event_refusal : ℕ → List Span → Happening → Option ChromeTraceError
-event_refusal n spans h =
-    option_or (kind_refusal n h.drawn)
-    (option_or (instant_refusal n h.at)
-    (change_refusal n spans h.change h.failures))
+abbrev pub event_refusal : ℕ → List Span → TraceInput → Option ChromeTraceError
+event_refusal n spans input =
+    option_or (kind_refusal n input.drawn)
+    (option_or (instant_refusal n input.at)
+    (change_refusal n spans input.change input.failures))
 
--- the first cause of an event, if it has one, after what is known
-abbrev pub refusal_of : Known → Happening → Option ChromeTraceError
-refusal_of k h =
-    option_or (number_refusal (suc k.number))
-    (event_refusal (suc k.number) k.spans h)
+-- the first cause of the next event after a state, if it has one
+abbrev pub next_refusal : TraceState → TraceInput → Option ChromeTraceError
+next_refusal state input =
+    option_or (number_refusal (suc state.number))
+    (event_refusal (suc state.number) state.spans input)
 
--- the cause of the first event that has one
-abbrev pub refusal_after : Known → List Happening → Option ChromeTraceError
-refusal_after k [] = None
-refusal_after k (h ∷ history) = option_or (refusal_of k h) (refusal_after (known_after h k) history)
+-- the cause of the first event after a state that has one
+abbrev pub history_refusal_after : TraceState → List TraceInput → Option ChromeTraceError
+history_refusal_after state [] = None
+history_refusal_after state (input ∷ history) = option_or (next_refusal state input) (history_refusal_after (next_state input state) history)
 
 -- why a history has no trace, if it has none
-abbrev pub refusal : List Happening → Option ChromeTraceError
-refusal history = refusal_after nothing_known history
+abbrev pub history_refusal : List TraceInput → Option ChromeTraceError
+history_refusal history = history_refusal_after initial_state history
 
 -- a refusal is answered, exactly where there is one; or memory runs out
 abbrev pub Judges : {T : Type 0} → Result T ChromeTraceError → Option ChromeTraceError → Type 0

@@ -1,9 +1,9 @@
-//! The trace of a history that comes event by event.
+//! Converts a history that comes event by event to its trace.
 ghost use Rattle.std.specs.Prelude.{List, IfOk, IfErr};
 ghost use Rattle.std.specs.Iterator.{IsFinite};
 ghost use Rattle.rec_trace.specs.Converting.{Converts, HasNoTrace};
-ghost use Rattle.rec_trace.specs.Kinds.{happening};
-ghost use Rattle.rec_trace.specs.Past.{Happening};
+ghost use Rattle.rec_trace.specs.Kinds.{trace_input};
+ghost use Rattle.rec_trace.specs.Past.{TraceInput};
 ghost use Rattle.rec_trace.specs.Traces.{HasTraced, Traces};
 
 use crate::builder::TraceBuilder;
@@ -13,18 +13,35 @@ use rec_codec::LineError;
 use rec_events::{RecordingSpec, TestEventSummary, Version};
 use std::alloc::Global;
 
-/// The text of the Chrome trace of a history of recorded events, in the form asked for. The iterator has
-/// to end. The first item that can't be drawn says why there is no trace:
+/// Writes the Chrome trace of a history of recorded events, in UTF-8 and in the form asked for. The iterator
+/// has to end, and is read up to the first item that is refused.
 ///
-/// - `ReadError`: it is a fault of the reader.
-/// - `KindNotBuilt`: it is of a kind that isn't drawn yet.
+/// # Example
+///
+/// The trace of a run's log, whose first line has the number 1:
+///
+/// ```
+/// let version = Version::parse(alloc, "0.9.111")?;
+/// let events = LineIter::<RecordingSpec>::new(alloc, log, 1);
+/// let (group_by, format) = (ChromeTraceGroupBy::Slot, ChromeTraceMessageFormat::Json);
+/// let text = convert_to_chrome_trace(alloc, &version, events, group_by, format)?;
+/// ```
+///
+/// # Errors
+///
+/// The first item that is refused is the cause:
+///
+/// - `ReadError`: it is a fault of the reader, other than want of memory.
+/// - `KindNotBuilt`: it is an event of a kind that isn't drawn yet.
 /// - `MissingTestStart`: it ends a test that isn't running.
 /// - `SpanAlreadyOpen`: it starts what is running already.
 /// - `SlotBusy`: it starts a test on a slot on which another runs.
-/// - `TimestampOutOfRange`, `RowOutOfRange`, `CountOutOfRange`: its instant, its row or a count of it is out
-///   of range.
+/// - `TimestampOutOfRange`: its instant in microseconds isn't an i64.
+/// - `RowOutOfRange`: it starts a test on a row whose number isn't a u64.
+/// - `CountOutOfRange`: it counts 2^64 failed tests or more, or its own number isn't a u64.
 ///
-/// `OutOfMemory` may come at any time, and stands for the reader's want of memory too.
+/// Where an event has several of these causes, the first in the order that `ChromeTraceError` gives is
+/// answered. `OutOfMemory` may come at any time, and stands for the reader's want of memory too.
 pub fn convert_to_chrome_trace<I>(
     alloc: Global,
     version: &Version,
@@ -51,15 +68,17 @@ where
     )
 }
 
-/// Adds what an event shows. The event ends here, since to drop one of that many kinds inside the loop is
-/// too much for a proof.
+/// Adds the trace events of an event. The event is let go here and by a call: to drop one of that many kinds
+/// in place is too much for a proof.
 pub(crate) fn add_event(
     alloc: Global,
     builder: &mut TraceBuilder,
     event: TestEventSummary<RecordingSpec>,
 ) -> Result<(), ChromeTraceError>
-    ensures { (history : List Happening) → HasTraced builder.old.group_by history builder.old
-        → Traces builder.old.group_by history (happening builder.old.group_by event) builder.old builder.new result }
+    ensures { (history : List TraceInput) → HasTraced builder.old.group_by history builder.old
+        → Traces builder.old.group_by history (trace_input builder.old.group_by event) builder.old builder.new result }
 {
-    builder.process_event(alloc, &event)
+    let result = builder.process_event(alloc, &event);
+    drop(event);
+    result
 }

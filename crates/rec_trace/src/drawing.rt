@@ -1,4 +1,4 @@
-//! Begins and ends of slices as trace events, and the text of a trace.
+//! Draws begins and ends of slices as trace events, and writes the text of a trace.
 ghost use Rattle.std.specs.Prelude.{◌≡◌, List, map, Some, IfOk, OnOk, string_bytes};
 ghost use Rattle.serde_json.specs.Data.{string};
 ghost use Rattle.serde_json.specs.View.{view, members_view};
@@ -13,7 +13,7 @@ use rec_forms::{Object, put_field};
 use serde_json::{Map, Value};
 use std::alloc::{AllocError, Global};
 
-/// The category of a span, by which viewers can filter.
+/// Names the category of a span, by which viewers can filter.
 fn category(key: &SpanKey) -> &'static str
     ensures { result.now ≡ category key.now }
 {
@@ -25,7 +25,7 @@ fn category(key: &SpanKey) -> &'static str
     }
 }
 
-/// The phase of a trace event.
+/// Names the phase of a trace event.
 fn phase_text(phase: Phase) -> &'static str
     ensures { result.now ≡ phase_text phase }
 {
@@ -43,7 +43,7 @@ fn put_text(alloc: Global, object: &mut Object, key: &str, text: &str) -> Result
     serde_json::put(object, alloc, key, value)
 }
 
-/// The trace event of the begin or the end of a slice of a span, at an instant in microseconds.
+/// Draws the begin or the end of a slice of a span, at an instant in microseconds since the epoch.
 #[tactic(auto, unfolding(crate::specs::Drawing::mark_value, rec_forms::specs::Shape::members_of))]
 pub fn mark_value(alloc: Global, phase: Phase, span: &Span, at: i64) -> Result<Value, AllocError>
     ensures { IfOk result (λ v. view v ≡ mark_value (mark phase at span.now)) }
@@ -58,7 +58,7 @@ pub fn mark_value(alloc: Global, phase: Phase, span: &Span, at: i64) -> Result<V
     Ok(Value::from(object))
 }
 
-/// What is told of the run beside its events.
+/// Makes the part of a trace that speaks of the run beside its events.
 #[tactic(auto, unfolding(rec_forms::specs::Shape::members_of))]
 fn other_data(alloc: Global, version: &Version) -> Result<Value, AllocError>
     ensures { IfOk result (λ v. view v ≡ other_data version.now) }
@@ -68,7 +68,7 @@ fn other_data(alloc: Global, version: &Version) -> Result<Value, AllocError>
     Ok(Value::from(object))
 }
 
-/// The trace of a run of this version of the runner, with these trace events.
+/// Makes the trace of a run by this version of the runner, with these trace events.
 #[tactic(auto, unfolding(crate::specs::Drawing::trace_value, rec_forms::specs::Shape::members_of))]
 fn trace_value(alloc: Global, version: &Version, events: Vec<Value>) -> Result<Value, AllocError>
     ensures { IfOk result (λ v. (marks : List Mark) → map view events.items ≡ map mark_value marks → view v ≡ trace_value version.now marks) }
@@ -81,7 +81,7 @@ fn trace_value(alloc: Global, version: &Version, events: Vec<Value>) -> Result<V
     Ok(Value::from(object))
 }
 
-/// The text of a trace, in the form asked for.
+/// Writes the text of a trace, in the form asked for.
 pub fn trace_text(
     alloc: Global,
     format: ChromeTraceMessageFormat,

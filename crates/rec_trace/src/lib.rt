@@ -6,9 +6,9 @@ mod convert;
 mod drawing;
 mod errors;
 pub mod laws;
-mod machine;
 mod open_spans;
 mod settings;
+mod span_tracker;
 mod spans;
 
 pub use builder::TraceBuilder;

@@ -11,7 +11,7 @@ use std::alloc::{AllocError, Global};
 use std::collections::BTreeMap;
 use std::marker::Model;
 
-/// The spans that are open, found by their place and by what they are of. Contracts see them in the
+/// Keeps the spans that are open, found by their place and by what they are of. Contracts see them in the
 /// order of their places.
 #[derive(Drop)]
 pub struct OpenSpans {
@@ -34,7 +34,7 @@ impl Model for OpenSpans {
 }
 
 impl OpenSpans {
-    /// No span is open.
+    /// Makes the collection without an open span.
     pub fn new(alloc: Global) -> OpenSpans
         ensures { result ≡ [] }
     {
@@ -44,7 +44,7 @@ impl OpenSpans {
         }
     }
 
-    /// The span of the run, where it is open.
+    /// Returns the span of the run, where it is open.
     pub fn run(&self) -> Option<&Span>
         ensures key { option_to_list (option_copied result) ≡ of_key keys.Run self.now }
         ensures place { option_to_list (option_copied result) ≡ in_place places.Run self.now }
@@ -52,7 +52,7 @@ impl OpenSpans {
         self.spans.get(&Place::Run)
     }
 
-    /// The span of the open attempt of a test.
+    /// Returns the span of the open attempt of a test, where there is one.
     pub fn test(&self, test: &OwnedTestInstanceId) -> Option<&Span>
         ensures { option_to_list (option_copied result) ≡ of_key (keys.Test test.now) self.now }
     {
@@ -60,7 +60,7 @@ impl OpenSpans {
         self.spans.get(&Place::Slot(*slot))
     }
 
-    /// The span of the test that runs on a slot.
+    /// Returns the span of the test that runs on a slot, where one does.
     pub fn on_slot(&self, slot: u64) -> Option<&Span>
         ensures { option_to_list (option_copied result) ≡ in_place (places.Slot slot) self.now }
     {
@@ -68,6 +68,10 @@ impl OpenSpans {
     }
 
     /// Opens a span that is not of a test.
+    ///
+    /// # Errors
+    ///
+    /// Fails only where memory ran out. Nothing is opened then.
     pub fn open(&mut self, span: Span) -> Result<(), AllocError>
         requires place { place_of [] span.key ≡ Some span.place }
         requires key_free { of_key span.key self.old ≡ [] }
@@ -80,6 +84,10 @@ impl OpenSpans {
     }
 
     /// Opens the span of an attempt of a test, on a slot.
+    ///
+    /// # Errors
+    ///
+    /// Fails only where memory ran out. Nothing is opened then.
     pub fn open_test(
         &mut self,
         alloc: Global,
@@ -104,7 +112,7 @@ impl OpenSpans {
         }
     }
 
-    /// Closes the span of the open attempt of a test, and answers it, if there is one.
+    /// Closes the span of the open attempt of a test, and returns it, where there is one.
     pub fn close_test(&mut self, test: &OwnedTestInstanceId) -> Option<Span>
         ensures closed { self.new ≡ without (keys.Test test.now) self.old }
         ensures span { option_to_list result ≡ of_key (keys.Test test.now) self.old }

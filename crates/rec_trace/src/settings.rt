@@ -1,13 +1,13 @@
-//! How a trace is drawn and written.
+//! The settings by which a trace is drawn and written.
 
-/// Which process and thread a test is drawn as, and under which name.
+/// Says as which process and thread a test is drawn, and under which name.
 #[derive(Clone, Copy, PartialEq, Eq, Debug)]
 pub enum ChromeTraceGroupBy {
-    /// A thread for each slot, all of one process. A test bears its binary and its name.
+    /// A thread for each slot, all of one process. A test has its binary and its name.
     Slot,
 }
 
-/// In which form the JSON is written.
+/// Says in which form the JSON is written.
 #[derive(Clone, Copy, PartialEq, Eq, Debug)]
 pub enum ChromeTraceMessageFormat {
     /// In one line, without spaces.

@@ -9,6 +9,7 @@ use rec_trace::{
     convert_to_chrome_trace,
 };
 use std::alloc::Global;
+use std::fmt;
 use std::test::Fail;
 
 // A line of a log, with the second of its event.
@@ -36,7 +37,7 @@ fn stats(alloc: Global, failed: u64) -> Result<String, Fail> {
     )?)
 }
 
-// What tells of a test, in lines of both kinds.
+// The members that name a test, in lines of both kinds.
 fn test_members(alloc: Global, secs: i64, test: u32, failed: u64) -> Result<String, Fail> {
     let stats = stats(alloc, failed)?;
     Ok(format!(in alloc;
@@ -133,8 +134,8 @@ fn traces_by_their_texts(rt: HostRuntime) -> Result<(), Fail> {
     Ok(())
 }
 
-// An error by its name, its event and what it says beside.
-fn told(alloc: Global, error: &ChromeTraceError) -> Result<String, Fail> {
+// An error by its name, its event and what it holds beside.
+fn error_text(alloc: Global, error: &ChromeTraceError) -> Result<String, Fail> {
     Ok(match error {
         ChromeTraceError::ReadError(fault) => format!(in alloc; "ReadError: {fault}")?,
         ChromeTraceError::KindNotBuilt { event } => format!(in alloc; "KindNotBuilt {event}")?,
@@ -148,7 +149,6 @@ fn told(alloc: Global, error: &ChromeTraceError) -> Result<String, Fail> {
             format!(in alloc; "MissingTestStart {event} {binary} {name}")?
         }
         ChromeTraceError::SpanAlreadyOpen { event, span } => {
-            let span = span_told(alloc, span)?;
             format!(in alloc; "SpanAlreadyOpen {event} {span}")?
         }
         ChromeTraceError::SlotBusy { event, slot } => format!(in alloc; "SlotBusy {event} {slot}")?,
@@ -165,23 +165,11 @@ fn told(alloc: Global, error: &ChromeTraceError) -> Result<String, Fail> {
     })
 }
 
-fn span_told(alloc: Global, span: &SpanKey) -> Result<String, Fail> {
-    match span {
-        SpanKey::Test(test) => {
-            let binary = test.binary_id.as_str();
-            let name = test.test_name.as_str();
-            Ok(format!(in alloc; "{binary} {name}")?)
-        }
-        SpanKey::Run => Ok(String::from_str(alloc, "Run")?),
-        _ => Ok(String::from_str(alloc, "another")?),
-    }
-}
-
 // Why a log has no trace.
 fn refused(alloc: Global, lines: &[Line]) -> Result<String, Fail> {
     match traced(alloc, lines)? {
         Ok(_) => Ok(String::from_str(alloc, "a trace")?),
-        Err(error) => told(alloc, &error),
+        Err(error) => error_text(alloc, &error),
     }
 }
 
@@ -201,7 +189,7 @@ fn refused_histories(rt: HostRuntime) -> Result<(), Fail> {
         (&[run, start, end, end], "MissingTestStart 4 alpha::a t1"),
         (&[start, run, start], "SpanAlreadyOpen 3 alpha::a t1"),
         (&[run, start, Line::Start(1001, 2, 0)], "SlotBusy 3 0"),
-        (&[run, run], "SpanAlreadyOpen 2 Run"),
+        (&[run, run], "SpanAlreadyOpen 2 the run"),
         (&[start, too_many], "CountOutOfRange 2"),
         (&[on_no_row], "RowOutOfRange 1 18446744073709541616"),
         (&[on_last_row, on_no_row], "SpanAlreadyOpen 2 alpha::a t1"),
@@ -227,7 +215,7 @@ fn faulty_lines(rt: HostRuntime) -> Result<(), Fail> {
             &[run, Line::Faulty, run],
             "ReadError: line 2 isn't an event",
         ),
-        (&[run, run, Line::Faulty], "SpanAlreadyOpen 2 Run"),
+        (&[run, run, Line::Faulty], "SpanAlreadyOpen 2 the run"),
     ] {
         let got = refused(alloc, lines)?;
         assert!(rt; got.as_str() == want, "{got}");
@@ -251,7 +239,7 @@ fn paused(secs: i64) -> TestEventSummary<RecordingSpec> {
     }
 }
 
-// The builder takes the events of these lines, and tells the first that it refuses.
+// Adds the events of these lines to the builder, and answers the first refusal.
 fn added(
     alloc: Global,
     builder: &mut TraceBuilder,
@@ -260,13 +248,13 @@ fn added(
     let log = log(alloc, lines)?;
     for event in LineIter::<RecordingSpec>::new(alloc, log.as_str().as_bytes(), 1) {
         if let Err(error) = add_event(alloc, builder, event?) {
-            return Ok(Some(told(alloc, &error)?));
+            return Ok(Some(error_text(alloc, &error)?));
         }
     }
     Ok(None)
 }
 
-// Adds an event. It ends here: to let one of that many kinds go among other values takes a proof long.
+// Adds an event, and lets it go here: among other values that takes a proof long, as there are many kinds.
 fn add_event(
     alloc: Global,
     builder: &mut TraceBuilder,
@@ -276,14 +264,14 @@ fn add_event(
 }
 
 // What a builder with the events of these lines answers to a pause at this second.
-fn told_pause(alloc: Global, lines: &[Line], secs: i64) -> Result<String, Fail> {
+fn answer_to_pause(alloc: Global, lines: &[Line], secs: i64) -> Result<String, Fail> {
     let mut builder = TraceBuilder::new(alloc, ChromeTraceGroupBy::Slot);
     if let Some(refusal) = added(alloc, &mut builder, lines)? {
         return Ok(refusal);
     }
     match add_event(alloc, &mut builder, paused(secs)) {
-        Ok(()) => Ok(String::from_str(alloc, "taken")?),
-        Err(error) => told(alloc, &error),
+        Ok(()) => Ok(String::from_str(alloc, "added")?),
+        Err(error) => error_text(alloc, &error),
     }
 }
 
@@ -295,9 +283,9 @@ fn kinds_that_are_not_drawn(rt: HostRuntime) -> Result<(), Fail> {
         ([].as_slice(), 1002, "KindNotBuilt 1"),
         (&[run], 1002, "KindNotBuilt 2"),
         (&[run], 9223372036855, "KindNotBuilt 2"),
-        (&[run, run], 1002, "SpanAlreadyOpen 2 Run"),
+        (&[run, run], 1002, "SpanAlreadyOpen 2 the run"),
     ] {
-        let got = told_pause(alloc, lines, secs)?;
+        let got = answer_to_pause(alloc, lines, secs)?;
         assert!(rt; got.as_str() == want, "{got}");
     }
     Ok(())
@@ -322,7 +310,79 @@ fn a_refused_kind_leaves_the_builder(rt: HostRuntime) -> Result<(), Fail> {
 }
 
 #[test]
-fn want_of_memory_is_no_fault_of_a_line(rt: HostRuntime) {
+fn want_of_memory_is_no_fault_of_a_line(rt: HostRuntime) -> Result<(), Fail> {
     let error = ChromeTraceError::from(LineError::OutOfMemory);
     assert!(rt; error == ChromeTraceError::OutOfMemory);
+    let debug = format!(in rt.alloc(); "{error:?}")?;
+    assert!(rt; !debug.is_empty());
+    Ok(())
+}
+
+// The printed text of the error of a log.
+fn printed(alloc: Global, lines: &[Line]) -> Result<String, Fail> {
+    match traced(alloc, lines)? {
+        Ok(_) => Ok(String::from_str(alloc, "a trace")?),
+        Err(error) => Ok(format!(in alloc; "{error}")?),
+    }
+}
+
+#[test]
+fn errors_say_what_they_hold(rt: HostRuntime) -> Result<(), Fail> {
+    let alloc = rt.alloc();
+    let run = Line::Run(1000, 0);
+    let start = Line::Start(1001, 1, 0);
+    for (lines, want) in [
+        (
+            [Line::End(1002, 1, 0)].as_slice(),
+            "event 1 ends alpha::a t1, which isn't running",
+        ),
+        (
+            &[run, run],
+            "event 2 starts the run, which is running already",
+        ),
+        (
+            &[start, start],
+            "event 2 starts alpha::a t1, which is running already",
+        ),
+        (
+            &[start, Line::Start(1001, 2, 0)],
+            "event 2 starts on slot 0, on which another is running",
+        ),
+        (
+            &[Line::Faulty],
+            "the events can't be read: line 1 isn't an event",
+        ),
+    ] {
+        let got = printed(alloc, lines)?;
+        assert!(rt; got.as_str() == want, "{got}");
+    }
+    Ok(())
+}
+
+#[test]
+fn spans_without_a_test(rt: HostRuntime) -> Result<(), Fail> {
+    let alloc = rt.alloc();
+    let sub_run = SpanKey::SubRun;
+    let script = SpanKey::Script(3);
+    let texts = format!(in alloc; "{sub_run}, {script}")?;
+    assert!(rt; texts.as_str() == "the sub-run, setup script 3");
+    Ok(())
+}
+
+// A copy equals the value, and the value prints for a developer.
+fn is_plain<T: Copy + Clone + PartialEq + Eq + fmt::Debug>(
+    alloc: Global,
+    value: T,
+) -> Result<bool, Fail> {
+    let copy = value;
+    let text = format!(in alloc; "{copy:?}")?;
+    Ok(copy == value && !text.is_empty())
+}
+
+#[test]
+fn settings_are_plain_values(rt: HostRuntime) -> Result<(), Fail> {
+    let alloc = rt.alloc();
+    assert!(rt; is_plain(alloc, ChromeTraceGroupBy::Slot)?);
+    assert!(rt; is_plain(alloc, ChromeTraceMessageFormat::Json)?);
+    Ok(())
 }

@@ -47,7 +47,7 @@ returns-clause-texts g c =
       reads = subst (λ (es : List LiveEvent). IsReading prepared.bundle.bytes (recorded number settings.max_output head es)) events reads;
       traced = traced ∙ ap (run_trace settings head) events;
       timeline = timeline settings.group_by (session_events session)
-          (subst (λ (es : List LiveEvent). traces.refusal (session_history settings es) ≡ None) events accepted);
+          (subst (λ (es : List LiveEvent). traces.history_refusal (session_history settings es) ≡ None) events accepted);
     }) c.bundle_run-result.ensures.bundle c.bundle_run-result.ensures.reads c.bundle_run-result.ensures.trace c.bundle_run-result.ensures.valid c.bundle_run-result.ensures.accepted
 
 pub returns-clause-events : goal.returns-clause-events

@@ -9,7 +9,7 @@ use Rattle.rec_codec.specs.LineView.{line_view}
 use Rattle.rec_codec.specs.Live.{live_form}
 use Rattle.rec_codec.specs.declared.line_events.LineError.{LineError}
 use Rattle.rec_store.specs.Bundle.{outputs_stored}
-use Rattle.rec_trace.specs.Kinds.{happening}
+use Rattle.rec_trace.specs.Kinds.{trace_input}
 use Rattle.rec_program.specs.SessionTraces.{IsTraceOf}
 use Rattle.rec_program.proofs.RecordedLines.{line_of_event, line_of_fault, line_recorded}
 use Rattle.rec_program.proofs.record.record_line.Goals as goal
@@ -42,5 +42,5 @@ returns-in_ok-event-in-Some-clause-traced g c = λ group history had.
     let event = c.in_ok-event-in-Some.field-0 in
     let told = subst (λ (r : Result LiveEvent LineError). Answers (event_form live_form) (Some r) c.args.line.number text) c.in_ok-event-in-Some.was c.in-Some.ensures in
     let line = line_of_event number m [] c.args.line.number text event told.0 told.1 in
-    subst (λ (o : Option LiveEvent). OnOk c.record_event.result (IsTraceOf group (history ++ map (happening group) (option_to_list o)) c.record_event.new.trace))
+    subst (λ (o : Option LiveEvent). OnOk c.record_event.result (IsTraceOf group (history ++ map (trace_input group) (option_to_list o)) c.record_event.new.trace))
     (sym line.1) (c.record_event.ensures.traced group history had)

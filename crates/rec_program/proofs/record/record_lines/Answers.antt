@@ -4,12 +4,12 @@ use Rattle.rec_codec.specs.Event.{LiveEvent}
 use Rattle.rec_codec.specs.LineView.{line_view}
 use Rattle.rec_codec.specs.Lines.{NumberedLine}
 use Rattle.rec_program.specs.Recorded.{HasRecorded, RecordsLines}
-use Rattle.rec_trace.specs.Kinds.{happening}
-use Rattle.rec_trace.specs.Past.{Happening}
+use Rattle.rec_trace.specs.Kinds.{trace_input}
+use Rattle.rec_trace.specs.Past.{TraceInput}
 use Rattle.rec_program.specs.Session.{event_at, events_of}
 use Rattle.rec_program.specs.SessionTraces.{IsTraceOf}
 use Rattle.rec_program.proofs.RecordedLines.{line_with, made_with, recorded_here}
-use Rattle.rec_program.proofs.SessionTraced.{happenings_next}
+use Rattle.rec_program.proofs.SessionTraced.{inputs_next}
 use Rattle.rec_program.proofs.record.record_lines.Goals as goal
 
 pub loop-line-init : goal.loop-line-init
@@ -17,7 +17,7 @@ loop-line-init g c =
     let lines = c.into_iter-line-iterator.ensures.into_iter_gives in
     record {
       recorded = λ head events had. (events, had, λ r new all. subst (λ (ls : List NumberedLine). RecordsLines g.N.OutputNamer.number c.args.recorder.now.namer c.args.recorder.now.max_output head events ls new r) lines all);
-      traced = λ group history had. (history, had, ap (λ (ls : List NumberedLine). history ++ map (happening group) (events_of ls)) (sym lines));
+      traced = λ group history had. (history, had, ap (λ (ls : List NumberedLine). history ++ map (trace_input group) (events_of ls)) (sym lines));
     }
 
 pub loop-line-preserved : goal.loop-line-preserved
@@ -41,11 +41,11 @@ loop-line-preserved g c = record {
       let line = line_view c.in-Some.line in
       let rest = c.next.new.self in
       let before = c.loop-line.invariant.traced group history had in (
-        before.0 ++ map (happening group) (option_to_list (event_at line)),
+        before.0 ++ map (trace_input group) (option_to_list (event_at line)),
         c.in_ok-record_line.ensures.traced group before.0 before.1,
         before.2
-            ∙ ap (λ (ls : List NumberedLine). before.0 ++ map (happening group) (events_of ls)) c.in-Some.ensures.steps
-            ∙ happenings_next group before.0 (event_at line) (events_of rest),
+            ∙ ap (λ (ls : List NumberedLine). before.0 ++ map (trace_input group) (events_of ls)) c.in-Some.ensures.steps
+            ∙ inputs_next group before.0 (event_at line) (events_of rest),
       );
 }
 
@@ -62,5 +62,5 @@ returns-clause-recorded g c = λ head events had.
 pub returns-clause-traced : goal.returns-clause-traced
 returns-clause-traced g c = λ group history had.
     let before = c.loop-line.invariant.traced group history had in
-    let all = before.2 ∙ ap (λ (ls : List NumberedLine). before.0 ++ map (happening group) (events_of ls)) c.in-None.ensures.steps.0 ∙ append-nil before.0 in
-    subst (λ (hs : List Happening). IsTraceOf group hs c.loop-line.trace) (sym all) before.1
+    let all = before.2 ∙ ap (λ (ls : List NumberedLine). before.0 ++ map (trace_input group) (events_of ls)) c.in-None.ensures.steps.0 ∙ append-nil before.0 in
+    subst (λ (hs : List TraceInput). IsTraceOf group hs c.loop-line.trace) (sym all) before.1

@@ -1,15 +1,15 @@
-//! Takes the events of a run one by one, and answers what each shows.
+//! Tracks the spans of a run, event by event, and answers the trace events of each.
 ghost use Rattle.std.specs.Prelude.{◌≡◌, ◌^◌, ◌⊎◌, suc, [], ◌∷◌, false, true, map, nat_lt, IfOk, OnOk, OnErr, MatchOption};
 ghost use Rattle.serde_json.specs.View.{view};
 ghost use Rattle.rec_events.specs.Stats as stats;
 ghost use Rattle.rec_events.specs.Times.{micros};
 ghost use Rattle.rec_trace.specs.Drawing.{mark_value};
-ghost use Rattle.rec_trace.specs.History.{nothing_known};
-ghost use Rattle.rec_trace.specs.Kinds.{core_happening, happening, output_happening, run_span, test_name, test_row, test_span};
-ghost use Rattle.rec_trace.specs.Machine.{Takes};
+ghost use Rattle.rec_trace.specs.History.{initial_state};
+ghost use Rattle.rec_trace.specs.Kinds.{core_trace_input, output_trace_input, run_span, test_name, test_row, test_span, trace_input};
 ghost use Rattle.rec_trace.specs.Past.{in_place, mark, marks, of_key};
 ghost use Rattle.rec_trace.specs.Past.Change.{Start, Stop};
-ghost use Rattle.rec_trace.specs.Refusals.{Judges, change_refusal, count_refusal, event_refusal, instant_refusal, number_refusal, refusal_of};
+ghost use Rattle.rec_trace.specs.Refusals.{Judges, change_refusal, count_refusal, event_refusal, instant_refusal, next_refusal, number_refusal};
+ghost use Rattle.rec_trace.specs.Tracking.{Tracks};
 ghost use Rattle.rec_trace.specs.declared.spans.Phase.TheVariants as phases;
 ghost use Rattle.rec_trace.specs.declared.spans.Place.TheVariants as places;
 ghost use Rattle.rec_trace.specs.declared.spans.SpanKey.TheVariants as keys;
@@ -27,55 +27,60 @@ use serde_json::Value;
 use std::alloc::{AllocError, Global};
 use std::marker::Model;
 
-/// What is known of the events so far. No kind of event that is drawn yet pauses a run.
+/// Keeps what the next event needs of those before it: how many there were, and which spans are open. No
+/// kind of event that is drawn yet pauses a run.
 #[derive(Drop)]
-pub struct Machine {
+pub struct SpanTracker {
     /// How many events there were.
     number: u64,
     open_spans: OpenSpans,
 }
 
-impl Model for Machine {
+impl Model for SpanTracker {
     ghost use Rattle.std.specs.Prelude.{false};
-    ghost use Rattle.rec_trace.specs.History.{Known};
+    ghost use Rattle.rec_trace.specs.History.{TraceState};
 
-    ghost Value = { Known };
+    ghost Value = { TraceState };
 
-    ghost view = { λ m. record { number = m.number; in_pause = false; spans = m.open_spans } };
+    ghost view = { λ tracker. record { number = tracker.number; in_pause = false; spans = tracker.open_spans } };
 }
 
-impl Machine {
-    /// There was no event.
-    pub fn new(alloc: Global) -> Machine
-        ensures { result ≡ nothing_known }
+impl SpanTracker {
+    /// Makes the tracker of a run without an event so far.
+    pub fn new(alloc: Global) -> SpanTracker
+        ensures { result ≡ initial_state }
     {
-        Machine {
+        SpanTracker {
             number: 0,
             open_spans: OpenSpans::new(alloc),
         }
     }
 
-    /// Takes an event, and answers the trace events that it shows. Where it is refused, or memory is
-    /// short, the machine stays as it was.
+    /// Tracks an event, and answers its trace events.
+    ///
+    /// # Errors
+    ///
+    /// Answers the first cause for which the event is refused, in the order that `ChromeTraceError` gives,
+    /// or `OutOfMemory`. The tracker then stays as it was.
     pub fn step<S: OutputSpec>(
         &mut self,
         alloc: Global,
         group_by: ChromeTraceGroupBy,
         event: &TestEventSummary<S>,
     ) -> Result<Vec<Value>, ChromeTraceError>
-        ensures { Takes (refusal_of self.old (happening group_by event.now)) (happening group_by event.now) self.old self.new result }
+        ensures { Tracks (next_refusal self.old (trace_input group_by event.now)) (trace_input group_by event.now) self.old self.new result }
     {
         let number = self.next_number()?;
         let timestamp = &event.timestamp;
         match &event.kind {
             TestEventKindSummary::Core(kind) => {
-                self.take_core(alloc, group_by, number, timestamp, kind)
+                self.track_core(alloc, group_by, number, timestamp, kind)
             }
-            TestEventKindSummary::Output(kind) => self.take_output(alloc, number, timestamp, kind),
+            TestEventKindSummary::Output(kind) => self.track_output(alloc, number, timestamp, kind),
         }
     }
 
-    /// The number of the next event.
+    /// Returns the number of the next event.
     fn next_number(&self) -> Result<u64, ChromeTraceError>
         ensures number { IfOk result (λ n. n ≡ suc self.now.number) }
         ensures judged { Judges result (number_refusal (suc self.now.number)) }
@@ -87,7 +92,7 @@ impl Machine {
     }
 }
 
-/// The instant of an event, in microseconds.
+/// Returns the instant of an event, in microseconds since the epoch.
 fn instant(number: u64, timestamp: &Stamp) -> Result<i64, ChromeTraceError>
     ensures value { IfOk result (λ t. t ≡ micros timestamp.now) }
     ensures judged { Judges result (instant_refusal number (micros timestamp.now)) }
@@ -98,7 +103,38 @@ fn instant(number: u64, timestamp: &Stamp) -> Result<i64, ChromeTraceError>
     }
 }
 
-/// The row of a test on a slot, where its number is a u64.
+/// Makes the span of the run.
+fn run_span(alloc: Global) -> Result<Span, AllocError>
+    ensures { IfOk result (λ span. span ≡ run_span) }
+{
+    Ok(Span {
+        key: SpanKey::Run,
+        place: Place::Run,
+        row: Row { pid: 0, tid: 1 },
+        name: Text::from_str(alloc, "test run")?,
+    })
+}
+
+/// Makes the span of an attempt of a test, on its slot and its row.
+fn test_span(
+    alloc: Global,
+    group_by: ChromeTraceGroupBy,
+    test: &OwnedTestInstanceId,
+    slot: u64,
+    row: Row,
+) -> Result<Span, AllocError>
+    requires { row ≡ test_row group_by slot }
+    ensures { IfOk result (λ span. span ≡ test_span group_by test.now slot) }
+{
+    Ok(Span {
+        key: SpanKey::Test(test.try_clone(alloc)?),
+        place: Place::Slot(slot),
+        row,
+        name: test_name(alloc, group_by, test)?,
+    })
+}
+
+/// Returns the row of a test on a slot, where its number is a u64.
 fn test_row(group_by: ChromeTraceGroupBy, slot: u64) -> Option<Row>
     ensures { MatchOption result (nat_lt (test_row group_by slot).tid (2 ^ 64) ≡ false)
         (λ row. (row ≡ test_row group_by slot) × (nat_lt (test_row group_by slot).tid (2 ^ 64) ≡ true)) }
@@ -111,7 +147,7 @@ fn test_row(group_by: ChromeTraceGroupBy, slot: u64) -> Option<Row>
     }
 }
 
-/// The name of the span of a test.
+/// Makes the name of the span of a test.
 fn test_name(
     alloc: Global,
     group_by: ChromeTraceGroupBy,
@@ -128,7 +164,7 @@ fn test_name(
     }
 }
 
-/// The trace event of one end of a slice.
+/// Draws one end of a slice.
 fn one_event(alloc: Global, phase: Phase, span: &Span, at: i64) -> Result<Vec<Value>, AllocError>
     ensures { IfOk result (λ events. map view events.items ≡ mark_value (mark phase at span.now) ∷ []) }
 {
@@ -137,9 +173,9 @@ fn one_event(alloc: Global, phase: Phase, span: &Span, at: i64) -> Result<Vec<Va
     Ok(events)
 }
 
-impl Machine {
-    /// Takes an event without outputs. Its kind is judged before its instant.
-    fn take_core(
+impl SpanTracker {
+    /// Tracks an event without outputs. Its kind is judged before its instant.
+    fn track_core(
         &mut self,
         alloc: Global,
         group_by: ChromeTraceGroupBy,
@@ -148,8 +184,8 @@ impl Machine {
         kind: &CoreEventKind,
     ) -> Result<Vec<Value>, ChromeTraceError>
         requires { number ≡ suc self.old.number }
-        ensures { Takes (event_refusal number self.old.spans (core_happening group_by (micros timestamp.now) kind.now))
-            (core_happening group_by (micros timestamp.now) kind.now) self.old self.new result }
+        ensures { Tracks (event_refusal number self.old.spans (core_trace_input group_by (micros timestamp.now) kind.now))
+            (core_trace_input group_by (micros timestamp.now) kind.now) self.old self.new result }
     {
         match kind {
             CoreEventKind::RunStarted { .. } => {
@@ -165,12 +201,24 @@ impl Machine {
                 let slot = slot_assignment.global_slot;
                 self.start_test(alloc, group_by, number, at, test_instance, slot)
             }
-            _ => Err(ChromeTraceError::KindNotBuilt { event: number }),
+            CoreEventKind::StressSubRunStarted { .. }
+            | CoreEventKind::SetupScriptStarted { .. }
+            | CoreEventKind::SetupScriptSlow { .. }
+            | CoreEventKind::TestSlow { .. }
+            | CoreEventKind::TestRetryStarted { .. }
+            | CoreEventKind::TestSkipped { .. }
+            | CoreEventKind::RunBeginCancel { .. }
+            | CoreEventKind::RunContinued { .. }
+            | CoreEventKind::StressSubRunFinished { .. }
+            | CoreEventKind::RunFinished { .. }
+            | CoreEventKind::RunPaused { .. } => {
+                Err(ChromeTraceError::KindNotBuilt { event: number })
+            }
         }
     }
 
-    /// Takes an event with outputs. Its kind is judged before its instant.
-    fn take_output<S: OutputSpec>(
+    /// Tracks an event with outputs. Its kind is judged before its instant.
+    fn track_output<S: OutputSpec>(
         &mut self,
         alloc: Global,
         number: u64,
@@ -178,8 +226,8 @@ impl Machine {
         kind: &OutputEventKind<S>,
     ) -> Result<Vec<Value>, ChromeTraceError>
         requires { number ≡ suc self.old.number }
-        ensures { Takes (event_refusal number self.old.spans (output_happening (micros timestamp.now) kind.now))
-            (output_happening (micros timestamp.now) kind.now) self.old self.new result }
+        ensures { Tracks (event_refusal number self.old.spans (output_trace_input (micros timestamp.now) kind.now))
+            (output_trace_input (micros timestamp.now) kind.now) self.old self.new result }
     {
         match kind {
             OutputEventKind::TestFinished {
@@ -190,7 +238,10 @@ impl Machine {
                 let at = instant(number, timestamp)?;
                 self.finish_test(alloc, number, at, test_instance, current_stats)
             }
-            _ => Err(ChromeTraceError::KindNotBuilt { event: number }),
+            OutputEventKind::SetupScriptFinished { .. }
+            | OutputEventKind::TestAttemptFailedWillRetry { .. } => {
+                Err(ChromeTraceError::KindNotBuilt { event: number })
+            }
         }
     }
 
@@ -202,7 +253,7 @@ impl Machine {
         at: i64,
     ) -> Result<Vec<Value>, ChromeTraceError>
         requires { number ≡ suc self.old.number }
-        ensures { Takes (change_refusal number self.old.spans (Start run_span) 0)
+        ensures { Tracks (change_refusal number self.old.spans (Start run_span) 0)
             (record { at = at; drawn = true; change = Start run_span; failures = 0 }) self.old self.new result }
     {
         if self.open_spans.run().is_some() {
@@ -211,12 +262,7 @@ impl Machine {
                 span: SpanKey::Run,
             });
         }
-        let span = Span {
-            key: SpanKey::Run,
-            place: Place::Run,
-            row: Row { pid: 0, tid: 1 },
-            name: Text::from_str(alloc, "test run")?,
-        };
+        let span = run_span(alloc)?;
         let events = one_event(alloc, Phase::Begin, &span, at)?;
         self.open_spans.open(span)?;
         self.number = number;
@@ -234,23 +280,18 @@ impl Machine {
         slot: u64,
     ) -> Result<Vec<Value>, ChromeTraceError>
         requires { number ≡ suc self.old.number }
-        ensures { Takes (change_refusal number self.old.spans (Start (test_span group_by test.now slot)) 0)
+        ensures { Tracks (change_refusal number self.old.spans (Start (test_span group_by test.now slot)) 0)
             (record { at = at; drawn = true; change = Start (test_span group_by test.now slot); failures = 0 }) self.old self.new result }
     {
         let row = self.row_of_start(alloc, group_by, number, test, slot)?;
-        let span = Span {
-            key: SpanKey::Test(test.try_clone(alloc)?),
-            place: Place::Slot(slot),
-            row,
-            name: test_name(alloc, group_by, test)?,
-        };
+        let span = test_span(alloc, group_by, test, slot, row)?;
         let events = one_event(alloc, Phase::Begin, &span, at)?;
         self.open_spans.open_test(alloc, test, slot, span)?;
         self.number = number;
         Ok(events)
     }
 
-    /// The row of an attempt of a test that may start on a slot.
+    /// Judges whether an attempt of a test may start on a slot, and returns its row.
     fn row_of_start(
         &self,
         alloc: Global,
@@ -295,7 +336,7 @@ impl Machine {
         current_stats: &RunStats,
     ) -> Result<Vec<Value>, ChromeTraceError>
         requires { number ≡ suc self.old.number }
-        ensures { Takes (change_refusal number self.old.spans (Stop (keys.Test test.now)) (stats.failures current_stats.now))
+        ensures { Tracks (change_refusal number self.old.spans (Stop (keys.Test test.now)) (stats.failures current_stats.now))
             (record { at = at; drawn = true; change = Stop (keys.Test test.now); failures = stats.failures current_stats.now }) self.old self.new result }
     {
         let events = self.end_of_test(alloc, number, at, test, current_stats)?;
@@ -304,7 +345,7 @@ impl Machine {
         Ok(events)
     }
 
-    /// The trace event that ends the span of a test, where an attempt of it is open.
+    /// Draws the end of the span of a test, where an attempt of it is open.
     fn end_of_test(
         &self,
         alloc: Global,
