@@ -1,4 +1,4 @@
--- What a form gives is well-formed: it has what is known of each item that a program holds.
+-- What a form gives is well-formed, whatever value it is given.
 use Rattle.std.specs.Prelude.{Option, IfSome}
 use Rattle.serde_json.specs.Data.{Data}
 

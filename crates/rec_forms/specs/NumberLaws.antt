@@ -51,15 +51,15 @@ i32_writable (negsuc k) h = integer_writable (negsuc k) (grind (arith, ints))
 
 -- ---- what is read is well-formed
 
--- a number below a limit passes the test, and one that passes is below it
-pub below_tells : (n limit : ℕ) → nat_lt n limit ≡ true → n < limit
-below_tells n limit h = grind (arith, nat_tests)
+-- a number that passes the test is below the limit
+pub below_limit : (n limit : ℕ) → nat_lt n limit ≡ true → n < limit
+below_limit n limit h = grind (arith, nat_tests)
 
 below_well_formed : (limit : ℕ) → GivesWellFormed (λ n. n < limit) (natural_below limit)
 below_well_formed limit = record {
   each = λ d.
       and_then_holds (λ n. only (nat_lt n limit) n) (option_and_then as_u64 (as_number d)) (anything (option_and_then as_u64 (as_number d))) (λ n _.
-      only_holds (nat_lt n limit) n (below_tells n limit));
+      only_holds (nat_lt n limit) n (below_limit n limit));
 }
 
 pub u32_well_formed : GivesWellFormed (λ n. n < 2 ^ 32) u32_form
@@ -77,10 +77,10 @@ fits_32 (pos n) h = grind (arith, nat_tests, ints)
 fits_32 (negsuc n) h = grind (arith, nat_tests, ints)
 
 within_well_formed : (P : ℤ → Type 0) (limit : ℕ) → ((z : ℤ) → fits limit z ≡ true → P z) → GivesWellFormed P (integer_within limit)
-within_well_formed P limit tells = record {
+within_well_formed P limit within = record {
   each = λ d.
       and_then_holds (λ z. only (fits limit z) z) (option_and_then as_i64 (as_number d)) (anything (option_and_then as_i64 (as_number d))) (λ z _.
-      only_holds (fits limit z) z (tells z));
+      only_holds (fits limit z) z (within z));
 }
 
 pub i64_well_formed : GivesWellFormed (FitsSigned w64) i64_form
@@ -93,7 +93,7 @@ pub count_well_formed : GivesWellFormed IsCount count_form
 count_well_formed = record {
   each = λ d.
       and_then_holds (λ n. only (nat_lt 0 n) n) (u32_form d) (u32_well_formed.each d) (λ n small.
-      only_holds (nat_lt 0 n) n (λ some. (below_tells 0 n some, small)));
+      only_holds (nat_lt 0 n) n (λ some. (below_limit 0 n some, small)));
 }
 
 pub text_well_formed : GivesWellFormed IsText text_of

@@ -6,7 +6,7 @@ use Rattle.rec_events.specs.Times.{Span, Moment}
 use Rattle.rec_forms.specs.Times.{stamp_value, stamp_form, IsStamp, duration_value, duration_form, IsDuration}
 use Rattle.rec_forms.specs.Numbers.{u32_form, u64_form, i32_form, i64_form}
 use Rattle.rec_forms.specs.Members.{get_member-members_of}
-use Rattle.rec_forms.specs.NumberLaws.{u32_back, u64_back, i32_back, i64_back, i32_writable, below_tells, u32_well_formed, u64_well_formed, i32_well_formed, i64_well_formed}
+use Rattle.rec_forms.specs.NumberLaws.{u32_back, u64_back, i32_back, i64_back, i32_writable, below_limit, u32_well_formed, u64_well_formed, i32_well_formed, i64_well_formed}
 use Rattle.rec_forms.specs.Writable.{IsWritable, struct_writable, natural_writable, integer_writable}
 use Rattle.rec_forms.specs.GivesWellFormed.{GivesWellFormed}
 use Rattle.rec_forms.specs.WellFormedLaws.{object_then, required_then, only_holds}
@@ -39,7 +39,7 @@ stamp_well_formed = record {
       required_then i64_form (codes "secs") ms _ i64_well_formed (λ secs secs_is.
       required_then u32_form (codes "nanos") ms _ u32_well_formed (λ nanos nanos_is.
       required_then i32_form (codes "offset") ms _ i32_well_formed (λ offset offset_is.
-      only_holds (nat_lt nanos 1000000000) _ (λ passed. record { secs = secs_is; nanos = below_tells nanos 1000000000 passed; offset = offset_is })))));
+      only_holds (nat_lt nanos 1000000000) _ (λ passed. record { secs = secs_is; nanos = below_limit nanos 1000000000 passed; offset = offset_is })))));
 }
 
 pub duration_well_formed : GivesWellFormed IsDuration duration_form
@@ -49,5 +49,5 @@ duration_well_formed = record {
       object_then d _ (λ ms.
       required_then u64_form (codes "secs") ms _ u64_well_formed (λ secs secs_is.
       required_then u32_form (codes "nanos") ms _ u32_well_formed (λ nanos nanos_is.
-      only_holds (nat_lt nanos 1000000000) _ (λ passed. record { secs = secs_is; nanos = below_tells nanos 1000000000 passed }))));
+      only_holds (nat_lt nanos 1000000000) _ (λ passed. record { secs = secs_is; nanos = below_limit nanos 1000000000 passed }))));
 }

@@ -10,7 +10,7 @@ use Rattle.rec_forms.specs.Shape.{◌>>=◌, only, if_there, at_member, required
 
 -- ---- one step after another
 
--- of what is not known nothing is said
+-- of any item nothing is said
 pub anything : {T : Type 0} (o : Option T) → Holds (λ _. Unit {0}) o
 anything None = record { is = tt }
 anything (Some x) = record { is = tt }

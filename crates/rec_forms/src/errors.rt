@@ -1,16 +1,16 @@
-//! Why a value is not read.
+//! The error of a value or a text that is not read.
 ghost use Rattle.rec_forms.specs.declared.errors.FromValueError.TheVariants.{OutOfMemory};
 
 use std::alloc::{AllocError, AllocFailed};
 use thiserror::Error;
 
-/// Why no item is read from a JSON value or a text.
+/// Says why no item is read from a JSON value or a text.
 #[derive(Clone, Copy, PartialEq, Eq, Debug, Drop, Error)]
 pub enum FromValueError {
-    /// The value stands for no item of the type.
-    #[error("the value has not the form of the type")]
+    /// Says that the value stands for no item of the type, or that the text is no JSON value.
+    #[error("the value stands for no item of the type")]
     NotAValue,
-    /// There was not enough memory to say.
+    /// Says that memory ran out before the value was judged.
     #[error("out of memory")]
     OutOfMemory,
 }

@@ -1,4 +1,4 @@
-//! The members of an object, one at a time.
+//! The members of an object, written and read one at a time.
 ghost use Rattle.std.specs.Prelude.{◌≡◌, OnOk, Some, option_map, IfSome, IfOk};
 ghost use Rattle.serde_json.specs.Find.{get_member};
 ghost use Rattle.serde_json.specs.View.{view, members_view};
@@ -9,10 +9,14 @@ use crate::{Form, FromValueError};
 use serde_json::{Map, Value};
 use std::alloc::{AllocError, Global};
 
-/// The members of a JSON object.
+/// Holds the members of a JSON object.
 pub type Object = Map<String, Value>;
 
-/// Writes a field.
+/// Writes a field: puts the value of `item` at `key`.
+///
+/// # Errors
+///
+/// `AllocError` if memory runs out; then `object` may lack the field.
 pub fn put_field<T: Form>(
     alloc: Global,
     object: &mut Object,
@@ -27,7 +31,11 @@ pub fn put_field<T: Form>(
     serde_json::put(object, alloc, key, value)
 }
 
-/// Writes a field that is left out where there is none.
+/// Writes a field that is left out where there is no item.
+///
+/// # Errors
+///
+/// `AllocError` if memory runs out; then `object` may lack the field.
 pub fn put_optional<T: Form>(
     alloc: Global,
     object: &mut Object,
@@ -45,6 +53,11 @@ pub fn put_optional<T: Form>(
 }
 
 /// Reads a field that has to be there.
+///
+/// # Errors
+///
+/// - `NotAValue` if no member has this key, or its value stands for no item.
+/// - `OutOfMemory` if memory runs out.
 pub fn required_field<T: Form>(
     alloc: Global,
     object: &Object,
@@ -59,6 +72,11 @@ pub fn required_field<T: Form>(
 }
 
 /// Reads a field that may be missing or `null`.
+///
+/// # Errors
+///
+/// - `NotAValue` if there is a value other than `null`, and it stands for no item.
+/// - `OutOfMemory` if memory runs out.
 pub fn optional_field<T: Form>(
     alloc: Global,
     object: &Object,
@@ -73,14 +91,19 @@ pub fn optional_field<T: Form>(
     }
 }
 
-/// The value at a key.
+/// Returns the value at a key. It only forwards to `Map::get`, so that a clause can name the members.
 pub fn member<'v>(object: &'v Object, key: &str) -> Option<&'v Value>
     ensures { option_map (λ v. view v.now) result ≡ get_member key.now (members_view object.now.entries) }
 {
     object.get(key)
 }
 
-/// Reads a field that is `missing` where its member is missing.
+/// Reads a field that is `missing` where its member is missing. A member that is `null` is not missing.
+///
+/// # Errors
+///
+/// - `NotAValue` if there is a value, and it stands for no item.
+/// - `OutOfMemory` if memory runs out.
 pub fn defaulted_field<T: Form + Drop>(
     alloc: Global,
     object: &Object,
@@ -95,7 +118,7 @@ pub fn defaulted_field<T: Form + Drop>(
     }
 }
 
-/// The member of an object that has exactly one.
+/// Returns the member of an object that has exactly one.
 pub fn only_member(object: &Object) -> Option<(&str, &Value)>
     ensures { option_map (λ m. (m.0.now, view m.1.now)) result ≡ only_of (members_view object.now.entries) }
 {
@@ -106,7 +129,11 @@ pub fn only_member(object: &Object) -> Option<(&str, &Value)>
     Some((key.as_str(), value))
 }
 
-/// The object with `content` at `tag`, as a variant with fields is written.
+/// Makes the object with `content` at `tag`, as a variant with fields is written.
+///
+/// # Errors
+///
+/// `AllocError` if memory runs out.
 pub fn tagged(alloc: Global, tag: &str, content: Value) -> Result<Value, AllocError>
     ensures { IfOk result (λ v. view v ≡ with_tag tag.now (view content)) }
 {

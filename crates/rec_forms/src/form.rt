@@ -10,9 +10,10 @@ use crate::FromValueError;
 use serde_json::Value;
 use std::alloc::{AllocError, Global};
 
-/// A type whose items are written as JSON values, and read from them.
+/// Writes the items of a type as JSON values, and reads them back.
 pub trait Form: Sized {
-    // What holds of each item that a program has: its numbers are in range, its texts are UTF-8.
+    // What holds of an item that can be written and read back: its numbers are in range, its texts are
+    // UTF-8.
     ghost well_formed: { Self → Type 0 };
 
     // The value that an item is written as.
@@ -24,12 +25,21 @@ pub trait Form: Sized {
     // How deep the arrays and objects of a written value nest at most.
     ghost levels: { ℕ };
 
-    /// The value of the item.
+    /// Makes the value of the item.
+    ///
+    /// # Errors
+    ///
+    /// `AllocError` if memory runs out.
     fn to_value(&self, alloc: Global) -> Result<Value, AllocError>
         ensures written { IfOk result (λ v. view v ≡ value_of self.now) }
         ensures known { IfOk result (λ _. well_formed self.now) };
 
-    /// The item for which `value` stands; `NotAValue` exactly where it stands for none.
+    /// Reads the item for which `value` stands.
+    ///
+    /// # Errors
+    ///
+    /// - `NotAValue` exactly where `value` stands for no item.
+    /// - `OutOfMemory` if memory runs out.
     fn from_value(alloc: Global, value: &Value) -> Result<Self, FromValueError>
         ensures read { Gives result (form_of (view value.now)) };
 

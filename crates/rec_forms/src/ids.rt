@@ -101,7 +101,7 @@ impl Form for ScriptId {
     }
 }
 
-// The number that a text is, in any of its forms.
+// Reads the uuid that a text is, in any of its forms.
 fn read_uuid(text: &str) -> Option<Uuid>
     ensures { result ≡ parsed text.now }
 {

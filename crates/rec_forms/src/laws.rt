@@ -15,7 +15,12 @@ pub fn writable_values_read_back()
     ensures utf8 { (n : ℕ) (d : Data) → IsWritable n d → n ≤ max_depth → IsTrue (is_utf8 (compact_text d)) }
 {}
 
-/// States that the text of a well-formed item is read as this item.
+/// States that the text of a well-formed item is UTF-8, and is read as this item.
 pub fn well_formed_items_read_back<T: Form>()
     ensures { T.levels ≤ max_depth → (x : T) → T.well_formed x → bytes_form T.form_of (compact_text (T.value_of x)) ≡ Some x }
+{}
+
+/// States that an item for which a value stands is well-formed, whatever the value.
+pub fn read_items_are_well_formed<T: Form>()
+    ensures { (d : Data) (x : T) → T.form_of d ≡ Some x → T.well_formed x }
 {}

@@ -33,5 +33,7 @@ pub use fields::{
     required_field, tagged,
 };
 pub use form::Form;
-pub use laws::{well_formed_items_read_back, writable_values_read_back};
+pub use laws::{
+    read_items_are_well_formed, well_formed_items_read_back, writable_values_read_back,
+};
 pub use text_form::{parse_value, read_text, write_text};

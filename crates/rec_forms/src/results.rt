@@ -172,7 +172,7 @@ impl Form for FailureDescription {
     }
 }
 
-/// The fields of an abort.
+// Reads the fields of an abort.
 #[tactic(auto, unfolding(crate::specs::Results::abort_form))]
 fn abort_from(alloc: Global, value: &Value) -> Result<FailureDescription, FromValueError>
     ensures { Gives result (abort_form (view value.now)) }
@@ -250,7 +250,7 @@ impl Form for ExecutionResultDescription {
     }
 }
 
-/// The fields of a failure.
+// Reads the fields of a failure.
 #[tactic(auto, unfolding(crate::specs::Results::fail_form))]
 fn fail_from(alloc: Global, value: &Value) -> Result<ExecutionResultDescription, FromValueError>
     ensures { Gives result (fail_form (view value.now)) }

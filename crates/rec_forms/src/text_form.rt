@@ -11,8 +11,13 @@ use crate::{Form, FromValueError};
 use serde_json::Value;
 use std::alloc::{AllocError, Global};
 
-/// Reads an item from its JSON text. `NotAValue` comes exactly where `bytes` are no UTF-8, are not
-/// the text of a JSON value, or are that of a value which stands for no item.
+/// Reads an item from its JSON text.
+///
+/// # Errors
+///
+/// - `NotAValue` exactly where `bytes` are no UTF-8, are not the text of a JSON value, or are that of a
+///   value which stands for no item.
+/// - `OutOfMemory` if memory runs out.
 pub fn read_text<T: Form>(alloc: Global, bytes: &[u8]) -> Result<T, FromValueError>
     ensures read { Gives result (bytes_form T.form_of bytes.now) }
     ensures known { IfOk result T.well_formed }
@@ -21,7 +26,7 @@ pub fn read_text<T: Form>(alloc: Global, bytes: &[u8]) -> Result<T, FromValueErr
     T::from_value(alloc, &value)
 }
 
-// The value that bytes are.
+// Reads the value that bytes are.
 fn read_value(alloc: Global, bytes: &[u8]) -> Result<Value, FromValueError>
     ensures { GivesBy view result (value_in bytes.now) }
 {
@@ -31,7 +36,12 @@ fn read_value(alloc: Global, bytes: &[u8]) -> Result<Value, FromValueError>
     }
 }
 
-/// The value of a JSON text. `NotAValue` comes exactly where `text` is none.
+/// Reads the value of a JSON text.
+///
+/// # Errors
+///
+/// - `NotAValue` exactly where `text` is not the text of a JSON value.
+/// - `OutOfMemory` if memory runs out.
 pub fn parse_value(alloc: Global, text: &str) -> Result<Value, FromValueError>
     ensures { GivesBy view result (read text.now) }
 {
@@ -47,7 +57,11 @@ pub fn parse_value(alloc: Global, text: &str) -> Result<Value, FromValueError>
     }
 }
 
-/// The compact JSON text of an item.
+/// Writes the compact JSON text of an item.
+///
+/// # Errors
+///
+/// `AllocError` if memory runs out.
 pub fn write_text<T: Form>(alloc: Global, item: &T) -> Result<Vec<u8>, AllocError>
     ensures text { IfOk result (λ b. b.items ≡ compact_text (T.value_of item.now)) }
     ensures utf8 { IfOk result (λ b. IsTrue (is_utf8 b.items)) }
