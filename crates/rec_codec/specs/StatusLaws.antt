@@ -14,7 +14,7 @@ use Rattle.rec_forms.specs.InstanceLaws.{retry_data_back, retry_data_writable, r
 use Rattle.rec_forms.specs.Lists.{list_value, list_form, some_form}
 use Rattle.rec_forms.specs.ListLaws.{list_back, maybe_back}
 use Rattle.rec_forms.specs.Members.{get_member-members_of}
-use Rattle.rec_forms.specs.NumberLaws.{text_back, below_tells, text_well_formed}
+use Rattle.rec_forms.specs.NumberLaws.{text_back, below_limit, text_well_formed}
 use Rattle.rec_forms.specs.Results.{execution_result_value, execution_result_form, IsExecutionResult, flaky_result_form}
 use Rattle.rec_forms.specs.ResultLaws.{flaky_result_back, flaky_result_writable, execution_result_back, execution_result_writable, execution_result_well_formed}
 use Rattle.rec_forms.specs.Shape.{text_of, only}
@@ -131,7 +131,7 @@ some_well_formed : {T : Type 0} {P : T → Type 0} (form : Data → Option T) �
 some_well_formed form h = record {
   each = λ d.
       and_then_holds (λ xs. only (nat_lt 0 (length xs)) xs) (list_form form d) ((list_well_formed form h).each d) (λ xs all.
-      only_holds (nat_lt 0 (length xs)) xs (λ passed. (all, below_tells 0 (length xs) passed)));
+      only_holds (nat_lt 0 (length xs)) xs (λ passed. (all, below_limit 0 (length xs) passed)));
 }
 
 module _ {S O : Type 0} (P : O → Type 0) (output_form : Data → Option O) (gives : GivesWellFormed P output_form) where
