@@ -1,5 +1,6 @@
 pub mod Adding
 pub mod Clashing
+mod Counts
 mod EventMapLaws
 mod Growing
 mod Held

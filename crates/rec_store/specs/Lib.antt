@@ -7,6 +7,7 @@ pub mod EventOutputs
 pub mod Kept
 pub mod Logging
 pub mod Namer
+pub mod NamerLaws
 pub mod OutputPaths
 pub mod Reading
 pub mod Recording

@@ -60,9 +60,9 @@ is_metadata path = list_any (λ p. bytes_eq path p) metadata_paths
 -- the other entries, where they are those that the events name
 abbrev pub outputs_of : List RecordedEvent → List Entry → Option (List Entry)
 outputs_of events es =
-    let named = flat_map event_paths events in
+    let paths = flat_map event_paths events in
     let others = filter (λ e. not (is_metadata e.name)) es in
-    only (list_all (λ p. is_some (content_of es p)) named && list_all (λ e. list_any (λ p. bytes_eq e.name p) named) others) others
+    only (list_all (λ p. is_some (content_of es p)) paths && list_all (λ e. list_any (λ p. bytes_eq e.name p) paths) others) others
 
 -- what manifest, log and store are read as
 abbrev pub record_of : List ℕ → List ℕ → List Entry → Option RunRecord

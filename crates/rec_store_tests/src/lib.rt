@@ -10,4 +10,6 @@ mod helpers;
 #[cfg(test)]
 mod metadata;
 #[cfg(test)]
+mod sizes;
+#[cfg(test)]
 mod texts;
