@@ -1,10 +1,11 @@
 -- The entries of a writer's map, and the lengths of their spelling.
-use Rattle.std.proofs.Common.{◌≡◌, ℕ, ◌+◌, ◌^◌, ◌<◌, List, [], ◌∷◌, ◌++◌, length, refl, sym, ap, subst, ◌∙◌, arith, Bool, true, false, cond, Option, Some, None, if◌then◌else◌, nat_lt, Vec, String, string_bytes, nat_eq}
+use Rattle.std.proofs.Common.{◌≡◌, ℕ, ◌+◌, ◌^◌, ◌<◌, List, [], ◌∷◌, ◌++◌, length, map, slice_get, refl, sym, ap, subst, ◌∙◌, arith, Bool, true, false, cond, Option, Some, None, if◌then◌else◌, nat_lt, Vec, String, string_bytes, nat_eq}
 use Rattle.std.specs.Option.{option_map}
 use Rattle.std.proofs.lemmas.Slice.Eq.{bytes_eq-Decides}
 use Rattle.std.specs.Map.{lookup}
 use Rattle.std.specs.Str.{bytes_eq, IsUtf8}
 use Rattle.std.proofs.lemmas.List.{map-append}
+use Rattle.std.proofs.lemmas.Option.{slice_get-map}
 use Rattle.std.specs.declared.alloc.Global.{Global}
 use Rattle.rec_container.specs.Container.{Entry, spell, content_of, IsEntry}
 use Rattle.rec_container.specs.Writing.{HasSizes, IsSound, entry_of, entries_of, named, refusal, has_name_length}
@@ -105,3 +106,9 @@ IsSound-push es fs name content compressed uncompressed size h some short text a
     let is : IsEntry (named name content) = record { name = record { some = some; short = omega (arith, short); text = text }; content = omega (arith, longer, e, small) } in
     subst (λ (l : List Entry). IsSound l size (uncompressed + length content)) (sym same)
     (record { entries = AreFrom-push [] es (named name content) h.entries is absent; sizes = HasSizes-push es name content compressed uncompressed size h.sizes e })
+
+-- what an entry of the map has, at an index
+pub entry_at : {T : Type 0} (show : Entry → T) (es : List Entry) (ps : List (String Global × Vec ℕ Global)) (i : ℕ) (p : String Global × Vec ℕ Global) → es ≡ entries_of ps → slice_get ps i ≡ Some p
+    → slice_get (map show es) i ≡ Some (show (entry_of p))
+entry_at show es ps i p is at =
+    ap (λ l. slice_get (map show l) i) is ∙ slice_get-map show (entries_of ps) i ∙ ap (option_map show) (slice_get-map entry_of ps i ∙ ap (option_map entry_of) at)

@@ -1,4 +1,5 @@
 pub mod Contents
+pub mod ContentsLeft
 pub mod Entries
 pub mod FileMaps
 pub mod Prefixes

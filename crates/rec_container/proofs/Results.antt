@@ -1,5 +1,5 @@
 -- What the parts of a step gave, where the step gave Ok.
-use Rattle.std.proofs.Common.{◌≡◌, Bool, true, false, cond, Result, Ok, Err, OnErr, OnOk, refl, subst}
+use Rattle.std.proofs.Common.{◌≡◌, Bool, true, false, cond, Result, Ok, Err, OnErr, OnOk, IfErr, IsErrAnd, refl, sym, subst}
 use Rattle.rec_container.specs.Reading.{◌>>=◌}
 
 -- a step that goes on with another
@@ -33,3 +33,18 @@ ok_fact {P = P} r x e h = subst (λ r. OnOk r P) e h
 pub on_ok_both : {T E P Q R : Type 0} (r : Result T E) → (P → Q → R) → OnOk r P → OnOk r Q → OnOk r R
 on_ok_both (Ok x) f p q = f p q
 on_ok_both (Err e) f p q = tt
+
+-- what follows from a fact at Ok
+pub ok_then : {T E P Q : Type 0} (r : Result T E) → (P → Q) → OnOk r P → OnOk r Q
+ok_then (Ok x) f p = f p
+ok_then (Err e) f p = tt
+
+-- what follows from a fact at an error
+pub err_then : {T E P Q : Type 0} (r : Result T E) → (P → Q) → OnErr r P → OnErr r Q
+err_then (Ok x) f p = tt
+err_then (Err e) f p = f p
+
+-- what holds of the error that it is
+pub err_is : {T E : Type 0} (r : Result T E) (x : E) (P : E → Type 0) → IsErrAnd r (λ e. e ≡ x) → P x → IfErr r P
+err_is (Ok y) x P h p = tt
+err_is (Err e) x P h p = subst P (sym h) p

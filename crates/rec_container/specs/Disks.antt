@@ -52,7 +52,7 @@ abbrev pub Refuses : Option (List ℕ) → DiskError → Type 0
 Refuses None e = Unit {0}
 Refuses (Some bytes) e = NotMissing e
 
--- ---- what the calls do where the files are told
+-- ---- what the calls do where the files are known
 
 abbrev pub ExistsIn : Files → List ℕ → Result Bool DiskError → Type 0
 ExistsIn fs path (Ok b) = IsTrue b ↔ IsThere fs path
@@ -89,11 +89,11 @@ RenamesFile fs gs from to file (Err e) = Refuses file e × AreSame fs gs
 
 -- ---- the same of any disk, which may tell no files
 
--- files that are told before and after, or never
-abbrev pub Told : Option Files → Option Files → (Files → Files → Type 0) → Type 0
-Told None new P = new ≡ None
-Told (Some fs) None P = ⊥
-Told (Some fs) (Some gs) P = P fs gs
+-- files that are known before and after, or never
+abbrev pub BothKnown : Option Files → Option Files → (Files → Files → Type 0) → Type 0
+BothKnown None new P = new ≡ None
+BothKnown (Some fs) None P = ⊥
+BothKnown (Some fs) (Some gs) P = P fs gs
 
 abbrev pub Exists : Option Files → List ℕ → Result Bool DiskError → Type 0
 Exists None path r = IfErr r NotMissing
@@ -108,10 +108,10 @@ ReadsAt None path at r buf = Unit {0}
 ReadsAt (Some fs) path at r buf = ReadsBytes (fs path) at r buf
 
 abbrev pub Creates : Option Files → Option Files → List ℕ → Result (Unit {0}) DiskError → Type 0
-Creates old new path r = Told old new (λ fs gs. CreatesIn fs gs path r)
+Creates old new path r = BothKnown old new (λ fs gs. CreatesIn fs gs path r)
 
 abbrev pub AppendsTo : Option Files → Option Files → List ℕ → List ℕ → Result ℕ DiskError → Type 0
-AppendsTo old new path piece r = Told old new (λ fs gs. AppendsBytes fs gs path (fs path) piece r)
+AppendsTo old new path piece r = BothKnown old new (λ fs gs. AppendsBytes fs gs path (fs path) piece r)
 
 abbrev pub Renames : Option Files → Option Files → List ℕ → List ℕ → Result (Unit {0}) DiskError → Type 0
-Renames old new from to r = Told old new (λ fs gs. RenamesFile fs gs from to (fs from) r)
+Renames old new from to r = BothKnown old new (λ fs gs. RenamesFile fs gs from to (fs from) r)

@@ -1,5 +1,6 @@
 pub mod Causes
 pub mod Container
+pub mod NamedContents
 pub mod Disks
 pub mod Memory
 pub mod MemoryDisks

@@ -55,9 +55,9 @@ FailsAt fail_at call (Err DiskFailed) = Contains fail_at call
 FailsAt fail_at call (Err Missing) = Contains fail_at call → ⊥
 FailsAt fail_at call (Err OutOfMemory) = Contains fail_at call → ⊥
 
--- a call took the next number, and failed exactly where that number is told to
+-- a call took the next number, and failed exactly where that number is listed
 pub record IsCall {T : Type 0} (old new : MemoryDiskState) (result : Result T DiskError) : Type 0 where
   pub numbered : new.calls ≡ next_count old.calls
-  pub told : new.fail_at ≡ old.fail_at
+  pub fail_at : new.fail_at ≡ old.fail_at
   pub failed : FailsAt old.fail_at new.calls result
   pub counted : CountsFailure old.faults new.faults result

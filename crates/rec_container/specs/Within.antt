@@ -6,11 +6,12 @@ use Rattle.rec_container.specs.declared.within.ReadError.{ReadError}
 use Rattle.rec_container.specs.declared.within.ReadError.TheVariants.{SourceFault, TooLarge, OutOfMemory}
 
 module _ {S : Type 0} (left : S → Option (List ℕ)) (faults : S → ℕ) where
-  -- the source was read to its end, and gave these bytes, within the limit
+  -- the source was read to its end without a fault, and gave these bytes, within the limit
   pub record Gave (limit : ℕ) (old new : S) (bytes : List ℕ) : Type 0 where
     pub gave : Consumes (left old) (left new) bytes
     pub ended : IsAtEnd (left new)
     pub within : length bytes ≤ limit
+    pub faultless : faults new ≡ faults old
 
   -- the source gave so many bytes
   abbrev pub GaveCount : S → S → ℕ → Type 0
@@ -20,8 +21,13 @@ module _ {S : Type 0} (left : S → Option (List ℕ)) (faults : S → ℕ) wher
   abbrev pub Failed : ℕ → S → S → Type 0
   Failed limit old new = Rose (faults old) (faults new) × ((count : ℕ) × (count ≤ limit) × GaveCount old new count)
 
-  -- why the bytes weren't read: the source failed within the limit, or gave one byte more than it
+  -- without a fault the source gave at most so many bytes
+  abbrev pub GaveAtMost : S → S → ℕ → Type 0
+  GaveAtMost old new most = (faults new ≡ faults old) × ((count : ℕ) × (count ≤ most) × GaveCount old new count)
+
+  -- why the bytes weren't read: the source failed within the limit; it gave one byte more than the limit, without a fault; or memory ran
+  -- out, after at most that
   abbrev pub Unread : ℕ → S → S → ReadError → Type 0
   Unread limit old new SourceFault = Failed limit old new
-  Unread limit old new (TooLarge most) = (most ≡ limit) × GaveCount old new (limit + 1)
-  Unread limit old new OutOfMemory = Unit {0}
+  Unread limit old new (TooLarge most) = (most ≡ limit) × (faults new ≡ faults old) × GaveCount old new (limit + 1)
+  Unread limit old new OutOfMemory = GaveAtMost old new (limit + 1)

@@ -1,6 +1,6 @@
-//! Real readers, writers and files. They tell no bytes, since no contract can know what such a thing
-//! holds. Each error counts as a fault, and so does a write that takes nothing of a piece.
-ghost use Rattle.std.specs.Prelude.{◌≡◌, ◌≤◌, ◌<◌, length, take, IfOk, IfSome, None};
+//! Real readers, writers and files. Their bytes are unknown, since no contract can say what such a
+//! thing holds. Each error counts as a fault, and so does a write that takes nothing of a piece.
+ghost use Rattle.std.specs.Prelude.{◌≡◌, ◌≤◌, ◌<◌, length, take, IfOk, IfSome, OnOk, None};
 ghost use Rattle.std.specs.Io.{ReadsAtMost};
 ghost use Rattle.std.specs.Io.KnownBytes.{Appends, ReadConsumes, WriteAppends};
 ghost use Rattle.rec_container.specs.Causes.{Counts, HasCause};
@@ -18,7 +18,7 @@ pub struct StdSource<R> {
 }
 
 impl<R: Read> StdSource<R> {
-    /// A source over the reader, without faults so far.
+    /// Makes a source over the reader, without faults so far.
     pub fn new(reader: R) -> StdSource<R>
         ensures { ⟦<StdSource<R> as Source>⟧.faults result ≡ 0 }
     {
@@ -35,6 +35,7 @@ impl<R: Read> Source for StdSource<R> {
         ensures bound { ReadsAtMost result buf.new }
         ensures bytes { ReadConsumes None None result buf.new }
         ensures cause { HasCause self.old.faults self.new.faults result }
+        ensures faultless { OnOk result (self.new.faults ≡ self.old.faults) }
 
         // It gives what the reader gives, where that is known.
         ensures given { ReadConsumes (R.remaining self.old.reader) (R.remaining self.new.reader) result buf.new }
@@ -59,7 +60,7 @@ pub struct StdSink<W> {
 }
 
 impl<W: Write> StdSink<W> {
-    /// A sink over the writer, without faults so far.
+    /// Makes a sink over the writer, without faults so far.
     pub fn new(writer: W) -> StdSink<W>
         ensures { ⟦<StdSink<W> as Sink>⟧.faults result ≡ 0 }
     {
@@ -67,7 +68,7 @@ impl<W: Write> StdSink<W> {
     }
 }
 
-/// How many bytes a writer took: at least one, of a piece that isn't empty.
+/// Returns how many bytes a writer took: at least one, of a piece that isn't empty.
 pub(crate) fn write_flushed<W: Write>(writer: &mut W, piece: &[u8]) -> Option<usize>
     ensures bound { IfSome result (λ n. n ≤ length piece.now) }
     ensures progress { IfSome result (λ n. 0 < length piece.now → 0 < n) }
@@ -120,7 +121,7 @@ pub struct FileSink<'r, R: Files> {
 }
 
 impl<'r, R: Files> FileSink<'r, R> {
-    /// A sink into the file at `path`, which isn't touched yet, without faults so far.
+    /// Makes a sink into the file at `path`, which isn't touched yet, without faults so far.
     pub fn new(rt: &'r R, path: String) -> FileSink<'r, R>
         ensures { ⟦<FileSink<'r, R> as Sink>⟧.faults result ≡ 0 }
     {
@@ -132,7 +133,7 @@ impl<'r, R: Files> FileSink<'r, R> {
         }
     }
 
-    /// How many bytes the file took, once it is there.
+    /// Returns how many bytes the file took, once it is there.
     fn write_some(&mut self, piece: &[u8]) -> Option<usize>
         ensures bound { IfSome result (λ n. n ≤ length piece.now) }
         ensures progress { IfSome result (λ n. 0 < length piece.now → 0 < n) }

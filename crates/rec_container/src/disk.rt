@@ -43,19 +43,19 @@ impl<T: Drop> From<AllocFailed<T>> for DiskError {
 /// An implementation counts its faults, and answers `DiskFailed` only where that count rises. A
 /// call changes no file that it doesn't name, and none where it answers an error.
 pub trait Disk {
-    /// The files, where the disk tells them.
+    /// The files, where they are known.
     ghost files: { Self → Option Files };
 
     /// How often it has failed. The count stays at u64's greatest once it is there.
     ghost faults: { Self → ℕ };
 
-    /// Tells whether the path is a file's, or a file lies below it.
+    /// Returns whether the path is a file's, or a file lies below it.
     fn exists(&mut self, path: &str) -> Result<bool, DiskError>
         ensures answer { Exists (files self.old) path.now result }
         ensures same { files self.new ≡ files self.old }
         ensures cause { HasDiskCause (faults self.old) (faults self.new) result };
 
-    /// Answers how many bytes a file has. `Missing` means that there is no such file.
+    /// Returns how many bytes a file has. `Missing` means that there is no such file.
     fn len(&mut self, path: &str) -> Result<u64, DiskError>
         ensures answer { IsLength (files self.old) path.now result }
         ensures same { files self.new ≡ files self.old }
@@ -77,8 +77,8 @@ pub trait Disk {
         ensures present { IfErr result NotMissing }
         ensures cause { HasDiskCause (faults self.old) (faults self.new) result };
 
-    /// Puts the first bytes of `piece` after a file's, and answers how many: at least one, unless it
-    /// is empty. `Missing` means that there is no such file.
+    /// Puts the first bytes of `piece` after a file's, and answers how many: at least one, unless
+    /// it is empty. `Missing` means that there is no such file.
     fn append(&mut self, path: &str, piece: &[u8]) -> Result<usize, DiskError>
         ensures bound { IfOk result (λ n. n ≤ length piece.now) }
         ensures progress { IfOk result (λ n. 0 < length piece.now → 0 < n) }

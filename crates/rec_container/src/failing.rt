@@ -1,4 +1,4 @@
-//! A source and a sink in memory that fail at the calls that they are told.
+//! A source and a sink in memory that fail at the calls that they are given.
 //!
 //! Calls of `read` or `write` are numbered from 1. The number stays at u64's greatest once it is
 //! there.
@@ -32,7 +32,7 @@ impl<'a> Model for FailingSource<'a> {
 }
 
 impl<'a> FailingSource<'a> {
-    /// A source of these bytes that was not read yet.
+    /// Makes a source of these bytes that was not read yet.
     pub fn new(bytes: &'a [u8], piece: usize, fail_at: &'a [u64]) -> FailingSource<'a>
         ensures rest { result.rest ≡ bytes.now }
         ensures faults { result.faults ≡ 0 }
@@ -49,7 +49,7 @@ impl<'a> FailingSource<'a> {
         }
     }
 
-    /// How many reads have failed.
+    /// Returns how many reads have failed.
     pub fn faults(&self) -> u64
         ensures { result ≡ self.now.faults }
     {
@@ -66,11 +66,12 @@ impl Source for FailingSource<'_> {
         ensures bound { ReadsAtMost result buf.new }
         ensures bytes { ReadConsumes (Some self.old.rest) (Some self.new.rest) result buf.new }
         ensures cause { HasCause self.old.faults self.new.faults result }
+        ensures faultless { OnOk result (self.new.faults ≡ self.old.faults) }
 
         // The call's number, what it gives, and when it fails.
         ensures numbered { self.new.calls ≡ next_count self.old.calls }
         ensures whole { IfOk result (λ n. n ≡ piece_len (min (length buf.old) (length self.old.rest)) self.old.piece) }
-        ensures told { OnOk result (Contains self.old.fail_at self.new.calls → ⊥) }
+        ensures unlisted { OnOk result (Contains self.old.fail_at self.new.calls → ⊥) }
         ensures failed { OnErr result (Contains self.old.fail_at self.new.calls) }
         ensures counted { Counts self.old.faults self.new.faults result }
         ensures rules { (self.new.piece ≡ self.old.piece) × (self.new.fail_at ≡ self.old.fail_at) }
@@ -109,7 +110,7 @@ impl Model for FailingSink {
 }
 
 impl FailingSink {
-    /// A sink without bytes, faults or spare room that was not written to yet.
+    /// Makes a sink without bytes, faults or spare room that was not written to yet.
     pub fn new(alloc: Global, piece: usize, fail_at: Vec<u64>) -> FailingSink
         ensures bytes { result.bytes ≡ [] }
         ensures faults { result.faults ≡ 0 }
@@ -135,14 +136,14 @@ impl FailingSink {
         self.bytes.reserve(room)
     }
 
-    /// The bytes taken so far.
+    /// Returns the bytes taken so far.
     pub fn bytes(&self) -> &[u8]
         ensures { result.now ≡ self.now.bytes }
     {
         &self.bytes
     }
 
-    /// How many writes have failed.
+    /// Returns how many writes have failed.
     pub fn faults(&self) -> u64
         ensures { result ≡ self.now.faults }
     {
@@ -150,7 +151,7 @@ impl FailingSink {
     }
 }
 
-/// How much a call takes of so many bytes, where 0 is no bound.
+/// Returns how much a call takes of so many bytes, where 0 is no bound.
 fn bounded(len: usize, piece: usize) -> usize
     ensures { result ≡ piece_len len piece }
 {
@@ -171,7 +172,7 @@ impl Sink for FailingSink {
         // The call's number, what it takes, and when it fails.
         ensures numbered { self.new.calls ≡ next_count self.old.calls }
         ensures whole { IfOk result (λ n. n ≡ piece_len (length piece.now) self.old.piece) }
-        ensures told { OnOk result (Contains self.old.fail_at self.new.calls → ⊥) }
+        ensures unlisted { OnOk result (Contains self.old.fail_at self.new.calls → ⊥) }
         ensures within { OnOk result (piece_len (length piece.now) self.old.piece ≤ self.old.room) }
         ensures failed { OnErr result (Contains self.old.fail_at self.new.calls ⊎ (self.old.room < piece_len (length piece.now) self.old.piece)) }
         ensures counted { Counts self.old.faults self.new.faults result }

@@ -37,7 +37,7 @@ impl FileMap {
         }
     }
 
-    /// Answers the bytes of a file, or none where there is no such file.
+    /// Returns the bytes of a file, or none where there is no such file.
     pub(crate) fn get(&self, path: &str) -> Option<&[u8]>
         ensures { option_map (λ b. b.now) result ≡ file_at self.now path.now }
     {
@@ -98,7 +98,7 @@ impl FileMap {
         Ok(())
     }
 
-    /// Tells whether a file lies at a path or below it.
+    /// Returns whether a file lies at a path or below it.
     pub(crate) fn has_any(&self, path: &str) -> bool
         ensures { result ≡ list_any (λ f. lies_at path.now f.0) self.now }
     {
@@ -111,7 +111,7 @@ impl FileMap {
     }
 }
 
-/// Tells whether the file of this name lies at a path or below it.
+/// Returns whether the file of this name lies at a path or below it.
 fn is_at_or_below(name: &str, path: &str) -> bool
     ensures { result ≡ lies_at path.now name.now }
 {

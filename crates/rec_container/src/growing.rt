@@ -35,14 +35,14 @@ impl GrowingSink {
         }
     }
 
-    /// Answers the bytes taken so far.
+    /// Returns the bytes taken so far.
     pub fn bytes(&self) -> &[u8]
         ensures { result.now ≡ self.now.bytes }
     {
         &self.bytes
     }
 
-    /// Answers how many writes have failed.
+    /// Returns how many writes have failed.
     pub fn faults(&self) -> u64
         ensures { result ≡ self.now.faults }
     {

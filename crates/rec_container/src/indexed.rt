@@ -58,14 +58,14 @@ impl<'a> IndexedEntries<'a> {
         Ok(())
     }
 
-    /// Tells how many entries there are.
+    /// Returns how many entries there are.
     pub(crate) fn len(&self) -> usize
         ensures { result ≡ length self.now }
     {
         self.entries.len()
     }
 
-    /// Answers the entry at a place in their order.
+    /// Returns the entry at a place in their order.
     pub(crate) fn entry(&self, i: usize) -> &PlacedEntry<'a>
         requires { i < length self.now }
         ensures { slice_get self.now i ≡ Some result.now }
@@ -73,14 +73,14 @@ impl<'a> IndexedEntries<'a> {
         &self.entries[i]
     }
 
-    /// Tells whether an entry has this name.
+    /// Returns whether an entry has this name.
     pub(crate) fn contains(&self, name: &str) -> bool
         ensures { result ≡ is_some (content_of (placed_entries self.now) name.now) }
     {
         self.index.contains_key(name)
     }
 
-    /// Answers the content of the entry of a name.
+    /// Returns the content of the entry of a name.
     pub(crate) fn get(&self, name: &str) -> Option<&'a [u8]>
         ensures { option_map (λ c. c.now) result ≡ content_of (placed_entries self.now) name.now }
     {

@@ -21,7 +21,7 @@ impl<'a> Model for SliceSource<'a> {
 }
 
 impl<'a> SliceSource<'a> {
-    /// A source of these bytes.
+    /// Makes a source of these bytes.
     pub fn new(bytes: &'a [u8]) -> SliceSource<'a>
         ensures { result ≡ bytes.now }
     {
@@ -38,6 +38,7 @@ impl Source for SliceSource<'_> {
         ensures bound { ReadsAtMost result buf.new }
         ensures bytes { ReadConsumes (Some self.old) (Some self.new) result buf.new }
         ensures cause { HasCause 0 0 result }
+        ensures faultless { OnOk result (◌≡◌ {A = ℕ} 0 0) }
 
         // It gives what there is room for.
         ensures whole { result ≡ Ok (min (length buf.old) (length self.old)) }
@@ -63,7 +64,7 @@ impl Model for EndlessSource {
 }
 
 impl EndlessSource {
-    /// A source of this byte, again and again.
+    /// Makes a source of this byte, again and again.
     pub fn new(byte: u8) -> EndlessSource
         ensures { result ≡ byte }
     {
@@ -81,6 +82,7 @@ impl Source for EndlessSource {
         ensures bound { ReadsAtMost result buf.new }
         ensures bytes { ReadConsumes None None result buf.new }
         ensures cause { HasCause 0 0 result }
+        ensures faultless { OnOk result (◌≡◌ {A = ℕ} 0 0) }
 
         // It fills the buffer, and goes on as before.
         ensures whole { result ≡ Ok (length buf.old) }
@@ -110,7 +112,7 @@ impl Model for MemorySink {
 }
 
 impl MemorySink {
-    /// A sink without bytes, faults or spare room.
+    /// Makes a sink without bytes, faults or spare room.
     pub fn new(alloc: Global) -> MemorySink
         ensures bytes { result.bytes ≡ [] }
         ensures faults { result.faults ≡ 0 }
@@ -130,14 +132,14 @@ impl MemorySink {
         self.bytes.reserve(room)
     }
 
-    /// The bytes taken so far.
+    /// Returns the bytes taken so far.
     pub fn bytes(&self) -> &[u8]
         ensures { result.now ≡ self.now.bytes }
     {
         &self.bytes
     }
 
-    /// How many writes have failed.
+    /// Returns how many writes have failed.
     pub fn faults(&self) -> u64
         ensures { result ≡ self.now.faults }
     {

@@ -1,4 +1,4 @@
-//! A disk in memory that fails at the calls that it is told.
+//! A disk in memory that fails at the calls that it is given.
 //!
 //! Calls of [`Disk`] are numbered from 1. The number stays at u64's greatest once it is there.
 ghost use Rattle.std.specs.Prelude.{◌≡◌, ◌<◌, ◌≤◌, [], length, IfOk, IfErr, Ok, OnOk, OnErr, Some};
@@ -56,14 +56,14 @@ impl MemoryDisk {
         self.files.put(path, bytes)
     }
 
-    /// Answers the bytes of a file, or none where no file stands at the path.
+    /// Returns the bytes of a file, or none where no file stands at the path.
     pub fn get(&self, path: &str) -> Option<&[u8]>
         ensures { option_map (λ b. b.now) result ≡ file_at self.now.files path.now }
     {
         self.files.get(path)
     }
 
-    /// Counts a call, and fails where its number is told to.
+    /// Counts a call, and fails where its number is listed.
     fn begin(&mut self) -> Result<(), DiskError>
         ensures call { IsCall self.old self.new result }
         ensures files { self.new.files ≡ self.old.files }

@@ -44,28 +44,28 @@ impl<'a> Container<'a> {
         read(alloc, bytes)
     }
 
-    /// How many entries there are.
+    /// Returns how many entries there are.
     pub fn len(&self) -> usize
         ensures { result ≡ length self.now }
     {
         self.entries.len()
     }
 
-    /// Whether there is no entry.
+    /// Returns whether there is no entry.
     pub fn is_empty(&self) -> bool
         ensures { IsTrue result ↔ (self.now ≡ []) }
     {
         self.entries.len() == 0
     }
 
-    /// The content under a name.
+    /// Returns the content under a name.
     pub fn get(&self, name: &str) -> Option<&'a [u8]>
         ensures { option_map (λ c. c.now) result ≡ content_of self.now name.now }
     {
         self.entries.get(name)
     }
 
-    /// The name of an entry.
+    /// Returns the name of an entry.
     pub fn name(&self, i: usize) -> &'a str
         requires { i < length self.now }
         ensures { slice_get (map (λ e. e.name) self.now) i ≡ Some result.now }
@@ -73,7 +73,7 @@ impl<'a> Container<'a> {
         self.entries.entry(i).name
     }
 
-    /// Where the content of an entry begins in the bytes that were parsed.
+    /// Returns where the content of an entry begins in the bytes that were parsed.
     pub fn place(&self, i: usize) -> usize
         requires { i < length self.now }
         ensures place { result ≡ place_from 8 self.now i }
@@ -84,7 +84,7 @@ impl<'a> Container<'a> {
         self.entries.entry(i).place
     }
 
-    /// The content of an entry.
+    /// Returns the content of an entry.
     pub fn bytes(&self, i: usize) -> &'a [u8]
         requires { i < length self.now }
         ensures { slice_get (map (λ e. e.content) self.now) i ≡ Some result.now }

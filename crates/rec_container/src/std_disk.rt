@@ -1,4 +1,4 @@
-//! The files of the machine as a disk. It tells no files, since no contract can know what they hold.
+//! The files of the machine as a disk. Contracts cannot say what they hold.
 ghost use Rattle.std.specs.Prelude.{◌≡◌, ◌<◌, ◌≤◌, length, IfOk, IfErr, IfSome, Ok, None, Some};
 ghost use Rattle.std.specs.Io.{ReadsAtMost};
 ghost use Rattle.rec_container.specs.Disks.{CountsFailure, HasDiskCause, NotMissing};
@@ -12,8 +12,8 @@ use std::{fs, io};
 
 /// The files of a runtime as a disk.
 ///
-/// A directory is no file. Each error of the runtime is a fault, but for one that says that there is
-/// no such file, and so is a write that takes nothing of a piece.
+/// A directory is no file. Each error of the runtime is a fault, but for one that says that there
+/// is no such file, and so is a write that takes nothing of a piece.
 #[derive(Drop)]
 pub struct StdDisk<'r, R: Files> {
     rt: &'r R,
@@ -28,7 +28,7 @@ impl<'r, R: Files> StdDisk<'r, R> {
         StdDisk { rt, faults: 0 }
     }
 
-    /// Answers what was found, and counts an error.
+    /// Returns what was found, and counts an error.
     fn answer<T>(&mut self, found: io::Result<Option<T>>) -> Result<T, DiskError>
         ensures given { IfOk result (λ x. found ≡ Ok (Some x)) }
         ensures cause { HasDiskCause self.old.faults self.new.faults result }
@@ -44,7 +44,7 @@ impl<'r, R: Files> StdDisk<'r, R> {
         }
     }
 
-    /// Answers what was done, and counts an error.
+    /// Returns what was done, and counts an error.
     fn done<T>(&mut self, done: io::Result<T>) -> Result<T, DiskError>
         ensures present { IfErr result NotMissing }
         ensures cause { HasDiskCause self.old.faults self.new.faults result }
@@ -119,7 +119,7 @@ impl<R: Files> Disk for StdDisk<'_, R> {
     }
 }
 
-/// Answers none where the error says that there is no such file.
+/// Returns none where the error says that there is no such file.
 fn none_or<T>(error: io::Error) -> io::Result<Option<T>>
     ensures { IfOk result (λ o. o ≡ None) }
 {
@@ -133,7 +133,7 @@ fn none_or<T>(error: io::Error) -> io::Result<Option<T>>
     Err(error)
 }
 
-/// Tells whether a file or a directory stands at a path.
+/// Returns whether a file or a directory stands at a path.
 fn stands<R: Files>(rt: &R, path: &str) -> io::Result<bool> {
     match fs::metadata(rt, path) {
         Ok(_) => Ok(true),
@@ -144,7 +144,7 @@ fn stands<R: Files>(rt: &R, path: &str) -> io::Result<bool> {
     }
 }
 
-/// Answers the length of a file, or none where there is no such file.
+/// Returns the length of a file, or none where there is no such file.
 fn file_len<R: Files>(rt: &R, path: &str) -> io::Result<Option<u64>> {
     match fs::metadata(rt, path) {
         Ok(metadata) if metadata.is_dir() => Ok(None),

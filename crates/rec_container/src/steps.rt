@@ -9,7 +9,7 @@ ghost use Rattle.rec_container.specs.Placed.{placed_entry, placed_entries};
 use crate::errors::ContainerError;
 use crate::indexed::{IndexedEntries, PlacedEntry};
 
-/// A number of two bytes, and what follows.
+/// Returns a number of two bytes, and what follows.
 fn read_u16(bytes: &[u8], at: usize) -> Result<(u16, &[u8]), ContainerError>
     ensures number { Gives (λ x. (x.0, x.1.now)) result (number_at w16 at bytes.now) }
     ensures length { IfOk result (λ x. length x.1.now + 2 ≡ length bytes.now) }
@@ -22,7 +22,7 @@ fn read_u16(bytes: &[u8], at: usize) -> Result<(u16, &[u8]), ContainerError>
     Ok((number, rest))
 }
 
-/// A number of eight bytes, and what follows.
+/// Returns a number of eight bytes, and what follows.
 fn read_u64(bytes: &[u8], at: usize) -> Result<(u64, &[u8]), ContainerError>
     ensures number { Gives (λ x. (x.0, x.1.now)) result (number_at w64 at bytes.now) }
     ensures length { IfOk result (λ x. length x.1.now + 8 ≡ length bytes.now) }
@@ -37,7 +37,7 @@ fn read_u64(bytes: &[u8], at: usize) -> Result<(u64, &[u8]), ContainerError>
     Ok((number, rest))
 }
 
-/// The bytes as text, where they are UTF-8.
+/// Returns the bytes as text, where they are UTF-8.
 fn text_of(bytes: &[u8]) -> Option<&str>
     ensures { MatchOption result (is_utf8 bytes.now ≡ false) (λ text. (is_utf8 bytes.now ≡ true) × (text.now ≡ bytes.now)) }
 {
@@ -47,7 +47,7 @@ fn text_of(bytes: &[u8]) -> Option<&str>
     }
 }
 
-/// A name after its length, and what follows.
+/// Returns a name after its length, and what follows.
 #[tactic(auto, unfolding(crate::specs::Reading::name_at))]
 fn read_name(bytes: &[u8], at: usize) -> Result<(&str, &[u8]), ContainerError>
     requires { at + length bytes.now < 2 ^ 64 }
@@ -69,7 +69,7 @@ fn read_name(bytes: &[u8], at: usize) -> Result<(&str, &[u8]), ContainerError>
     }
 }
 
-/// A content after its length, and what follows.
+/// Returns a content after its length, and what follows.
 #[tactic(auto, unfolding(crate::specs::Reading::content_at))]
 fn read_content(bytes: &[u8], at: usize) -> Result<(&[u8], &[u8]), ContainerError>
     requires { at + length bytes.now < 2 ^ 64 }
@@ -84,7 +84,7 @@ fn read_content(bytes: &[u8], at: usize) -> Result<(&[u8], &[u8]), ContainerErro
     Ok(rest.split_at(len))
 }
 
-/// An entry after its tag, and what follows, after the entries seen.
+/// Returns an entry after its tag, and what follows, after the entries seen.
 #[tactic(auto, unfolding(crate::specs::Reading::entry_at))]
 fn read_entry<'a>(
     bytes: &'a [u8],
@@ -109,7 +109,7 @@ fn read_entry<'a>(
     Ok((held, rest))
 }
 
-/// An entry and what follows, or none at the end mark, after the entries seen.
+/// Returns an entry and what follows, or none at the end mark, after the entries seen.
 #[tactic(auto, unfolding(crate::specs::Reading::step_at))]
 pub(crate) fn read_step<'a>(
     bytes: &'a [u8],

@@ -1,7 +1,7 @@
 //! Where bytes come from and where they go.
 //!
 //! An implementation counts its faults, and answers an error only where that count rises. So a
-//! caller that is told of a fault can show that there was one.
+//! caller that gets a fault can show that there was one.
 ghost use Rattle.std.specs.Prelude.{◌≡◌, ◌<◌, ◌≤◌, List, ℕ, length, IfOk, OnOk, OnErr};
 ghost use Rattle.std.specs.Io.{ReadsAtMost};
 ghost use Rattle.std.specs.Io.KnownBytes.{Appends, ReadConsumes, WriteAppends};
@@ -23,7 +23,7 @@ pub struct SinkFailed;
 
 /// Where bytes come from.
 pub trait Source {
-    /// The bytes that are left, where the source tells them.
+    /// The bytes that are left, where they are known.
     ghost left: { Self → Option (List ℕ) };
 
     /// How often it has failed. The count stays at u64's greatest once it is there.
@@ -31,16 +31,18 @@ pub trait Source {
 
     /// Moves the first bytes that are left to the start of `buf`, and answers how many.
     ///
-    /// With room in `buf`, 0 means that nothing is left. A read that fails takes nothing.
+    /// With room in `buf`, 0 means that nothing is left. A read that fails takes nothing, and one
+    /// that doesn't fail counts no fault.
     fn read(&mut self, buf: &mut [u8]) -> Result<usize, SourceFailed>
         ensures bound { ReadsAtMost result buf.new }
         ensures bytes { ReadConsumes (left self.old) (left self.new) result buf.new }
-        ensures cause { HasCause (faults self.old) (faults self.new) result };
+        ensures cause { HasCause (faults self.old) (faults self.new) result }
+        ensures faultless { OnOk result (faults self.new ≡ faults self.old) };
 }
 
 /// Where bytes go.
 pub trait Sink {
-    /// The bytes taken so far, where the sink tells them.
+    /// The bytes taken so far, where they are known.
     ghost taken: { Self → Option (List ℕ) };
 
     /// How often it has failed. The count stays at u64's greatest once it is there.
@@ -69,7 +71,7 @@ pub fn write_all<K: Sink>(sink: &mut K, bytes: &[u8]) -> Result<(), SinkFailed>
     Ok(())
 }
 
-/// As [`write_all`], for a sink whose type isn't known.
+/// Writes as [`write_all`] does, for a sink whose type isn't known.
 pub fn write_all_dyn(sink: &mut dyn Sink, bytes: &[u8]) -> Result<(), SinkFailed>
     ensures ok { OnOk result (Appends (taken sink.old) (taken sink.new) bytes.now) }
     ensures fault { OnErr result (TookPart (taken sink.old) (taken sink.new) bytes.now) }

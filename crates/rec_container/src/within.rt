@@ -38,8 +38,11 @@ impl From<AllocError> for ReadError {
 
 /// Reads the source to its end, within a limit. It asks for at most `limit + 1` bytes.
 ///
-/// `SourceFault` means that a read failed before more bytes than the limit had come, and `TooLarge`
-/// that one byte more than the limit came.
+/// # Errors
+///
+/// `SourceFault` means that a read failed before more bytes than the limit had come. `TooLarge`
+/// means that one byte more than the limit came, and no read failed. `OutOfMemory` means that there
+/// was no memory for the bytes; at most one byte more than the limit came, and no read failed.
 pub fn read_within<S: Source>(
     alloc: Global,
     limit: u64,

@@ -1,5 +1,5 @@
 //! The writer of containers.
-ghost use Rattle.std.specs.Prelude.{List, ℕ, ◌≡◌, ◌<◌, [], ◌∷◌, ◌++◌, if◌then◌else◌, false, true, IfSome, IfOk, IfErr, OnOk, OnErr, None, Some, length, ◌+◌, ◌^◌, ◌≤◌};
+ghost use Rattle.std.specs.Prelude.{List, ℕ, ◌≡◌, ◌↔◌, IsTrue, map, slice_get, ◌<◌, [], ◌∷◌, ◌++◌, if◌then◌else◌, false, true, IfSome, IfOk, IfErr, OnOk, OnErr, None, Some, length, ◌+◌, ◌^◌, ◌≤◌};
 ghost use Rattle.std.specs.Option.{SomeIff};
 ghost use Rattle.std.specs.Io.KnownBytes.{Appends};
 ghost use Rattle.std.specs.declared.option.Option.{Option};
@@ -46,7 +46,7 @@ impl<K: Sink> Model for ContainerWriter<K> {
     ghost invariant = { λ w. IsSound (entries_of w.entries.entries) w.compressed w.uncompressed };
 }
 
-/// What goes before an entry's content. The magic goes before the first entry.
+/// Returns what goes before an entry's content. The magic goes before the first entry.
 #[tactic(auto, unfolding(crate::specs::Container::magic, crate::specs::Container::entry_head))]
 fn head(alloc: Global, is_first: bool, name: &str, content: usize) -> Result<Vec<u8>, AllocError>
     requires { length name.now < 65536 }
@@ -64,7 +64,11 @@ fn head(alloc: Global, is_first: bool, name: &str, content: usize) -> Result<Vec
 }
 
 /// Writes one piece after the other.
-fn write_two<K: Sink>(sink: &mut K, first: &[u8], second: &[u8]) -> Result<(), SinkFailed>
+pub(crate) fn write_two<K: Sink>(
+    sink: &mut K,
+    first: &[u8],
+    second: &[u8],
+) -> Result<(), SinkFailed>
     ensures ok { OnOk result (Appends (K.taken sink.old) (K.taken sink.new) (first.now ++ second.now)) }
     ensures fault { OnErr result (TookPart (K.taken sink.old) (K.taken sink.new) (first.now ++ second.now)) }
     ensures cause { HasCause (K.faults sink.old) (K.faults sink.new) result }
@@ -75,7 +79,7 @@ fn write_two<K: Sink>(sink: &mut K, first: &[u8], second: &[u8]) -> Result<(), S
 }
 
 impl<K: Sink> ContainerWriter<K> {
-    /// A writer without entries. Nothing is written yet.
+    /// Makes a writer without entries. Nothing is written yet.
     pub fn new(alloc: Global, sink: K) -> ContainerWriter<K>
         ensures entries { result.entries ≡ [] }
         ensures sink { result.sink ≡ sink }
@@ -91,11 +95,41 @@ impl<K: Sink> ContainerWriter<K> {
         }
     }
 
-    /// Whether the sink has failed.
+    /// Returns whether the sink has failed.
     pub fn is_failed(&self) -> bool
         ensures { result ≡ self.now.failed }
     {
         self.failed
+    }
+
+    /// Returns how many entries there are.
+    pub fn len(&self) -> usize
+        ensures { result ≡ length self.now.entries }
+    {
+        self.entries.len()
+    }
+
+    /// Returns whether there is no entry.
+    pub fn is_empty(&self) -> bool
+        ensures { IsTrue result ↔ (self.now.entries ≡ []) }
+    {
+        self.entries.len() == 0
+    }
+
+    /// Returns the name of an entry.
+    pub fn name(&self, i: usize) -> &str
+        requires { i < length self.now.entries }
+        ensures { slice_get (map (λ e. e.name) self.now.entries) i ≡ Some result.now }
+    {
+        self.entries.get_index(i).unwrap().0.as_str()
+    }
+
+    /// Returns the content of an entry.
+    pub fn bytes(&self, i: usize) -> &[u8]
+        requires { i < length self.now.entries }
+        ensures { slice_get (map (λ e. e.content) self.now.entries) i ≡ Some result.now }
+    {
+        self.entries.get_index(i).unwrap().1.as_slice()
     }
 
     /// Adds an entry. A name that is there with equal bytes changes nothing.
@@ -203,7 +237,7 @@ impl<K: Sink> ContainerWriter<K> {
     }
 }
 
-/// The end mark, after the magic where there is no entry.
+/// Returns the end mark, after the magic where there is no entry.
 #[tactic(auto, unfolding(crate::specs::Container::magic))]
 fn end_of(is_empty: bool) -> &'static [u8]
     ensures { result.now ≡ (if is_empty then magic ++ 0 ∷ [] else 0 ∷ []) }
@@ -211,7 +245,7 @@ fn end_of(is_empty: bool) -> &'static [u8]
     if is_empty { b"nxtcont1\0" } else { &[0] }
 }
 
-/// Why an entry is refused, or none where it is there, or the container's length with it.
+/// Returns why an entry is refused, or none where it is there, or the container's length with it.
 fn judge(
     failed: bool,
     entries: &IndexMap<String, Vec<u8>>,
@@ -244,12 +278,12 @@ fn judge(
     }
 }
 
-/// The container's length after one more entry, where it is a u64.
-fn grown(compressed: u64, name: usize, content: usize) -> Option<u64>
-    requires { name < 65536 }
+/// Returns a container's length with one more entry, where it is a u64.
+pub(crate) fn grown(compressed: u64, name: usize, content: usize) -> Option<u64>
     ensures { SomeIff result (compressed + (11 + name + content) < 2 ^ 64) (compressed + (11 + name + content)) }
 {
     compressed
-        .checked_add(11 + name as u64)?
+        .checked_add(11)?
+        .checked_add(name as u64)?
         .checked_add(content as u64)
 }

@@ -80,7 +80,7 @@ fn takes_equal_content_again(rt: HostRuntime) -> Result<(), Fail> {
 }
 
 #[test]
-fn tells_the_first_fault(rt: HostRuntime) -> Result<(), Fail> {
+fn answers_the_first_fault(rt: HostRuntime) -> Result<(), Fail> {
     let cases: [(&[u8], ContainerError); 13] = [
         (b"PK", ContainerError::BadMagic),
         (b"nxtcont2\0", ContainerError::BadMagic),
@@ -175,6 +175,33 @@ fn hands_the_sink_back(rt: HostRuntime) -> Result<(), Fail> {
     let mut writer = ContainerWriter::new(rt.alloc(), sink);
     assert_eq!(rt; writer.add("a", b"hi"), Ok(()));
     assert_eq!(rt; writer.into_sink().bytes(), &ONE[..22]);
+    Ok(())
+}
+
+#[test]
+fn writes_contents_at_hand(rt: HostRuntime) -> Result<(), Fail> {
+    let contents = [NamedContent {
+        name: "a",
+        content: b"hi",
+    }];
+    assert_eq!(rt; container_length(&contents), Some(23));
+    assert_eq!(rt; container_length(&[]), Some(9));
+    // The magic, the tag and the name's length, the name, the content's length, the content, and
+    // the end mark.
+    for (call, taken) in [(1, 0), (2, 8), (3, 11), (4, 12), (5, 20), (6, 22), (7, 23)] {
+        let mut sink = FailingSink::new(rt.alloc(), 0, vec![in rt.alloc(); call]?);
+        sink.reserve(23)?;
+        let whole = write_container(&mut sink, &contents).is_ok();
+        assert_eq!(rt;
+            (whole, sink.bytes()),
+            (taken == 23, &ONE[..taken]),
+            "{call}"
+        );
+    }
+    let mut writer = ContainerWriter::new(rt.alloc(), GrowingSink::new(rt.alloc()));
+    assert_eq!(rt; writer.add("a", b"hi"), Ok(()));
+    assert_eq!(rt; (writer.len(), writer.is_empty()), (1, false));
+    assert_eq!(rt; (writer.name(0), writer.bytes(0)), ("a", b"hi".as_slice()));
     Ok(())
 }
 

@@ -50,7 +50,7 @@ fn fails_at_its_calls(rt: HostRuntime) -> Result<(), Fail> {
 }
 
 #[test]
-fn tells_what_is_missing(rt: HostRuntime) -> Result<(), Fail> {
+fn misses_what_is_not_there(rt: HostRuntime) -> Result<(), Fail> {
     let mut disk = StdDisk::new(&rt);
     let path = "no/such/file";
     assert_eq!(rt; disk.exists(path), Ok(false));
@@ -59,5 +59,22 @@ fn tells_what_is_missing(rt: HostRuntime) -> Result<(), Fail> {
     assert_eq!(rt; disk.append(path, b"x"), Err(DiskError::Missing));
     assert_eq!(rt; disk.rename(path, "other"), Err(DiskError::Missing));
     assert_eq!(rt; disk.create(path), Err(DiskError::DiskFailed));
+    Ok(())
+}
+
+#[test]
+fn keeps_real_files(rt: HostRuntime) -> Result<(), Fail> {
+    let mut disk = StdDisk::new(&rt);
+    let (log, old) = ("/tmp/rezovamy-disk-log", "/tmp/rezovamy-disk-old");
+    assert_eq!(rt; disk.create(log), Ok(()));
+    assert_eq!(rt; disk.append(log, b"one two"), Ok(7));
+    assert_eq!(rt; disk.rename(log, old), Ok(()));
+    assert_eq!(rt; (disk.exists(log), disk.len(old)), (Ok(false), Ok(7)));
+    let mut buf = [0; 4];
+    assert_eq!(rt; disk.read(old, 4, &mut buf), Ok(3));
+    assert_eq!(rt; buf, *b"two\0");
+    // No call takes a file away, so what is left is emptied.
+    assert_eq!(rt; disk.create(old), Ok(()));
+    assert_eq!(rt; disk.len(old), Ok(0));
     Ok(())
 }

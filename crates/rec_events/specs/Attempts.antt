@@ -1,4 +1,4 @@
--- How the attempts of a test are told.
+-- How the attempts of a test are described.
 use Rattle.std.specs.Prelude.{◌≡◌, ◌<◌, ◌++◌, List, [], ◌∷◌, length, true, false}
 use Rattle.rec_events.specs.Results.{succeeded}
 use Rattle.rec_events.specs.declared.statuses.ExecuteStatus.{ExecuteStatus}

@@ -22,7 +22,7 @@ impl Model for NonZeroCount {
 }
 
 impl NonZeroCount {
-    /// This count; `None` where it is zero.
+    /// Makes a count of this number; `None` where it is zero.
     pub fn new(value: u32) -> Option<NonZeroCount>
         ensures some { IsSome result ↔ (0 < value) }
         ensures value { IfSome result (λ n. n ≡ value) }
@@ -34,7 +34,7 @@ impl NonZeroCount {
         }
     }
 
-    /// The number.
+    /// Returns the number.
     pub fn get(&self) -> u32
         ensures value { result ≡ self.now }
         ensures positive { 0 < result }

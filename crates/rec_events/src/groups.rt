@@ -30,7 +30,7 @@ impl Model for GroupName {
 }
 
 impl GroupName {
-    /// The name.
+    /// Returns the name.
     pub fn as_str(&self) -> &str
         ensures value { result.now ≡ self.now }
         ensures utf8 { IsTrue (is_utf8 self.now) }
@@ -56,7 +56,7 @@ pub enum TestGroup {
 }
 
 impl TestGroup {
-    /// The group of this name; `None` exactly for `@global`.
+    /// Makes the group of this name; `None` exactly for `@global`.
     pub fn custom(name: String) -> Option<TestGroup>
         ensures some { IsSome result ↔ (string_bytes name ≢ codes "@global") }
         ensures value { IfSome result (λ group. group ≡ Custom (string_bytes name)) }
@@ -69,7 +69,7 @@ impl TestGroup {
         }))
     }
 
-    /// The group as it is written.
+    /// Returns the group as it is written.
     pub fn text(&self) -> &str
         ensures { result.now ≡ group_text self.now }
     {

@@ -23,7 +23,7 @@ impl Model for RustBinaryId {
 }
 
 impl RustBinaryId {
-    /// The binary of this name.
+    /// Makes the binary of this name.
     pub fn new(text: String) -> RustBinaryId
         ensures { result ≡ string_bytes text }
     {
@@ -32,7 +32,7 @@ impl RustBinaryId {
         }
     }
 
-    /// The name.
+    /// Returns the name.
     pub fn as_str(&self) -> &str
         ensures value { result.now ≡ self.now }
         ensures utf8 { IsTrue (is_utf8 self.now) }
@@ -40,7 +40,7 @@ impl RustBinaryId {
         self.text.as_str()
     }
 
-    /// The string that holds the name.
+    /// Returns the string that holds the name.
     pub fn into_string(self) -> String
         ensures { string_bytes result ≡ self }
     {
@@ -71,7 +71,7 @@ impl Model for TestCaseName {
 }
 
 impl TestCaseName {
-    /// The test of this name.
+    /// Makes the test of this name.
     pub fn new(text: String) -> TestCaseName
         ensures { result ≡ string_bytes text }
     {
@@ -80,7 +80,7 @@ impl TestCaseName {
         }
     }
 
-    /// The name.
+    /// Returns the name.
     pub fn as_str(&self) -> &str
         ensures value { result.now ≡ self.now }
         ensures utf8 { IsTrue (is_utf8 self.now) }
@@ -88,7 +88,7 @@ impl TestCaseName {
         self.text.as_str()
     }
 
-    /// The string that holds the name.
+    /// Returns the string that holds the name.
     pub fn into_string(self) -> String
         ensures { string_bytes result ≡ self }
     {
@@ -119,7 +119,7 @@ impl Model for ScriptId {
 }
 
 impl ScriptId {
-    /// The script of this name.
+    /// Makes the script of this name.
     pub fn new(text: String) -> ScriptId
         ensures { result ≡ string_bytes text }
     {
@@ -128,7 +128,7 @@ impl ScriptId {
         }
     }
 
-    /// The name.
+    /// Returns the name.
     pub fn as_str(&self) -> &str
         ensures value { result.now ≡ self.now }
         ensures utf8 { IsTrue (is_utf8 self.now) }
@@ -136,7 +136,7 @@ impl ScriptId {
         self.text.as_str()
     }
 
-    /// The string that holds the name.
+    /// Returns the string that holds the name.
     pub fn into_string(self) -> String
         ensures { string_bytes result ≡ self }
     {
@@ -167,14 +167,14 @@ impl Model for ReportUuid {
 }
 
 impl ReportUuid {
-    /// The run of this number.
+    /// Makes the run of this number.
     pub fn new(uuid: Uuid) -> ReportUuid
         ensures { result ≡ uuid }
     {
         ReportUuid { uuid }
     }
 
-    /// The number itself.
+    /// Returns the number itself.
     pub fn uuid(&self) -> Uuid
         ensures { result ≡ self.now }
     {

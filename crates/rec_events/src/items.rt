@@ -21,14 +21,14 @@ impl<T> Model for Items<T> {
 }
 
 impl<T> Items<T> {
-    /// The items of a vector.
+    /// Makes a list of the items of a vector.
     pub fn new(inner: Vec<T>) -> Items<T>
         ensures { result ≡ inner.items }
     {
         Items { inner }
     }
 
-    /// No items.
+    /// Makes an empty list: no items.
     pub fn empty(alloc: Global) -> Items<T>
         ensures { result ≡ [] }
     {
@@ -37,14 +37,14 @@ impl<T> Items<T> {
         }
     }
 
-    /// The vector that holds the items.
+    /// Returns the vector that holds the items.
     pub fn into_vec(self) -> Vec<T>
         ensures { result.items ≡ self }
     {
         self.inner
     }
 
-    /// The items themselves.
+    /// Returns the items themselves.
     pub fn as_slice(&self) -> &[T]
         ensures { result.now ≡ self.now }
     {

@@ -46,7 +46,8 @@ fn summarize(
     Ok(None)
 }
 
-/// Gives what happened without outputs, as it is to be recorded; `None` where it has outputs or only informs.
+/// Gives what happened without outputs, as it is to be recorded; `None` where it has outputs or
+/// only informs.
 fn summarize_core(
     alloc: Global,
     kind: &TestEventKind<'_>,

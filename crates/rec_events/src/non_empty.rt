@@ -25,7 +25,7 @@ impl<T> Model for NonEmpty<T> {
 }
 
 impl<T> NonEmpty<T> {
-    /// The items of a vector that has some.
+    /// Makes a list of the items of a vector that has some.
     pub fn new(inner: Vec<T>) -> NonEmpty<T>
         requires not_empty { 0 < length inner.items }
         ensures { result ≡ inner.items }
@@ -33,7 +33,7 @@ impl<T> NonEmpty<T> {
         NonEmpty { inner }
     }
 
-    /// These items; `None` where there are none.
+    /// Makes a list of these items; `None` where there are none.
     pub fn from_items(items: Items<T>) -> Option<NonEmpty<T>>
     where
         T: Drop,
@@ -47,14 +47,14 @@ impl<T> NonEmpty<T> {
         }
     }
 
-    /// The vector that holds the items.
+    /// Returns the vector that holds the items.
     pub fn into_vec(self) -> Vec<T>
         ensures { result.items ≡ self }
     {
         self.inner
     }
 
-    /// The items themselves.
+    /// Returns the items themselves.
     pub fn as_slice(&self) -> &[T]
         ensures value { result.now ≡ self.now }
         ensures not_empty { 0 < length self.now }
@@ -62,7 +62,7 @@ impl<T> NonEmpty<T> {
         self.inner.as_slice()
     }
 
-    /// The first item, and those after it.
+    /// Returns the first item, and those after it.
     pub fn split_first(&self) -> (&T, &[T])
         ensures { self.now ≡ result.0.now ∷ result.1.now }
     {
@@ -70,7 +70,7 @@ impl<T> NonEmpty<T> {
         (&all[0], &all[1..])
     }
 
-    /// The last item, and those before it.
+    /// Returns the last item, and those before it.
     pub fn split_last(&self) -> (&T, &[T])
         ensures { self.now ≡ result.1.now ++ (result.0.now ∷ []) }
     {

@@ -23,14 +23,14 @@ impl Model for ChildSingleOutput {
 }
 
 impl ChildSingleOutput {
-    /// The output of these bytes.
+    /// Makes the output of these bytes.
     pub fn new(bytes: Vec<u8>) -> ChildSingleOutput
         ensures { result ≡ bytes.items }
     {
         ChildSingleOutput { bytes }
     }
 
-    /// The bytes.
+    /// Returns the bytes.
     pub fn as_bytes(&self) -> &[u8]
         ensures value { result.now ≡ self.now }
         ensures octets { (i : ℕ) → slice_index self.now i < 256 }
@@ -39,7 +39,7 @@ impl ChildSingleOutput {
     }
 }
 
-/// The same bytes, of which it is known that each is below 256.
+/// Returns the same bytes, of which it is known that each is below 256.
 fn known_octets(bytes: &[u8]) -> &[u8]
     ensures same { result.now ≡ bytes.now }
     ensures octets { (i : ℕ) → slice_index bytes.now i < 256 }

@@ -15,7 +15,7 @@ pub enum OutputKind {
 }
 
 impl OutputKind {
-    /// What a file name of this kind ends in.
+    /// Returns what a file name of this kind ends in.
     fn suffix(self) -> &'static str
         ensures { result.now ≡ kind_suffix self }
     {
@@ -26,7 +26,7 @@ impl OutputKind {
         }
     }
 
-    /// The kind of file names that end so.
+    /// Returns the kind of file names that end so.
     fn of_suffix(suffix: &[u8]) -> Option<OutputKind>
         ensures { result ≡ kind_of suffix.now }
     {
@@ -50,14 +50,14 @@ pub struct OutputFileName {
 }
 
 impl OutputFileName {
-    /// The name of the output of this number and kind.
+    /// Makes the name of the output of this number and kind.
     pub fn new(number: u64, kind: OutputKind) -> OutputFileName
         ensures { result ≡ record { number = number; kind = kind } }
     {
         OutputFileName { number, kind }
     }
 
-    /// The name that is written so; `None` exactly where no name is.
+    /// Makes the name that is written so; `None` exactly where no name is.
     pub fn parse(text: &str) -> Option<OutputFileName>
         ensures value { result ≡ file_name_of text.now }
         ensures spelled { IfSome result (λ name. file_name_text name ≡ text.now) }
@@ -66,7 +66,7 @@ impl OutputFileName {
         parse_bytes(text.as_bytes())
     }
 
-    /// The name as it is written.
+    /// Returns the name as it is written.
     pub fn text(&self, alloc: Global) -> Result<String, AllocError>
         ensures value { IfOk result (λ text. string_bytes text ≡ file_name_text self.now) }
         ensures in_range { self.now.number < 2 ^ 64 }
@@ -80,7 +80,7 @@ impl OutputFileName {
 /// How many digits a number has.
 const DIGITS: usize = 16;
 
-/// The name that these bytes are.
+/// Returns the name that these bytes are.
 fn parse_bytes(bytes: &[u8]) -> Option<OutputFileName>
     ensures { result ≡ file_name_of bytes.now }
 {
@@ -93,7 +93,7 @@ fn parse_bytes(bytes: &[u8]) -> Option<OutputFileName>
     Some(OutputFileName { number, kind })
 }
 
-/// The number that these digits are.
+/// Returns the number that these digits are.
 fn parse_number(digits: &[u8]) -> Option<u64>
     ensures { result ≡ number_of digits.now }
 {

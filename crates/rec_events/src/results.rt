@@ -13,8 +13,8 @@ pub enum FlakyResult {
 }
 
 impl FlakyResult {
-    /// Says that a test passed on this attempt and still counts as failed; `None` where it counts as
-    /// passed.
+    /// Says that a test passed on this attempt and still counts as failed; `None` where it counts
+    /// as passed.
     pub fn fail_message(
         &self,
         alloc: Global,
@@ -75,7 +75,7 @@ pub enum ExecutionResultDescription {
 }
 
 impl ExecutionResultDescription {
-    /// Whether it counts as a success: a pass, or a leak or timeout that counts as one.
+    /// Returns whether it counts as a success: a pass, or a leak or timeout that counts as one.
     pub fn is_success(&self) -> bool
         ensures { result ≡ succeeded self.now }
     {

@@ -35,8 +35,8 @@ pub struct StressRunStats {
 }
 
 impl StressRunStats {
-    /// How the stress run ended: it failed where one of its runs did. Else it was cancelled, or had
-    /// no tests, where the last of its runs was or had; else it succeeded.
+    /// Returns how the stress run ended: it failed where one of its runs did. Else it was
+    /// cancelled, or had no tests, where the last of its runs was or had; else it succeeded.
     pub fn summarize_final(&self) -> StressFinalRunStats
         ensures { result ≡ stress_summary self.now }
     {

@@ -13,7 +13,7 @@ pub struct NamedTargets {
 }
 
 impl NamedTargets {
-    /// No targets.
+    /// Makes an empty list: no targets.
     pub fn none(alloc: Global) -> NamedTargets
         ensures { result ≡ no_named_targets }
     {
@@ -42,7 +42,7 @@ pub struct PackageSelection {
 }
 
 impl PackageSelection {
-    /// Nothing said: no package named, none excluded.
+    /// Makes what says nothing: no package named, none excluded.
     pub fn none(alloc: Global) -> PackageSelection
         ensures { result ≡ no_package_selection }
     {
@@ -76,7 +76,7 @@ pub struct TargetSelection {
 }
 
 impl TargetSelection {
-    /// Nothing said: no target named.
+    /// Makes what says nothing: no target named.
     pub fn none(alloc: Global) -> TargetSelection
         ensures { result ≡ no_target_selection }
     {
@@ -113,7 +113,7 @@ pub struct FeatureSelection {
 }
 
 impl FeatureSelection {
-    /// Nothing said: the default features alone.
+    /// Makes what says nothing: the default features alone.
     pub fn none(alloc: Global) -> FeatureSelection
         ensures { result ≡ no_feature_selection }
     {

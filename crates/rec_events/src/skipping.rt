@@ -31,7 +31,7 @@ pub enum ReportSkipPolicy {
 }
 
 impl ReportSkipPolicy {
-    /// Whether a report names a test that is skipped for this reason.
+    /// Returns whether a report names a test that is skipped for this reason.
     pub fn should_report(&self, reason: MismatchReason) -> bool
         ensures { result ≡ reports self.now reason }
     {

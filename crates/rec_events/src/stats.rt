@@ -31,7 +31,7 @@ pub struct RunStats {
 }
 
 impl RunStats {
-    /// The counts of a run in which nothing ran yet.
+    /// Makes the counts of a run in which nothing ran yet.
     pub fn zero() -> RunStats
         ensures { result ≡ no_stats }
     {
@@ -59,8 +59,8 @@ impl RunStats {
         }
     }
 
-    /// How many tests failed, could not be started, or failed for their time. `None` exactly where
-    /// that is no `usize`.
+    /// Returns how many tests failed, could not be started, or failed for their time. `None`
+    /// exactly where that is no `usize`.
     pub fn failed_count(&self) -> Option<usize>
         ensures some { IsSome result ↔ (failures self.now < 2 ^ 64) }
         ensures value { IfSome result (λ n. n ≡ failures self.now) }
@@ -70,9 +70,9 @@ impl RunStats {
             .checked_add(self.failed_timed_out)
     }
 
-    /// How the run ended. A setup script decides before the tests do, and what failed before what is
-    /// missing. A run with a failure counts as cancelled where it was cancelled for a graver reason
-    /// than a failed test.
+    /// Returns how the run ended. A setup script decides before the tests do, and what failed
+    /// before what is missing. A run with a failure counts as cancelled where it was cancelled for
+    /// a graver reason than a failed test.
     pub fn summarize_final(&self) -> FinalRunStats
         ensures { result ≡ summary self.now }
     {

@@ -32,7 +32,7 @@ pub struct ExecutionStatuses<S: OutputSpec> {
     pub flaky_result: FlakyResult,
 }
 
-/// How the attempts of a test are told.
+/// How the attempts of a test are described.
 #[derive(Drop)]
 pub enum ExecutionDescription<'a, S: OutputSpec> {
     /// One attempt, which succeeded.
@@ -54,7 +54,7 @@ pub enum ExecutionDescription<'a, S: OutputSpec> {
 }
 
 impl<S: OutputSpec> ExecutionStatuses<S> {
-    /// These attempts, of which there is at least one.
+    /// Makes the record of these attempts, of which there is at least one.
     pub fn new(statuses: Vec<ExecuteStatus<S>>, flaky_result: FlakyResult) -> ExecutionStatuses<S>
         requires not_empty { 0 < length statuses.items }
         ensures { result ≡ record { statuses = statuses.items; flaky_result = flaky_result } }
@@ -65,14 +65,14 @@ impl<S: OutputSpec> ExecutionStatuses<S> {
         }
     }
 
-    /// How many attempts there were.
+    /// Returns how many attempts there were.
     pub fn len(&self) -> usize
         ensures { result ≡ length self.now.statuses }
     {
         self.statuses.as_slice().len()
     }
 
-    /// The attempt with `i` others before it.
+    /// Returns the attempt with `i` others before it.
     pub fn status(&self, i: usize) -> &ExecuteStatus<S>
         requires within { i < length self.now.statuses }
         ensures { slice_get self.now.statuses i ≡ Some result.now }
@@ -80,7 +80,7 @@ impl<S: OutputSpec> ExecutionStatuses<S> {
         &self.statuses.as_slice()[i]
     }
 
-    /// The last attempt.
+    /// Returns the last attempt.
     pub fn last_status(&self) -> &ExecuteStatus<S>
         ensures { slice_get self.now.statuses (length self.now.statuses - 1) ≡ Some result.now }
     {
@@ -88,14 +88,14 @@ impl<S: OutputSpec> ExecutionStatuses<S> {
         &all[all.len() - 1]
     }
 
-    /// What the test counts as where it is flaky.
+    /// Returns what the test counts as where it is flaky.
     pub fn flaky_result(&self) -> FlakyResult
         ensures { result ≡ self.now.flaky_result }
     {
         self.flaky_result
     }
 
-    /// How the attempts are told.
+    /// Returns how the attempts are described.
     pub fn describe(&self) -> ExecutionDescription<'_, S>
         ensures { Describes self.now result }
     {

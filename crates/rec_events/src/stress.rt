@@ -10,8 +10,8 @@ pub enum StressConditionSummary {
     Duration { duration: Duration },
 }
 
-/// How far a stress run got. `elapsed` is the time since it began, and `completed` the number of its
-/// runs that ended.
+/// How far a stress run got. `elapsed` is the time since it began, and `completed` the number of
+/// its runs that ended.
 #[derive(Clone, Copy, PartialEq, Eq, Drop)]
 pub enum StressProgress {
     /// Of so many runs; without a total it goes on until it is stopped.

@@ -27,7 +27,7 @@ impl<'a> TestList<'a> {
         TestList { mode, summary }
     }
 
-    /// Tells what the run does with its tests.
+    /// Returns what the run does with its tests.
     pub fn mode(&self) -> NextestRunMode
         ensures { result ≡ self.now.mode }
     {

@@ -26,7 +26,7 @@ impl Model for TestNames {
 }
 
 impl TestNames {
-    /// No names.
+    /// Makes an empty list: no names.
     pub fn empty(alloc: Global) -> TestNames
         ensures { result ≡ [] }
     {
@@ -44,7 +44,7 @@ impl TestNames {
         Ok(())
     }
 
-    /// The names as a set of strings.
+    /// Returns the names as a set of strings.
     pub fn as_set(&self) -> &BTreeSet<String>
         ensures names { texts result.now.keys ≡ self.now }
         ensures rise { Rise self.now }

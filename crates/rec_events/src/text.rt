@@ -24,14 +24,14 @@ impl Model for Text {
 }
 
 impl Text {
-    /// The text of a string.
+    /// Makes the text of a string.
     pub fn new(inner: String) -> Text
         ensures { result ≡ string_bytes inner }
     {
         Text { inner }
     }
 
-    /// A copy of `text`.
+    /// Makes a copy of `text`.
     pub fn from_str(alloc: Global, text: &str) -> Result<Text, AllocError>
         ensures value { IfOk result (λ t. t ≡ text.now) }
         ensures utf8 { IfOk result (λ t. IsTrue (is_utf8 t)) }
@@ -43,14 +43,14 @@ impl Text {
         Ok(text)
     }
 
-    /// The string that holds the text.
+    /// Returns the string that holds the text.
     pub fn into_string(self) -> String
         ensures { string_bytes result ≡ self }
     {
         self.inner
     }
 
-    /// The text itself.
+    /// Returns the text itself.
     pub fn as_str(&self) -> &str
         ensures value { result.now ≡ self.now }
         ensures utf8 { IsTrue (is_utf8 self.now) }

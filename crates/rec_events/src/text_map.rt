@@ -28,14 +28,14 @@ impl<V> Model for TextMap<V> {
 }
 
 impl<V> TextMap<V> {
-    /// The pairs of a map.
+    /// Makes a map of the pairs of a map.
     pub fn new(inner: BTreeMap<String, V>) -> TextMap<V>
         ensures { result ≡ pairs inner.entries }
     {
         TextMap { inner }
     }
 
-    /// No pairs.
+    /// Makes an empty list: no pairs.
     pub fn empty(alloc: Global) -> TextMap<V>
         ensures { result ≡ [] }
     {
@@ -55,7 +55,7 @@ impl<V> TextMap<V> {
         Ok(())
     }
 
-    /// The map itself.
+    /// Returns the map itself.
     pub fn as_map(&self) -> &BTreeMap<String, V>
         ensures pairs { pairs result.now.entries ≡ self.now }
         ensures rise { KeysRise self.now }

@@ -26,7 +26,7 @@ impl Model for Duration {
 }
 
 impl Duration {
-    /// The span of these numbers; `None` where `nanos` is a whole second or more.
+    /// Makes the span of these numbers; `None` where `nanos` is a whole second or more.
     pub fn new(secs: u64, nanos: u32) -> Option<Duration>
         ensures some { IsSome result ↔ (nanos < 1000000000) }
         ensures fields { IfSome result (λ d. d ≡ record { secs = secs; nanos = nanos }) }
@@ -38,7 +38,7 @@ impl Duration {
         }
     }
 
-    /// Whether the span is no time at all.
+    /// Returns whether the span is no time at all.
     pub fn is_zero(&self) -> bool
         ensures { result ≡ (self.now.secs == 0 && self.now.nanos == 0) }
     {
@@ -69,7 +69,7 @@ impl Model for Stamp {
 }
 
 impl Stamp {
-    /// The instant of these numbers; `None` where `nanos` is a whole second or more.
+    /// Makes the instant of these numbers; `None` where `nanos` is a whole second or more.
     pub fn new(secs: i64, nanos: u32, offset: i32) -> Option<Stamp>
         ensures some { IsSome result ↔ (nanos < 1000000000) }
         ensures fields { IfSome result (λ s. s ≡ record { secs = secs; nanos = nanos; offset = offset }) }
@@ -85,7 +85,8 @@ impl Stamp {
         }
     }
 
-    /// The whole microseconds since the beginning of 1970; `None` exactly where they are no i64.
+    /// Returns the whole microseconds since the beginning of 1970; `None` exactly where they are no
+    /// i64.
     pub fn microseconds(&self) -> Option<i64>
         ensures some { IsSome result ↔ FitsSigned w64 (micros self.now) }
         ensures value { IfSome result (λ m. m ≡ micros self.now) }

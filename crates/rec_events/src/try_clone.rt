@@ -5,7 +5,7 @@ use std::alloc::{AllocError, Global};
 
 /// A value of which an equal copy can be made, where there is memory.
 pub trait TryClone: Sized {
-    /// A copy that is equal to `self`.
+    /// Returns a copy that is equal to `self`.
     fn try_clone(&self, alloc: Global) -> Result<Self, AllocError>
         ensures copy { IfOk result (λ t. t ≡ self.now) };
 }

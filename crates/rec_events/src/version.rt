@@ -43,7 +43,7 @@ impl Model for Version {
 }
 
 impl Version {
-    /// The version that `text` is. `NotAVersion` comes only where `semver` reads none.
+    /// Makes the version that `text` is. `NotAVersion` comes only where `semver` reads none.
     pub fn parse(alloc: Global, text: &str) -> Result<Version, VersionError>
         ensures ok { IfOk result (λ v. version_parts text.now ≡ Ok v) }
         ensures refused { result ≡ Err NotAVersion → IsErr (version_parts text.now) }
@@ -57,7 +57,7 @@ impl Version {
         }
     }
 
-    /// The text that reads as the version.
+    /// Returns the text that reads as the version.
     pub fn to_text(&self, alloc: Global) -> Result<Text, AllocError>
         ensures value { IfOk result (λ t. t ≡ parts_text self.now) }
         ensures reads { IfOk result (λ t. version_parts t ≡ Ok self.now) }
@@ -68,7 +68,7 @@ impl Version {
         Ok(text)
     }
 
-    /// The version for `semver`, as for a comparison.
+    /// Returns the version for `semver`, as for a comparison.
     pub fn as_semver(&self) -> &semver::Version
         ensures parts { parts_of result.now ≡ self.now }
         ensures known { IsVersion self.now }

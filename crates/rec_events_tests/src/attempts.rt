@@ -44,8 +44,8 @@ fn attempt(
     })
 }
 
-// How attempts of which some pass are told: the kind, the first, the last, and how many others.
-fn told(alloc: Global, passes: &[bool]) -> Result<(&'static str, u32, u32, usize), Fail> {
+// How attempts of which some pass are described: the kind, the first, the last, and how many others.
+fn described(alloc: Global, passes: &[bool]) -> Result<(&'static str, u32, u32, usize), Fail> {
     let mut statuses = Vec::new(alloc);
     let mut number = 0;
     for passes in passes {
@@ -90,7 +90,7 @@ fn told(alloc: Global, passes: &[bool]) -> Result<(&'static str, u32, u32, usize
 }
 
 #[test]
-fn attempts_are_told(rt: HostRuntime) -> Result<(), Fail> {
+fn attempts_are_described(rt: HostRuntime) -> Result<(), Fail> {
     let alloc = rt.alloc();
     for (passes, want) in [
         ([true].as_slice(), ("success", 1, 1, 0)),
@@ -100,7 +100,7 @@ fn attempts_are_told(rt: HostRuntime) -> Result<(), Fail> {
         (&[true, false], ("failure", 1, 2, 1)),
         (&[false, false, false], ("failure", 1, 3, 2)),
     ] {
-        assert!(rt; told(alloc, passes)? == want, "{passes:?}");
+        assert!(rt; described(alloc, passes)? == want, "{passes:?}");
     }
     Ok(())
 }

@@ -162,7 +162,7 @@ fn a_run_keeps_its_stress_condition(rt: HostRuntime) -> Result<(), Fail> {
 }
 
 #[test]
-fn a_flaky_failure_is_told(rt: HostRuntime) -> Result<(), Fail> {
+fn a_flaky_failure_has_a_message(rt: HostRuntime) -> Result<(), Fail> {
     let alloc = rt.alloc();
     assert!(rt; FlakyResult::Pass.fail_message(alloc, 2, 3)?.is_none());
     let message = FlakyResult::Fail.fail_message(alloc, 2, 3)?;
