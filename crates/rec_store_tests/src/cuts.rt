@@ -112,9 +112,15 @@ fn a_larger_output_keeps_both_ends(rt: HostRuntime) -> Result<(), Fail> {
 fn below_its_marker_a_limit_leaves_the_marker(rt: HostRuntime) -> Result<(), Fail> {
     let alloc = rt.alloc();
     let text = repeated(alloc, "x", 50)?;
-    assert_eq!(rt; cut_text(alloc, text.as_str(), 0)?.as_str(), marker_of_fifty());
+    assert_eq!(rt;
+        cut_text(alloc, text.as_str(), 0)?.as_str(),
+        marker_of_fifty()
+    );
     let text = repeated(alloc, "x", 60)?;
-    assert_eq!(rt; cut_text(alloc, text.as_str(), 10)?.as_str(), marker_of_fifty());
+    assert_eq!(rt;
+        cut_text(alloc, text.as_str(), 10)?.as_str(),
+        marker_of_fifty()
+    );
     assert_eq!(rt; cut_text(alloc, "a", 0)?.as_str(), marker_of_one());
     Ok(())
 }
