@@ -4,3 +4,4 @@ pub mod PathPieces
 pub mod VersionNumbers
 pub mod SharedTexts
 pub mod RunIdMaps
+pub mod TextLaws

@@ -261,9 +261,9 @@ value_in : {X : Type 0} (o : Option X) → IsSome o → (x : X) × (o ≡ Some x
 value_in None h = absurd (true≢false (sym h))
 value_in (Some x) h = (x, refl)
 
-take_front : (xs ys : List ℕ) → take (length xs) (xs ++ ys) ≡ xs
-take_front [] ys = refl
-take_front (x ∷ xs) ys = ap (λ more. x ∷ more) (take_front xs ys)
+take_prefix : (xs ys : List ℕ) → take (length xs) (xs ++ ys) ≡ xs
+take_prefix [] ys = refl
+take_prefix (x ∷ xs) ys = ap (λ more. x ∷ more) (take_prefix xs ys)
 
 take_length : (n : ℕ) (xs : List ℕ) → n ≤ length xs → length (take n xs) ≡ n
 take_length zero xs h = refl
@@ -313,7 +313,7 @@ module _ (m : BTreeMap (String Global) (List ℕ)) (id : List ℕ) (text : Strin
             let key = string_bytes at.0 in
             let within : length p ≤ shared key (string_bytes text) = rw at.3 le in
             let start : p ≡ take (length p) key =
-            sym (take_front p r) ∙ ap (take (length p)) is ∙ shared_take (length p) key (string_bytes text) within in
+            sym (take_prefix p r) ∙ ap (take (length p)) is ∙ shared_take (length p) key (string_bytes text) within in
             let begins : p ++ drop (length p) key ≡ id_text e.0 = ap (λ q. q ++ drop (length p) key) start ∙ take-append-drop (length p) key ∙ sym e.1.is in
             let one : e.0 ≡ id = unique e.0 e.1.among (drop (length p) key, begins) in
             at.1 (sym e.1.is ∙ ap id_text one ∙ sym h.is)
@@ -325,9 +325,9 @@ module _ (m : BTreeMap (String Global) (List ℕ)) (id : List ℕ) (text : Strin
 
   pub cut_shortest : (cut : ShortestRunIdPrefix) → string_bytes cut.prefix ≡ take (n + 1) (string_bytes text) → string_bytes cut.rest ≡ drop (n + 1) (string_bytes text)
       → IsShortest (ids_in m.entries) id cut
-  cut_shortest cut front back =
-      let long : length (string_bytes cut.prefix) ≡ n + 1 = ap length front ∙ take_length (n + 1) (string_bytes text) (omega (arith, fits)) in
-      let whole : string_bytes cut.prefix ++ string_bytes cut.rest ≡ string_bytes text = rw (front, back) (take-append-drop (n + 1) (string_bytes text)) in
+  cut_shortest cut prefix_is rest_is =
+      let long : length (string_bytes cut.prefix) ≡ n + 1 = ap length prefix_is ∙ take_length (n + 1) (string_bytes text) (omega (arith, fits)) in
+      let whole : string_bytes cut.prefix ++ string_bytes cut.rest ≡ string_bytes text = rw (prefix_is, rest_is) (take-append-drop (n + 1) (string_bytes text)) in
       record {
         known = known_id;
         whole = whole ∙ h.is;

@@ -1,29 +1,30 @@
 -- A head reads back, and is writable.
-use Rattle.std.specs.Prelude.{◌≡◌, Some, codes}
+use Rattle.std.specs.Prelude.{◌≡◌, ◌++◌, Some, refl, codes}
 use Rattle.std.proofs.Common.{arith}
 use Rattle.serde_json.specs.Data.{string, Members}
 use Rattle.rec_events.specs.Names.{IsText}
 use Rattle.rec_forms.specs.Members.{get_member-members_of}
-use Rattle.rec_forms.specs.IdLaws.{uuid_back, version_back}
+use Rattle.rec_forms.specs.IdLaws.{uuid_back, uuid_writable, version_back}
 use Rattle.rec_forms.specs.Ids.{uuid_value, uuid_form, IsUuid}
 use Rattle.rec_forms.specs.ListLaws.{each_back, maybe_back}
-use Rattle.rec_forms.specs.MapLaws.{map_back, map_writable}
-use Rattle.rec_forms.specs.NumberLaws.{text_back, text_known}
-use Rattle.rec_forms.specs.RecordingLaws.{test_list_back, test_list_writable, record_opts_back, record_opts_writable, test_list_known}
+use Rattle.rec_forms.specs.MapLaws.{map_back}
+use Rattle.rec_forms.specs.NumberLaws.{text_back, text_well_formed}
+use Rattle.rec_forms.specs.RecordingLaws.{test_list_back, test_list_writable, record_opts_back, record_opts_writable, test_list_well_formed}
 use Rattle.rec_forms.specs.Shape.{text_of}
-use Rattle.rec_forms.specs.TimeLaws.{stamp_back, stamp_writable, duration_back, duration_writable}
+use Rattle.rec_forms.specs.TimeLaws.{stamp_back, duration_back, duration_writable}
 use Rattle.rec_forms.specs.Times.{duration_value, duration_form, IsDuration}
-use Rattle.rec_forms.specs.Writable.{IsWritable, weaker, struct_writable, string_writable, list_writable, optional_writable}
+use Rattle.rec_forms.specs.Writable.{IsWritable, EachWritten, weaker, struct_writable, string_writable, optional_writable}
 use Rattle.rec_format.specs.declared.head.SessionHead.{SessionHead}
-use Rattle.rec_format.specs.PartForms.{identity_form, invocation_form}
-use Rattle.rec_format.specs.HeadForms.{head_value, head_form, contents_form, IsHead, AreContents}
+use Rattle.rec_format.specs.declared.forms.head.Contents.{Contents}
+use Rattle.rec_format.specs.PartForms.{identity_fields, identity_form, invocation_fields, invocation_form}
+use Rattle.rec_format.specs.HeadForms.{head_value, head_form, head_identity, head_invocation, head_contents, contents_fields, contents_form, IsHead, AreContents}
 use Rattle.rec_format.specs.RerunForms.{rerun_info_value, rerun_info_form, IsRerunInfo}
-use Rattle.rec_format.specs.RerunFormLaws.{rerun_info_back, rerun_info_writable, rerun_info_known}
-use Rattle.rec_format.specs.ScopeFormLaws.{recorded_scope_back, recorded_scope_writable, recorded_scope_known}
-use Rattle.rec_format.specs.StatusFormLaws.{status_back, status_writable, status_known}
-use Rattle.rec_forms.specs.Known.{Holds, Known}
-use Rattle.rec_forms.specs.KnownLaws.{any_known, then_holds, object_then, required_then, maybe_then}
-use Rattle.rec_format.specs.PartFormLaws.{identity_known, invocation_known}
+use Rattle.rec_format.specs.RerunFormLaws.{rerun_info_back, rerun_info_writable, rerun_info_well_formed}
+use Rattle.rec_format.specs.ScopeFormLaws.{recorded_scope_back, recorded_scope_writable, recorded_scope_well_formed}
+use Rattle.rec_format.specs.StatusFormLaws.{status_back, status_writable, status_well_formed}
+use Rattle.rec_forms.specs.GivesWellFormed.{Holds, GivesWellFormed}
+use Rattle.rec_forms.specs.WellFormedLaws.{any_well_formed, then_holds, object_then, required_then, maybe_then}
+use Rattle.rec_format.specs.PartFormLaws.{appended, identity_written, invocation_written, identity_well_formed, invocation_well_formed}
 use Rattle.rec_format.specs.StatusForms.{status_form}
 use Rattle.rec_format.specs.ScopeForms.{recorded_scope_form}
 use Rattle.rec_forms.specs.Recording.{record_opts_form, test_list_form}
@@ -40,7 +41,7 @@ head_back h is =
       maybe_back IsDuration duration_value duration_form duration_back duration_writable h.duration is.identity.duration,
       each_back IsText string text_of text_back _ is.invocation.cli_args,
       map_back IsText string text_of text_back _ is.invocation.env_vars,
-      maybe_back {n = 0} IsUuid uuid_value uuid_form uuid_back (λ u. string_writable _) h.parent_run_id is.invocation.parent_run_id,
+      maybe_back IsUuid uuid_value uuid_form uuid_back uuid_writable h.parent_run_id is.invocation.parent_run_id,
       status_back _ is.contents.status,
       text_back _ is.contents.cargo_metadata,
       test_list_back _ is.contents.test_list,
@@ -49,69 +50,51 @@ head_back h is =
       maybe_back IsRerunInfo rerun_info_value rerun_info_form rerun_info_back rerun_info_writable h.rerun_info is.contents.rerun_info,
     )
 
-pub head_writable : (h : SessionHead) → IsWritable 8 (head_value h)
-head_writable h =
-    struct_writable _ (
-      string_writable _,
+contents_written : (c : Contents) → AreContents c → EachWritten 7 (contents_fields c)
+contents_written c h = (
+  weaker 1 7 (omega arith) (status_writable c.status h.status),
+  (
+    string_writable c.cargo_metadata h.cargo_metadata,
+    (
+      weaker 3 7 (omega arith) (test_list_writable c.test_list h.test_list),
       (
-        string_writable _,
+        weaker 1 7 (omega arith) (record_opts_writable c.record_opts),
         (
-          weaker 1 7 (omega arith) (stamp_writable h.started_at),
-          (
-            weaker 1 7 (omega arith) (stamp_writable h.last_written_at),
-            (
-              optional_writable duration_value (λ d. weaker 1 7 (omega arith) (duration_writable d)) h.duration,
-              (
-                weaker 1 7 (omega arith) (list_writable string string_writable h.cli_args),
-                (
-                  weaker 1 7 (omega arith) (map_writable string string_writable h.env_vars),
-                  (
-                    optional_writable uuid_value (λ u. string_writable _) h.parent_run_id,
-                    (
-                      weaker 1 7 (omega arith) (status_writable h.status),
-                      (
-                        string_writable h.cargo_metadata,
-                        (
-                          weaker 3 7 (omega arith) (test_list_writable h.test_list),
-                          (
-                            weaker 1 7 (omega arith) (record_opts_writable h.record_opts),
-                            (
-                              weaker 5 7 (omega arith) (recorded_scope_writable h.build_scope),
-                              (optional_writable rerun_info_value rerun_info_writable h.rerun_info, tt),
-                            ),
-                          ),
-                        ),
-                      ),
-                    ),
-                  ),
-                ),
-              ),
-            ),
-          ),
+          weaker 5 7 (omega arith) (recorded_scope_writable c.build_scope h.build_scope),
+          (optional_writable rerun_info_value rerun_info_writable c.rerun_info h.rerun_info, tt),
         ),
       ),
-    )
+    ),
+  ),
+)
+
+pub head_writable : (h : SessionHead) → IsHead h → IsWritable 8 (head_value h)
+head_writable h is =
+    let rest = invocation_fields (head_invocation h) ++ contents_fields (head_contents h) in
+    struct_writable (identity_fields (head_identity h) ++ rest) refl
+    (appended 7 (identity_fields (head_identity h)) rest (identity_written 7 (head_identity h) (omega arith) is.identity)
+    (appended 7 (invocation_fields (head_invocation h)) (contents_fields (head_contents h)) (invocation_written 7 (head_invocation h) (omega arith) is.invocation) (contents_written (head_contents h) is.contents)))
 
 -- ---- what is read is well-formed
 
-contents_known : (ms : Members) → Holds AreContents (contents_form ms)
+contents_well_formed : (ms : Members) → Holds AreContents (contents_form ms)
 unfolding contents_form
-contents_known ms =
-    required_then status_form (codes "status") ms _ status_known (λ status status_is.
-    required_then record_opts_form (codes "record-opts") ms _ (any_known record_opts_form) (λ record_opts record_opts_is.
-    required_then text_of (codes "cargo-metadata") ms _ text_known (λ cargo_metadata cargo_metadata_is.
-    required_then test_list_form (codes "test-list") ms _ test_list_known (λ test_list test_list_is.
-    required_then recorded_scope_form (codes "build-scope") ms _ recorded_scope_known (λ build_scope build_scope_is.
-    maybe_then rerun_info_form (codes "rerun-info") ms _ rerun_info_known (λ rerun_info rerun_info_is.
+contents_well_formed ms =
+    required_then status_form (codes "status") ms _ status_well_formed (λ status status_is.
+    required_then record_opts_form (codes "record-opts") ms _ (any_well_formed record_opts_form) (λ record_opts record_opts_is.
+    required_then text_of (codes "cargo-metadata") ms _ text_well_formed (λ cargo_metadata cargo_metadata_is.
+    required_then test_list_form (codes "test-list") ms _ test_list_well_formed (λ test_list test_list_is.
+    required_then recorded_scope_form (codes "build-scope") ms _ recorded_scope_well_formed (λ build_scope build_scope_is.
+    maybe_then rerun_info_form (codes "rerun-info") ms _ rerun_info_well_formed (λ rerun_info rerun_info_is.
     record { is = record { status = status_is; cargo_metadata = cargo_metadata_is; test_list = test_list_is; build_scope = build_scope_is; rerun_info = rerun_info_is } }))))))
 
-pub head_known : Known IsHead head_form
+pub head_well_formed : GivesWellFormed IsHead head_form
 unfolding head_form
-head_known = record {
+head_well_formed = record {
   each = λ d.
       object_then d _ (λ ms.
-      then_holds (identity_form ms) _ (identity_known ms) (λ i i_is.
-      then_holds (invocation_form ms) _ (invocation_known ms) (λ v v_is.
-      then_holds (contents_form ms) _ (contents_known ms) (λ c c_is.
+      then_holds (identity_form ms) _ (identity_well_formed ms) (λ i i_is.
+      then_holds (invocation_form ms) _ (invocation_well_formed ms) (λ v v_is.
+      then_holds (contents_form ms) _ (contents_well_formed ms) (λ c c_is.
       record { is = record { identity = i_is; invocation = v_is; contents = c_is } }))));
 }

@@ -1,4 +1,4 @@
--- How versions that don't fit are told.
+-- What is printed of versions that don't fit.
 use Rattle.std.specs.Prelude.{ℕ, List, [], ◌∷◌, ◌++◌, codes}
 use Rattle.std.specs.Fmt.{decimal}
 use Rattle.rec_format.specs.declared.incompatibility.StoreVersionIncompatibility.{StoreVersionIncompatibility}

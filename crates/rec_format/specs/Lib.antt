@@ -30,3 +30,4 @@ pub mod RunIds
 pub mod RunIdEntries
 pub mod RunListForms
 pub mod RunListFormLaws
+pub mod HeadTexts

@@ -1,4 +1,4 @@
--- The pieces of a path, and what the last of them tells.
+-- The pieces of a path, and what the last of them says.
 use Rattle.std.specs.Prelude.{ℕ, ◌-◌, ◌==◌, nat_eq, nat_lt, Bool, false, not, ◌&&◌, ◌||◌, if◌then◌else◌, List, [], ◌∷◌, length, drop, map, filter, Option, None, codes}
 use Rattle.std.specs.Char.{to_ascii_lowercase}
 use Rattle.std.specs.List.{slice_split, last_or, ends_with}
@@ -22,14 +22,14 @@ last_of parts = last_or None (filter is_name parts)
 abbrev pub last_name : List ℕ → Option (List ℕ)
 last_name path = last_of (pieces path)
 
--- which output a name's end tells
+-- the output by the end of a name
 abbrev pub dict_of_name : List ℕ → OutputDict
 dict_of_name name =
     if ends_with nat_eq name (codes "-stdout") || ends_with nat_eq name (codes "-combined") then dict.Stdout
     else if ends_with nat_eq name (codes "-stderr") then dict.Stderr
     else dict.None
 
--- below `out` the last name tells
+-- below `out` the last name decides
 abbrev pub dict_of_pieces : List (List ℕ) → OutputDict
 dict_of_pieces [] = dict.None
 dict_of_pieces (first ∷ below) = if bytes_eq first (codes "out") then option_map_or dict_of_name (last_of below) dict.None else dict.None

@@ -1,28 +1,28 @@
 -- A run's metadata and a manifest read back, and are writable.
-use Rattle.std.specs.Prelude.{◌≡◌, Some, codes}
+use Rattle.std.specs.Prelude.{◌≡◌, ◌++◌, Some, refl, codes}
 use Rattle.std.proofs.Common.{arith}
 use Rattle.serde_json.specs.Data.{string}
 use Rattle.rec_events.specs.Names.{IsText}
 use Rattle.rec_forms.specs.Members.{get_member-members_of}
-use Rattle.rec_forms.specs.IdLaws.{uuid_back, version_back}
+use Rattle.rec_forms.specs.IdLaws.{uuid_back, uuid_writable, version_back}
 use Rattle.rec_forms.specs.Ids.{uuid_value, uuid_form, IsUuid}
 use Rattle.rec_forms.specs.ListLaws.{each_back, maybe_back}
-use Rattle.rec_forms.specs.MapLaws.{map_back, map_writable}
-use Rattle.rec_forms.specs.NumberLaws.{text_back, u32_back, u32_known}
+use Rattle.rec_forms.specs.MapLaws.{map_back}
+use Rattle.rec_forms.specs.NumberLaws.{text_back, u32_back, u32_writable, u32_well_formed}
 use Rattle.rec_forms.specs.Shape.{text_of}
-use Rattle.rec_forms.specs.TimeLaws.{stamp_back, stamp_writable, duration_back, duration_writable}
+use Rattle.rec_forms.specs.TimeLaws.{stamp_back, duration_back, duration_writable}
 use Rattle.rec_forms.specs.Times.{duration_value, duration_form, IsDuration}
-use Rattle.rec_forms.specs.Writable.{IsWritable, weaker, struct_writable, natural_writable, string_writable, list_writable, optional_writable}
+use Rattle.rec_forms.specs.Writable.{IsWritable, EachWritten, weaker, struct_writable}
 use Rattle.rec_format.specs.declared.run.RecordedRun.{RecordedRun}
 use Rattle.rec_format.specs.declared.manifest.PortableManifest.{PortableManifest}
-use Rattle.rec_format.specs.PartForms.{identity_form, invocation_form}
-use Rattle.rec_format.specs.RunForms.{run_value, run_form, IsRun, manifest_value, manifest_form, IsManifest}
-use Rattle.rec_format.specs.SizeFormLaws.{sizes_format_back, sizes_format_writable, sizes_format_known}
-use Rattle.rec_format.specs.StatusFormLaws.{status_format_back, status_format_writable, status_format_known}
-use Rattle.rec_format.specs.VersionFormLaws.{portable_version_back, portable_version_writable, portable_version_known}
-use Rattle.rec_forms.specs.Known.{Known}
-use Rattle.rec_forms.specs.KnownLaws.{then_holds, object_then, required_then, defaulted_then}
-use Rattle.rec_format.specs.PartFormLaws.{identity_known, invocation_known}
+use Rattle.rec_format.specs.PartForms.{identity_fields, identity_form, invocation_fields, invocation_form}
+use Rattle.rec_format.specs.RunForms.{run_value, run_form, run_identity, run_invocation, store_fields, IsRun, manifest_value, manifest_form, IsManifest}
+use Rattle.rec_format.specs.SizeFormLaws.{sizes_format_back, sizes_format_writable, sizes_format_well_formed}
+use Rattle.rec_format.specs.StatusFormLaws.{status_format_back, status_format_writable, status_format_well_formed}
+use Rattle.rec_format.specs.VersionFormLaws.{portable_version_back, portable_version_writable, portable_version_well_formed}
+use Rattle.rec_forms.specs.GivesWellFormed.{GivesWellFormed}
+use Rattle.rec_forms.specs.WellFormedLaws.{then_holds, object_then, required_then, defaulted_then}
+use Rattle.rec_format.specs.PartFormLaws.{appended, identity_written, invocation_written, identity_well_formed, invocation_well_formed}
 use Rattle.rec_format.specs.SizeForms.{sizes_format_form}
 use Rattle.rec_format.specs.StatusForms.{status_format_form}
 use Rattle.rec_format.specs.VersionForms.{portable_version_form}
@@ -40,70 +40,53 @@ run_back r is =
       maybe_back IsDuration duration_value duration_form duration_back duration_writable r.duration is.identity.duration,
       each_back IsText string text_of text_back _ is.invocation.cli_args,
       map_back IsText string text_of text_back _ is.invocation.env_vars,
-      maybe_back {n = 0} IsUuid uuid_value uuid_form uuid_back (λ u. string_writable _) r.parent_run_id is.invocation.parent_run_id,
+      maybe_back IsUuid uuid_value uuid_form uuid_back uuid_writable r.parent_run_id is.invocation.parent_run_id,
       u32_back _ is.store_format_version,
       u32_back _ is.store_format_minor_version,
       sizes_format_back _ is.sizes,
       status_format_back _ is.status,
     )
 
-pub run_writable : (r : RecordedRun) → IsWritable 3 (run_value r)
-run_writable r =
-    struct_writable _ (
-      string_writable _,
-      (
-        string_writable _,
-        (
-          weaker 1 2 (omega arith) (stamp_writable r.started_at),
-          (
-            weaker 1 2 (omega arith) (stamp_writable r.last_written_at),
-            (
-              optional_writable duration_value (λ d. weaker 1 2 (omega arith) (duration_writable d)) r.duration,
-              (
-                weaker 1 2 (omega arith) (list_writable string string_writable r.cli_args),
-                (
-                  weaker 1 2 (omega arith) (map_writable string string_writable r.env_vars),
-                  (
-                    optional_writable uuid_value (λ u. string_writable _) r.parent_run_id,
-                    (
-                      natural_writable r.store_format_version,
-                      (
-                        natural_writable r.store_format_minor_version,
-                        (
-                          sizes_format_writable r.sizes,
-                          (weaker 1 2 (omega arith) (status_format_writable r.status), tt),
-                        ),
-                      ),
-                    ),
-                  ),
-                ),
-              ),
-            ),
-          ),
-        ),
-      ),
-    )
+store_written : (r : RecordedRun) → IsRun r → EachWritten 2 (store_fields r)
+store_written r h = (
+  u32_writable r.store_format_version h.store_format_version,
+  (
+    u32_writable r.store_format_minor_version h.store_format_minor_version,
+    (
+      sizes_format_writable r.sizes h.sizes,
+      (weaker 1 2 (omega arith) (status_format_writable r.status h.status), tt),
+    ),
+  ),
+)
+
+pub run_writable : (r : RecordedRun) → IsRun r → IsWritable 3 (run_value r)
+run_writable r is =
+    let rest = invocation_fields (run_invocation r) ++ store_fields r in
+    struct_writable (identity_fields (run_identity r) ++ rest) refl
+    (appended 2 (identity_fields (run_identity r)) rest (identity_written 2 (run_identity r) (omega arith) is.identity)
+    (appended 2 (invocation_fields (run_invocation r)) (store_fields r) (invocation_written 2 (run_invocation r) (omega arith) is.invocation) (store_written r is)))
 
 pub manifest_back : (m : PortableManifest) → IsManifest m → manifest_form (manifest_value m) ≡ Some m
 unfolding manifest_form
 manifest_back m is = simp (get_member-members_of, portable_version_back _ is.format_version, run_back _ is.run)
 
-pub manifest_writable : (m : PortableManifest) → IsWritable 4 (manifest_value m)
-manifest_writable m = struct_writable _ (weaker 1 3 (omega arith) (portable_version_writable m.format_version), (run_writable m.run, tt))
+pub manifest_writable : (m : PortableManifest) → IsManifest m → IsWritable 4 (manifest_value m)
+manifest_writable m is =
+    struct_writable _ refl (weaker 1 3 (omega arith) (portable_version_writable m.format_version is.format_version), (run_writable m.run is.run, tt))
 
 -- ---- what is read is well-formed
 
-pub run_known : Known IsRun run_form
+pub run_well_formed : GivesWellFormed IsRun run_form
 unfolding run_form
-run_known = record {
+run_well_formed = record {
   each = λ d.
       object_then d _ (λ ms.
-      required_then u32_form (codes "store-format-version") ms _ u32_known (λ major major_is.
-      defaulted_then u32_form (codes "store-format-minor-version") ms 0 _ (omega arith) u32_known (λ minor minor_is.
-      required_then sizes_format_form (codes "sizes") ms _ sizes_format_known (λ sizes sizes_is.
-      required_then status_format_form (codes "status") ms _ status_format_known (λ status status_is.
-      then_holds (identity_form ms) _ (identity_known ms) (λ i i_is.
-      then_holds (invocation_form ms) _ (invocation_known ms) (λ v v_is.
+      required_then u32_form (codes "store-format-version") ms _ u32_well_formed (λ major major_is.
+      defaulted_then u32_form (codes "store-format-minor-version") ms 0 _ (omega arith) u32_well_formed (λ minor minor_is.
+      required_then sizes_format_form (codes "sizes") ms _ sizes_format_well_formed (λ sizes sizes_is.
+      required_then status_format_form (codes "status") ms _ status_format_well_formed (λ status status_is.
+      then_holds (identity_form ms) _ (identity_well_formed ms) (λ i i_is.
+      then_holds (invocation_form ms) _ (invocation_well_formed ms) (λ v v_is.
       record {
         is = record {
           identity = i_is;
@@ -116,12 +99,12 @@ run_known = record {
       })))))));
 }
 
-pub manifest_known : Known IsManifest manifest_form
+pub manifest_well_formed : GivesWellFormed IsManifest manifest_form
 unfolding manifest_form
-manifest_known = record {
+manifest_well_formed = record {
   each = λ d.
       object_then d _ (λ ms.
-      required_then portable_version_form (codes "format-version") ms _ portable_version_known (λ format_version format_version_is.
-      required_then run_form (codes "run") ms _ run_known (λ run run_is.
+      required_then portable_version_form (codes "format-version") ms _ portable_version_well_formed (λ format_version format_version_is.
+      required_then run_form (codes "run") ms _ run_well_formed (λ run run_is.
       record { is = record { format_version = format_version_is; run = run_is } })));
 }

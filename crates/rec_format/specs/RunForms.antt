@@ -1,9 +1,9 @@
 -- The values and forms of a run's metadata and of a manifest.
-use Rattle.std.specs.Prelude.{[], ◌∷◌, ◌++◌, Option, Some, codes}
+use Rattle.std.specs.Prelude.{List, [], ◌∷◌, ◌++◌, Option, Some, codes}
 use Rattle.serde_json.specs.Data.{Data}
 use Rattle.serde_json.specs.Find.{as_object}
 use Rattle.rec_forms.specs.Numbers.{u32_form}
-use Rattle.rec_forms.specs.Shape.{◌>>=◌, natural, field, struct, required, defaulted}
+use Rattle.rec_forms.specs.Shape.{◌>>=◌, Field, natural, field, struct, required, defaulted}
 use Rattle.rec_format.specs.declared.forms.parts.Identity.{Identity}
 use Rattle.rec_format.specs.declared.forms.parts.Invocation.{Invocation}
 use Rattle.rec_format.specs.declared.run.RecordedRun.{RecordedRun}
@@ -25,15 +25,17 @@ run_identity r = record {
 abbrev pub run_invocation : RecordedRun → Invocation
 run_invocation r = record { cli_args = r.cli_args; env_vars = r.env_vars; parent_run_id = r.parent_run_id }
 
-abbrev pub run_value : RecordedRun → Data
-run_value r = struct (
-    identity_fields (run_identity r)
-    ++ invocation_fields (run_invocation r)
-    ++ field (codes "store-format-version") (natural r.store_format_version)
+-- the versions of its store, its sizes and how it ended
+abbrev pub store_fields : RecordedRun → List Field
+store_fields r =
+    field (codes "store-format-version") (natural r.store_format_version)
     ∷ field (codes "store-format-minor-version") (natural r.store_format_minor_version)
     ∷ field (codes "sizes") (sizes_format_value r.sizes)
     ∷ field (codes "status") (status_format_value r.status)
-    ∷ [])
+    ∷ []
+
+abbrev pub run_value : RecordedRun → Data
+run_value r = struct (identity_fields (run_identity r) ++ invocation_fields (run_invocation r) ++ store_fields r)
 
 unfoldable pub run_form : Data → Option RecordedRun
 run_form d = do

@@ -15,3 +15,17 @@ sizes_format sizes = record { log = component_format sizes.log; store = componen
 
 abbrev pub sizes_of : RecordedSizesFormat → RecordedSizes
 sizes_of format = record { log = component_of format.log; store = component_of format.store }
+
+-- ---- of nothing
+
+abbrev pub no_component : ComponentSizes
+no_component = record { compressed = 0; uncompressed = 0; entries = 0 }
+
+abbrev pub no_sizes : RecordedSizes
+no_sizes = record { log = no_component; store = no_component }
+
+abbrev pub no_component_format : ComponentSizesFormat
+no_component_format = record { compressed = 0; uncompressed = 0; entries = 0 }
+
+abbrev pub no_sizes_format : RecordedSizesFormat
+no_sizes_format = record { log = no_component_format; store = no_component_format }

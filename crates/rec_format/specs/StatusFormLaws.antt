@@ -1,12 +1,14 @@
 -- Statuses read back, and are writable.
 use Rattle.std.specs.Prelude.{◌≡◌, ℕ, List, Some, option_map, refl, None, Option, codes}
 use Rattle.std.proofs.Common.{ap, ◌∙◌}
+use Rattle.rec_events.specs.Names.{IsText}
 use Rattle.rec_forms.specs.Numbers.{count_form, IsCount, i32_form, u32_form, u64_form}
 use Rattle.rec_forms.specs.Shape.{natural, named}
 use Rattle.rec_forms.specs.Members.{get_member-members_of}
-use Rattle.rec_forms.specs.NumberLaws.{u32_back, u64_back, i32_back, count_back, count_known, i32_known, u32_known, u64_known}
+use Rattle.rec_forms.specs.NumberLaws.{u32_back, u64_back, i32_back, count_back, u32_writable, i32_writable, count_writable, count_well_formed, i32_well_formed, u32_well_formed, u64_well_formed}
 use Rattle.rec_forms.specs.ListLaws.{maybe_back}
-use Rattle.rec_forms.specs.Writable.{IsWritable, struct_writable, natural_writable, integer_writable, string_writable, optional_writable}
+use Rattle.rec_forms.specs.Writable.{IsWritable, struct_writable, natural_writable, string_writable, optional_writable}
+use Rattle.rec_forms.specs.TextLaws.{IsText-are_ascii}
 use Rattle.rec_format.specs.declared.status.CompletedRunStats.{CompletedRunStats}
 use Rattle.rec_format.specs.declared.status.StressCompletedRunStats.{StressCompletedRunStats}
 use Rattle.rec_format.specs.declared.status.RecordedRunStatus.{RecordedRunStatus}
@@ -15,8 +17,8 @@ use Rattle.rec_format.specs.declared.status.RecordedRunStatusFormat.{RecordedRun
 use Rattle.rec_format.specs.declared.status.RecordedRunStatusFormat.TheVariants as format
 use Rattle.rec_format.specs.Status.{status_format, status_of}
 use Rattle.rec_format.specs.StatusForms.{bare_value, completed_value, completed_form, stress_value, stress_form, status_value, status_form, IsStatus, status_format_value, status_format_form, IsStatusFormat, AreCompleted, AreStress, statuses}
-use Rattle.rec_forms.specs.Known.{Holds, Known}
-use Rattle.rec_forms.specs.KnownLaws.{any_known, map_holds, object_then, required_then, maybe_then, named_holds}
+use Rattle.rec_forms.specs.GivesWellFormed.{Holds, GivesWellFormed}
+use Rattle.rec_forms.specs.WellFormedLaws.{any_well_formed, map_holds, object_then, required_then, maybe_then, named_holds}
 use Rattle.std.specs.Option.{option_map_or}
 use Rattle.serde_json.specs.Data.{Members}
 use Rattle.serde_json.specs.Find.{as_str}
@@ -32,7 +34,7 @@ status_back (Cancelled s) h =
 status_back (StressCompleted s) h =
     simp (
       get_member-members_of,
-      maybe_back IsCount natural count_form count_back (λ k. natural_writable {n = 0} k) s.initial_iteration_count h.initial_iteration_count,
+      maybe_back IsCount natural count_form count_back (count_writable {n = 0}) s.initial_iteration_count h.initial_iteration_count,
       u32_back _ h.success_count,
       u32_back _ h.failed_count,
       i32_back _ h.exit_code,
@@ -40,55 +42,55 @@ status_back (StressCompleted s) h =
 status_back (StressCancelled s) h =
     simp (
       get_member-members_of,
-      maybe_back IsCount natural count_form count_back (λ k. natural_writable {n = 0} k) s.initial_iteration_count h.initial_iteration_count,
+      maybe_back IsCount natural count_form count_back (count_writable {n = 0}) s.initial_iteration_count h.initial_iteration_count,
       u32_back _ h.success_count,
       u32_back _ h.failed_count,
       i32_back _ h.exit_code,
     )
 status_back Unknown h = simp get_member-members_of
 
-bare_writable : (name : List ℕ) → IsWritable 1 (bare_value name)
-bare_writable name = struct_writable _ (string_writable name, tt)
+bare_writable : (name : List ℕ) → IsText name → IsWritable 1 (bare_value name)
+bare_writable name text = struct_writable _ refl (string_writable name text, tt)
 
-completed_writable : (name : List ℕ) (s : CompletedRunStats) → IsWritable 1 (completed_value name s)
-completed_writable name s =
-    struct_writable _ (
-      string_writable name,
+completed_writable : (name : List ℕ) (s : CompletedRunStats) → IsText name → AreCompleted s → IsWritable 1 (completed_value name s)
+completed_writable name s text h =
+    struct_writable _ refl (
+      string_writable name text,
       (
-        natural_writable s.initial_run_count,
+        natural_writable s.initial_run_count h.initial_run_count,
         (
-          natural_writable s.passed,
+          natural_writable s.passed h.passed,
           (
-            natural_writable s.failed,
-            (integer_writable s.exit_code, tt),
+            natural_writable s.failed h.failed,
+            (i32_writable s.exit_code h.exit_code, tt),
           ),
         ),
       ),
     )
 
-stress_writable : (name : List ℕ) (s : StressCompletedRunStats) → IsWritable 1 (stress_value name s)
-stress_writable name s =
-    struct_writable _ (
-      string_writable name,
+stress_writable : (name : List ℕ) (s : StressCompletedRunStats) → IsText name → AreStress s → IsWritable 1 (stress_value name s)
+stress_writable name s text h =
+    struct_writable _ refl (
+      string_writable name text,
       (
-        optional_writable natural (λ k. natural_writable k) s.initial_iteration_count,
+        optional_writable natural count_writable s.initial_iteration_count h.initial_iteration_count,
         (
-          natural_writable s.success_count,
+          u32_writable s.success_count h.success_count,
           (
-            natural_writable s.failed_count,
-            (integer_writable s.exit_code, tt),
+            u32_writable s.failed_count h.failed_count,
+            (i32_writable s.exit_code h.exit_code, tt),
           ),
         ),
       ),
     )
 
-pub status_writable : (s : RecordedRunStatus) → IsWritable 1 (status_value s)
-status_writable Incomplete = bare_writable _
-status_writable (Completed s) = completed_writable _ s
-status_writable (Cancelled s) = completed_writable _ s
-status_writable (StressCompleted s) = stress_writable _ s
-status_writable (StressCancelled s) = stress_writable _ s
-status_writable Unknown = bare_writable _
+pub status_writable : (s : RecordedRunStatus) → IsStatus s → IsWritable 1 (status_value s)
+status_writable Incomplete h = bare_writable _ (IsText-are_ascii _ refl)
+status_writable (Completed s) h = completed_writable _ s (IsText-are_ascii _ refl) h
+status_writable (Cancelled s) h = completed_writable _ s (IsText-are_ascii _ refl) h
+status_writable (StressCompleted s) h = stress_writable _ s (IsText-are_ascii _ refl) h
+status_writable (StressCancelled s) h = stress_writable _ s (IsText-are_ascii _ refl) h
+status_writable Unknown h = bare_writable _ (IsText-are_ascii _ refl)
 
 -- a format is that of the status that it stands for
 format-of : (f : RecordedRunStatusFormat) → status_format (status_of f) ≡ f
@@ -102,63 +104,62 @@ format-of (format.StressCancelled initial_iteration_count success_count failed_c
 pub status_format_back : (f : RecordedRunStatusFormat) → IsStatusFormat f → status_format_form (status_format_value f) ≡ Some f
 status_format_back f h = ap (option_map status_format) (status_back (status_of f) h) ∙ ap Some (format-of f)
 
-pub status_format_writable : (f : RecordedRunStatusFormat) → IsWritable 1 (status_format_value f)
+pub status_format_writable : (f : RecordedRunStatusFormat) → IsStatusFormat f → IsWritable 1 (status_format_value f)
 status_format_writable f = status_writable (status_of f)
 
 -- ---- what is read is well-formed
 
-completed_known : (ms : Members) → Holds AreCompleted (completed_form ms)
+completed_well_formed : (ms : Members) → Holds AreCompleted (completed_form ms)
 unfolding completed_form
-completed_known ms =
-    required_then u64_form (codes "initial-run-count") ms _ u64_known (λ initial_run_count initial_run_count_is.
-    required_then u64_form (codes "passed") ms _ u64_known (λ passed passed_is.
-    required_then u64_form (codes "failed") ms _ u64_known (λ failed failed_is.
-    required_then i32_form (codes "exit-code") ms _ i32_known (λ exit_code exit_code_is.
+completed_well_formed ms =
+    required_then u64_form (codes "initial-run-count") ms _ u64_well_formed (λ initial_run_count initial_run_count_is.
+    required_then u64_form (codes "passed") ms _ u64_well_formed (λ passed passed_is.
+    required_then u64_form (codes "failed") ms _ u64_well_formed (λ failed failed_is.
+    required_then i32_form (codes "exit-code") ms _ i32_well_formed (λ exit_code exit_code_is.
     record { is = record { initial_run_count = initial_run_count_is; passed = passed_is; failed = failed_is; exit_code = exit_code_is } }))))
 
-stress_known : (ms : Members) → Holds AreStress (stress_form ms)
+stress_well_formed : (ms : Members) → Holds AreStress (stress_form ms)
 unfolding stress_form
-stress_known ms =
-    maybe_then count_form (codes "initial-iteration-count") ms _ count_known (λ initial_iteration_count initial_iteration_count_is.
-    required_then u32_form (codes "success-count") ms _ u32_known (λ success_count success_count_is.
-    required_then u32_form (codes "failed-count") ms _ u32_known (λ failed_count failed_count_is.
-    required_then i32_form (codes "exit-code") ms _ i32_known (λ exit_code exit_code_is.
+stress_well_formed ms =
+    maybe_then count_form (codes "initial-iteration-count") ms _ count_well_formed (λ initial_iteration_count initial_iteration_count_is.
+    required_then u32_form (codes "success-count") ms _ u32_well_formed (λ success_count success_count_is.
+    required_then u32_form (codes "failed-count") ms _ u32_well_formed (λ failed_count failed_count_is.
+    required_then i32_form (codes "exit-code") ms _ i32_well_formed (λ exit_code exit_code_is.
     record { is = record { initial_iteration_count = initial_iteration_count_is; success_count = success_count_is; failed_count = failed_count_is; exit_code = exit_code_is } }))))
 
 -- what stands beside a name gives statuses that are well-formed
 abbrev GivesStatuses : (Members → Option RecordedRunStatus) → Type 0
 GivesStatuses form = (ms : Members) → Holds IsStatus (form ms)
 
-each_known : AllByRecursion (λ (s : List ℕ × (Members → Option RecordedRunStatus)). GivesStatuses s.1) statuses
-each_known = (
+each_well_formed : AllByRecursion (λ (s : List ℕ × (Members → Option RecordedRunStatus)). GivesStatuses s.1) statuses
+each_well_formed = (
   λ ms. record { is = tt },
   (
-    λ ms. map_holds Completed (completed_form ms) (completed_known ms) (λ s is. is),
+    λ ms. map_holds Completed (completed_form ms) (completed_well_formed ms) (λ s is. is),
     (
-      λ ms. map_holds Cancelled (completed_form ms) (completed_known ms) (λ s is. is),
+      λ ms. map_holds Cancelled (completed_form ms) (completed_well_formed ms) (λ s is. is),
       (
-        λ ms. map_holds StressCompleted (stress_form ms) (stress_known ms) (λ s is. is),
-        (λ ms. map_holds StressCancelled (stress_form ms) (stress_known ms) (λ s is. is), tt),
+        λ ms. map_holds StressCompleted (stress_form ms) (stress_well_formed ms) (λ s is. is),
+        (λ ms. map_holds StressCancelled (stress_form ms) (stress_well_formed ms) (λ s is. is), tt),
       ),
     ),
   ),
 )
 
-with_known : (o : Option (Members → Option RecordedRunStatus)) (ms : Members) → Holds GivesStatuses o → Holds IsStatus (option_map_or (λ form. form ms) o (Some Unknown))
-with_known None ms h = record { is = tt }
-with_known (Some form) ms h = h.is ms
+with_well_formed : (o : Option (Members → Option RecordedRunStatus)) (ms : Members) → Holds GivesStatuses o → Holds IsStatus (option_map_or (λ form. form ms) o (Some Unknown))
+with_well_formed None ms h = record { is = tt }
+with_well_formed (Some form) ms h = h.is ms
 
-pub status_known : Known IsStatus status_form
+pub status_well_formed : GivesWellFormed IsStatus status_form
 unfolding status_form
-status_known = record {
+status_well_formed = record {
   each = λ d.
       object_then d _ (λ ms.
-      required_then as_str (codes "status") ms _ (any_known as_str) (λ name _.
-      with_known (named statuses name) ms (named_holds GivesStatuses statuses each_known name)));
+      required_then as_str (codes "status") ms _ (any_well_formed as_str) (λ name _.
+      with_well_formed (named statuses name) ms (named_holds GivesStatuses statuses each_well_formed name)));
 }
 
--- a format of a status stands for that status
--- a status comes back from its form in JSON
+-- a status is what its format stands for
 pub of-format : (s : RecordedRunStatus) → status_of (status_format s) ≡ s
 of-format Incomplete = refl
 of-format (Completed s) = refl
@@ -167,5 +168,5 @@ of-format (StressCompleted s) = refl
 of-format (StressCancelled s) = refl
 of-format Unknown = refl
 
-pub status_format_known : Known IsStatusFormat status_format_form
-status_format_known = record { each = λ d. map_holds status_format (status_form d) (status_known.each d) (λ s is. rw (of-format s) is) }
+pub status_format_well_formed : GivesWellFormed IsStatusFormat status_format_form
+status_format_well_formed = record { each = λ d. map_holds status_format (status_form d) (status_well_formed.each d) (λ s is. rw (of-format s) is) }

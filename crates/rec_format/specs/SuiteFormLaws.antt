@@ -9,14 +9,15 @@ use Rattle.std.specs.Str.{bytes_eq}
 use Rattle.std.proofs.lemmas.Map.Text.{is_eq-slice_cmp}
 use Rattle.serde_json.specs.View.{items_of}
 use Rattle.rec_forms.specs.Members.{get_member-members_of}
-use Rattle.rec_forms.specs.NumberLaws.{text_back, text_known}
-use Rattle.rec_forms.specs.NameLaws.{names_back, names_writable, match_holds, Rise-with_name, names_known}
+use Rattle.rec_forms.specs.NumberLaws.{text_back, text_well_formed}
+use Rattle.rec_forms.specs.NameLaws.{names_back, names_writable, names_well_formed}
+use Rattle.rec_forms.specs.RiseLaws.{match_holds, Rise-with_name}
 use Rattle.rec_forms.specs.Writable.{IsWritable, struct_writable, string_writable, list_writable}
 use Rattle.rec_format.specs.declared.suites.RerunTestSuiteInfo.{RerunTestSuiteInfo}
 use Rattle.rec_format.specs.Suites.{put_suite, suite_of, SuitesRise}
 use Rattle.rec_format.specs.SuiteForms.{suite_value, suite_form, IsSuite, suites_value, joined_by, suites_from, suites_form, AreSuites}
-use Rattle.rec_forms.specs.Known.{Holds, Known}
-use Rattle.rec_forms.specs.KnownLaws.{anything, and_then_holds, choice_holds, object_then, required_then}
+use Rattle.rec_forms.specs.GivesWellFormed.{Holds, GivesWellFormed}
+use Rattle.rec_forms.specs.WellFormedLaws.{anything, and_then_holds, choice_holds, object_then, required_then}
 use Rattle.std.proofs.lemmas.Slice.Eq.{bytes_eq-Decides}
 use Rattle.rec_events.specs.Names.{with_name}
 use Rattle.rec_forms.specs.Names.{names_form}
@@ -28,8 +29,9 @@ pub suite_back : (s : RerunTestSuiteInfo) → IsSuite s → suite_form (suite_va
 unfolding suite_form
 suite_back s h = simp (get_member-members_of, text_back _ h.binary_id, names_back _ h.passing, names_back _ h.outstanding)
 
-pub suite_writable : (s : RerunTestSuiteInfo) → IsWritable 2 (suite_value s)
-suite_writable s = struct_writable _ (string_writable s.binary_id, (names_writable s.passing, (names_writable s.outstanding, tt)))
+pub suite_writable : (s : RerunTestSuiteInfo) → IsSuite s → IsWritable 2 (suite_value s)
+suite_writable s h =
+    struct_writable _ refl (string_writable s.binary_id h.binary_id, (names_writable s.passing h.passing, (names_writable s.outstanding h.outstanding, tt)))
 
 -- ---- what goes last
 
@@ -85,19 +87,19 @@ pub suites_back : (suites : List RerunTestSuiteInfo) → AreSuites suites → su
 unfolding suites_form
 suites_back suites h = each_back suites [] h.rise h.each
 
-pub suites_writable : (suites : List RerunTestSuiteInfo) → IsWritable 3 (suites_value suites)
-suites_writable suites = list_writable suite_value suite_writable suites
+pub suites_writable : (suites : List RerunTestSuiteInfo) → AreSuites suites → IsWritable 3 (suites_value suites)
+suites_writable suites h = list_writable suite_value suite_writable suites h.each
 
 -- ---- what is read is well-formed
 
-pub suite_known : Known IsSuite suite_form
+pub suite_well_formed : GivesWellFormed IsSuite suite_form
 unfolding suite_form
-suite_known = record {
+suite_well_formed = record {
   each = λ d.
       object_then d _ (λ ms.
-      required_then text_of (codes "binary_id") ms _ text_known (λ binary_id binary_id_is.
-      required_then names_form (codes "passing") ms _ names_known (λ passing passing_is.
-      required_then names_form (codes "outstanding") ms _ names_known (λ outstanding outstanding_is.
+      required_then text_of (codes "binary_id") ms _ text_well_formed (λ binary_id binary_id_is.
+      required_then names_form (codes "passing") ms _ names_well_formed (λ passing passing_is.
+      required_then names_form (codes "outstanding") ms _ names_well_formed (λ outstanding outstanding_is.
       record { is = record { binary_id = binary_id_is; passing = passing_is; outstanding = outstanding_is } }))));
 }
 
@@ -129,18 +131,18 @@ ids-put_suite s (first ∷ more) =
     (λ e. ap (λ id. id ∷ ids more) (is_same s.binary_id first.binary_id e))
     (ap (λ names. first.binary_id ∷ names) (ids-put_suite s more))
 
-joined_known : (suites : List RerunTestSuiteInfo) (s : RerunTestSuiteInfo) → IsSuite s → AreSuites suites → Holds AreSuites (joined_by suites s)
-joined_known suites s h are =
+joined_well_formed : (suites : List RerunTestSuiteInfo) (s : RerunTestSuiteInfo) → IsSuite s → AreSuites suites → Holds AreSuites (joined_by suites s)
+joined_well_formed suites s h are =
     choice_holds (λ (o : Option (List RerunTestSuiteInfo)). Holds AreSuites o) (is_some (suite_of s.binary_id suites)) None (Some (put_suite s suites))
     (λ _. record { is = tt })
     (λ _. record { is = record { rise = rw (ids-put_suite s suites) (Rise-with_name (ids suites) s.binary_id are.rise); each = suite_known_in s suites h are.each } })
 
-suites_in_known : (ds : Items) (suites : List RerunTestSuiteInfo) → AreSuites suites → Holds AreSuites (suites_from suites ds)
-suites_in_known no_items suites are = record { is = are }
-suites_in_known (item d ds) suites are =
-    and_then_holds (λ s. option_and_then (λ more. suites_from more ds) (joined_by suites s)) (suite_form d) (suite_known.each d) (λ s h.
-    and_then_holds (λ more. suites_from more ds) (joined_by suites s) (joined_known suites s h are) (λ more is. suites_in_known ds more is))
+suites_in_well_formed : (ds : Items) (suites : List RerunTestSuiteInfo) → AreSuites suites → Holds AreSuites (suites_from suites ds)
+suites_in_well_formed no_items suites are = record { is = are }
+suites_in_well_formed (item d ds) suites are =
+    and_then_holds (λ s. option_and_then (λ more. suites_from more ds) (joined_by suites s)) (suite_form d) (suite_well_formed.each d) (λ s h.
+    and_then_holds (λ more. suites_from more ds) (joined_by suites s) (joined_well_formed suites s h are) (λ more is. suites_in_well_formed ds more is))
 
-pub suites_known : Known AreSuites suites_form
+pub suites_well_formed : GivesWellFormed AreSuites suites_form
 unfolding suites_form IsStrictlySortedBy
-suites_known = record { each = λ d. and_then_holds (suites_from []) (as_array d) (anything (as_array d)) (λ ds _. suites_in_known ds [] (record { rise = tt; each = tt })) }
+suites_well_formed = record { each = λ d. and_then_holds (suites_from []) (as_array d) (anything (as_array d)) (λ ds _. suites_in_well_formed ds [] (record { rise = tt; each = tt })) }

@@ -12,7 +12,7 @@ use rec_events::{
 };
 use std::alloc::{AllocError, Global};
 
-/// The head of a session: what is known of a run beside its events.
+/// Describes a session: what is known of a run beside its events.
 #[derive(Drop)]
 pub struct SessionHead {
     pub run_id: ReportUuid,
@@ -25,7 +25,7 @@ pub struct SessionHead {
     /// The run of which this one is a rerun.
     pub parent_run_id: Option<ReportUuid>,
     pub status: RecordedRunStatus,
-    /// What cargo told of the workspace, as JSON.
+    /// What cargo printed about the workspace, as JSON.
     pub cargo_metadata: Text,
     pub test_list: TestListSummary,
     pub record_opts: RecordOpts,
@@ -34,8 +34,12 @@ pub struct SessionHead {
 }
 
 impl SessionHead {
-    /// The metadata of the run as it is recorded: that of the head, with the store's version and the
-    /// sizes of its log and store.
+    /// Makes the metadata of the run as it is recorded: that of the head, with the store's version
+    /// and the sizes of its log and store.
+    ///
+    /// # Errors
+    ///
+    /// `AllocError` where memory is short.
     pub fn run_info(
         &self,
         alloc: Global,

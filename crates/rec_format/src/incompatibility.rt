@@ -5,7 +5,7 @@ use crate::{
 };
 use std::fmt;
 
-/// A release of nextest, printed as three numbers with dots between them.
+/// Names a release of nextest, printed as three numbers with dots between them.
 #[derive(Copy, Clone, PartialEq, Eq, Debug)]
 pub struct Release {
     pub major: u64,
@@ -25,7 +25,7 @@ impl fmt::Display for Release {
     }
 }
 
-/// What to do with a recording that is too old.
+/// Says what to do with a recording that is too old.
 #[derive(Copy, Clone, PartialEq, Eq, Debug)]
 pub enum TooOldRecordingGuidance {
     /// This release and those before it read the recording. No version has this guidance today.
@@ -36,7 +36,7 @@ pub enum TooOldRecordingGuidance {
     Unknown,
 }
 
-/// Why a store isn't read.
+/// Says why a store isn't read, with the two numbers that differ.
 #[derive(Copy, Clone, PartialEq, Eq, Debug)]
 pub enum StoreVersionIncompatibility {
     /// The store's major version is below the supported one.
@@ -94,7 +94,7 @@ impl fmt::Display for StoreVersionIncompatibility {
     }
 }
 
-/// Why a bundle isn't read.
+/// Says why a bundle isn't read, with the two numbers that differ.
 #[derive(Copy, Clone, PartialEq, Eq, Debug)]
 pub enum PortableRecordingVersionIncompatibility {
     /// The bundle's major version is another one.

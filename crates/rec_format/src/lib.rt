@@ -5,6 +5,7 @@
 mod forms;
 mod head;
 mod incompatibility;
+pub mod laws;
 mod manifest;
 mod paths;
 mod rerun;

@@ -8,7 +8,7 @@ use crate::{
 };
 use std::alloc::{AllocError, Global};
 
-/// The first entry of a bundle: the bundle's version, and the metadata of its run.
+/// Describes a bundle, as its first entry: the bundle's version, and the metadata of its run.
 #[derive(Drop)]
 pub struct PortableManifest {
     pub format_version: PortableRecordingFormatVersion,
@@ -16,7 +16,11 @@ pub struct PortableManifest {
 }
 
 impl PortableManifest {
-    /// The manifest of a run, with the version of the bundles that are written.
+    /// Makes the manifest of a run, with the version of the bundles that are written.
+    ///
+    /// # Errors
+    ///
+    /// `AllocError` where memory is short.
     pub fn new(alloc: Global, run: &RecordedRunInfo) -> Result<PortableManifest, AllocError>
         ensures { IfOk result (λ manifest. manifest ≡ manifest_of run.now) }
     {
@@ -26,14 +30,18 @@ impl PortableManifest {
         })
     }
 
-    /// The metadata of the run.
+    /// Copies the metadata of the run.
+    ///
+    /// # Errors
+    ///
+    /// `AllocError` where memory is short.
     pub fn run_info(&self, alloc: Global) -> Result<RecordedRunInfo, AllocError>
         ensures { IfOk result (λ info. info ≡ info_of self.now.run) }
     {
         self.run.to_info(alloc)
     }
 
-    /// The version of the run's store.
+    /// Returns the version of the run's store.
     pub fn store_format_version(&self) -> StoreFormatVersion
         ensures { result ≡ store_version_in self.now.run }
     {

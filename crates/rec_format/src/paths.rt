@@ -1,32 +1,32 @@
-//! The names of the parts of a recording, and what the name of a file tells.
+//! The names of the parts of a recording, and what the name of a file says of it.
 ghost use Rattle.std.specs.Prelude.{◌≡◌, option_map};
 ghost use Rattle.rec_format.specs.Paths.{dict_of_name, dict_of_path, is_zip_name, is_zip_path, last_name as last_name_of};
 
-/// The store's place in a bundle, and in a run's directory.
+/// Names the store in a bundle, and in a run's directory.
 pub const STORE_ZIP_FILE_NAME: &str = "store.zip";
 
-/// The log's place in a bundle, and in a run's directory.
+/// Names the event log in a bundle, and in a run's directory.
 pub const RUN_LOG_FILE_NAME: &str = "run.log.zst";
 
-/// The manifest's place in a bundle.
+/// Names the manifest in a bundle.
 pub const PORTABLE_MANIFEST_FILE_NAME: &str = "manifest.json";
 
-/// The place of cargo's metadata in a store.
+/// Names cargo's metadata in a store.
 pub const CARGO_METADATA_JSON_PATH: &str = "meta/cargo-metadata.json";
 
-/// The place of the test list in a store.
+/// Names the test list in a store.
 pub const TEST_LIST_JSON_PATH: &str = "meta/test-list.json";
 
-/// The place of the record options in a store.
+/// Names the record options in a store.
 pub const RECORD_OPTS_JSON_PATH: &str = "meta/record-opts.json";
 
-/// The place of the build scope in a store.
+/// Names the build scope in a store.
 pub const BUILD_SCOPE_JSON_PATH: &str = "meta/build-scope.json";
 
-/// The place of the rerun info in a store. It is there for a rerun alone.
+/// Names the rerun information in a store. It is there for a rerun alone.
 pub const RERUN_INFO_JSON_PATH: &str = "meta/rerun-info.json";
 
-/// Which kind of output a file of a store holds.
+/// Says which kind of output a file of a store holds.
 #[derive(Copy, Clone, PartialEq, Eq, Debug)]
 pub enum OutputDict {
     /// No output.
@@ -38,8 +38,8 @@ pub enum OutputDict {
 }
 
 impl OutputDict {
-    /// The kind of output that a store's file holds: None where the path's first piece isn't `out`
-    /// or nothing is named below it. Else the last piece's name tells, by `for_output_file_name`.
+    /// Returns the kind of output that a store's file holds: `None` where the path's first piece isn't
+    /// `out` or nothing is named below it. Otherwise the last piece decides, by `for_output_file_name`.
     pub fn for_path(path: &str) -> Self
         ensures { result ≡ dict_of_path path.now }
     {
@@ -55,8 +55,8 @@ impl OutputDict {
         }
     }
 
-    /// The kind of output that the end of a file's name tells: `-stdout` and `-combined` are
-    /// standard output, and `-stderr` is standard error.
+    /// Returns the kind of output by the end of a file's name: `-stdout` and `-combined` are standard
+    /// output, and `-stderr` is standard error.
     #[tactic(auto, using(std::proofs::lemmas::Str::Pattern::ends_text))]
     pub fn for_output_file_name(file_name: &str) -> Self
         ensures { result ≡ dict_of_name file_name.now }
@@ -71,7 +71,7 @@ impl OutputDict {
     }
 }
 
-/// Whether the file that a path names has the extension `zip`, in any ASCII case. A name that
+/// Checks whether the file that a path names has the extension `zip`, in any ASCII case. A name that
 /// begins with its last dot has no extension.
 pub fn has_zip_extension(path: &str) -> bool
     ensures { result ≡ is_zip_path path.now }

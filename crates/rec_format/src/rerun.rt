@@ -4,7 +4,7 @@ ghost use Rattle.std.specs.Prelude.{◌≡◌};
 use crate::{RecordedBuildScope, RerunSuites};
 use rec_events::ReportUuid;
 
-/// The first run of a chain of reruns, and what was built for it.
+/// Describes the first run of a chain of reruns, and what was built for it.
 #[derive(Drop)]
 pub struct RerunRootInfo {
     pub run_id: ReportUuid,
@@ -12,7 +12,7 @@ pub struct RerunRootInfo {
 }
 
 impl RerunRootInfo {
-    /// The first run of a line of reruns, and what it built.
+    /// Makes the description of the first run of a chain, and of what was built for it.
     pub fn new(run_id: ReportUuid, build_scope: RecordedBuildScope) -> Self
         ensures { result ≡ record { run_id = run_id; build_scope = build_scope } }
     {
@@ -23,7 +23,7 @@ impl RerunRootInfo {
     }
 }
 
-/// What a rerun is a rerun of, and which tests had passed by then.
+/// Describes what a rerun is a rerun of, and which tests had passed by then.
 #[derive(Drop)]
 pub struct RerunInfo {
     /// The run just before this one.

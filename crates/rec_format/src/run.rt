@@ -9,7 +9,7 @@ use crate::{
 use rec_events::{Duration, Items, ReportUuid, Stamp, Text, TextMap, TryClone, Version};
 use std::alloc::{AllocError, Global};
 
-/// The metadata of a recorded run. It has no JSON form of its own: that is `RecordedRun`'s.
+/// Describes a recorded run. It has no JSON form of its own: that is `RecordedRun`'s.
 #[derive(Drop)]
 pub struct RecordedRunInfo {
     pub run_id: ReportUuid,
@@ -26,7 +26,7 @@ pub struct RecordedRunInfo {
     pub status: RecordedRunStatus,
 }
 
-/// The metadata of a recorded run as it stands in JSON.
+/// Describes a recorded run as it stands in JSON.
 #[derive(Drop)]
 pub struct RecordedRun {
     pub run_id: ReportUuid,
@@ -45,7 +45,11 @@ pub struct RecordedRun {
 }
 
 impl RecordedRun {
-    /// The same metadata, field by field.
+    /// Makes the run of this metadata, field by field.
+    ///
+    /// # Errors
+    ///
+    /// `AllocError` where memory is short.
     pub fn from_info(alloc: Global, info: &RecordedRunInfo) -> Result<RecordedRun, AllocError>
         ensures { IfOk result (λ run. run ≡ run_of info.now) }
     {
@@ -66,7 +70,11 @@ impl RecordedRun {
         })
     }
 
-    /// The same metadata, field by field.
+    /// Copies the metadata of the run, field by field.
+    ///
+    /// # Errors
+    ///
+    /// `AllocError` where memory is short.
     pub fn to_info(&self, alloc: Global) -> Result<RecordedRunInfo, AllocError>
         ensures { IfOk result (λ info. info ≡ info_of self.now) }
     {

@@ -38,6 +38,10 @@ impl Model for RunIdIndex {
 
 impl RunIdIndex {
     /// Makes the index of these ids.
+    ///
+    /// # Errors
+    ///
+    /// `AllocError` where memory is short.
     pub fn new(alloc: Global, ids: &[ReportUuid]) -> Result<RunIdIndex, AllocError>
         ensures { IfOk result (λ index. (id : List ℕ) → Contains index id ↔ Contains ids.now id) }
     {
@@ -51,6 +55,10 @@ impl RunIdIndex {
 
     /// Finds the shortest prefix of an id with which no other id of the index begins. There is none
     /// exactly where the id isn't in the index.
+    ///
+    /// # Errors
+    ///
+    /// `AllocError` where memory is short.
     pub fn shortest_unique_prefix(
         &self,
         alloc: Global,

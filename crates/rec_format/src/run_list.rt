@@ -45,11 +45,11 @@ impl RecordedRunList {
     }
 }
 
-/// Tells which of a run's files are there.
+/// Says which of a run's files are there.
 pub trait RunFilesExist {
-    /// Tells whether the run's store is there.
+    /// Checks whether the run's store is there.
     fn store_zip_exists(&self) -> bool;
 
-    /// Tells whether the run's log is there.
+    /// Checks whether the run's event log is there.
     fn run_log_exists(&self) -> bool;
 }

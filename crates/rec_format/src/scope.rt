@@ -3,7 +3,7 @@ ghost use Rattle.std.specs.Prelude.{◌≡◌};
 
 use rec_events::BuildScope;
 
-/// Where the test binaries of a run came from.
+/// Says where the test binaries of a run came from.
 #[derive(Copy, Clone, PartialEq, Eq, Debug)]
 pub enum BuildKind {
     /// Cargo built them.
@@ -12,7 +12,7 @@ pub enum BuildKind {
     Reused,
 }
 
-/// What was built for a run, and by whom.
+/// Describes what was built for a run, and by whom.
 #[derive(PartialEq, Eq, Debug, Drop)]
 pub struct RecordedBuildScope {
     pub build_kind: BuildKind,
@@ -20,7 +20,7 @@ pub struct RecordedBuildScope {
 }
 
 impl RecordedBuildScope {
-    /// What was built, by a builder of this kind.
+    /// Makes the description of what was built, by a builder of this kind.
     pub fn new(build_kind: BuildKind, scope: BuildScope) -> Self
         ensures { result ≡ record { build_kind = build_kind; scope = scope } }
     {

@@ -1,36 +1,94 @@
-//! What a log and a store took.
+//! The sizes of an event log and of a store.
 
-/// What one part of a recording took, in bytes.
-#[derive(Copy, Clone, Default, Debug)]
+/// Counts the bytes and the entries of one part of a recording.
+#[derive(Copy, Clone, Debug)]
 pub struct ComponentSizes {
-    /// The length as it is stored.
+    /// The length as it is stored, in bytes.
     pub compressed: u64,
-    /// The length of the content.
+    /// The length of the content, in bytes.
     pub uncompressed: u64,
     /// How many events or files there are.
     pub entries: u64,
 }
 
-/// What the log and the store of a run took.
-#[derive(Copy, Clone, Default, Debug)]
+impl Default for ComponentSizes {
+    ghost use Rattle.std.specs.Prelude.{◌≡◌};
+    ghost use Rattle.rec_format.specs.Sizes.{no_component};
+
+    ghost is_default = { λ sizes. sizes ≡ no_component };
+
+    fn default() -> ComponentSizes {
+        ComponentSizes {
+            compressed: 0,
+            uncompressed: 0,
+            entries: 0,
+        }
+    }
+}
+
+/// Counts the bytes and the entries of a run's event log and store.
+#[derive(Copy, Clone, Debug)]
 pub struct RecordedSizes {
     pub log: ComponentSizes,
     pub store: ComponentSizes,
 }
 
-/// `ComponentSizes` as they stand in JSON.
-#[derive(Copy, Clone, PartialEq, Eq, Default, Debug)]
+impl Default for RecordedSizes {
+    ghost use Rattle.std.specs.Prelude.{◌≡◌};
+    ghost use Rattle.rec_format.specs.Sizes.{no_sizes};
+
+    ghost is_default = { λ sizes. sizes ≡ no_sizes };
+
+    fn default() -> RecordedSizes {
+        RecordedSizes {
+            log: ComponentSizes::default(),
+            store: ComponentSizes::default(),
+        }
+    }
+}
+
+/// Holds `ComponentSizes` as they stand in JSON.
+#[derive(Copy, Clone, PartialEq, Eq, Debug)]
 pub struct ComponentSizesFormat {
     pub compressed: u64,
     pub uncompressed: u64,
     pub entries: u64,
 }
 
-/// `RecordedSizes` as they stand in JSON.
-#[derive(Copy, Clone, PartialEq, Eq, Default, Debug)]
+impl Default for ComponentSizesFormat {
+    ghost use Rattle.std.specs.Prelude.{◌≡◌};
+    ghost use Rattle.rec_format.specs.Sizes.{no_component_format};
+
+    ghost is_default = { λ sizes. sizes ≡ no_component_format };
+
+    fn default() -> ComponentSizesFormat {
+        ComponentSizesFormat {
+            compressed: 0,
+            uncompressed: 0,
+            entries: 0,
+        }
+    }
+}
+
+/// Holds `RecordedSizes` as they stand in JSON.
+#[derive(Copy, Clone, PartialEq, Eq, Debug)]
 pub struct RecordedSizesFormat {
     pub log: ComponentSizesFormat,
     pub store: ComponentSizesFormat,
+}
+
+impl Default for RecordedSizesFormat {
+    ghost use Rattle.std.specs.Prelude.{◌≡◌};
+    ghost use Rattle.rec_format.specs.Sizes.{no_sizes_format};
+
+    ghost is_default = { λ sizes. sizes ≡ no_sizes_format };
+
+    fn default() -> RecordedSizesFormat {
+        RecordedSizesFormat {
+            log: ComponentSizesFormat::default(),
+            store: ComponentSizesFormat::default(),
+        }
+    }
 }
 
 impl From<ComponentSizes> for ComponentSizesFormat {

@@ -1,7 +1,7 @@
 //! How a recorded run ended.
 use rec_events::NonZeroCount;
 
-/// How a run of tests ended.
+/// Counts the tests of a run that ended.
 #[derive(Copy, Clone, PartialEq, Eq)]
 pub struct CompletedRunStats {
     pub initial_run_count: usize,
@@ -11,7 +11,7 @@ pub struct CompletedRunStats {
     pub exit_code: i32,
 }
 
-/// How a stress run ended, which runs its tests again and again.
+/// Counts the rounds of a stress run that ended, which runs its tests again and again.
 #[derive(Copy, Clone, PartialEq, Eq)]
 pub struct StressCompletedRunStats {
     /// How many rounds were asked for; `None` where no number was.
@@ -22,7 +22,7 @@ pub struct StressCompletedRunStats {
     pub exit_code: i32,
 }
 
-/// The status of a recorded run.
+/// Says how a recorded run ended.
 #[derive(Copy, Clone, PartialEq, Eq)]
 pub enum RecordedRunStatus {
     /// The run goes on, or it was cut off.
@@ -35,7 +35,7 @@ pub enum RecordedRunStatus {
     Unknown,
 }
 
-/// `RecordedRunStatus` as it stands in JSON.
+/// Holds a `RecordedRunStatus` as it stands in JSON.
 #[derive(Copy, Clone, PartialEq, Eq)]
 pub enum RecordedRunStatusFormat {
     Incomplete,

@@ -9,7 +9,7 @@ use std::alloc::{AllocError, Global};
 use std::collections::BTreeMap;
 use std::marker::Model;
 
-/// Which tests of a binary passed, and which are still to pass.
+/// Lists which tests of a binary passed, and which are still to pass.
 #[derive(PartialEq, Eq, Debug, Drop)]
 pub struct RerunTestSuiteInfo {
     pub binary_id: RustBinaryId,
@@ -17,7 +17,8 @@ pub struct RerunTestSuiteInfo {
     pub outstanding: TestNames,
 }
 
-/// Test suites by binary id. Contracts see them in the order of their ids' bytes; no two have one id.
+/// Holds test suites by binary id. Contracts see them in the order of their ids' bytes; no two have
+/// one id.
 #[derive(Drop)]
 pub struct RerunSuites {
     alloc: Global,
@@ -38,7 +39,7 @@ impl Model for RerunSuites {
 }
 
 impl RerunSuites {
-    /// No suites.
+    /// Makes a collection without suites.
     pub fn new(alloc: Global) -> RerunSuites
         ensures { result ≡ [] }
     {
@@ -48,8 +49,11 @@ impl RerunSuites {
         }
     }
 
-    /// Puts a suite at its place, and answers the suite of its binary that was there. Without memory
-    /// the suites stay.
+    /// Puts a suite at its place, and returns the suite of its binary that was there.
+    ///
+    /// # Errors
+    ///
+    /// `AllocError` where memory is short. The suites are then as they were.
     pub fn insert(
         &mut self,
         suite: RerunTestSuiteInfo,
@@ -62,21 +66,21 @@ impl RerunSuites {
         Ok(self.inner.insert(id, suite)?)
     }
 
-    /// The suite of a binary.
+    /// Returns the suite of a binary.
     pub fn get(&self, binary_id: &RustBinaryId) -> Option<&RerunTestSuiteInfo>
         ensures { option_copied result ≡ suite_of binary_id.now self.now }
     {
         self.inner.get(binary_id.as_str())
     }
 
-    /// How many suites there are.
+    /// Returns the number of suites.
     pub fn len(&self) -> usize
         ensures { result ≡ length self.now }
     {
         self.inner.len()
     }
 
-    /// The suite at a place in the order of binary ids.
+    /// Returns the suite at a place in the order of binary ids.
     pub fn suite(&self, i: usize) -> &RerunTestSuiteInfo
         requires { i < length self.now }
         ensures { slice_get self.now i ≡ Some result.now }

@@ -9,7 +9,7 @@ use crate::{
 use std::fmt;
 use std::marker::Model;
 
-/// The major version of the store's format: a store of another one isn't read.
+/// Numbers a major version of the store's format. A store of another one isn't read.
 #[derive(Copy, Clone, PartialEq, Eq, PartialOrd, Ord, Debug)]
 pub struct StoreFormatMajorVersion {
     version: u32,
@@ -26,7 +26,7 @@ impl Model for StoreFormatMajorVersion {
 }
 
 impl StoreFormatMajorVersion {
-    /// The major version with this number.
+    /// Makes the major version with this number.
     pub const fn new(version: u32) -> Self
         ensures { result ≡ version }
     {
@@ -52,8 +52,8 @@ impl fmt::Display for StoreFormatMajorVersion {
     }
 }
 
-/// The minor version of the store's format: a store of an older one is still read.
-#[derive(Copy, Clone, PartialEq, Eq, PartialOrd, Ord, Default, Debug)]
+/// Numbers a minor version of the store's format. A store of an older one is still read.
+#[derive(Copy, Clone, PartialEq, Eq, PartialOrd, Ord, Debug)]
 pub struct StoreFormatMinorVersion {
     version: u32,
 }
@@ -68,8 +68,18 @@ impl Model for StoreFormatMinorVersion {
     ghost inverse = { λ n. record { version = n } };
 }
 
+impl Default for StoreFormatMinorVersion {
+    ghost use Rattle.std.specs.Prelude.{◌≡◌};
+
+    ghost is_default = { λ v. v ≡ 0 };
+
+    fn default() -> StoreFormatMinorVersion {
+        StoreFormatMinorVersion::new(0)
+    }
+}
+
 impl StoreFormatMinorVersion {
-    /// The minor version with this number.
+    /// Makes the minor version with this number.
     pub const fn new(version: u32) -> Self
         ensures { result ≡ version }
     {
@@ -95,7 +105,7 @@ impl fmt::Display for StoreFormatMinorVersion {
     }
 }
 
-/// The major version of the bundle's format: a bundle of another one isn't read.
+/// Numbers a major version of the bundle's format. A bundle of another one isn't read.
 #[derive(Copy, Clone, PartialEq, Eq, PartialOrd, Ord, Debug)]
 pub struct PortableRecordingFormatMajorVersion {
     version: u32,
@@ -112,7 +122,7 @@ impl Model for PortableRecordingFormatMajorVersion {
 }
 
 impl PortableRecordingFormatMajorVersion {
-    /// The major version with this number.
+    /// Makes the major version with this number.
     pub const fn new(version: u32) -> Self
         ensures { result ≡ version }
     {
@@ -138,8 +148,8 @@ impl fmt::Display for PortableRecordingFormatMajorVersion {
     }
 }
 
-/// The minor version of the bundle's format: a bundle of an older one is still read.
-#[derive(Copy, Clone, PartialEq, Eq, PartialOrd, Ord, Default, Debug)]
+/// Numbers a minor version of the bundle's format. A bundle of an older one is still read.
+#[derive(Copy, Clone, PartialEq, Eq, PartialOrd, Ord, Debug)]
 pub struct PortableRecordingFormatMinorVersion {
     version: u32,
 }
@@ -154,8 +164,18 @@ impl Model for PortableRecordingFormatMinorVersion {
     ghost inverse = { λ n. record { version = n } };
 }
 
+impl Default for PortableRecordingFormatMinorVersion {
+    ghost use Rattle.std.specs.Prelude.{◌≡◌};
+
+    ghost is_default = { λ v. v ≡ 0 };
+
+    fn default() -> PortableRecordingFormatMinorVersion {
+        PortableRecordingFormatMinorVersion::new(0)
+    }
+}
+
 impl PortableRecordingFormatMinorVersion {
-    /// The minor version with this number.
+    /// Makes the minor version with this number.
     pub const fn new(version: u32) -> Self
         ensures { result ≡ version }
     {
@@ -181,14 +201,14 @@ impl fmt::Display for PortableRecordingFormatMinorVersion {
     }
 }
 
-/// The version of the format that a store is written in.
+/// Names the version of the format that a store is written in, 3.0.
 pub const STORE_FORMAT_VERSION: StoreFormatVersion = StoreFormatVersion {
     major: StoreFormatMajorVersion { version: 3 },
     minor: StoreFormatMinorVersion { version: 0 },
 };
 
-/// A version of the store's format, printed as `major.minor`. It has no JSON form: its two numbers
-/// stand apart in a run's metadata.
+/// Names a version of the store's format, printed as `major.minor`. It has no JSON form: its two
+/// numbers stand apart in a run's metadata.
 #[derive(Copy, Clone, PartialEq, Eq, Debug)]
 pub struct StoreFormatVersion {
     pub major: StoreFormatMajorVersion,
@@ -196,15 +216,21 @@ pub struct StoreFormatVersion {
 }
 
 impl StoreFormatVersion {
-    /// The version of these two numbers.
+    /// Makes the version of these two numbers.
     pub const fn new(major: StoreFormatMajorVersion, minor: StoreFormatMinorVersion) -> Self
         ensures { result ≡ record { major = major; minor = minor } }
     {
         StoreFormatVersion { major, minor }
     }
 
-    /// Whether a program that supports a version reads a store of this one: exactly where the
-    /// majors are equal and this minor isn't newer. The error says which of the two is in the way.
+    /// Checks that a program which supports a version reads a store of this one: exactly where the
+    /// majors are equal and this minor isn't newer.
+    ///
+    /// # Errors
+    ///
+    /// - `RecordingTooOld` where this major is below the supported one, with what to do then.
+    /// - `RecordingTooNew` where this major is above the supported one.
+    /// - `MinorTooNew` where the majors are equal, and this minor is above the supported one.
     pub fn check_readable_by(self, supported: Self) -> Result<(), StoreVersionIncompatibility>
         ensures answer { result ≡ store_readable self supported }
         ensures readable { IsOk result ↔ ((self.major ≡ supported.major) × (self.minor ≤ supported.minor)) }
@@ -246,14 +272,14 @@ impl fmt::Display for StoreFormatVersion {
     }
 }
 
-/// The version of the format that a bundle is written in.
+/// Names the version of the format that a bundle is written in, 1.1.
 pub const PORTABLE_RECORDING_FORMAT_VERSION: PortableRecordingFormatVersion =
     PortableRecordingFormatVersion {
         major: PortableRecordingFormatMajorVersion { version: 1 },
         minor: PortableRecordingFormatMinorVersion { version: 1 },
     };
 
-/// A version of the bundle's format, printed as `major.minor`.
+/// Names a version of the bundle's format, printed as `major.minor`.
 #[derive(Copy, Clone, PartialEq, Eq, Debug)]
 pub struct PortableRecordingFormatVersion {
     pub major: PortableRecordingFormatMajorVersion,
@@ -261,7 +287,7 @@ pub struct PortableRecordingFormatVersion {
 }
 
 impl PortableRecordingFormatVersion {
-    /// The version of these two numbers.
+    /// Makes the version of these two numbers.
     pub const fn new(
         major: PortableRecordingFormatMajorVersion,
         minor: PortableRecordingFormatMinorVersion,
@@ -271,8 +297,13 @@ impl PortableRecordingFormatVersion {
         PortableRecordingFormatVersion { major, minor }
     }
 
-    /// Whether a program that supports a version reads a bundle of this one: exactly where the
-    /// majors are equal and this minor isn't newer. The error says which of the two is in the way.
+    /// Checks that a program which supports a version reads a bundle of this one: exactly where the
+    /// majors are equal and this minor isn't newer.
+    ///
+    /// # Errors
+    ///
+    /// - `MajorMismatch` where this major is another than the supported one.
+    /// - `MinorTooNew` where the majors are equal, and this minor is above the supported one.
     pub fn check_readable_by(
         self,
         supported: Self,
@@ -308,7 +339,7 @@ impl fmt::Display for PortableRecordingFormatVersion {
     }
 }
 
-/// Names the version of the format that a run list is written in.
+/// Names the version of the format that a run list is written in, 3.
 pub const RUNS_JSON_FORMAT_VERSION: RunsJsonFormatVersion = RunsJsonFormatVersion { version: 3 };
 
 /// Numbers a version of the run list's format. A list of a newer one isn't written back.
@@ -355,7 +386,7 @@ impl fmt::Display for RunsJsonFormatVersion {
 }
 
 impl StoreFormatMajorVersion {
-    /// What to do with a recording of this major version where it is too old to be read.
+    /// Returns what to do with a recording of this major version where it is too old to be read.
     pub fn too_old_guidance(self) -> TooOldRecordingGuidance
         ensures { result ≡ guidance self }
     {
@@ -379,9 +410,9 @@ impl StoreFormatMajorVersion {
     }
 }
 
-/// The store version that a new recording gets: that of the text, or the supported one where none is
-/// given. A text is two numbers of one or more decimal digits that fit 32 bits, with a dot between
-/// them; for any other the answer is None.
+/// Returns the store version that a new recording gets: that of the text, or the supported one where
+/// none is given. A text is two numbers of one or more decimal digits that fit 32 bits, with a dot
+/// between them; for any other the answer is `None`.
 pub fn store_format_version_for(text: Option<&str>) -> Option<StoreFormatVersion>
     ensures { result ≡ store_version_of (option_map (λ t. t.now) text.entry) }
 {

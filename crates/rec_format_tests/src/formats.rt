@@ -29,13 +29,18 @@ fn portable_version(major: u32, minor: u32) -> PortableRecordingFormatVersion {
 }
 
 // What stands in the way of a store of a version.
-const STORES: [(u32, u32, &str); 6] = [
+const STORES: [(u32, u32, &str); 7] = [
     (3, 0, "read"),
     (3, 1, "minor version 1 is newer than supported version 0"),
     (
         4,
         0,
         "recording has major version 4, but this nextest only supports version 3 (upgrade nextest to replay this recording)",
+    ),
+    (
+        2,
+        0,
+        "recording has major version 2, but this nextest requires version 3\n(recordings from nextest 0.9.149 and earlier are no longer supported; discard this recording and record a new run)",
     ),
     (
         2,
@@ -62,6 +67,25 @@ const BUNDLES: [(u32, u32, &str); 5] = [
     (2, 0, "major version 2 differs from supported version 1"),
     (0, 1, "major version 0 differs from supported version 1"),
 ];
+
+#[test]
+fn too_old_stores(rt: HostRuntime) {
+    let got = store_version(2, 0).check_readable_by(STORE_FORMAT_VERSION);
+    let want = StoreVersionIncompatibility::RecordingTooOld {
+        recording_major: StoreFormatMajorVersion::new(2),
+        supported_major: StoreFormatMajorVersion::new(3),
+        guidance: TooOldRecordingGuidance::Discard {
+            last_nextest_version: Release {
+                major: 0,
+                minor: 9,
+                patch: 149,
+            },
+        },
+    };
+    assert!(rt; got == Err(want));
+    let future = StoreFormatMajorVersion::new(4).too_old_guidance();
+    assert!(rt; future == TooOldRecordingGuidance::Unknown);
+}
 
 #[test]
 fn versions(rt: HostRuntime) -> Result<(), Fail> {

@@ -5,3 +5,5 @@
 mod formats;
 #[cfg(test)]
 mod run_lists;
+#[cfg(test)]
+mod small_impls;

@@ -24,8 +24,8 @@ fn permissions(rt: HostRuntime) -> Result<(), Fail> {
     assert!(rt; newer == want);
     let known = read(alloc, r#"{"format-version":3}"#)?.write_permission();
     assert!(rt; known == RunsJsonWritePermission::Allowed);
-    let told = format!(in alloc; "{RUNS_JSON_FORMAT_VERSION}")?;
-    assert!(rt; told.as_str() == "3");
+    let printed = format!(in alloc; "{RUNS_JSON_FORMAT_VERSION}")?;
+    assert!(rt; printed.as_str() == "3");
     Ok(())
 }
 

@@ -1,1 +1,2 @@
 pub mod OnlyMember
+pub mod ReadBack

@@ -1,6 +1,7 @@
 -- The values and forms of run numbers and versions.
-use Rattle.std.specs.Prelude.{◌≡◌, ℕ, List, Option, Some, option_and_then}
+use Rattle.std.specs.Prelude.{◌≡◌, ◌<◌, ℕ, List, length, Option, option_and_then}
 use Rattle.std.specs.Result.{result_ok}
+use Rattle.std.specs.List.{All}
 use Rattle.uuid.specs.Text.{lower, hyphenated_text, parsed}
 use Rattle.semver.specs.Parse.{Parts, version_parts}
 use Rattle.semver.specs.Identifiers.{parts_text}
@@ -14,9 +15,10 @@ uuid_value u = string (hyphenated_text lower u)
 unfoldable pub uuid_form : Data → Option (List ℕ)
 uuid_form d = option_and_then parsed (as_str d)
 
--- bytes that their own text reads as
-abbrev pub IsUuid : List ℕ → Type 0
-IsUuid u = parsed (hyphenated_text lower u) ≡ Some u
+-- sixteen bytes
+pub record IsUuid (u : List ℕ) : Type 0 where
+  pub size : length u ≡ 16
+  pub bytes : All (λ b. b < 256) u
 
 abbrev pub version_value : Parts → Data
 version_value p = string (parts_text p)

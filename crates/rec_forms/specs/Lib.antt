@@ -1,14 +1,14 @@
+pub mod Canonical
 pub mod ErrorTextLaws
 pub mod ErrorTexts
 pub mod Gives
+pub mod GivesWellFormed
 pub mod GroupLaws
 pub mod Groups
 pub mod IdLaws
 pub mod Ids
 pub mod InstanceLaws
 pub mod Instances
-pub mod Known
-pub mod KnownLaws
 pub mod ListLaws
 pub mod Lists
 pub mod MapLaws
@@ -28,6 +28,7 @@ pub mod Reporting
 pub mod ReportingLaws
 pub mod ResultLaws
 pub mod Results
+pub mod RiseLaws
 pub mod RunEndLaws
 pub mod RunEnds
 pub mod SelectionLaws
@@ -40,6 +41,8 @@ pub mod StatsLaws
 pub mod Stress
 pub mod StressLaws
 pub mod TextForm
+pub mod TextLaws
 pub mod TimeLaws
 pub mod Times
+pub mod WellFormedLaws
 pub mod Writable

@@ -26,6 +26,6 @@ if_there-other form (object ms) h = refl
 
 -- an optional member reads back
 pub maybe_back : {T : Type 0} {n : ℕ} (P : T → Type 0) (value : T → Data) (form : Data → Option T) → ((x : T) → P x → form (value x) ≡ Some x)
-    → ((x : T) → IsWritable n (value x)) → (o : Option T) → IfSome o P → at_member (if_there form) (option_map value o) ≡ Some o
+    → ((x : T) → P x → IsWritable n (value x)) → (o : Option T) → IfSome o P → at_member (if_there form) (option_map value o) ≡ Some o
 maybe_back P value form back writable None h = refl
-maybe_back P value form back writable (Some x) h = rw (if_there-other form (value x) (writable x).some, back x h)
+maybe_back P value form back writable (Some x) h = rw (if_there-other form (value x) (writable x h).some, back x h)

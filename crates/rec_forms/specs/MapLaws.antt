@@ -8,14 +8,14 @@ use Rattle.rec_events.specs.Pairs.{keys, KeysRise, put_pair}
 use Rattle.rec_events.specs.PairLaws.{above_before, KeysRise-tail, put_pair-last}
 use Rattle.rec_forms.specs.Shape.{with_members, members_of}
 use Rattle.rec_forms.specs.Maps.{map_fields, map_value, pairs_form, map_form, each_value, IsMap}
-use Rattle.rec_forms.specs.Writable.{IsWritable, EachWritten, struct_writable}
-use Rattle.rec_forms.specs.Known.{Holds, Known}
-use Rattle.rec_forms.specs.KnownLaws.{anything, and_then_holds, choice_holds}
+use Rattle.rec_forms.specs.Writable.{IsWritable, EachWritten, field_keys, fields_writable}
+use Rattle.rec_forms.specs.GivesWellFormed.{Holds, GivesWellFormed}
+use Rattle.rec_forms.specs.WellFormedLaws.{anything, and_then_holds, choice_holds}
 use Rattle.std.specs.Ordering.{nat_cmp, match_ordering}
 use Rattle.std.specs.Cmp.Lexicographic.{slice_cmp}
 use Rattle.std.specs.Str.{is_utf8}
 use Rattle.serde_json.specs.Find.{as_object}
-use Rattle.rec_forms.specs.NameLaws.{match_holds, AreTexts-with_name, Rise-with_name}
+use Rattle.rec_forms.specs.RiseLaws.{match_holds, AreTexts-with_name, Rise-with_name}
 use Rattle.std.specs.List.Sorted.{IsStrictlySortedBy}
 
 -- the members of the pairs, as they stand
@@ -51,12 +51,17 @@ module _ {V : Type 0} (P : V → Type 0) (value : V → Data) (form : Data → O
   unfolding members_of
   map_back ps h = rw (written ps [] h.rise) (read ps [] h.rise h.texts h.values)
 
-fields_written : {V : Type 0} {n : ℕ} (value : V → Data) → ((x : V) → IsWritable n (value x)) → (ps : List (List ℕ × V)) → EachWritten n (map_fields value ps)
-fields_written value writable [] = tt
-fields_written value writable (p ∷ ps) = (writable p.1, fields_written value writable ps)
+module _ {V : Type 0} {P : V → Type 0} {n : ℕ} (value : V → Data) (writable : (x : V) → P x → IsWritable n (value x)) where
+  fields_written : (ps : List (List ℕ × V)) → AllByRecursion P (each_value ps) → EachWritten n (map_fields value ps)
+  fields_written [] h = tt
+  fields_written (p ∷ ps) h = (writable p.1 h.0, fields_written ps h.1)
 
-pub map_writable : {V : Type 0} {n : ℕ} (value : V → Data) → ((x : V) → IsWritable n (value x)) → (ps : List (List ℕ × V)) → IsWritable (suc n) (map_value value ps)
-map_writable value writable ps = struct_writable (map_fields value ps) (fields_written value writable ps)
+  fields_have_texts : (ps : List (List ℕ × V)) → AreTexts (keys ps) → AreTexts (field_keys (map_fields value ps))
+  fields_have_texts [] h = tt
+  fields_have_texts (p ∷ ps) h = (h.0, fields_have_texts ps h.1)
+
+  pub map_writable : (ps : List (List ℕ × V)) → IsMap P ps → IsWritable (suc n) (map_value value ps)
+  map_writable ps h = fields_writable (map_fields value ps) (fields_have_texts ps h.texts) (fields_written ps h.values)
 
 -- ---- what is read is well-formed
 
@@ -75,21 +80,21 @@ values_hold P k x [] h all = (h, tt)
 values_hold P k x (p ∷ ps) h all =
     match_holds (λ qs. AllByRecursion P (each_value qs)) (slice_cmp nat_cmp k p.0) _ _ _ (h, all) (h, all.1) (all.0, values_hold P k x ps h all.1)
 
-put_known : {V : Type 0} (P : V → Type 0) (k : List ℕ) (x : V) (ps : List (List ℕ × V)) → IsText k → P x → IsMap P ps → IsMap P (put_pair k x ps)
-put_known P k x ps text h map = record {
+put_well_formed : {V : Type 0} (P : V → Type 0) (k : List ℕ) (x : V) (ps : List (List ℕ × V)) → IsText k → P x → IsMap P ps → IsMap P (put_pair k x ps)
+put_well_formed P k x ps text h map = record {
   texts = rw (keys-put_pair k x ps) (AreTexts-with_name (keys ps) k map.texts text);
   rise = rw (keys-put_pair k x ps) (Rise-with_name (keys ps) k map.rise);
   values = values_hold P k x ps h map.values;
 }
 
-module _ {V : Type 0} {P : V → Type 0} (form : Data → Option V) (h : Known P form) where
-  pairs_known : (ms : Members) (ps : List (List ℕ × V)) → IsMap P ps → Holds (IsMap P) (pairs_form form ps ms)
-  pairs_known no_members ps map = record { is = map }
-  pairs_known (member k d ms) ps map =
+module _ {V : Type 0} {P : V → Type 0} (form : Data → Option V) (h : GivesWellFormed P form) where
+  pairs_well_formed : (ms : Members) (ps : List (List ℕ × V)) → IsMap P ps → Holds (IsMap P) (pairs_form form ps ms)
+  pairs_well_formed no_members ps map = record { is = map }
+  pairs_well_formed (member k d ms) ps map =
       choice_holds (λ o. Holds (IsMap P) o) (is_utf8 k) (option_and_then (λ x. pairs_form form (put_pair k x ps) ms) (form d)) None
-      (λ text. and_then_holds (λ x. pairs_form form (put_pair k x ps) ms) (form d) (h.each d) (λ x y. pairs_known ms (put_pair k x ps) (put_known P k x ps text y map)))
+      (λ text. and_then_holds (λ x. pairs_form form (put_pair k x ps) ms) (form d) (h.each d) (λ x y. pairs_well_formed ms (put_pair k x ps) (put_well_formed P k x ps text y map)))
       (λ _. record { is = tt })
 
-  pub map_known : Known (IsMap P) (map_form form)
+  pub map_well_formed : GivesWellFormed (IsMap P) (map_form form)
   unfolding IsStrictlySortedBy
-  map_known = record { each = λ d. and_then_holds (pairs_form form []) (as_object d) (anything (as_object d)) (λ ms _. pairs_known ms [] (record { texts = tt; rise = tt; values = tt })) }
+  map_well_formed = record { each = λ d. and_then_holds (pairs_form form []) (as_object d) (anything (as_object d)) (λ ms _. pairs_well_formed ms [] (record { texts = tt; rise = tt; values = tt })) }

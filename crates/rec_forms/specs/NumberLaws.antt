@@ -10,8 +10,9 @@ use Rattle.rec_forms.specs.Shape.{only, natural, natural_below, integer, fits, i
 use Rattle.rec_forms.specs.Numbers.{u32_form, u64_form, i32_form, i64_form, count_form, IsCount}
 use Rattle.serde_json.specs.Find.{as_number, as_str, as_u64, as_i64}
 use Rattle.std.specs.Str.{is_utf8}
-use Rattle.rec_forms.specs.Known.{Known}
-use Rattle.rec_forms.specs.KnownLaws.{anything, and_then_holds, only_holds}
+use Rattle.rec_forms.specs.Writable.{IsWritable, natural_writable, integer_writable}
+use Rattle.rec_forms.specs.GivesWellFormed.{GivesWellFormed}
+use Rattle.rec_forms.specs.WellFormedLaws.{anything, and_then_holds, only_holds}
 
 below_back : (limit n : ℕ) → n < limit → natural_below limit (natural n) ≡ Some n
 below_back limit n h = grind (arith, nat_tests)
@@ -36,24 +37,36 @@ count_back n h = grind (arith, nat_tests)
 pub text_back : (s : List ℕ) → IsText s → text_of (string s) ≡ Some s
 text_back s h = rw h
 
+-- ---- what is written is writable
+
+pub u32_writable : {n : ℕ} (k : ℕ) → k < 2 ^ 32 → IsWritable n (natural k)
+u32_writable k h = natural_writable k (omega (arith, h))
+
+pub count_writable : {n : ℕ} (k : ℕ) → IsCount k → IsWritable n (natural k)
+count_writable k h = u32_writable k h.1
+
+pub i32_writable : {n : ℕ} (z : ℤ) → FitsSigned w32 z → IsWritable n (integer z)
+i32_writable (pos k) h = integer_writable (pos k) (grind (arith, ints))
+i32_writable (negsuc k) h = integer_writable (negsuc k) (grind (arith, ints))
+
 -- ---- what is read is well-formed
 
 -- a number below a limit passes the test, and one that passes is below it
 pub below_tells : (n limit : ℕ) → nat_lt n limit ≡ true → n < limit
 below_tells n limit h = grind (arith, nat_tests)
 
-below_known : (limit : ℕ) → Known (λ n. n < limit) (natural_below limit)
-below_known limit = record {
+below_well_formed : (limit : ℕ) → GivesWellFormed (λ n. n < limit) (natural_below limit)
+below_well_formed limit = record {
   each = λ d.
       and_then_holds (λ n. only (nat_lt n limit) n) (option_and_then as_u64 (as_number d)) (anything (option_and_then as_u64 (as_number d))) (λ n _.
       only_holds (nat_lt n limit) n (below_tells n limit));
 }
 
-pub u32_known : Known (λ n. n < 2 ^ 32) u32_form
-u32_known = below_known (2 ^ 32)
+pub u32_well_formed : GivesWellFormed (λ n. n < 2 ^ 32) u32_form
+u32_well_formed = below_well_formed (2 ^ 32)
 
-pub u64_known : Known (λ n. n < 2 ^ 64) u64_form
-u64_known = below_known (2 ^ 64)
+pub u64_well_formed : GivesWellFormed (λ n. n < 2 ^ 64) u64_form
+u64_well_formed = below_well_formed (2 ^ 64)
 
 fits_64 : (z : ℤ) → fits (2 ^ 63) z ≡ true → FitsSigned w64 z
 fits_64 (pos n) h = grind (arith, nat_tests, ints)
@@ -63,28 +76,28 @@ fits_32 : (z : ℤ) → fits (2 ^ 31) z ≡ true → FitsSigned w32 z
 fits_32 (pos n) h = grind (arith, nat_tests, ints)
 fits_32 (negsuc n) h = grind (arith, nat_tests, ints)
 
-within_known : (P : ℤ → Type 0) (limit : ℕ) → ((z : ℤ) → fits limit z ≡ true → P z) → Known P (integer_within limit)
-within_known P limit tells = record {
+within_well_formed : (P : ℤ → Type 0) (limit : ℕ) → ((z : ℤ) → fits limit z ≡ true → P z) → GivesWellFormed P (integer_within limit)
+within_well_formed P limit tells = record {
   each = λ d.
       and_then_holds (λ z. only (fits limit z) z) (option_and_then as_i64 (as_number d)) (anything (option_and_then as_i64 (as_number d))) (λ z _.
       only_holds (fits limit z) z (tells z));
 }
 
-pub i64_known : Known (FitsSigned w64) i64_form
-i64_known = within_known (FitsSigned w64) (2 ^ 63) fits_64
+pub i64_well_formed : GivesWellFormed (FitsSigned w64) i64_form
+i64_well_formed = within_well_formed (FitsSigned w64) (2 ^ 63) fits_64
 
-pub i32_known : Known (FitsSigned w32) i32_form
-i32_known = within_known (FitsSigned w32) (2 ^ 31) fits_32
+pub i32_well_formed : GivesWellFormed (FitsSigned w32) i32_form
+i32_well_formed = within_well_formed (FitsSigned w32) (2 ^ 31) fits_32
 
-pub count_known : Known IsCount count_form
-count_known = record {
+pub count_well_formed : GivesWellFormed IsCount count_form
+count_well_formed = record {
   each = λ d.
-      and_then_holds (λ n. only (nat_lt 0 n) n) (u32_form d) (u32_known.each d) (λ n small.
+      and_then_holds (λ n. only (nat_lt 0 n) n) (u32_form d) (u32_well_formed.each d) (λ n small.
       only_holds (nat_lt 0 n) n (λ some. (below_tells 0 n some, small)));
 }
 
-pub text_known : Known IsText text_of
-text_known = record {
+pub text_well_formed : GivesWellFormed IsText text_of
+text_well_formed = record {
   each = λ d.
       and_then_holds (λ s. only (is_utf8 s) s) (as_str d) (anything (as_str d)) (λ s _. only_holds (is_utf8 s) s (λ passed. passed));
 }

@@ -5,7 +5,7 @@ use Rattle.rec_events.specs.declared.skipping.MismatchReason.TheVariants as reas
 use Rattle.rec_events.specs.declared.skipping.ReportSkipPolicy.{ReportSkipPolicy}
 use Rattle.rec_events.specs.declared.skipping.ReportSkipPolicy.TheVariants as policy
 use Rattle.rec_forms.specs.Skipping.{mismatch_reason_name, mismatch_reason_value, mismatch_reason_form, skip_policy_name, skip_policy_value, skip_policy_form}
-use Rattle.rec_forms.specs.Writable.{IsWritable, string_writable}
+use Rattle.rec_forms.specs.Writable.{IsWritable, word_writable}
 
 pub mismatch_reason_back : (x : MismatchReason) → mismatch_reason_form (mismatch_reason_value x) ≡ Some x
 unfolding mismatch_reason_form
@@ -18,7 +18,13 @@ mismatch_reason_back reason.RerunAlreadyPassed = refl
 mismatch_reason_back reason.DefaultFilter = refl
 
 pub mismatch_reason_writable : (x : MismatchReason) → IsWritable 0 (mismatch_reason_value x)
-mismatch_reason_writable x = string_writable (mismatch_reason_name x)
+mismatch_reason_writable reason.NotBenchmark = word_writable _ refl
+mismatch_reason_writable reason.Ignored = word_writable _ refl
+mismatch_reason_writable reason.String = word_writable _ refl
+mismatch_reason_writable reason.Expression = word_writable _ refl
+mismatch_reason_writable reason.Partition = word_writable _ refl
+mismatch_reason_writable reason.RerunAlreadyPassed = word_writable _ refl
+mismatch_reason_writable reason.DefaultFilter = word_writable _ refl
 
 pub skip_policy_back : (x : ReportSkipPolicy) → skip_policy_form (skip_policy_value x) ≡ Some x
 unfolding skip_policy_form
@@ -27,4 +33,6 @@ skip_policy_back policy.Ignored = refl
 skip_policy_back policy.All = refl
 
 pub skip_policy_writable : (x : ReportSkipPolicy) → IsWritable 0 (skip_policy_value x)
-skip_policy_writable x = string_writable (skip_policy_name x)
+skip_policy_writable policy.None = word_writable _ refl
+skip_policy_writable policy.Ignored = word_writable _ refl
+skip_policy_writable policy.All = word_writable _ refl

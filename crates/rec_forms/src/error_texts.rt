@@ -7,7 +7,7 @@ use std::alloc::{AllocError, Global};
 
 impl Form for ErrorSummary {
     ghost use Rattle.rec_forms.specs.ErrorTexts.{error_summary_value, error_summary_form, IsErrorSummary};
-    ghost use Rattle.rec_forms.specs.ErrorTextLaws.{error_summary_back, error_summary_writable, error_summary_known};
+    ghost use Rattle.rec_forms.specs.ErrorTextLaws.{error_summary_back, error_summary_writable, error_summary_well_formed};
 
     ghost well_formed = { IsErrorSummary };
 
@@ -19,7 +19,7 @@ impl Form for ErrorSummary {
 
     ghost reads_back = { error_summary_back };
 
-    ghost reads_known = { error_summary_known };
+    ghost reads_well_formed = { error_summary_well_formed };
 
     ghost writable = { error_summary_writable };
 
@@ -45,7 +45,7 @@ impl Form for ErrorSummary {
 
 impl Form for OutputErrorSlice {
     ghost use Rattle.rec_forms.specs.ErrorTexts.{error_slice_value, error_slice_form, IsErrorSlice};
-    ghost use Rattle.rec_forms.specs.ErrorTextLaws.{error_slice_back, error_slice_writable, error_slice_known};
+    ghost use Rattle.rec_forms.specs.ErrorTextLaws.{error_slice_back, error_slice_writable, error_slice_well_formed};
 
     ghost well_formed = { IsErrorSlice };
 
@@ -57,7 +57,7 @@ impl Form for OutputErrorSlice {
 
     ghost reads_back = { error_slice_back };
 
-    ghost reads_known = { error_slice_known };
+    ghost reads_well_formed = { error_slice_well_formed };
 
     ghost writable = { error_slice_writable };
 

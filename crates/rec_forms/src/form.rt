@@ -3,7 +3,7 @@ ghost use Rattle.std.specs.Prelude.{◌≡◌, ℕ, Option, Some, IfOk};
 ghost use Rattle.serde_json.specs.Data.{Data};
 ghost use Rattle.serde_json.specs.View.{view};
 ghost use Rattle.rec_forms.specs.Gives.{Gives};
-ghost use Rattle.rec_forms.specs.Known.{Known};
+ghost use Rattle.rec_forms.specs.GivesWellFormed.{GivesWellFormed};
 ghost use Rattle.rec_forms.specs.Writable.{IsWritable};
 
 use crate::FromValueError;
@@ -37,8 +37,9 @@ pub trait Form: Sized {
     ghost reads_back: { (x : Self) → well_formed x → form_of (value_of x) ≡ Some x };
 
     // What is read is well-formed.
-    ghost reads_known: { Known well_formed form_of };
+    ghost reads_well_formed: { GivesWellFormed well_formed form_of };
 
-    // What is written is no null, has no float, and nests no deeper than `levels`.
-    ghost writable: { (x : Self) → IsWritable levels (value_of x) };
+    // What is written is no null, is given back by its text, has no float, and nests no deeper than
+    // `levels`.
+    ghost writable: { (x : Self) → well_formed x → IsWritable levels (value_of x) };
 }

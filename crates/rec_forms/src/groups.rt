@@ -6,7 +6,7 @@ use std::alloc::{AllocError, Global};
 
 impl Form for TestGroup {
     ghost use Rattle.rec_forms.specs.Groups.{test_group_value, test_group_form, IsTestGroup};
-    ghost use Rattle.rec_forms.specs.GroupLaws.{test_group_back, test_group_writable, test_group_known};
+    ghost use Rattle.rec_forms.specs.GroupLaws.{test_group_back, test_group_writable, test_group_well_formed};
 
     ghost well_formed = { IsTestGroup };
 
@@ -18,7 +18,7 @@ impl Form for TestGroup {
 
     ghost reads_back = { test_group_back };
 
-    ghost reads_known = { test_group_known };
+    ghost reads_well_formed = { test_group_well_formed };
 
     ghost writable = { test_group_writable };
 

@@ -12,7 +12,7 @@ impl Form for RustBinaryId {
     ghost use Rattle.serde_json.specs.Data.{string};
     ghost use Rattle.rec_events.specs.Names.{IsText};
     ghost use Rattle.rec_forms.specs.Shape.{text_of};
-    ghost use Rattle.rec_forms.specs.NumberLaws.{text_back, text_known};
+    ghost use Rattle.rec_forms.specs.NumberLaws.{text_back, text_well_formed};
     ghost use Rattle.rec_forms.specs.Writable.{string_writable};
 
     ghost well_formed = { IsText };
@@ -25,9 +25,9 @@ impl Form for RustBinaryId {
 
     ghost reads_back = { text_back };
 
-    ghost reads_known = { text_known };
+    ghost reads_well_formed = { text_well_formed };
 
-    ghost writable = { λ s. string_writable s };
+    ghost writable = { string_writable };
 
     fn to_value(&self, alloc: Global) -> Result<Value, AllocError> {
         Value::try_from_str(alloc, self.as_str())
@@ -43,7 +43,7 @@ impl Form for TestCaseName {
     ghost use Rattle.serde_json.specs.Data.{string};
     ghost use Rattle.rec_events.specs.Names.{IsText};
     ghost use Rattle.rec_forms.specs.Shape.{text_of};
-    ghost use Rattle.rec_forms.specs.NumberLaws.{text_back, text_known};
+    ghost use Rattle.rec_forms.specs.NumberLaws.{text_back, text_well_formed};
     ghost use Rattle.rec_forms.specs.Writable.{string_writable};
 
     ghost well_formed = { IsText };
@@ -56,9 +56,9 @@ impl Form for TestCaseName {
 
     ghost reads_back = { text_back };
 
-    ghost reads_known = { text_known };
+    ghost reads_well_formed = { text_well_formed };
 
-    ghost writable = { λ s. string_writable s };
+    ghost writable = { string_writable };
 
     fn to_value(&self, alloc: Global) -> Result<Value, AllocError> {
         Value::try_from_str(alloc, self.as_str())
@@ -74,7 +74,7 @@ impl Form for ScriptId {
     ghost use Rattle.serde_json.specs.Data.{string};
     ghost use Rattle.rec_events.specs.Names.{IsText};
     ghost use Rattle.rec_forms.specs.Shape.{text_of};
-    ghost use Rattle.rec_forms.specs.NumberLaws.{text_back, text_known};
+    ghost use Rattle.rec_forms.specs.NumberLaws.{text_back, text_well_formed};
     ghost use Rattle.rec_forms.specs.Writable.{string_writable};
 
     ghost well_formed = { IsText };
@@ -87,9 +87,9 @@ impl Form for ScriptId {
 
     ghost reads_back = { text_back };
 
-    ghost reads_known = { text_known };
+    ghost reads_well_formed = { text_well_formed };
 
-    ghost writable = { λ s. string_writable s };
+    ghost writable = { string_writable };
 
     fn to_value(&self, alloc: Global) -> Result<Value, AllocError> {
         Value::try_from_str(alloc, self.as_str())
@@ -115,8 +115,7 @@ impl Form for ReportUuid {
     ghost use Rattle.std.specs.Prelude.{List, ℕ};
     ghost use Rattle.uuid.specs.Text.{lower, hyphenated_text};
     ghost use Rattle.rec_forms.specs.Ids.{uuid_value, uuid_form, IsUuid};
-    ghost use Rattle.rec_forms.specs.IdLaws.{uuid_back, uuid_known};
-    ghost use Rattle.rec_forms.specs.Writable.{string_writable};
+    ghost use Rattle.rec_forms.specs.IdLaws.{uuid_back, uuid_well_formed, uuid_writable};
 
     ghost well_formed = { IsUuid };
 
@@ -128,9 +127,9 @@ impl Form for ReportUuid {
 
     ghost reads_back = { uuid_back };
 
-    ghost reads_known = { uuid_known };
+    ghost reads_well_formed = { uuid_well_formed };
 
-    ghost writable = { λ u. string_writable (hyphenated_text lower u) };
+    ghost writable = { uuid_writable };
 
     fn to_value(&self, alloc: Global) -> Result<Value, AllocError> {
         let mut buffer = Uuid::encode_buffer();
@@ -151,8 +150,7 @@ impl Form for Version {
     ghost use Rattle.semver.specs.Identifiers.{parts_text};
     ghost use Rattle.rec_events.specs.Versions.{IsVersion};
     ghost use Rattle.rec_forms.specs.Ids.{version_value, version_form};
-    ghost use Rattle.rec_forms.specs.IdLaws.{version_back, version_known};
-    ghost use Rattle.rec_forms.specs.Writable.{string_writable};
+    ghost use Rattle.rec_forms.specs.IdLaws.{version_back, version_well_formed, version_writable};
 
     ghost well_formed = { IsVersion };
 
@@ -164,9 +162,9 @@ impl Form for Version {
 
     ghost reads_back = { version_back };
 
-    ghost reads_known = { version_known };
+    ghost reads_well_formed = { version_well_formed };
 
-    ghost writable = { λ p. string_writable (parts_text p) };
+    ghost writable = { version_writable };
 
     fn to_value(&self, alloc: Global) -> Result<Value, AllocError> {
         let text = self.to_text(alloc)?;

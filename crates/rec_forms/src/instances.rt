@@ -7,7 +7,7 @@ use std::alloc::{AllocError, Global};
 
 impl Form for OwnedTestInstanceId {
     ghost use Rattle.rec_forms.specs.Instances.{test_instance_value, test_instance_form, IsTestInstance};
-    ghost use Rattle.rec_forms.specs.InstanceLaws.{test_instance_back, test_instance_writable, test_instance_known};
+    ghost use Rattle.rec_forms.specs.InstanceLaws.{test_instance_back, test_instance_writable, test_instance_well_formed};
 
     ghost well_formed = { IsTestInstance };
 
@@ -19,7 +19,7 @@ impl Form for OwnedTestInstanceId {
 
     ghost reads_back = { test_instance_back };
 
-    ghost reads_known = { test_instance_known };
+    ghost reads_well_formed = { test_instance_well_formed };
 
     ghost writable = { test_instance_writable };
 
@@ -45,7 +45,7 @@ impl Form for OwnedTestInstanceId {
 
 impl Form for TestSlotAssignment {
     ghost use Rattle.rec_forms.specs.Instances.{slot_assignment_value, slot_assignment_form, IsSlotAssignment};
-    ghost use Rattle.rec_forms.specs.InstanceLaws.{slot_assignment_back, slot_assignment_writable, slot_assignment_known};
+    ghost use Rattle.rec_forms.specs.InstanceLaws.{slot_assignment_back, slot_assignment_writable, slot_assignment_well_formed};
 
     ghost well_formed = { IsSlotAssignment };
 
@@ -57,7 +57,7 @@ impl Form for TestSlotAssignment {
 
     ghost reads_back = { slot_assignment_back };
 
-    ghost reads_known = { slot_assignment_known };
+    ghost reads_well_formed = { slot_assignment_well_formed };
 
     ghost writable = { slot_assignment_writable };
 
@@ -85,7 +85,7 @@ impl Form for TestSlotAssignment {
 
 impl Form for RetryData {
     ghost use Rattle.rec_forms.specs.Instances.{retry_data_value, retry_data_form, IsRetryData};
-    ghost use Rattle.rec_forms.specs.InstanceLaws.{retry_data_back, retry_data_writable, retry_data_known};
+    ghost use Rattle.rec_forms.specs.InstanceLaws.{retry_data_back, retry_data_writable, retry_data_well_formed};
 
     ghost well_formed = { IsRetryData };
 
@@ -97,7 +97,7 @@ impl Form for RetryData {
 
     ghost reads_back = { retry_data_back };
 
-    ghost reads_known = { retry_data_known };
+    ghost reads_well_formed = { retry_data_well_formed };
 
     ghost writable = { retry_data_writable };
 
@@ -123,7 +123,7 @@ impl Form for RetryData {
 
 impl Form for StressIndexSummary {
     ghost use Rattle.rec_forms.specs.Instances.{stress_index_value, stress_index_form, IsStressIndex};
-    ghost use Rattle.rec_forms.specs.InstanceLaws.{stress_index_back, stress_index_writable, stress_index_known};
+    ghost use Rattle.rec_forms.specs.InstanceLaws.{stress_index_back, stress_index_writable, stress_index_well_formed};
 
     ghost well_formed = { IsStressIndex };
 
@@ -135,7 +135,7 @@ impl Form for StressIndexSummary {
 
     ghost reads_back = { stress_index_back };
 
-    ghost reads_known = { stress_index_known };
+    ghost reads_well_formed = { stress_index_well_formed };
 
     ghost writable = { stress_index_writable };
 

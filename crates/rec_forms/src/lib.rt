@@ -8,6 +8,7 @@ mod form;
 mod groups;
 mod ids;
 mod instances;
+mod laws;
 mod lists;
 mod maps;
 mod numbers;
@@ -32,4 +33,5 @@ pub use fields::{
     required_field, tagged,
 };
 pub use form::Form;
+pub use laws::{well_formed_items_read_back, writable_values_read_back};
 pub use text_form::{parse_value, read_text, write_text};

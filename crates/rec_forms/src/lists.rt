@@ -12,7 +12,7 @@ impl<T: Form + Drop> Form for Items<T> {
     ghost use Rattle.std.specs.Prelude.{suc};
     ghost use Rattle.rec_forms.specs.ListLaws.{list_back};
     ghost use Rattle.rec_forms.specs.Writable.{list_writable};
-    ghost use Rattle.rec_forms.specs.KnownLaws.{list_known};
+    ghost use Rattle.rec_forms.specs.WellFormedLaws.{list_well_formed};
 
     ghost well_formed = { AllByRecursion T.well_formed };
 
@@ -24,7 +24,7 @@ impl<T: Form + Drop> Form for Items<T> {
 
     ghost reads_back = { list_back T.well_formed T.value_of T.form_of T.reads_back };
 
-    ghost reads_known = { list_known T.form_of T.reads_known };
+    ghost reads_well_formed = { list_well_formed T.form_of T.reads_well_formed };
 
     ghost writable = { list_writable T.value_of T.writable };
 

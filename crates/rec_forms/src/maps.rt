@@ -11,7 +11,7 @@ impl<V: Form + Drop> Form for TextMap<V> {
     ghost use Rattle.std.specs.Prelude.{suc};
     ghost use Rattle.rec_forms.specs.Maps.{map_value, map_form, IsMap};
     ghost use Rattle.rec_forms.specs.MapLaws.{map_back, map_writable};
-    ghost use Rattle.rec_forms.specs.MapLaws.{map_known};
+    ghost use Rattle.rec_forms.specs.MapLaws.{map_well_formed};
 
     ghost well_formed = { IsMap V.well_formed };
 
@@ -23,7 +23,7 @@ impl<V: Form + Drop> Form for TextMap<V> {
 
     ghost reads_back = { map_back V.well_formed V.value_of V.form_of V.reads_back };
 
-    ghost reads_known = { map_known V.form_of V.reads_known };
+    ghost reads_well_formed = { map_well_formed V.form_of V.reads_well_formed };
 
     ghost writable = { map_writable V.value_of V.writable };
 

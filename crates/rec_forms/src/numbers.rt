@@ -9,9 +9,9 @@ use std::alloc::{AllocError, Global};
 
 impl Form for u32 {
     ghost use Rattle.rec_forms.specs.Shape.{natural};
-    ghost use Rattle.rec_forms.specs.Writable.{natural_writable};
+    ghost use Rattle.rec_forms.specs.NumberLaws.{u32_writable};
     ghost use Rattle.rec_forms.specs.Numbers.{u32_form};
-    ghost use Rattle.rec_forms.specs.NumberLaws.{u32_back, u32_known};
+    ghost use Rattle.rec_forms.specs.NumberLaws.{u32_back, u32_well_formed};
 
     ghost well_formed = { λ n. n < 2 ^ 32 };
 
@@ -23,9 +23,9 @@ impl Form for u32 {
 
     ghost reads_back = { u32_back };
 
-    ghost reads_known = { u32_known };
+    ghost reads_well_formed = { u32_well_formed };
 
-    ghost writable = { λ n. natural_writable n };
+    ghost writable = { u32_writable };
 
     fn to_value(&self, _alloc: Global) -> Result<Value, AllocError> {
         Ok(Value::from(*self))
@@ -43,7 +43,7 @@ impl Form for u64 {
     ghost use Rattle.rec_forms.specs.Shape.{natural};
     ghost use Rattle.rec_forms.specs.Writable.{natural_writable};
     ghost use Rattle.rec_forms.specs.Numbers.{u64_form};
-    ghost use Rattle.rec_forms.specs.NumberLaws.{u64_back, u64_known};
+    ghost use Rattle.rec_forms.specs.NumberLaws.{u64_back, u64_well_formed};
 
     ghost well_formed = { λ n. n < 2 ^ 64 };
 
@@ -55,9 +55,9 @@ impl Form for u64 {
 
     ghost reads_back = { u64_back };
 
-    ghost reads_known = { u64_known };
+    ghost reads_well_formed = { u64_well_formed };
 
-    ghost writable = { λ n. natural_writable n };
+    ghost writable = { natural_writable };
 
     fn to_value(&self, _alloc: Global) -> Result<Value, AllocError> {
         Ok(Value::from(*self))
@@ -75,7 +75,7 @@ impl Form for usize {
     ghost use Rattle.rec_forms.specs.Shape.{natural};
     ghost use Rattle.rec_forms.specs.Writable.{natural_writable};
     ghost use Rattle.rec_forms.specs.Numbers.{u64_form};
-    ghost use Rattle.rec_forms.specs.NumberLaws.{u64_back, u64_known};
+    ghost use Rattle.rec_forms.specs.NumberLaws.{u64_back, u64_well_formed};
 
     ghost well_formed = { λ n. n < 2 ^ 64 };
 
@@ -87,9 +87,9 @@ impl Form for usize {
 
     ghost reads_back = { u64_back };
 
-    ghost reads_known = { u64_known };
+    ghost reads_well_formed = { u64_well_formed };
 
-    ghost writable = { λ n. natural_writable n };
+    ghost writable = { natural_writable };
 
     fn to_value(&self, _alloc: Global) -> Result<Value, AllocError> {
         Ok(Value::from(*self))
@@ -107,7 +107,7 @@ impl Form for i64 {
     ghost use Rattle.rec_forms.specs.Shape.{integer};
     ghost use Rattle.rec_forms.specs.Writable.{integer_writable};
     ghost use Rattle.rec_forms.specs.Numbers.{i64_form};
-    ghost use Rattle.rec_forms.specs.NumberLaws.{i64_back, i64_known};
+    ghost use Rattle.rec_forms.specs.NumberLaws.{i64_back, i64_well_formed};
 
     ghost well_formed = { FitsSigned w64 };
 
@@ -119,9 +119,9 @@ impl Form for i64 {
 
     ghost reads_back = { i64_back };
 
-    ghost reads_known = { i64_known };
+    ghost reads_well_formed = { i64_well_formed };
 
-    ghost writable = { λ z. integer_writable z };
+    ghost writable = { integer_writable };
 
     fn to_value(&self, _alloc: Global) -> Result<Value, AllocError> {
         Ok(Value::from(*self))
@@ -137,9 +137,9 @@ impl Form for i64 {
 
 impl Form for i32 {
     ghost use Rattle.rec_forms.specs.Shape.{integer};
-    ghost use Rattle.rec_forms.specs.Writable.{integer_writable};
+    ghost use Rattle.rec_forms.specs.NumberLaws.{i32_writable};
     ghost use Rattle.rec_forms.specs.Numbers.{i32_form};
-    ghost use Rattle.rec_forms.specs.NumberLaws.{i32_back, i32_known};
+    ghost use Rattle.rec_forms.specs.NumberLaws.{i32_back, i32_well_formed};
 
     ghost well_formed = { FitsSigned w32 };
 
@@ -151,9 +151,9 @@ impl Form for i32 {
 
     ghost reads_back = { i32_back };
 
-    ghost reads_known = { i32_known };
+    ghost reads_well_formed = { i32_well_formed };
 
-    ghost writable = { λ z. integer_writable z };
+    ghost writable = { i32_writable };
 
     fn to_value(&self, _alloc: Global) -> Result<Value, AllocError> {
         Ok(Value::from(*self))
@@ -172,7 +172,7 @@ impl Form for bool {
     ghost use Rattle.serde_json.specs.Data.{boolean};
     ghost use Rattle.serde_json.specs.Find.{as_bool};
     ghost use Rattle.rec_forms.specs.Writable.{boolean_writable};
-    ghost use Rattle.rec_forms.specs.KnownLaws.{any_known};
+    ghost use Rattle.rec_forms.specs.WellFormedLaws.{any_well_formed};
 
     ghost well_formed = { λ _. Unit {0} };
 
@@ -184,9 +184,9 @@ impl Form for bool {
 
     ghost reads_back = { λ x _. refl };
 
-    ghost reads_known = { any_known as_bool };
+    ghost reads_well_formed = { any_well_formed as_bool };
 
-    ghost writable = { λ b. boolean_writable b };
+    ghost writable = { λ b _. boolean_writable b };
 
     fn to_value(&self, _alloc: Global) -> Result<Value, AllocError> {
         Ok(Value::from(*self))
@@ -203,8 +203,8 @@ impl Form for bool {
 impl Form for NonZeroCount {
     ghost use Rattle.rec_forms.specs.Shape.{natural};
     ghost use Rattle.rec_forms.specs.Numbers.{count_form, IsCount};
-    ghost use Rattle.rec_forms.specs.NumberLaws.{count_back, count_known};
-    ghost use Rattle.rec_forms.specs.Writable.{natural_writable};
+    ghost use Rattle.rec_forms.specs.NumberLaws.{count_back, count_well_formed};
+    ghost use Rattle.rec_forms.specs.NumberLaws.{count_writable};
 
     ghost well_formed = { IsCount };
 
@@ -216,9 +216,9 @@ impl Form for NonZeroCount {
 
     ghost reads_back = { count_back };
 
-    ghost reads_known = { count_known };
+    ghost reads_well_formed = { count_well_formed };
 
-    ghost writable = { λ n. natural_writable n };
+    ghost writable = { count_writable };
 
     fn to_value(&self, alloc: Global) -> Result<Value, AllocError> {
         self.get().to_value(alloc)

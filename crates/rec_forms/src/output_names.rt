@@ -7,7 +7,7 @@ use std::alloc::{AllocError, Global};
 impl Form for OutputKind {
     ghost use Rattle.rec_forms.specs.OutputNames.{output_kind_value, output_kind_form};
     ghost use Rattle.rec_forms.specs.OutputNameLaws.{output_kind_back, output_kind_writable};
-    ghost use Rattle.rec_forms.specs.KnownLaws.{any_known};
+    ghost use Rattle.rec_forms.specs.WellFormedLaws.{any_well_formed};
 
     ghost well_formed = { λ _. Unit {0} };
 
@@ -19,9 +19,9 @@ impl Form for OutputKind {
 
     ghost reads_back = { λ x _. output_kind_back x };
 
-    ghost reads_known = { any_known output_kind_form };
+    ghost reads_well_formed = { any_well_formed output_kind_form };
 
-    ghost writable = { output_kind_writable };
+    ghost writable = { λ x _. output_kind_writable x };
 
     fn to_value(&self, alloc: Global) -> Result<Value, AllocError> {
         let name = match self {
@@ -45,7 +45,7 @@ impl Form for OutputKind {
 
 impl Form for OutputFileName {
     ghost use Rattle.rec_forms.specs.OutputNames.{file_name_value, file_name_form, IsFileName};
-    ghost use Rattle.rec_forms.specs.OutputNameLaws.{file_name_back, file_name_writable, file_name_known};
+    ghost use Rattle.rec_forms.specs.OutputNameLaws.{file_name_back, file_name_writable, file_name_well_formed};
 
     ghost well_formed = { IsFileName };
 
@@ -57,7 +57,7 @@ impl Form for OutputFileName {
 
     ghost reads_back = { file_name_back };
 
-    ghost reads_known = { file_name_known };
+    ghost reads_well_formed = { file_name_well_formed };
 
     ghost writable = { file_name_writable };
 

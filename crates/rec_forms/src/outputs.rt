@@ -14,7 +14,7 @@ use std::alloc::{AllocError, Global};
 impl Form for ChildSingleOutput {
     ghost use Rattle.hex.specs.Hex.{IsBytes};
     ghost use Rattle.rec_forms.specs.Outputs.{output_bytes_value, output_bytes_form};
-    ghost use Rattle.rec_forms.specs.OutputLaws.{output_bytes_back, output_bytes_writable, output_bytes_known};
+    ghost use Rattle.rec_forms.specs.OutputLaws.{output_bytes_back, output_bytes_writable, output_bytes_well_formed};
 
     ghost well_formed = { IsBytes };
 
@@ -26,7 +26,7 @@ impl Form for ChildSingleOutput {
 
     ghost reads_back = { output_bytes_back };
 
-    ghost reads_known = { output_bytes_known };
+    ghost reads_well_formed = { output_bytes_well_formed };
 
     ghost writable = { output_bytes_writable };
 
@@ -77,7 +77,7 @@ fn split_from(alloc: Global, value: &Value) -> Result<ZipStoreOutputDescription,
 
 impl Form for ZipStoreOutput {
     ghost use Rattle.rec_forms.specs.Outputs.{stored_output_value, stored_output_form, IsStoredOutput};
-    ghost use Rattle.rec_forms.specs.OutputLaws.{stored_output_back, stored_output_writable, stored_output_known};
+    ghost use Rattle.rec_forms.specs.OutputLaws.{stored_output_back, stored_output_writable, stored_output_well_formed};
 
     ghost well_formed = { IsStoredOutput };
 
@@ -89,7 +89,7 @@ impl Form for ZipStoreOutput {
 
     ghost reads_back = { stored_output_back };
 
-    ghost reads_known = { stored_output_known };
+    ghost reads_well_formed = { stored_output_well_formed };
 
     ghost writable = { stored_output_writable };
 
@@ -131,7 +131,7 @@ impl Form for ZipStoreOutput {
 
 impl Form for ZipStoreOutputDescription {
     ghost use Rattle.rec_forms.specs.Outputs.{stored_outputs_value, stored_outputs_form, IsStoredOutputs};
-    ghost use Rattle.rec_forms.specs.OutputLaws.{stored_outputs_back, stored_outputs_writable, stored_outputs_known};
+    ghost use Rattle.rec_forms.specs.OutputLaws.{stored_outputs_back, stored_outputs_writable, stored_outputs_well_formed};
 
     ghost well_formed = { IsStoredOutputs };
 
@@ -143,7 +143,7 @@ impl Form for ZipStoreOutputDescription {
 
     ghost reads_back = { stored_outputs_back };
 
-    ghost reads_known = { stored_outputs_known };
+    ghost reads_well_formed = { stored_outputs_well_formed };
 
     ghost writable = { stored_outputs_writable };
 

@@ -8,7 +8,7 @@ use std::alloc::{AllocError, Global};
 impl Form for NextestRunMode {
     ghost use Rattle.rec_forms.specs.Recording.{run_mode_value, run_mode_form};
     ghost use Rattle.rec_forms.specs.RecordingLaws.{run_mode_back, run_mode_writable};
-    ghost use Rattle.rec_forms.specs.KnownLaws.{any_known};
+    ghost use Rattle.rec_forms.specs.WellFormedLaws.{any_well_formed};
 
     ghost well_formed = { λ _. Unit {0} };
 
@@ -20,9 +20,9 @@ impl Form for NextestRunMode {
 
     ghost reads_back = { λ m _. run_mode_back m };
 
-    ghost reads_known = { any_known run_mode_form };
+    ghost reads_well_formed = { any_well_formed run_mode_form };
 
-    ghost writable = { run_mode_writable };
+    ghost writable = { λ x _. run_mode_writable x };
 
     fn to_value(&self, alloc: Global) -> Result<Value, AllocError> {
         let name = match self {
@@ -45,7 +45,7 @@ impl Form for NextestRunMode {
 impl Form for RecordOpts {
     ghost use Rattle.rec_forms.specs.Recording.{record_opts_value, record_opts_form};
     ghost use Rattle.rec_forms.specs.RecordingLaws.{record_opts_back, record_opts_writable};
-    ghost use Rattle.rec_forms.specs.KnownLaws.{any_known};
+    ghost use Rattle.rec_forms.specs.WellFormedLaws.{any_well_formed};
 
     ghost well_formed = { λ _. Unit {0} };
 
@@ -57,9 +57,9 @@ impl Form for RecordOpts {
 
     ghost reads_back = { λ x _. record_opts_back x };
 
-    ghost reads_known = { any_known record_opts_form };
+    ghost reads_well_formed = { any_well_formed record_opts_form };
 
-    ghost writable = { record_opts_writable };
+    ghost writable = { λ x _. record_opts_writable x };
 
     #[tactic(auto, unfolding(crate::specs::Shape::members_of))]
     fn to_value(&self, alloc: Global) -> Result<Value, AllocError> {
@@ -81,7 +81,7 @@ impl Form for RecordOpts {
 
 impl Form for TestListSummary {
     ghost use Rattle.rec_forms.specs.Recording.{test_list_value, test_list_form, IsTestList};
-    ghost use Rattle.rec_forms.specs.RecordingLaws.{test_list_back, test_list_writable, test_list_known};
+    ghost use Rattle.rec_forms.specs.RecordingLaws.{test_list_back, test_list_writable, test_list_well_formed};
 
     ghost well_formed = { IsTestList };
 
@@ -93,7 +93,7 @@ impl Form for TestListSummary {
 
     ghost reads_back = { test_list_back };
 
-    ghost reads_known = { test_list_known };
+    ghost reads_well_formed = { test_list_well_formed };
 
     ghost writable = { test_list_writable };
 

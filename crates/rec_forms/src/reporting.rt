@@ -7,7 +7,7 @@ use std::alloc::{AllocError, Global};
 impl Form for TestOutputDisplay {
     ghost use Rattle.rec_forms.specs.Reporting.{output_display_value, output_display_form};
     ghost use Rattle.rec_forms.specs.ReportingLaws.{output_display_back, output_display_writable};
-    ghost use Rattle.rec_forms.specs.KnownLaws.{any_known};
+    ghost use Rattle.rec_forms.specs.WellFormedLaws.{any_well_formed};
 
     ghost well_formed = { λ _. Unit {0} };
 
@@ -19,9 +19,9 @@ impl Form for TestOutputDisplay {
 
     ghost reads_back = { λ x _. output_display_back x };
 
-    ghost reads_known = { any_known output_display_form };
+    ghost reads_well_formed = { any_well_formed output_display_form };
 
-    ghost writable = { output_display_writable };
+    ghost writable = { λ x _. output_display_writable x };
 
     fn to_value(&self, alloc: Global) -> Result<Value, AllocError> {
         let name = match self {
@@ -48,7 +48,7 @@ impl Form for TestOutputDisplay {
 impl Form for JunitFlakyFailStatus {
     ghost use Rattle.rec_forms.specs.Reporting.{flaky_fail_status_value, flaky_fail_status_form};
     ghost use Rattle.rec_forms.specs.ReportingLaws.{flaky_fail_status_back, flaky_fail_status_writable};
-    ghost use Rattle.rec_forms.specs.KnownLaws.{any_known};
+    ghost use Rattle.rec_forms.specs.WellFormedLaws.{any_well_formed};
 
     ghost well_formed = { λ _. Unit {0} };
 
@@ -60,9 +60,9 @@ impl Form for JunitFlakyFailStatus {
 
     ghost reads_back = { λ x _. flaky_fail_status_back x };
 
-    ghost reads_known = { any_known flaky_fail_status_form };
+    ghost reads_well_formed = { any_well_formed flaky_fail_status_form };
 
-    ghost writable = { flaky_fail_status_writable };
+    ghost writable = { λ x _. flaky_fail_status_writable x };
 
     fn to_value(&self, alloc: Global) -> Result<Value, AllocError> {
         let name = match self {
@@ -85,7 +85,7 @@ impl Form for JunitFlakyFailStatus {
 impl Form for CancelReason {
     ghost use Rattle.rec_forms.specs.Reporting.{cancel_reason_value, cancel_reason_form};
     ghost use Rattle.rec_forms.specs.ReportingLaws.{cancel_reason_back, cancel_reason_writable};
-    ghost use Rattle.rec_forms.specs.KnownLaws.{any_known};
+    ghost use Rattle.rec_forms.specs.WellFormedLaws.{any_well_formed};
 
     ghost well_formed = { λ _. Unit {0} };
 
@@ -97,9 +97,9 @@ impl Form for CancelReason {
 
     ghost reads_back = { λ x _. cancel_reason_back x };
 
-    ghost reads_known = { any_known cancel_reason_form };
+    ghost reads_well_formed = { any_well_formed cancel_reason_form };
 
-    ghost writable = { cancel_reason_writable };
+    ghost writable = { λ x _. cancel_reason_writable x };
 
     fn to_value(&self, alloc: Global) -> Result<Value, AllocError> {
         let name = match self {

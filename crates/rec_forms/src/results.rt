@@ -16,7 +16,7 @@ use std::alloc::{AllocError, Global};
 impl Form for FlakyResult {
     ghost use Rattle.rec_forms.specs.Results.{flaky_result_value, flaky_result_form};
     ghost use Rattle.rec_forms.specs.ResultLaws.{flaky_result_back, flaky_result_writable};
-    ghost use Rattle.rec_forms.specs.KnownLaws.{any_known};
+    ghost use Rattle.rec_forms.specs.WellFormedLaws.{any_well_formed};
 
     ghost well_formed = { λ _. Unit {0} };
 
@@ -28,9 +28,9 @@ impl Form for FlakyResult {
 
     ghost reads_back = { λ x _. flaky_result_back x };
 
-    ghost reads_known = { any_known flaky_result_form };
+    ghost reads_well_formed = { any_well_formed flaky_result_form };
 
-    ghost writable = { flaky_result_writable };
+    ghost writable = { λ x _. flaky_result_writable x };
 
     fn to_value(&self, alloc: Global) -> Result<Value, AllocError> {
         let name = match self {
@@ -53,7 +53,7 @@ impl Form for FlakyResult {
 impl Form for LeakTimeoutResult {
     ghost use Rattle.rec_forms.specs.Results.{leak_result_value, leak_result_form};
     ghost use Rattle.rec_forms.specs.ResultLaws.{leak_result_back, leak_result_writable};
-    ghost use Rattle.rec_forms.specs.KnownLaws.{any_known};
+    ghost use Rattle.rec_forms.specs.WellFormedLaws.{any_well_formed};
 
     ghost well_formed = { λ _. Unit {0} };
 
@@ -65,9 +65,9 @@ impl Form for LeakTimeoutResult {
 
     ghost reads_back = { λ x _. leak_result_back x };
 
-    ghost reads_known = { any_known leak_result_form };
+    ghost reads_well_formed = { any_well_formed leak_result_form };
 
-    ghost writable = { leak_result_writable };
+    ghost writable = { λ x _. leak_result_writable x };
 
     fn to_value(&self, alloc: Global) -> Result<Value, AllocError> {
         let name = match self {
@@ -90,7 +90,7 @@ impl Form for LeakTimeoutResult {
 impl Form for SlowTimeoutResult {
     ghost use Rattle.rec_forms.specs.Results.{slow_result_value, slow_result_form};
     ghost use Rattle.rec_forms.specs.ResultLaws.{slow_result_back, slow_result_writable};
-    ghost use Rattle.rec_forms.specs.KnownLaws.{any_known};
+    ghost use Rattle.rec_forms.specs.WellFormedLaws.{any_well_formed};
 
     ghost well_formed = { λ _. Unit {0} };
 
@@ -102,9 +102,9 @@ impl Form for SlowTimeoutResult {
 
     ghost reads_back = { λ x _. slow_result_back x };
 
-    ghost reads_known = { any_known slow_result_form };
+    ghost reads_well_formed = { any_well_formed slow_result_form };
 
-    ghost writable = { slow_result_writable };
+    ghost writable = { λ x _. slow_result_writable x };
 
     fn to_value(&self, alloc: Global) -> Result<Value, AllocError> {
         let name = match self {
@@ -126,7 +126,7 @@ impl Form for SlowTimeoutResult {
 
 impl Form for FailureDescription {
     ghost use Rattle.rec_forms.specs.Results.{failure_value, failure_form, IsFailure};
-    ghost use Rattle.rec_forms.specs.ResultLaws.{failure_back, failure_writable, failure_known};
+    ghost use Rattle.rec_forms.specs.ResultLaws.{failure_back, failure_writable, failure_well_formed};
 
     ghost well_formed = { IsFailure };
 
@@ -138,7 +138,7 @@ impl Form for FailureDescription {
 
     ghost reads_back = { failure_back };
 
-    ghost reads_known = { failure_known };
+    ghost reads_well_formed = { failure_well_formed };
 
     ghost writable = { failure_writable };
 
@@ -188,7 +188,7 @@ fn abort_from(alloc: Global, value: &Value) -> Result<FailureDescription, FromVa
 
 impl Form for ExecutionResultDescription {
     ghost use Rattle.rec_forms.specs.Results.{execution_result_value, execution_result_form, IsExecutionResult};
-    ghost use Rattle.rec_forms.specs.ResultLaws.{execution_result_back, execution_result_writable, execution_result_known};
+    ghost use Rattle.rec_forms.specs.ResultLaws.{execution_result_back, execution_result_writable, execution_result_well_formed};
 
     ghost well_formed = { IsExecutionResult };
 
@@ -200,7 +200,7 @@ impl Form for ExecutionResultDescription {
 
     ghost reads_back = { execution_result_back };
 
-    ghost reads_known = { execution_result_known };
+    ghost reads_well_formed = { execution_result_well_formed };
 
     ghost writable = { execution_result_writable };
 

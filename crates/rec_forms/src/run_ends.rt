@@ -11,7 +11,7 @@ use std::alloc::{AllocError, Global};
 impl Form for FinalRunStats {
     ghost use Rattle.rec_forms.specs.RunEnds.{final_stats_value, final_stats_form};
     ghost use Rattle.rec_forms.specs.RunEndLaws.{final_stats_back, final_stats_writable};
-    ghost use Rattle.rec_forms.specs.KnownLaws.{any_known};
+    ghost use Rattle.rec_forms.specs.WellFormedLaws.{any_well_formed};
 
     ghost well_formed = { λ _. Unit {0} };
 
@@ -23,9 +23,9 @@ impl Form for FinalRunStats {
 
     ghost reads_back = { λ x _. final_stats_back x };
 
-    ghost reads_known = { any_known final_stats_form };
+    ghost reads_well_formed = { any_well_formed final_stats_form };
 
-    ghost writable = { final_stats_writable };
+    ghost writable = { λ x _. final_stats_writable x };
 
     fn to_value(&self, alloc: Global) -> Result<Value, AllocError> {
         let name = match self {
@@ -52,7 +52,7 @@ impl Form for FinalRunStats {
 impl Form for StressFinalRunStats {
     ghost use Rattle.rec_forms.specs.RunEnds.{stress_final_stats_value, stress_final_stats_form};
     ghost use Rattle.rec_forms.specs.RunEndLaws.{stress_final_stats_back, stress_final_stats_writable};
-    ghost use Rattle.rec_forms.specs.KnownLaws.{any_known};
+    ghost use Rattle.rec_forms.specs.WellFormedLaws.{any_well_formed};
 
     ghost well_formed = { λ _. Unit {0} };
 
@@ -64,9 +64,9 @@ impl Form for StressFinalRunStats {
 
     ghost reads_back = { λ x _. stress_final_stats_back x };
 
-    ghost reads_known = { any_known stress_final_stats_form };
+    ghost reads_well_formed = { any_well_formed stress_final_stats_form };
 
-    ghost writable = { stress_final_stats_writable };
+    ghost writable = { λ x _. stress_final_stats_writable x };
 
     fn to_value(&self, alloc: Global) -> Result<Value, AllocError> {
         let name = match self {
@@ -92,7 +92,7 @@ impl Form for StressFinalRunStats {
 
 impl Form for StressRunStats {
     ghost use Rattle.rec_forms.specs.RunEnds.{stress_run_stats_value, stress_run_stats_form, IsStressRunStats};
-    ghost use Rattle.rec_forms.specs.RunEndLaws.{stress_run_stats_back, stress_run_stats_writable, stress_run_stats_known};
+    ghost use Rattle.rec_forms.specs.RunEndLaws.{stress_run_stats_back, stress_run_stats_writable, stress_run_stats_well_formed};
 
     ghost well_formed = { IsStressRunStats };
 
@@ -104,7 +104,7 @@ impl Form for StressRunStats {
 
     ghost reads_back = { stress_run_stats_back };
 
-    ghost reads_known = { stress_run_stats_known };
+    ghost reads_well_formed = { stress_run_stats_well_formed };
 
     ghost writable = { stress_run_stats_writable };
 
@@ -139,7 +139,7 @@ impl Form for StressRunStats {
 
 impl Form for RunFinishedStats {
     ghost use Rattle.rec_forms.specs.RunEnds.{run_finished_stats_value, run_finished_stats_form, IsRunFinishedStats};
-    ghost use Rattle.rec_forms.specs.RunEndLaws.{run_finished_stats_back, run_finished_stats_writable, run_finished_stats_known};
+    ghost use Rattle.rec_forms.specs.RunEndLaws.{run_finished_stats_back, run_finished_stats_writable, run_finished_stats_well_formed};
 
     ghost well_formed = { IsRunFinishedStats };
 
@@ -151,7 +151,7 @@ impl Form for RunFinishedStats {
 
     ghost reads_back = { run_finished_stats_back };
 
-    ghost reads_known = { run_finished_stats_known };
+    ghost reads_well_formed = { run_finished_stats_well_formed };
 
     ghost writable = { run_finished_stats_writable };
 
@@ -181,7 +181,7 @@ impl Form for RunFinishedStats {
 
 impl Form for TestsNotSeenSummary {
     ghost use Rattle.rec_forms.specs.RunEnds.{tests_not_seen_value, tests_not_seen_form, IsTestsNotSeen};
-    ghost use Rattle.rec_forms.specs.RunEndLaws.{tests_not_seen_back, tests_not_seen_writable, tests_not_seen_known};
+    ghost use Rattle.rec_forms.specs.RunEndLaws.{tests_not_seen_back, tests_not_seen_writable, tests_not_seen_well_formed};
 
     ghost well_formed = { IsTestsNotSeen };
 
@@ -193,7 +193,7 @@ impl Form for TestsNotSeenSummary {
 
     ghost reads_back = { tests_not_seen_back };
 
-    ghost reads_known = { tests_not_seen_known };
+    ghost reads_well_formed = { tests_not_seen_well_formed };
 
     ghost writable = { tests_not_seen_writable };
 

@@ -9,7 +9,7 @@ use std::alloc::{AllocError, Global};
 
 impl Form for NamedTargets {
     ghost use Rattle.rec_forms.specs.Selections.{named_targets_value, named_targets_form, IsNamedTargets};
-    ghost use Rattle.rec_forms.specs.SelectionLaws.{named_targets_back, named_targets_writable, named_targets_known};
+    ghost use Rattle.rec_forms.specs.SelectionLaws.{named_targets_back, named_targets_writable, named_targets_well_formed};
 
     ghost well_formed = { IsNamedTargets };
 
@@ -21,7 +21,7 @@ impl Form for NamedTargets {
 
     ghost reads_back = { named_targets_back };
 
-    ghost reads_known = { named_targets_known };
+    ghost reads_well_formed = { named_targets_well_formed };
 
     ghost writable = { named_targets_writable };
 
@@ -47,7 +47,7 @@ impl Form for NamedTargets {
 
 impl Form for PackageSelection {
     ghost use Rattle.rec_forms.specs.Selections.{package_selection_value, package_selection_form, IsPackageSelection};
-    ghost use Rattle.rec_forms.specs.SelectionLaws.{package_selection_back, package_selection_writable, package_selection_known};
+    ghost use Rattle.rec_forms.specs.SelectionLaws.{package_selection_back, package_selection_writable, package_selection_well_formed};
 
     ghost well_formed = { IsPackageSelection };
 
@@ -59,7 +59,7 @@ impl Form for PackageSelection {
 
     ghost reads_back = { package_selection_back };
 
-    ghost reads_known = { package_selection_known };
+    ghost reads_well_formed = { package_selection_well_formed };
 
     ghost writable = { package_selection_writable };
 
@@ -87,7 +87,7 @@ impl Form for PackageSelection {
 
 impl Form for TargetSelection {
     ghost use Rattle.rec_forms.specs.Selections.{target_selection_value, target_selection_form, IsTargetSelection};
-    ghost use Rattle.rec_forms.specs.SelectionLaws.{target_selection_back, target_selection_writable, target_selection_known};
+    ghost use Rattle.rec_forms.specs.SelectionLaws.{target_selection_back, target_selection_writable, target_selection_well_formed};
 
     ghost well_formed = { IsTargetSelection };
 
@@ -99,7 +99,7 @@ impl Form for TargetSelection {
 
     ghost reads_back = { target_selection_back };
 
-    ghost reads_known = { target_selection_known };
+    ghost reads_well_formed = { target_selection_well_formed };
 
     ghost writable = { target_selection_writable };
 
@@ -133,7 +133,7 @@ impl Form for TargetSelection {
 
 impl Form for FeatureSelection {
     ghost use Rattle.rec_forms.specs.Selections.{feature_selection_value, feature_selection_form, IsFeatureSelection};
-    ghost use Rattle.rec_forms.specs.SelectionLaws.{feature_selection_back, feature_selection_writable, feature_selection_known};
+    ghost use Rattle.rec_forms.specs.SelectionLaws.{feature_selection_back, feature_selection_writable, feature_selection_well_formed};
 
     ghost well_formed = { IsFeatureSelection };
 
@@ -145,7 +145,7 @@ impl Form for FeatureSelection {
 
     ghost reads_back = { feature_selection_back };
 
-    ghost reads_known = { feature_selection_known };
+    ghost reads_well_formed = { feature_selection_well_formed };
 
     ghost writable = { feature_selection_writable };
 
@@ -178,7 +178,7 @@ impl Form for FeatureSelection {
 
 impl Form for BuildScope {
     ghost use Rattle.rec_forms.specs.Selections.{build_scope_value, build_scope_form, IsBuildScope};
-    ghost use Rattle.rec_forms.specs.SelectionLaws.{build_scope_back, build_scope_writable, build_scope_known};
+    ghost use Rattle.rec_forms.specs.SelectionLaws.{build_scope_back, build_scope_writable, build_scope_well_formed};
 
     ghost well_formed = { IsBuildScope };
 
@@ -190,7 +190,7 @@ impl Form for BuildScope {
 
     ghost reads_back = { build_scope_back };
 
-    ghost reads_known = { build_scope_known };
+    ghost reads_well_formed = { build_scope_well_formed };
 
     ghost writable = { build_scope_writable };
 

@@ -7,7 +7,7 @@ use std::alloc::{AllocError, Global};
 impl Form for MismatchReason {
     ghost use Rattle.rec_forms.specs.Skipping.{mismatch_reason_value, mismatch_reason_form};
     ghost use Rattle.rec_forms.specs.SkippingLaws.{mismatch_reason_back, mismatch_reason_writable};
-    ghost use Rattle.rec_forms.specs.KnownLaws.{any_known};
+    ghost use Rattle.rec_forms.specs.WellFormedLaws.{any_well_formed};
 
     ghost well_formed = { λ _. Unit {0} };
 
@@ -19,9 +19,9 @@ impl Form for MismatchReason {
 
     ghost reads_back = { λ x _. mismatch_reason_back x };
 
-    ghost reads_known = { any_known mismatch_reason_form };
+    ghost reads_well_formed = { any_well_formed mismatch_reason_form };
 
-    ghost writable = { mismatch_reason_writable };
+    ghost writable = { λ x _. mismatch_reason_writable x };
 
     fn to_value(&self, alloc: Global) -> Result<Value, AllocError> {
         let name = match self {
@@ -54,7 +54,7 @@ impl Form for MismatchReason {
 impl Form for ReportSkipPolicy {
     ghost use Rattle.rec_forms.specs.Skipping.{skip_policy_value, skip_policy_form};
     ghost use Rattle.rec_forms.specs.SkippingLaws.{skip_policy_back, skip_policy_writable};
-    ghost use Rattle.rec_forms.specs.KnownLaws.{any_known};
+    ghost use Rattle.rec_forms.specs.WellFormedLaws.{any_well_formed};
 
     ghost well_formed = { λ _. Unit {0} };
 
@@ -66,9 +66,9 @@ impl Form for ReportSkipPolicy {
 
     ghost reads_back = { λ x _. skip_policy_back x };
 
-    ghost reads_known = { any_known skip_policy_form };
+    ghost reads_well_formed = { any_well_formed skip_policy_form };
 
-    ghost writable = { skip_policy_writable };
+    ghost writable = { λ x _. skip_policy_writable x };
 
     fn to_value(&self, alloc: Global) -> Result<Value, AllocError> {
         let name = match self {

@@ -188,7 +188,7 @@ impl Failures {
 
 impl Form for RunStats {
     ghost use Rattle.rec_forms.specs.Stats.{run_stats_value, run_stats_form, IsRunStats};
-    ghost use Rattle.rec_forms.specs.StatsLaws.{run_stats_back, run_stats_writable, run_stats_known};
+    ghost use Rattle.rec_forms.specs.StatsLaws.{run_stats_back, run_stats_writable, run_stats_well_formed};
 
     ghost well_formed = { IsRunStats };
 
@@ -200,7 +200,7 @@ impl Form for RunStats {
 
     ghost reads_back = { run_stats_back };
 
-    ghost reads_known = { run_stats_known };
+    ghost reads_well_formed = { run_stats_well_formed };
 
     ghost writable = { run_stats_writable };
 

@@ -12,7 +12,7 @@ use std::alloc::{AllocError, Global};
 
 impl Form for StressConditionSummary {
     ghost use Rattle.rec_forms.specs.Stress.{stress_condition_value, stress_condition_form, IsStressCondition};
-    ghost use Rattle.rec_forms.specs.StressLaws.{stress_condition_back, stress_condition_writable, stress_condition_known};
+    ghost use Rattle.rec_forms.specs.StressLaws.{stress_condition_back, stress_condition_writable, stress_condition_well_formed};
 
     ghost well_formed = { IsStressCondition };
 
@@ -24,7 +24,7 @@ impl Form for StressConditionSummary {
 
     ghost reads_back = { stress_condition_back };
 
-    ghost reads_known = { stress_condition_known };
+    ghost reads_well_formed = { stress_condition_well_formed };
 
     ghost writable = { stress_condition_writable };
 
@@ -60,7 +60,7 @@ impl Form for StressConditionSummary {
 
 impl Form for StressProgress {
     ghost use Rattle.rec_forms.specs.Stress.{stress_progress_value, stress_progress_form, IsStressProgress};
-    ghost use Rattle.rec_forms.specs.StressLaws.{stress_progress_back, stress_progress_writable, stress_progress_known};
+    ghost use Rattle.rec_forms.specs.StressLaws.{stress_progress_back, stress_progress_writable, stress_progress_well_formed};
 
     ghost well_formed = { IsStressProgress };
 
@@ -72,7 +72,7 @@ impl Form for StressProgress {
 
     ghost reads_back = { stress_progress_back };
 
-    ghost reads_known = { stress_progress_known };
+    ghost reads_well_formed = { stress_progress_well_formed };
 
     ghost writable = { stress_progress_writable };
 

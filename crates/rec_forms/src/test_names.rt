@@ -6,7 +6,7 @@ use std::alloc::{AllocError, Global};
 
 impl Form for TestNames {
     ghost use Rattle.rec_forms.specs.Names.{names_value, names_form, AreNames};
-    ghost use Rattle.rec_forms.specs.NameLaws.{names_back, names_writable, names_known};
+    ghost use Rattle.rec_forms.specs.NameLaws.{names_back, names_writable, names_well_formed};
 
     ghost well_formed = { AreNames };
 
@@ -18,7 +18,7 @@ impl Form for TestNames {
 
     ghost reads_back = { names_back };
 
-    ghost reads_known = { names_known };
+    ghost reads_well_formed = { names_well_formed };
 
     ghost writable = { names_writable };
 

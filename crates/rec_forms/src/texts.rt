@@ -9,7 +9,7 @@ use std::alloc::{AllocError, Global};
 
 impl Form for Text {
     ghost use Rattle.rec_events.specs.Names.{IsText};
-    ghost use Rattle.rec_forms.specs.NumberLaws.{text_back, text_known};
+    ghost use Rattle.rec_forms.specs.NumberLaws.{text_back, text_well_formed};
     ghost use Rattle.rec_forms.specs.Writable.{string_writable};
 
     ghost well_formed = { IsText };
@@ -22,9 +22,9 @@ impl Form for Text {
 
     ghost reads_back = { text_back };
 
-    ghost reads_known = { text_known };
+    ghost reads_well_formed = { text_well_formed };
 
-    ghost writable = { λ s. string_writable s };
+    ghost writable = { string_writable };
 
     fn to_value(&self, alloc: Global) -> Result<Value, AllocError> {
         Value::try_from_str(alloc, self.as_str())

@@ -7,7 +7,7 @@ use std::alloc::{AllocError, Global};
 
 impl Form for Stamp {
     ghost use Rattle.rec_forms.specs.Times.{stamp_value, stamp_form, IsStamp};
-    ghost use Rattle.rec_forms.specs.TimeLaws.{stamp_back, stamp_writable, stamp_known};
+    ghost use Rattle.rec_forms.specs.TimeLaws.{stamp_back, stamp_writable, stamp_well_formed};
 
     ghost well_formed = { IsStamp };
 
@@ -19,7 +19,7 @@ impl Form for Stamp {
 
     ghost reads_back = { stamp_back };
 
-    ghost reads_known = { stamp_known };
+    ghost reads_well_formed = { stamp_well_formed };
 
     ghost writable = { stamp_writable };
 
@@ -46,7 +46,7 @@ impl Form for Stamp {
 
 impl Form for Duration {
     ghost use Rattle.rec_forms.specs.Times.{duration_value, duration_form, IsDuration};
-    ghost use Rattle.rec_forms.specs.TimeLaws.{duration_back, duration_writable, duration_known};
+    ghost use Rattle.rec_forms.specs.TimeLaws.{duration_back, duration_writable, duration_well_formed};
 
     ghost well_formed = { IsDuration };
 
@@ -58,7 +58,7 @@ impl Form for Duration {
 
     ghost reads_back = { duration_back };
 
-    ghost reads_known = { duration_known };
+    ghost reads_well_formed = { duration_well_formed };
 
     ghost writable = { duration_writable };
 

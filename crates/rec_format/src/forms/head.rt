@@ -56,7 +56,7 @@ impl Contents {
 
 impl Form for SessionHead {
     ghost use Rattle.rec_format.specs.HeadForms.{head_value, head_form, IsHead};
-    ghost use Rattle.rec_format.specs.HeadFormLaws.{head_back, head_writable, head_known};
+    ghost use Rattle.rec_format.specs.HeadFormLaws.{head_back, head_writable, head_well_formed};
 
     ghost well_formed = { IsHead };
 
@@ -68,7 +68,7 @@ impl Form for SessionHead {
 
     ghost reads_back = { head_back };
 
-    ghost reads_known = { head_known };
+    ghost reads_well_formed = { head_well_formed };
 
     ghost writable = { head_writable };
 

@@ -6,7 +6,7 @@ use std::alloc::{AllocError, Global};
 
 impl Form for PortableManifest {
     ghost use Rattle.rec_format.specs.RunForms.{manifest_value, manifest_form, IsManifest};
-    ghost use Rattle.rec_format.specs.RunFormLaws.{manifest_back, manifest_writable, manifest_known};
+    ghost use Rattle.rec_format.specs.RunFormLaws.{manifest_back, manifest_writable, manifest_well_formed};
 
     ghost well_formed = { IsManifest };
 
@@ -18,7 +18,7 @@ impl Form for PortableManifest {
 
     ghost reads_back = { manifest_back };
 
-    ghost reads_known = { manifest_known };
+    ghost reads_well_formed = { manifest_well_formed };
 
     ghost writable = { manifest_writable };
 

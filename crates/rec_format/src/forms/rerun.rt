@@ -6,7 +6,7 @@ use std::alloc::{AllocError, Global};
 
 impl Form for RerunRootInfo {
     ghost use Rattle.rec_format.specs.RerunForms.{rerun_root_value, rerun_root_form, IsRerunRoot};
-    ghost use Rattle.rec_format.specs.RerunFormLaws.{rerun_root_back, rerun_root_writable, rerun_root_known};
+    ghost use Rattle.rec_format.specs.RerunFormLaws.{rerun_root_back, rerun_root_writable, rerun_root_well_formed};
 
     ghost well_formed = { IsRerunRoot };
 
@@ -18,7 +18,7 @@ impl Form for RerunRootInfo {
 
     ghost reads_back = { rerun_root_back };
 
-    ghost reads_known = { rerun_root_known };
+    ghost reads_well_formed = { rerun_root_well_formed };
 
     ghost writable = { rerun_root_writable };
 
@@ -44,7 +44,7 @@ impl Form for RerunRootInfo {
 
 impl Form for RerunInfo {
     ghost use Rattle.rec_format.specs.RerunForms.{rerun_info_value, rerun_info_form, IsRerunInfo};
-    ghost use Rattle.rec_format.specs.RerunFormLaws.{rerun_info_back, rerun_info_writable, rerun_info_known};
+    ghost use Rattle.rec_format.specs.RerunFormLaws.{rerun_info_back, rerun_info_writable, rerun_info_well_formed};
 
     ghost well_formed = { IsRerunInfo };
 
@@ -56,7 +56,7 @@ impl Form for RerunInfo {
 
     ghost reads_back = { rerun_info_back };
 
-    ghost reads_known = { rerun_info_known };
+    ghost reads_well_formed = { rerun_info_well_formed };
 
     ghost writable = { rerun_info_writable };
 

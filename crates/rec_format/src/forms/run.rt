@@ -7,7 +7,7 @@ use std::alloc::{AllocError, Global};
 
 impl Form for RecordedRun {
     ghost use Rattle.rec_format.specs.RunForms.{run_value, run_form, IsRun};
-    ghost use Rattle.rec_format.specs.RunFormLaws.{run_back, run_writable, run_known};
+    ghost use Rattle.rec_format.specs.RunFormLaws.{run_back, run_writable, run_well_formed};
 
     ghost well_formed = { IsRun };
 
@@ -19,7 +19,7 @@ impl Form for RecordedRun {
 
     ghost reads_back = { run_back };
 
-    ghost reads_known = { run_known };
+    ghost reads_well_formed = { run_well_formed };
 
     ghost writable = { run_writable };
 

@@ -9,7 +9,7 @@ use std::alloc::{AllocError, Global};
 
 impl Form for RecordedRunList {
     ghost use Rattle.rec_format.specs.RunListForms.{run_list_value, run_list_form, IsRunList};
-    ghost use Rattle.rec_format.specs.RunListFormLaws.{run_list_back, run_list_writable, run_list_known};
+    ghost use Rattle.rec_format.specs.RunListFormLaws.{run_list_back, run_list_writable, run_list_well_formed};
 
     ghost well_formed = { IsRunList };
 
@@ -21,7 +21,7 @@ impl Form for RecordedRunList {
 
     ghost reads_back = { run_list_back };
 
-    ghost reads_known = { run_list_known };
+    ghost reads_well_formed = { run_list_well_formed };
 
     ghost writable = { run_list_writable };
 

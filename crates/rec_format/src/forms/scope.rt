@@ -7,7 +7,7 @@ use std::alloc::{AllocError, Global};
 impl Form for BuildKind {
     ghost use Rattle.rec_format.specs.ScopeForms.{build_kind_value, build_kind_form};
     ghost use Rattle.rec_format.specs.ScopeFormLaws.{build_kind_back, build_kind_writable};
-    ghost use Rattle.rec_forms.specs.KnownLaws.{any_known};
+    ghost use Rattle.rec_forms.specs.WellFormedLaws.{any_well_formed};
 
     ghost well_formed = { λ _. Unit {0} };
 
@@ -19,9 +19,9 @@ impl Form for BuildKind {
 
     ghost reads_back = { λ x _. build_kind_back x };
 
-    ghost reads_known = { any_known build_kind_form };
+    ghost reads_well_formed = { any_well_formed build_kind_form };
 
-    ghost writable = { build_kind_writable };
+    ghost writable = { λ x _. build_kind_writable x };
 
     fn to_value(&self, alloc: Global) -> Result<Value, AllocError> {
         let name = match self {
@@ -43,7 +43,7 @@ impl Form for BuildKind {
 
 impl Form for RecordedBuildScope {
     ghost use Rattle.rec_format.specs.ScopeForms.{recorded_scope_value, recorded_scope_form, IsRecordedScope};
-    ghost use Rattle.rec_format.specs.ScopeFormLaws.{recorded_scope_back, recorded_scope_writable, recorded_scope_known};
+    ghost use Rattle.rec_format.specs.ScopeFormLaws.{recorded_scope_back, recorded_scope_writable, recorded_scope_well_formed};
 
     ghost well_formed = { IsRecordedScope };
 
@@ -55,7 +55,7 @@ impl Form for RecordedBuildScope {
 
     ghost reads_back = { recorded_scope_back };
 
-    ghost reads_known = { recorded_scope_known };
+    ghost reads_well_formed = { recorded_scope_well_formed };
 
     ghost writable = { recorded_scope_writable };
 

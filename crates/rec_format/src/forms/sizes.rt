@@ -6,7 +6,7 @@ use std::alloc::{AllocError, Global};
 
 impl Form for ComponentSizesFormat {
     ghost use Rattle.rec_format.specs.SizeForms.{component_format_value, component_format_form, IsComponentFormat};
-    ghost use Rattle.rec_format.specs.SizeFormLaws.{component_format_back, component_format_writable, component_format_known};
+    ghost use Rattle.rec_format.specs.SizeFormLaws.{component_format_back, component_format_writable, component_format_well_formed};
 
     ghost well_formed = { IsComponentFormat };
 
@@ -18,7 +18,7 @@ impl Form for ComponentSizesFormat {
 
     ghost reads_back = { component_format_back };
 
-    ghost reads_known = { component_format_known };
+    ghost reads_well_formed = { component_format_well_formed };
 
     ghost writable = { component_format_writable };
 
@@ -46,7 +46,7 @@ impl Form for ComponentSizesFormat {
 
 impl Form for RecordedSizesFormat {
     ghost use Rattle.rec_format.specs.SizeForms.{sizes_format_value, sizes_format_form, IsSizesFormat};
-    ghost use Rattle.rec_format.specs.SizeFormLaws.{sizes_format_back, sizes_format_writable, sizes_format_known};
+    ghost use Rattle.rec_format.specs.SizeFormLaws.{sizes_format_back, sizes_format_writable, sizes_format_well_formed};
 
     ghost well_formed = { IsSizesFormat };
 
@@ -58,7 +58,7 @@ impl Form for RecordedSizesFormat {
 
     ghost reads_back = { sizes_format_back };
 
-    ghost reads_known = { sizes_format_known };
+    ghost reads_well_formed = { sizes_format_well_formed };
 
     ghost writable = { sizes_format_writable };
 
@@ -84,7 +84,7 @@ impl Form for RecordedSizesFormat {
 
 impl Form for ComponentSizes {
     ghost use Rattle.rec_format.specs.SizeForms.{component_value, component_form, IsComponent};
-    ghost use Rattle.rec_format.specs.SizeFormLaws.{component_back, component_writable, component_known};
+    ghost use Rattle.rec_format.specs.SizeFormLaws.{component_back, component_writable, component_well_formed};
 
     ghost well_formed = { IsComponent };
 
@@ -96,7 +96,7 @@ impl Form for ComponentSizes {
 
     ghost reads_back = { component_back };
 
-    ghost reads_known = { component_known };
+    ghost reads_well_formed = { component_well_formed };
 
     ghost writable = { component_writable };
 
@@ -111,7 +111,7 @@ impl Form for ComponentSizes {
 
 impl Form for RecordedSizes {
     ghost use Rattle.rec_format.specs.SizeForms.{sizes_value, sizes_form, AreSizes};
-    ghost use Rattle.rec_format.specs.SizeFormLaws.{sizes_back, sizes_writable, sizes_known};
+    ghost use Rattle.rec_format.specs.SizeFormLaws.{sizes_back, sizes_writable, sizes_well_formed};
 
     ghost well_formed = { AreSizes };
 
@@ -123,7 +123,7 @@ impl Form for RecordedSizes {
 
     ghost reads_back = { sizes_back };
 
-    ghost reads_known = { sizes_known };
+    ghost reads_well_formed = { sizes_well_formed };
 
     ghost writable = { sizes_writable };
 

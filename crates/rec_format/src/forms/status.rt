@@ -129,7 +129,7 @@ fn status_in(
 
 impl Form for RecordedRunStatus {
     ghost use Rattle.rec_format.specs.StatusForms.{status_value, status_form, IsStatus};
-    ghost use Rattle.rec_format.specs.StatusFormLaws.{status_back, status_writable, status_known};
+    ghost use Rattle.rec_format.specs.StatusFormLaws.{status_back, status_writable, status_well_formed};
 
     ghost well_formed = { IsStatus };
 
@@ -141,7 +141,7 @@ impl Form for RecordedRunStatus {
 
     ghost reads_back = { status_back };
 
-    ghost reads_known = { status_known };
+    ghost reads_well_formed = { status_well_formed };
 
     ghost writable = { status_writable };
 
@@ -170,7 +170,7 @@ impl Form for RecordedRunStatus {
 
 impl Form for RecordedRunStatusFormat {
     ghost use Rattle.rec_format.specs.StatusForms.{status_format_value, status_format_form, IsStatusFormat};
-    ghost use Rattle.rec_format.specs.StatusFormLaws.{status_format_back, status_format_writable, status_format_known};
+    ghost use Rattle.rec_format.specs.StatusFormLaws.{status_format_back, status_format_writable, status_format_well_formed};
 
     ghost well_formed = { IsStatusFormat };
 
@@ -182,7 +182,7 @@ impl Form for RecordedRunStatusFormat {
 
     ghost reads_back = { status_format_back };
 
-    ghost reads_known = { status_format_known };
+    ghost reads_well_formed = { status_format_well_formed };
 
     ghost writable = { status_format_writable };
 

@@ -6,7 +6,7 @@ use std::alloc::{AllocError, Global};
 
 impl Form for RerunTestSuiteInfo {
     ghost use Rattle.rec_format.specs.SuiteForms.{suite_value, suite_form, IsSuite};
-    ghost use Rattle.rec_format.specs.SuiteFormLaws.{suite_back, suite_writable, suite_known};
+    ghost use Rattle.rec_format.specs.SuiteFormLaws.{suite_back, suite_writable, suite_well_formed};
 
     ghost well_formed = { IsSuite };
 
@@ -18,7 +18,7 @@ impl Form for RerunTestSuiteInfo {
 
     ghost reads_back = { suite_back };
 
-    ghost reads_known = { suite_known };
+    ghost reads_well_formed = { suite_well_formed };
 
     ghost writable = { suite_writable };
 
@@ -46,7 +46,7 @@ impl Form for RerunTestSuiteInfo {
 
 impl Form for RerunSuites {
     ghost use Rattle.rec_format.specs.SuiteForms.{suites_value, suites_form, AreSuites};
-    ghost use Rattle.rec_format.specs.SuiteFormLaws.{suites_back, suites_writable, suites_known};
+    ghost use Rattle.rec_format.specs.SuiteFormLaws.{suites_back, suites_writable, suites_well_formed};
 
     ghost well_formed = { AreSuites };
 
@@ -58,7 +58,7 @@ impl Form for RerunSuites {
 
     ghost reads_back = { suites_back };
 
-    ghost reads_known = { suites_known };
+    ghost reads_well_formed = { suites_well_formed };
 
     ghost writable = { suites_writable };
 

@@ -10,9 +10,8 @@ use std::alloc::{AllocError, Global};
 
 impl Form for StoreFormatMajorVersion {
     ghost use Rattle.rec_forms.specs.Numbers.{u32_form};
-    ghost use Rattle.rec_forms.specs.NumberLaws.{u32_back, u32_known};
+    ghost use Rattle.rec_forms.specs.NumberLaws.{u32_back, u32_well_formed, u32_writable};
     ghost use Rattle.rec_forms.specs.Shape.{natural};
-    ghost use Rattle.rec_forms.specs.Writable.{natural_writable};
     ghost use Rattle.rec_format.specs.VersionForms.{IsNumber};
 
     ghost well_formed = { IsNumber };
@@ -25,9 +24,9 @@ impl Form for StoreFormatMajorVersion {
 
     ghost reads_back = { u32_back };
 
-    ghost reads_known = { u32_known };
+    ghost reads_well_formed = { u32_well_formed };
 
-    ghost writable = { λ n. natural_writable n };
+    ghost writable = { u32_writable };
 
     fn to_value(&self, alloc: Global) -> Result<Value, AllocError> {
         self.number().to_value(alloc)
@@ -40,9 +39,8 @@ impl Form for StoreFormatMajorVersion {
 
 impl Form for StoreFormatMinorVersion {
     ghost use Rattle.rec_forms.specs.Numbers.{u32_form};
-    ghost use Rattle.rec_forms.specs.NumberLaws.{u32_back, u32_known};
+    ghost use Rattle.rec_forms.specs.NumberLaws.{u32_back, u32_well_formed, u32_writable};
     ghost use Rattle.rec_forms.specs.Shape.{natural};
-    ghost use Rattle.rec_forms.specs.Writable.{natural_writable};
     ghost use Rattle.rec_format.specs.VersionForms.{IsNumber};
 
     ghost well_formed = { IsNumber };
@@ -55,9 +53,9 @@ impl Form for StoreFormatMinorVersion {
 
     ghost reads_back = { u32_back };
 
-    ghost reads_known = { u32_known };
+    ghost reads_well_formed = { u32_well_formed };
 
-    ghost writable = { λ n. natural_writable n };
+    ghost writable = { u32_writable };
 
     fn to_value(&self, alloc: Global) -> Result<Value, AllocError> {
         self.number().to_value(alloc)
@@ -70,9 +68,8 @@ impl Form for StoreFormatMinorVersion {
 
 impl Form for PortableRecordingFormatMajorVersion {
     ghost use Rattle.rec_forms.specs.Numbers.{u32_form};
-    ghost use Rattle.rec_forms.specs.NumberLaws.{u32_back, u32_known};
+    ghost use Rattle.rec_forms.specs.NumberLaws.{u32_back, u32_well_formed, u32_writable};
     ghost use Rattle.rec_forms.specs.Shape.{natural};
-    ghost use Rattle.rec_forms.specs.Writable.{natural_writable};
     ghost use Rattle.rec_format.specs.VersionForms.{IsNumber};
 
     ghost well_formed = { IsNumber };
@@ -85,9 +82,9 @@ impl Form for PortableRecordingFormatMajorVersion {
 
     ghost reads_back = { u32_back };
 
-    ghost reads_known = { u32_known };
+    ghost reads_well_formed = { u32_well_formed };
 
-    ghost writable = { λ n. natural_writable n };
+    ghost writable = { u32_writable };
 
     fn to_value(&self, alloc: Global) -> Result<Value, AllocError> {
         self.number().to_value(alloc)
@@ -103,9 +100,8 @@ impl Form for PortableRecordingFormatMajorVersion {
 
 impl Form for PortableRecordingFormatMinorVersion {
     ghost use Rattle.rec_forms.specs.Numbers.{u32_form};
-    ghost use Rattle.rec_forms.specs.NumberLaws.{u32_back, u32_known};
+    ghost use Rattle.rec_forms.specs.NumberLaws.{u32_back, u32_well_formed, u32_writable};
     ghost use Rattle.rec_forms.specs.Shape.{natural};
-    ghost use Rattle.rec_forms.specs.Writable.{natural_writable};
     ghost use Rattle.rec_format.specs.VersionForms.{IsNumber};
 
     ghost well_formed = { IsNumber };
@@ -118,9 +114,9 @@ impl Form for PortableRecordingFormatMinorVersion {
 
     ghost reads_back = { u32_back };
 
-    ghost reads_known = { u32_known };
+    ghost reads_well_formed = { u32_well_formed };
 
-    ghost writable = { λ n. natural_writable n };
+    ghost writable = { u32_writable };
 
     fn to_value(&self, alloc: Global) -> Result<Value, AllocError> {
         self.number().to_value(alloc)
@@ -136,9 +132,8 @@ impl Form for PortableRecordingFormatMinorVersion {
 
 impl Form for RunsJsonFormatVersion {
     ghost use Rattle.rec_forms.specs.Numbers.{u32_form};
-    ghost use Rattle.rec_forms.specs.NumberLaws.{u32_back, u32_known};
+    ghost use Rattle.rec_forms.specs.NumberLaws.{u32_back, u32_well_formed, u32_writable};
     ghost use Rattle.rec_forms.specs.Shape.{natural};
-    ghost use Rattle.rec_forms.specs.Writable.{natural_writable};
     ghost use Rattle.rec_format.specs.VersionForms.{IsNumber};
 
     ghost well_formed = { IsNumber };
@@ -151,9 +146,9 @@ impl Form for RunsJsonFormatVersion {
 
     ghost reads_back = { u32_back };
 
-    ghost reads_known = { u32_known };
+    ghost reads_well_formed = { u32_well_formed };
 
-    ghost writable = { λ n. natural_writable n };
+    ghost writable = { u32_writable };
 
     fn to_value(&self, alloc: Global) -> Result<Value, AllocError> {
         self.number().to_value(alloc)
@@ -166,7 +161,7 @@ impl Form for RunsJsonFormatVersion {
 
 impl Form for PortableRecordingFormatVersion {
     ghost use Rattle.rec_format.specs.VersionForms.{portable_version_value, portable_version_form, IsPortableVersion};
-    ghost use Rattle.rec_format.specs.VersionFormLaws.{portable_version_back, portable_version_writable, portable_version_known};
+    ghost use Rattle.rec_format.specs.VersionFormLaws.{portable_version_back, portable_version_writable, portable_version_well_formed};
 
     ghost well_formed = { IsPortableVersion };
 
@@ -178,7 +173,7 @@ impl Form for PortableRecordingFormatVersion {
 
     ghost reads_back = { portable_version_back };
 
-    ghost reads_known = { portable_version_known };
+    ghost reads_well_formed = { portable_version_well_formed };
 
     ghost writable = { portable_version_writable };
 

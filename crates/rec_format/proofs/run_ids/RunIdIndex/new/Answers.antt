@@ -1,4 +1,4 @@
-use Rattle.std.proofs.Common.{◌≡◌, ◌∷◌, ◌+◌, [], sym, ◌∙◌, ap, drop, arith, subst}
+use Rattle.std.proofs.Common.{◌≡◌, ◌∷◌, ◌+◌, [], sym, ◌∙◌, ap, drop, subst}
 use Rattle.std.proofs.lemmas.List.{drop_more, drop_all}
 use Rattle.rec_format.proofs.RunIdMaps.{IsPartOf, IsPartOf-start, IsPartOf-put, IsPartOf-end}
 use Rattle.rec_format.proofs.run_ids.RunIdIndex.new.Goals as goal

@@ -7,5 +7,5 @@ pub record Holds {T : Type 0} (P : T → Type 0) (o : Option T) : Type 0 where
   pub is : IfSome o P
 
 -- all that a form gives is so
-pub record Known {T : Type 0} (P : T → Type 0) (form : Data → Option T) : Type 0 where
+pub record GivesWellFormed {T : Type 0} (P : T → Type 0) (form : Data → Option T) : Type 0 where
   pub each : (d : Data) → Holds P (form d)

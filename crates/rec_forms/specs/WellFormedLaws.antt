@@ -4,7 +4,7 @@ use Rattle.std.specs.List.{AllByRecursion}
 use Rattle.std.specs.Str.{bytes_eq}
 use Rattle.serde_json.specs.Data.{Data, null, boolean, number, string, array, object, Items, no_items, item, Members}
 use Rattle.serde_json.specs.Find.{as_object, as_array, get_member}
-use Rattle.rec_forms.specs.Known.{Holds, Known}
+use Rattle.rec_forms.specs.GivesWellFormed.{Holds, GivesWellFormed}
 use Rattle.rec_forms.specs.Lists.{each, list_form}
 use Rattle.rec_forms.specs.Shape.{◌>>=◌, only, if_there, at_member, required, maybe, given_or, defaulted, named, only_of, cased, variant}
 
@@ -15,8 +15,8 @@ pub anything : {T : Type 0} (o : Option T) → Holds (λ _. Unit {0}) o
 anything None = record { is = tt }
 anything (Some x) = record { is = tt }
 
-pub any_known : {T : Type 0} (form : Data → Option T) → Known (λ _. Unit {0}) form
-any_known form = record { each = λ d. anything (form d) }
+pub any_well_formed : {T : Type 0} (form : Data → Option T) → GivesWellFormed (λ _. Unit {0}) form
+any_well_formed form = record { each = λ d. anything (form d) }
 
 pub then_holds : {A B : Type 0} {P : A → Type 0} {Q : B → Type 0} (o : Option A) (f : A → Option B) → Holds P o → ((x : A) → P x → Holds Q (f x)) → Holds Q (o >>= f)
 then_holds None f h k = record { is = tt }
@@ -44,7 +44,7 @@ choice_holds P false x y h k = k refl
 pub object_then : {B : Type 0} {Q : B → Type 0} (d : Data) (f : Members → Option B) → ((ms : Members) → Holds Q (f ms)) → Holds Q (as_object d >>= f)
 object_then d f k = then_holds (as_object d) f (anything (as_object d)) (λ ms _. k ms)
 
-module _ {A : Type 0} {P : A → Type 0} (form : Data → Option A) (h : Known P form) where
+module _ {A : Type 0} {P : A → Type 0} (form : Data → Option A) (h : GivesWellFormed P form) where
   there_holds : (d : Data) → Holds (λ o. IfSome o P) (if_there form d)
   there_holds null = record { is = tt }
   there_holds (boolean b) = map_holds Some (form (boolean b)) (h.each (boolean b)) (λ x y. y)
@@ -54,8 +54,8 @@ module _ {A : Type 0} {P : A → Type 0} (form : Data → Option A) (h : Known P
   there_holds (object ms) = map_holds Some (form (object ms)) (h.each (object ms)) (λ x y. y)
 
   -- what may be null
-  pub if_there_known : Known (λ o. IfSome o P) (if_there form)
-  if_there_known = record { each = there_holds }
+  pub if_there_well_formed : GivesWellFormed (λ o. IfSome o P) (if_there form)
+  if_there_well_formed = record { each = there_holds }
 
   at_holds : (o : Option Data) → Holds (λ x. IfSome x P) (at_member (if_there form) o)
   at_holds None = record { is = tt }
@@ -66,13 +66,13 @@ module _ {A : Type 0} {P : A → Type 0} (form : Data → Option A) (h : Known P
   given_holds missing (Some d) m = h.each d
 
 module _ {A B : Type 0} {P : A → Type 0} {Q : B → Type 0} (form : Data → Option A) (key : List ℕ) (ms : Members) where
-  pub required_then : (f : A → Option B) → Known P form → ((x : A) → P x → Holds Q (f x)) → Holds Q (required form key ms >>= f)
+  pub required_then : (f : A → Option B) → GivesWellFormed P form → ((x : A) → P x → Holds Q (f x)) → Holds Q (required form key ms >>= f)
   required_then f h k = then_holds (required form key ms) f (and_then_holds form (get_member key ms) (anything (get_member key ms)) (λ d _. h.each d)) k
 
-  pub maybe_then : (f : Option A → Option B) → Known P form → ((x : Option A) → IfSome x P → Holds Q (f x)) → Holds Q (maybe form key ms >>= f)
+  pub maybe_then : (f : Option A → Option B) → GivesWellFormed P form → ((x : Option A) → IfSome x P → Holds Q (f x)) → Holds Q (maybe form key ms >>= f)
   maybe_then f h k = then_holds (maybe form key ms) f (at_holds form h (get_member key ms)) k
 
-  pub defaulted_then : (missing : A) (f : A → Option B) → P missing → Known P form → ((x : A) → P x → Holds Q (f x)) → Holds Q (defaulted missing form key ms >>= f)
+  pub defaulted_then : (missing : A) (f : A → Option B) → P missing → GivesWellFormed P form → ((x : A) → P x → Holds Q (f x)) → Holds Q (defaulted missing form key ms >>= f)
   defaulted_then missing f m h k = then_holds (defaulted missing form key ms) f (given_holds form h missing (get_member key ms) m) k
 
 -- ---- variants
@@ -85,12 +85,12 @@ pub named_holds : {T : Type 0} (P : T → Type 0) (ts : List (List ℕ × T)) �
 named_holds P [] h s = record { is = tt }
 named_holds P (t ∷ ts) h s = named_at (bytes_eq s t.0) t.1 (named ts s) h.0 (named_holds P ts h.1 s)
 
-pub variant_known : {T : Type 0} (P : T → Type 0) (units : List (List ℕ × T)) (cases : List (List ℕ × (Data → Option T)))
-    → AllByRecursion (λ u. P u.1) units → AllByRecursion (λ c. Known P c.1) cases → Known P (variant units cases)
-variant_known {T} P units cases hu hc =
+pub variant_well_formed : {T : Type 0} (P : T → Type 0) (units : List (List ℕ × T)) (cases : List (List ℕ × (Data → Option T)))
+    → AllByRecursion (λ u. P u.1) units → AllByRecursion (λ c. GivesWellFormed P c.1) cases → GivesWellFormed P (variant units cases)
+variant_well_formed {T} P units cases hu hc =
     let at_case : (ms : Members) → Holds P (cased cases ms) = λ ms.
     and_then_holds (λ (m : List ℕ × Data). option_and_then (λ (form : Data → Option T). form m.1) (named cases m.0)) (only_of ms) (anything (only_of ms)) (λ m _.
-    and_then_holds (λ (form : Data → Option T). form m.1) (named cases m.0) (named_holds (λ (form : Data → Option T). Known P form) cases hc m.0) (λ form h. h.each m.1)) in
+    and_then_holds (λ (form : Data → Option T). form m.1) (named cases m.0) (named_holds (λ (form : Data → Option T). GivesWellFormed P form) cases hc m.0) (λ form h. h.each m.1)) in
     record {
       each = λ d. elim d as (λ e. Holds P (variant units cases e)) [
         | null ↦ record { is = tt }
@@ -104,10 +104,10 @@ variant_known {T} P units cases hu hc =
 
 -- ---- lists
 
-module _ {T : Type 0} {P : T → Type 0} (form : Data → Option T) (h : Known P form) where
+module _ {T : Type 0} {P : T → Type 0} (form : Data → Option T) (h : GivesWellFormed P form) where
   each_holds : (ds : Items) → Holds (AllByRecursion P) (each form ds)
   each_holds no_items = record { is = tt }
   each_holds (item d ds) = and_then_holds (λ (x : T). option_map (λ xs. x ∷ xs) (each form ds)) (form d) (h.each d) (λ x y. map_holds (λ xs. x ∷ xs) (each form ds) (each_holds ds) (λ xs ys. (y, ys)))
 
-  pub list_known : Known (AllByRecursion P) (list_form form)
-  list_known = record { each = λ d. and_then_holds (each form) (as_array d) (anything (as_array d)) (λ ds _. each_holds ds) }
+  pub list_well_formed : GivesWellFormed (AllByRecursion P) (list_form form)
+  list_well_formed = record { each = λ d. and_then_holds (each form) (as_array d) (anything (as_array d)) (λ ds _. each_holds ds) }
