@@ -2,7 +2,7 @@
 use Rattle.std.proofs.Common.{◌≡◌, ◌≤◌, length, Bool, true, false, List, [], ◌∷◌, Option, Some, None, Result, Ok, Err, refl, sym, subst, arith}
 use Rattle.std.specs.Prelude.{MatchBool}
 use Rattle.serde_json.specs.Data.{Data}
-use Rattle.rec_codec.specs.LineEvents.{blank, Tells, Answers}
+use Rattle.rec_codec.specs.LineEvents.{blank, AnswersEvent, Answers}
 use Rattle.rec_codec.specs.LineItems.{left_after, GivesItem, GivesNext}
 use Rattle.rec_codec.specs.Lines.{NumberedLine, text_of}
 use Rattle.rec_codec.specs.declared.line_events.LineError.{LineError}
@@ -29,13 +29,13 @@ module _ {T : Type 0} (form : Data → Option T) where
       let N : List NumberedLine → Type 0 = λ ls. GivesNext form ls item left in
       same item left (subst N (sym split) whole)
 
-  pub gives_told : (line : NumberedLine) (old rest all left : List NumberedLine) (answer : Option (Result T LineError)) (r : Result T LineError) → GivesSame old all → old ≡ line ∷ rest
+  pub gives_item : (line : NumberedLine) (old rest all left : List NumberedLine) (answer : Option (Result T LineError)) (r : Result T LineError) → GivesSame old all → old ≡ line ∷ rest
       → answer ≡ Some r → Answers form answer line.number (text_of line.bytes) → left ≡ left_after r rest → GivesNext form all (Some r) left
-  gives_told line old rest all left answer r same split told h after =
+  gives_item line old rest all left answer r same split item h after =
       let A : Option (Result T LineError) → Type 0 = λ o. Answers form o line.number (text_of line.bytes) in
-      let tells : (blank (text_of line.bytes) ≡ false) × Tells form r line.number (text_of line.bytes) = subst A told h in
+      let answers : (blank (text_of line.bytes) ≡ false) × AnswersEvent form r line.number (text_of line.bytes) = subst A item h in
       let M : Bool → Type 0 = λ b. MatchBool b (GivesNext form rest (Some r) left) (GivesItem form line rest (Some r) left) in
-      let whole : GivesNext form (line ∷ rest) (Some r) left = subst M (sym tells.0) (tells.1, after) in
+      let whole : GivesNext form (line ∷ rest) (Some r) left = subst M (sym answers.0) (answers.1, after) in
       let N : List NumberedLine → Type 0 = λ ls. GivesNext form ls (Some r) left in
       same (Some r) left (subst N (sym split) whole)
 

@@ -1,14 +1,18 @@
 -- A log reads back.
-use Rattle.std.proofs.Common.{◌≡◌, ℕ, false, List, [], ◌∷◌, ◌++◌, length, Some, refl, sym, ap, subst, ◌∙◌, arith, append_assoc, option_and_then}
+use Rattle.std.proofs.Common.{◌≡◌, false, List, [], ◌∷◌, ◌++◌, length, Some, refl, sym, ap, subst, ◌∙◌, arith, append_assoc, option_and_then}
 use Rattle.std.specs.List.{AllByRecursion}
 use Rattle.std.specs.Str.{trim, IsUtf8}
 use Rattle.std.proofs.lemmas.Bool.{ne_eqb}
-use Rattle.std.proofs.lemmas.Str.{IsUtf8-from_is_utf8, is_utf8-from_IsUtf8}
-use Rattle.serde_json.specs.Data.{Data, Members, object}
-use Rattle.serde_json.specs.Read.{read}
+use Rattle.std.proofs.lemmas.Str.{IsUtf8-from_is_utf8}
+use Rattle.serde_json.specs.Data.{Members, object}
 use Rattle.serde_json.specs.Written.{compact_text}
-use Rattle.rec_forms.specs.Outputs.{stored_outputs_value, stored_outputs_form}
-use Rattle.rec_codec.specs.EventForms.{event_value, event_form}
+use Rattle.rec_events.specs.declared.outputs.RecordingSpec.{RecordingSpec}
+use Rattle.rec_forms.proofs.ReadBack.{IsWritable-read_back}
+use Rattle.rec_forms.specs.OutputLaws.{stored_outputs_back, stored_outputs_writable}
+use Rattle.rec_forms.specs.Outputs.{IsStoredOutputs, stored_outputs_value, stored_outputs_form}
+use Rattle.rec_forms.specs.Writable.{IsWritable}
+use Rattle.rec_codec.specs.EventFormLaws.{event_back, event_writable}
+use Rattle.rec_codec.specs.EventForms.{event_value, event_form, IsEvent}
 use Rattle.rec_codec.specs.Lines.{lines, text_of, is_blank}
 use Rattle.rec_codec.specs.Event.{RecordedEvent, event_text, log_text, recorded_event_of, line_event, with_event, log_events, IsLogged}
 use Rattle.rec_codec.proofs.CompactText.{IsPiece-from_is_piece, compact_text_piece, members_text_end}
@@ -46,15 +50,20 @@ event_text_not_blank e = object_not_blank _
 line_event-event_text : (e : RecordedEvent) → IsLogged e → line_event (text_of (event_text e)) ≡ Some (Some e)
 line_event-event_text e h = rw (text_of-event_text e h, event_text_not_blank e, h.read) refl
 
--- an event is logged where its value was written and read back
-pub IsLogged-from : (e : RecordedEvent) (text : List ℕ) (d : Data) → text ≡ compact_text d → d ≡ event_value stored_outputs_value e → IsUtf8 text → read text ≡ Some d
-    → event_form stored_outputs_form d ≡ Some e → IsLogged e
+-- the value of a well-formed event can be written
+pub event_value_writable : (e : RecordedEvent) → IsEvent IsStoredOutputs e → IsWritable 14 (event_value stored_outputs_value e)
+event_value_writable = event_writable {S = RecordingSpec} IsStoredOutputs 4 stored_outputs_value stored_outputs_writable
+
+-- the text of a well-formed event is read as it
+pub event_logged : (e : RecordedEvent) → IsEvent IsStoredOutputs e → IsLogged e
 unfolding event_text recorded_event_of
-IsLogged-from e text d is value u r back =
-    let from : text ≡ event_text e = is ∙ ap compact_text value in
+event_logged e h =
+    let back = IsWritable-read_back 14 (event_value stored_outputs_value e) (event_value_writable e h) (omega arith) in
     record {
-      utf8 = is_utf8-from_IsUtf8 _ (subst IsUtf8 from u);
-      read = ap recorded_event_of (sym from) ∙ ap (λ o. option_and_then (event_form stored_outputs_form) o) r ∙ back;
+      utf8 = back.1;
+      read =
+          ap (λ o. option_and_then (event_form stored_outputs_form) o) back.0
+          ∙ event_back {S = RecordingSpec} IsStoredOutputs stored_outputs_value stored_outputs_form stored_outputs_back e h;
     }
 
 -- ---- logs
@@ -70,3 +79,11 @@ log_events_back (e ∷ events) h =
     ap log_events (lines-log_text e events)
     ∙ ap (λ o. with_event o (log_events (lines (log_text events)))) (line_event-event_text e h.0)
     ∙ ap (λ o. with_event (Some (Some e)) o) (log_events_back events h.1)
+
+all_logged : (events : List RecordedEvent) → AllByRecursion (IsEvent IsStoredOutputs) events → AllByRecursion IsLogged events
+all_logged [] h = tt
+all_logged (e ∷ events) h = (event_logged e h.0, all_logged events h.1)
+
+-- a log of well-formed events is read as them
+pub log_reads_back : (events : List RecordedEvent) → AllByRecursion (IsEvent IsStoredOutputs) events → log_events (lines (log_text events)) ≡ Some events
+log_reads_back events h = log_events_back events (all_logged events h)

@@ -1,36 +1,43 @@
 -- The kinds of events that hold no outputs read back, and are writable.
-use Rattle.std.specs.Prelude.{◌≡◌, ℕ, ◌+◌, Option, Some, codes}
+use Rattle.std.specs.Prelude.{◌≡◌, ℕ, ◌+◌, true, refl, List, Option, Some, IfSome, option_map, codes}
 use Rattle.std.proofs.Common.{arith}
 use Rattle.serde_json.specs.Data.{Data, string, Members}
-use Rattle.rec_events.specs.Names.{IsText}
+use Rattle.rec_events.specs.Names.{IsText, AreTexts}
+use Rattle.rec_events.specs.declared.instances.StressIndexSummary.{StressIndexSummary}
 use Rattle.rec_events.specs.Times.{Span, Moment}
 use Rattle.rec_events.specs.declared.events.CoreEventKind.{CoreEventKind}
-use Rattle.rec_events.specs.declared.events.CoreEventKind.TheVariants.{RunStarted, StressSubRunStarted, SetupScriptStarted, SetupScriptSlow, TestStarted, TestSlow, TestRetryStarted, TestSkipped, RunBeginCancel, RunPaused, RunContinued, StressSubRunFinished, RunFinished}
+use Rattle.rec_events.specs.declared.events.CoreEventKind.TheVariants.{RunStarted, StressSubRunStarted, SetupScriptStarted, SetupScriptSlow, TestStarted, TestSlow}
+use Rattle.rec_events.specs.declared.events.CoreEventKind.TheVariants.{TestRetryStarted, TestSkipped, RunBeginCancel, RunPaused, RunContinued, StressSubRunFinished}
+use Rattle.rec_events.specs.declared.events.CoreEventKind.TheVariants.{RunFinished}
 use Rattle.rec_events.specs.declared.events.TestEventKindSummary.TheVariants.{Core}
-use Rattle.rec_forms.specs.IdLaws.{uuid_back, uuid_known}
+use Rattle.rec_forms.specs.IdLaws.{uuid_back, uuid_writable, uuid_well_formed}
 use Rattle.rec_forms.specs.Instances.{stress_index_value, stress_index_form, IsStressIndex, retry_data_form, slot_assignment_form, test_instance_form}
-use Rattle.rec_forms.specs.InstanceLaws.{test_instance_back, test_instance_writable, slot_assignment_back, slot_assignment_writable, retry_data_back, retry_data_writable, stress_index_back, stress_index_writable, retry_data_known, slot_assignment_known, stress_index_known, test_instance_known}
+use Rattle.rec_forms.specs.InstanceLaws.{test_instance_back, test_instance_writable, slot_assignment_back, slot_assignment_writable, retry_data_back, retry_data_writable}
+use Rattle.rec_forms.specs.InstanceLaws.{stress_index_back, stress_index_writable, retry_data_well_formed, slot_assignment_well_formed, stress_index_well_formed}
+use Rattle.rec_forms.specs.InstanceLaws.{test_instance_well_formed}
 use Rattle.rec_forms.specs.ListLaws.{list_back, maybe_back}
 use Rattle.rec_forms.specs.Members.{get_member-members_of}
-use Rattle.rec_forms.specs.NumberLaws.{u64_back, text_back, text_known, u64_known}
+use Rattle.rec_forms.specs.NumberLaws.{u64_back, text_back, text_well_formed, u64_well_formed}
 use Rattle.rec_forms.specs.ReportingLaws.{cancel_reason_back, cancel_reason_writable}
 use Rattle.rec_forms.specs.RunEnds.{tests_not_seen_value, tests_not_seen_form, IsTestsNotSeen, run_finished_stats_form}
-use Rattle.rec_forms.specs.RunEndLaws.{run_finished_stats_back, run_finished_stats_writable, tests_not_seen_back, tests_not_seen_writable, run_finished_stats_known, tests_not_seen_known}
-use Rattle.rec_forms.specs.Shape.{text_of}
+use Rattle.rec_forms.specs.RunEndLaws.{run_finished_stats_back, run_finished_stats_writable, tests_not_seen_back, tests_not_seen_writable, run_finished_stats_well_formed, tests_not_seen_well_formed}
+use Rattle.rec_forms.specs.Shape.{Field, text_of}
 use Rattle.rec_forms.specs.SkippingLaws.{mismatch_reason_back, mismatch_reason_writable, skip_policy_back, skip_policy_writable}
-use Rattle.rec_forms.specs.StatsLaws.{run_stats_back, run_stats_writable, run_stats_known}
+use Rattle.rec_forms.specs.StatsLaws.{run_stats_back, run_stats_writable, run_stats_well_formed}
 use Rattle.rec_forms.specs.Stress.{stress_condition_value, stress_condition_form, IsStressCondition, stress_progress_form}
-use Rattle.rec_forms.specs.StressLaws.{stress_condition_back, stress_condition_writable, stress_progress_back, stress_progress_writable, stress_condition_known, stress_progress_known}
-use Rattle.rec_forms.specs.TimeLaws.{stamp_back, stamp_writable, duration_back, duration_writable, duration_known, stamp_known}
+use Rattle.rec_forms.specs.StressLaws.{stress_condition_back, stress_condition_writable, stress_progress_back, stress_progress_writable, stress_condition_well_formed, stress_progress_well_formed}
+use Rattle.rec_forms.specs.TimeLaws.{stamp_back, stamp_writable, duration_back, duration_writable, duration_well_formed, stamp_well_formed}
 use Rattle.rec_forms.specs.Times.{IsStamp, IsDuration, duration_form, stamp_form}
-use Rattle.rec_forms.specs.Writable.{EachWritten, weaker, natural_writable, string_writable, boolean_writable, list_writable, optional_writable}
+use Rattle.rec_forms.specs.Writable.{IsWritable, IfWritten, EachWritten, keys_are_ascii, weaker, natural_writable, string_writable, word_writable, boolean_writable, list_writable, optional_writable}
 use Rattle.rec_codec.specs.CoreKinds.{core_fields, IsCore}
-use Rattle.rec_codec.specs.CoreKindForms.{place_form, IsPlace, command_form, IsCommand, run_started_form, stress_sub_run_started_form, setup_script_started_form, setup_script_slow_form, test_started_form, test_slow_form, test_retry_started_form, test_skipped_form, run_begin_cancel_form, run_paused_form, run_continued_form, stress_sub_run_finished_form, run_finished_form}
+use Rattle.rec_codec.specs.CoreKindForms.{place_form, IsPlace, command_form, IsCommand, run_started_form, stress_sub_run_started_form, setup_script_started_form}
+use Rattle.rec_codec.specs.CoreKindForms.{setup_script_slow_form, test_started_form, test_slow_form, test_retry_started_form, test_skipped_form, run_begin_cancel_form}
+use Rattle.rec_codec.specs.CoreKindForms.{run_paused_form, run_continued_form, stress_sub_run_finished_form, run_finished_form}
 use Rattle.rec_codec.specs.EventForms.{kind_named, kind_form, event_value, event_form}
-use Rattle.rec_forms.specs.Known.{Holds}
-use Rattle.rec_forms.specs.KnownLaws.{any_known, then_holds, required_then, maybe_then, list_known}
+use Rattle.rec_forms.specs.GivesWellFormed.{Holds}
+use Rattle.rec_forms.specs.WellFormedLaws.{any_well_formed, then_holds, required_then, maybe_then, list_well_formed}
 use Rattle.rec_forms.specs.Ids.{uuid_form}
-use Rattle.rec_forms.specs.Lists.{list_form}
+use Rattle.rec_forms.specs.Lists.{list_value, list_form}
 use Rattle.rec_forms.specs.Numbers.{u64_form}
 use Rattle.rec_forms.specs.Reporting.{cancel_reason_form}
 use Rattle.rec_forms.specs.Skipping.{mismatch_reason_form, skip_policy_form}
@@ -175,161 +182,359 @@ module _ {S O : Type 0} (output_value : O → Data) (output_form : Data → Opti
 
 -- ---- writable
 
-pub core_written : (n : ℕ) (k : CoreEventKind) → EachWritten (n + 9) (core_fields k)
-core_written n (RunStarted run_id profile_name cli_args stress_condition) =
-    (string_writable (codes "run-started"), (string_writable _, (string_writable profile_name, (weaker 1 (n + 9) (omega arith) (list_writable string string_writable cli_args), (optional_writable stress_condition_value (λ x. weaker 2 (n + 9) (omega arith) (stress_condition_writable x)) stress_condition, tt)))))
-core_written n (StressSubRunStarted progress) =
-    (string_writable (codes "stress-sub-run-started"), (weaker 3 (n + 9) (omega arith) (stress_progress_writable progress), tt))
-core_written n (SetupScriptStarted stress_index index total script_id program args no_capture) =
-    (string_writable (codes "setup-script-started"), (optional_writable stress_index_value (λ x. weaker 1 (n + 9) (omega arith) (stress_index_writable x)) stress_index, (natural_writable index, (natural_writable total, (string_writable script_id, (string_writable program, (weaker 1 (n + 9) (omega arith) (list_writable string string_writable args), (boolean_writable no_capture, tt))))))))
-core_written n (SetupScriptSlow stress_index script_id program args elapsed will_terminate) =
-    (string_writable (codes "setup-script-slow"), (optional_writable stress_index_value (λ x. weaker 1 (n + 9) (omega arith) (stress_index_writable x)) stress_index, (string_writable script_id, (string_writable program, (weaker 1 (n + 9) (omega arith) (list_writable string string_writable args), (weaker 1 (n + 9) (omega arith) (duration_writable elapsed), (boolean_writable will_terminate, tt)))))))
-core_written n (TestStarted stress_index test_instance slot_assignment current_stats running command_line) =
-    (string_writable (codes "test-started"), (optional_writable stress_index_value (λ x. weaker 1 (n + 9) (omega arith) (stress_index_writable x)) stress_index, (weaker 1 (n + 9) (omega arith) (test_instance_writable test_instance), (weaker 1 (n + 9) (omega arith) (slot_assignment_writable slot_assignment), (weaker 1 (n + 9) (omega arith) (run_stats_writable current_stats), (natural_writable running, (weaker 1 (n + 9) (omega arith) (list_writable string string_writable command_line), tt)))))))
-core_written n (TestSlow stress_index test_instance retry_data elapsed will_terminate) =
-    (string_writable (codes "test-slow"), (optional_writable stress_index_value (λ x. weaker 1 (n + 9) (omega arith) (stress_index_writable x)) stress_index, (weaker 1 (n + 9) (omega arith) (test_instance_writable test_instance), (weaker 1 (n + 9) (omega arith) (retry_data_writable retry_data), (weaker 1 (n + 9) (omega arith) (duration_writable elapsed), (boolean_writable will_terminate, tt))))))
-core_written n (TestRetryStarted stress_index test_instance slot_assignment retry_data running command_line) =
-    (string_writable (codes "test-retry-started"), (optional_writable stress_index_value (λ x. weaker 1 (n + 9) (omega arith) (stress_index_writable x)) stress_index, (weaker 1 (n + 9) (omega arith) (test_instance_writable test_instance), (weaker 1 (n + 9) (omega arith) (slot_assignment_writable slot_assignment), (weaker 1 (n + 9) (omega arith) (retry_data_writable retry_data), (natural_writable running, (weaker 1 (n + 9) (omega arith) (list_writable string string_writable command_line), tt)))))))
-core_written n (TestSkipped stress_index test_instance reason junit_report_skipped) =
-    (string_writable (codes "test-skipped"), (optional_writable stress_index_value (λ x. weaker 1 (n + 9) (omega arith) (stress_index_writable x)) stress_index, (weaker 1 (n + 9) (omega arith) (test_instance_writable test_instance), (weaker 0 (n + 9) (omega arith) (mismatch_reason_writable reason), (weaker 0 (n + 9) (omega arith) (skip_policy_writable junit_report_skipped), tt)))))
-core_written n (RunBeginCancel setup_scripts_running running reason) =
-    (string_writable (codes "run-begin-cancel"), (natural_writable setup_scripts_running, (natural_writable running, (weaker 0 (n + 9) (omega arith) (cancel_reason_writable reason), tt))))
-core_written n (RunPaused setup_scripts_running running) =
-    (string_writable (codes "run-paused"), (natural_writable setup_scripts_running, (natural_writable running, tt)))
-core_written n (RunContinued setup_scripts_running running) =
-    (string_writable (codes "run-continued"), (natural_writable setup_scripts_running, (natural_writable running, tt)))
-core_written n (StressSubRunFinished progress sub_elapsed sub_stats) =
-    (string_writable (codes "stress-sub-run-finished"), (weaker 3 (n + 9) (omega arith) (stress_progress_writable progress), (weaker 1 (n + 9) (omega arith) (duration_writable sub_elapsed), (weaker 1 (n + 9) (omega arith) (run_stats_writable sub_stats), tt))))
-core_written n (RunFinished run_id start_time elapsed run_stats outstanding_not_seen) =
-    (string_writable (codes "run-finished"), (string_writable _, (weaker 1 (n + 9) (omega arith) (stamp_writable start_time), (weaker 1 (n + 9) (omega arith) (duration_writable elapsed), (weaker 3 (n + 9) (omega arith) (run_finished_stats_writable run_stats), (optional_writable tests_not_seen_value (λ x. weaker 3 (n + 9) (omega arith) (tests_not_seen_writable x)) outstanding_not_seen, tt))))))
+-- fields with literal keys, each of which nests at most n deep
+abbrev pub FieldsWritten : ℕ → List Field → Type 0
+FieldsWritten n fs = (keys_are_ascii fs ≡ true) × EachWritten n fs
+
+pub stress_index_written : (n : ℕ) (i : Option StressIndexSummary) → IfSome i IsStressIndex → IfWritten (n + 9) (option_map stress_index_value i)
+stress_index_written n i h = optional_writable stress_index_value (λ x is. weaker 1 (n + 9) (omega arith) (stress_index_writable x is)) i h
+
+pub texts_written : (n : ℕ) (ts : List (List ℕ)) → AreTexts ts → IsWritable (n + 9) (list_value string ts)
+texts_written n ts h = weaker 1 (n + 9) (omega arith) (list_writable string string_writable ts h)
+
+pub core_written : (n : ℕ) (k : CoreEventKind) → IsCore k → FieldsWritten (n + 9) (core_fields k)
+core_written n (RunStarted run_id profile_name cli_args stress_condition) h = (
+  refl,
+  (
+    word_writable (codes "run-started") refl,
+    (
+      weaker 0 (n + 9) (omega arith) (uuid_writable run_id h.0),
+      (
+        string_writable profile_name h.1,
+        (
+          texts_written n cli_args h.2,
+          (optional_writable stress_condition_value (λ x is. weaker 2 (n + 9) (omega arith) (stress_condition_writable x is)) stress_condition h.3, tt),
+        ),
+      ),
+    ),
+  ),
+)
+core_written n (StressSubRunStarted progress) h = (
+  refl,
+  (
+    word_writable (codes "stress-sub-run-started") refl,
+    (weaker 3 (n + 9) (omega arith) (stress_progress_writable progress h), tt),
+  ),
+)
+core_written n (SetupScriptStarted stress_index index total script_id program args no_capture) h = (
+  refl,
+  (
+    word_writable (codes "setup-script-started") refl,
+    (
+      stress_index_written n stress_index h.0,
+      (
+        natural_writable index h.1,
+        (
+          natural_writable total h.2,
+          (
+            string_writable script_id h.3,
+            (
+              string_writable program h.4,
+              (
+                texts_written n args h.5,
+                (boolean_writable no_capture, tt),
+              ),
+            ),
+          ),
+        ),
+      ),
+    ),
+  ),
+)
+core_written n (SetupScriptSlow stress_index script_id program args elapsed will_terminate) h = (
+  refl,
+  (
+    word_writable (codes "setup-script-slow") refl,
+    (
+      stress_index_written n stress_index h.0,
+      (
+        string_writable script_id h.1,
+        (
+          string_writable program h.2,
+          (
+            texts_written n args h.3,
+            (
+              weaker 1 (n + 9) (omega arith) (duration_writable elapsed h.4),
+              (boolean_writable will_terminate, tt),
+            ),
+          ),
+        ),
+      ),
+    ),
+  ),
+)
+core_written n (TestStarted stress_index test_instance slot_assignment current_stats running command_line) h = (
+  refl,
+  (
+    word_writable (codes "test-started") refl,
+    (
+      stress_index_written n stress_index h.0,
+      (
+        weaker 1 (n + 9) (omega arith) (test_instance_writable test_instance h.1),
+        (
+          weaker 1 (n + 9) (omega arith) (slot_assignment_writable slot_assignment h.2),
+          (
+            weaker 1 (n + 9) (omega arith) (run_stats_writable current_stats h.3),
+            (
+              natural_writable running h.4,
+              (texts_written n command_line h.5, tt),
+            ),
+          ),
+        ),
+      ),
+    ),
+  ),
+)
+core_written n (TestSlow stress_index test_instance retry_data elapsed will_terminate) h = (
+  refl,
+  (
+    word_writable (codes "test-slow") refl,
+    (
+      stress_index_written n stress_index h.0,
+      (
+        weaker 1 (n + 9) (omega arith) (test_instance_writable test_instance h.1),
+        (
+          weaker 1 (n + 9) (omega arith) (retry_data_writable retry_data h.2),
+          (
+            weaker 1 (n + 9) (omega arith) (duration_writable elapsed h.3),
+            (boolean_writable will_terminate, tt),
+          ),
+        ),
+      ),
+    ),
+  ),
+)
+core_written n (TestRetryStarted stress_index test_instance slot_assignment retry_data running command_line) h = (
+  refl,
+  (
+    word_writable (codes "test-retry-started") refl,
+    (
+      stress_index_written n stress_index h.0,
+      (
+        weaker 1 (n + 9) (omega arith) (test_instance_writable test_instance h.1),
+        (
+          weaker 1 (n + 9) (omega arith) (slot_assignment_writable slot_assignment h.2),
+          (
+            weaker 1 (n + 9) (omega arith) (retry_data_writable retry_data h.3),
+            (
+              natural_writable running h.4,
+              (texts_written n command_line h.5, tt),
+            ),
+          ),
+        ),
+      ),
+    ),
+  ),
+)
+core_written n (TestSkipped stress_index test_instance reason junit_report_skipped) h = (
+  refl,
+  (
+    word_writable (codes "test-skipped") refl,
+    (
+      stress_index_written n stress_index h.0,
+      (
+        weaker 1 (n + 9) (omega arith) (test_instance_writable test_instance h.1),
+        (
+          weaker 0 (n + 9) (omega arith) (mismatch_reason_writable reason),
+          (weaker 0 (n + 9) (omega arith) (skip_policy_writable junit_report_skipped), tt),
+        ),
+      ),
+    ),
+  ),
+)
+core_written n (RunBeginCancel setup_scripts_running running reason) h = (
+  refl,
+  (
+    word_writable (codes "run-begin-cancel") refl,
+    (
+      natural_writable setup_scripts_running h.0,
+      (
+        natural_writable running h.1,
+        (weaker 0 (n + 9) (omega arith) (cancel_reason_writable reason), tt),
+      ),
+    ),
+  ),
+)
+core_written n (RunPaused setup_scripts_running running) h = (
+  refl,
+  (
+    word_writable (codes "run-paused") refl,
+    (
+      natural_writable setup_scripts_running h.0,
+      (natural_writable running h.1, tt),
+    ),
+  ),
+)
+core_written n (RunContinued setup_scripts_running running) h = (
+  refl,
+  (
+    word_writable (codes "run-continued") refl,
+    (
+      natural_writable setup_scripts_running h.0,
+      (natural_writable running h.1, tt),
+    ),
+  ),
+)
+core_written n (StressSubRunFinished progress sub_elapsed sub_stats) h = (
+  refl,
+  (
+    word_writable (codes "stress-sub-run-finished") refl,
+    (
+      weaker 3 (n + 9) (omega arith) (stress_progress_writable progress h.0),
+      (
+        weaker 1 (n + 9) (omega arith) (duration_writable sub_elapsed h.1),
+        (weaker 1 (n + 9) (omega arith) (run_stats_writable sub_stats h.2), tt),
+      ),
+    ),
+  ),
+)
+core_written n (RunFinished run_id start_time elapsed run_stats outstanding_not_seen) h = (
+  refl,
+  (
+    word_writable (codes "run-finished") refl,
+    (
+      weaker 0 (n + 9) (omega arith) (uuid_writable run_id h.0),
+      (
+        weaker 1 (n + 9) (omega arith) (stamp_writable start_time h.1),
+        (
+          weaker 1 (n + 9) (omega arith) (duration_writable elapsed h.2),
+          (
+            weaker 3 (n + 9) (omega arith) (run_finished_stats_writable run_stats h.3),
+            (optional_writable tests_not_seen_value (λ x is. weaker 3 (n + 9) (omega arith) (tests_not_seen_writable x is)) outstanding_not_seen h.4, tt),
+          ),
+        ),
+      ),
+    ),
+  ),
+)
 
 -- ---- what is read is well-formed
 
-pub run_started_known : (ms : Members) → Holds IsCore (run_started_form ms)
+pub run_started_well_formed : (ms : Members) → Holds IsCore (run_started_form ms)
 unfolding run_started_form
-run_started_known ms =
-    required_then uuid_form (codes "run-id") ms _ uuid_known (λ run_id run_id_is.
-    required_then text_of (codes "profile-name") ms _ text_known (λ profile_name profile_name_is.
-    required_then (list_form text_of) (codes "cli-args") ms _ (list_known text_of text_known) (λ cli_args cli_args_is.
-    maybe_then stress_condition_form (codes "stress-condition") ms _ stress_condition_known (λ stress_condition stress_condition_is.
+run_started_well_formed ms =
+    required_then uuid_form (codes "run-id") ms _ uuid_well_formed (λ run_id run_id_is.
+    required_then text_of (codes "profile-name") ms _ text_well_formed (λ profile_name profile_name_is.
+    required_then (list_form text_of) (codes "cli-args") ms _ (list_well_formed text_of text_well_formed) (λ cli_args cli_args_is.
+    maybe_then stress_condition_form (codes "stress-condition") ms _ stress_condition_well_formed (λ stress_condition stress_condition_is.
     record { is = (run_id_is, profile_name_is, cli_args_is, stress_condition_is) }))))
 
-pub stress_sub_run_started_known : (ms : Members) → Holds IsCore (stress_sub_run_started_form ms)
+pub stress_sub_run_started_well_formed : (ms : Members) → Holds IsCore (stress_sub_run_started_form ms)
 unfolding stress_sub_run_started_form
-stress_sub_run_started_known ms =
-    required_then stress_progress_form (codes "progress") ms _ stress_progress_known (λ progress progress_is.
+stress_sub_run_started_well_formed ms =
+    required_then stress_progress_form (codes "progress") ms _ stress_progress_well_formed (λ progress progress_is.
     record { is = progress_is })
 
-pub place_known : (ms : Members) → Holds IsPlace (place_form ms)
+pub place_well_formed : (ms : Members) → Holds IsPlace (place_form ms)
 unfolding place_form
-place_known ms =
-    maybe_then stress_index_form (codes "stress-index") ms _ stress_index_known (λ stress_index stress_index_is.
-    required_then u64_form (codes "index") ms _ u64_known (λ index index_is.
-    required_then u64_form (codes "total") ms _ u64_known (λ total total_is.
+place_well_formed ms =
+    maybe_then stress_index_form (codes "stress-index") ms _ stress_index_well_formed (λ stress_index stress_index_is.
+    required_then u64_form (codes "index") ms _ u64_well_formed (λ index index_is.
+    required_then u64_form (codes "total") ms _ u64_well_formed (λ total total_is.
     record { is = record { stress_index = stress_index_is; index = index_is; total = total_is } })))
 
-pub command_known : (ms : Members) → Holds IsCommand (command_form ms)
+pub command_well_formed : (ms : Members) → Holds IsCommand (command_form ms)
 unfolding command_form
-command_known ms =
-    required_then text_of (codes "script-id") ms _ text_known (λ script_id script_id_is.
-    required_then text_of (codes "program") ms _ text_known (λ program program_is.
-    required_then (list_form text_of) (codes "args") ms _ (list_known text_of text_known) (λ args args_is.
+command_well_formed ms =
+    required_then text_of (codes "script-id") ms _ text_well_formed (λ script_id script_id_is.
+    required_then text_of (codes "program") ms _ text_well_formed (λ program program_is.
+    required_then (list_form text_of) (codes "args") ms _ (list_well_formed text_of text_well_formed) (λ args args_is.
     record { is = record { script_id = script_id_is; program = program_is; args = args_is } })))
 
-pub setup_script_started_known : (ms : Members) → Holds IsCore (setup_script_started_form ms)
+pub setup_script_started_well_formed : (ms : Members) → Holds IsCore (setup_script_started_form ms)
 unfolding setup_script_started_form
-setup_script_started_known ms =
-    then_holds (place_form ms) _ (place_known ms) (λ place place_is.
-    required_then as_bool (codes "no-capture") ms _ (any_known as_bool) (λ no_capture no_capture_is.
-    then_holds (command_form ms) _ (command_known ms) (λ command command_is.
+setup_script_started_well_formed ms =
+    then_holds (place_form ms) _ (place_well_formed ms) (λ place place_is.
+    required_then as_bool (codes "no-capture") ms _ (any_well_formed as_bool) (λ no_capture no_capture_is.
+    then_holds (command_form ms) _ (command_well_formed ms) (λ command command_is.
     record { is = (place_is.stress_index, place_is.index, place_is.total, command_is.script_id, command_is.program, command_is.args) })))
 
-pub setup_script_slow_known : (ms : Members) → Holds IsCore (setup_script_slow_form ms)
+pub setup_script_slow_well_formed : (ms : Members) → Holds IsCore (setup_script_slow_form ms)
 unfolding setup_script_slow_form
-setup_script_slow_known ms =
-    maybe_then stress_index_form (codes "stress-index") ms _ stress_index_known (λ stress_index stress_index_is.
-    required_then duration_form (codes "slow-elapsed") ms _ duration_known (λ elapsed elapsed_is.
-    required_then as_bool (codes "will-terminate") ms _ (any_known as_bool) (λ will_terminate will_terminate_is.
-    then_holds (command_form ms) _ (command_known ms) (λ command command_is.
+setup_script_slow_well_formed ms =
+    maybe_then stress_index_form (codes "stress-index") ms _ stress_index_well_formed (λ stress_index stress_index_is.
+    required_then duration_form (codes "slow-elapsed") ms _ duration_well_formed (λ elapsed elapsed_is.
+    required_then as_bool (codes "will-terminate") ms _ (any_well_formed as_bool) (λ will_terminate will_terminate_is.
+    then_holds (command_form ms) _ (command_well_formed ms) (λ command command_is.
     record { is = (stress_index_is, command_is.script_id, command_is.program, command_is.args, elapsed_is) }))))
 
-pub test_started_known : (ms : Members) → Holds IsCore (test_started_form ms)
+pub test_started_well_formed : (ms : Members) → Holds IsCore (test_started_form ms)
 unfolding test_started_form
-test_started_known ms =
-    maybe_then stress_index_form (codes "stress-index") ms _ stress_index_known (λ stress_index stress_index_is.
-    required_then test_instance_form (codes "test-instance") ms _ test_instance_known (λ test_instance test_instance_is.
-    required_then slot_assignment_form (codes "slot-assignment") ms _ slot_assignment_known (λ slot_assignment slot_assignment_is.
-    required_then run_stats_form (codes "current-stats") ms _ run_stats_known (λ current_stats current_stats_is.
-    required_then u64_form (codes "running") ms _ u64_known (λ running running_is.
-    required_then (list_form text_of) (codes "command-line") ms _ (list_known text_of text_known) (λ command_line command_line_is.
+test_started_well_formed ms =
+    maybe_then stress_index_form (codes "stress-index") ms _ stress_index_well_formed (λ stress_index stress_index_is.
+    required_then test_instance_form (codes "test-instance") ms _ test_instance_well_formed (λ test_instance test_instance_is.
+    required_then slot_assignment_form (codes "slot-assignment") ms _ slot_assignment_well_formed (λ slot_assignment slot_assignment_is.
+    required_then run_stats_form (codes "current-stats") ms _ run_stats_well_formed (λ current_stats current_stats_is.
+    required_then u64_form (codes "running") ms _ u64_well_formed (λ running running_is.
+    required_then (list_form text_of) (codes "command-line") ms _ (list_well_formed text_of text_well_formed) (λ command_line command_line_is.
     record { is = (stress_index_is, test_instance_is, slot_assignment_is, current_stats_is, running_is, command_line_is) }))))))
 
-pub test_slow_known : (ms : Members) → Holds IsCore (test_slow_form ms)
+pub test_slow_well_formed : (ms : Members) → Holds IsCore (test_slow_form ms)
 unfolding test_slow_form
-test_slow_known ms =
-    maybe_then stress_index_form (codes "stress-index") ms _ stress_index_known (λ stress_index stress_index_is.
-    required_then test_instance_form (codes "test-instance") ms _ test_instance_known (λ test_instance test_instance_is.
-    required_then retry_data_form (codes "retry-data") ms _ retry_data_known (λ retry_data retry_data_is.
-    required_then duration_form (codes "slow-elapsed") ms _ duration_known (λ elapsed elapsed_is.
-    required_then as_bool (codes "will-terminate") ms _ (any_known as_bool) (λ will_terminate will_terminate_is.
+test_slow_well_formed ms =
+    maybe_then stress_index_form (codes "stress-index") ms _ stress_index_well_formed (λ stress_index stress_index_is.
+    required_then test_instance_form (codes "test-instance") ms _ test_instance_well_formed (λ test_instance test_instance_is.
+    required_then retry_data_form (codes "retry-data") ms _ retry_data_well_formed (λ retry_data retry_data_is.
+    required_then duration_form (codes "slow-elapsed") ms _ duration_well_formed (λ elapsed elapsed_is.
+    required_then as_bool (codes "will-terminate") ms _ (any_well_formed as_bool) (λ will_terminate will_terminate_is.
     record { is = (stress_index_is, test_instance_is, retry_data_is, elapsed_is) })))))
 
-pub test_retry_started_known : (ms : Members) → Holds IsCore (test_retry_started_form ms)
+pub test_retry_started_well_formed : (ms : Members) → Holds IsCore (test_retry_started_form ms)
 unfolding test_retry_started_form
-test_retry_started_known ms =
-    maybe_then stress_index_form (codes "stress-index") ms _ stress_index_known (λ stress_index stress_index_is.
-    required_then test_instance_form (codes "test-instance") ms _ test_instance_known (λ test_instance test_instance_is.
-    required_then slot_assignment_form (codes "slot-assignment") ms _ slot_assignment_known (λ slot_assignment slot_assignment_is.
-    required_then retry_data_form (codes "retry-data") ms _ retry_data_known (λ retry_data retry_data_is.
-    required_then u64_form (codes "running") ms _ u64_known (λ running running_is.
-    required_then (list_form text_of) (codes "command-line") ms _ (list_known text_of text_known) (λ command_line command_line_is.
+test_retry_started_well_formed ms =
+    maybe_then stress_index_form (codes "stress-index") ms _ stress_index_well_formed (λ stress_index stress_index_is.
+    required_then test_instance_form (codes "test-instance") ms _ test_instance_well_formed (λ test_instance test_instance_is.
+    required_then slot_assignment_form (codes "slot-assignment") ms _ slot_assignment_well_formed (λ slot_assignment slot_assignment_is.
+    required_then retry_data_form (codes "retry-data") ms _ retry_data_well_formed (λ retry_data retry_data_is.
+    required_then u64_form (codes "running") ms _ u64_well_formed (λ running running_is.
+    required_then (list_form text_of) (codes "command-line") ms _ (list_well_formed text_of text_well_formed) (λ command_line command_line_is.
     record { is = (stress_index_is, test_instance_is, slot_assignment_is, retry_data_is, running_is, command_line_is) }))))))
 
-pub test_skipped_known : (ms : Members) → Holds IsCore (test_skipped_form ms)
+pub test_skipped_well_formed : (ms : Members) → Holds IsCore (test_skipped_form ms)
 unfolding test_skipped_form
-test_skipped_known ms =
-    maybe_then stress_index_form (codes "stress-index") ms _ stress_index_known (λ stress_index stress_index_is.
-    required_then test_instance_form (codes "test-instance") ms _ test_instance_known (λ test_instance test_instance_is.
-    required_then mismatch_reason_form (codes "reason") ms _ (any_known mismatch_reason_form) (λ reason reason_is.
-    required_then skip_policy_form (codes "junit-report-skipped") ms _ (any_known skip_policy_form) (λ junit_report_skipped junit_report_skipped_is.
+test_skipped_well_formed ms =
+    maybe_then stress_index_form (codes "stress-index") ms _ stress_index_well_formed (λ stress_index stress_index_is.
+    required_then test_instance_form (codes "test-instance") ms _ test_instance_well_formed (λ test_instance test_instance_is.
+    required_then mismatch_reason_form (codes "reason") ms _ (any_well_formed mismatch_reason_form) (λ reason reason_is.
+    required_then skip_policy_form (codes "junit-report-skipped") ms _ (any_well_formed skip_policy_form) (λ junit_report_skipped junit_report_skipped_is.
     record { is = (stress_index_is, test_instance_is) }))))
 
-pub run_begin_cancel_known : (ms : Members) → Holds IsCore (run_begin_cancel_form ms)
+pub run_begin_cancel_well_formed : (ms : Members) → Holds IsCore (run_begin_cancel_form ms)
 unfolding run_begin_cancel_form
-run_begin_cancel_known ms =
-    required_then u64_form (codes "setup-scripts-running") ms _ u64_known (λ setup_scripts_running setup_scripts_running_is.
-    required_then u64_form (codes "running") ms _ u64_known (λ running running_is.
-    required_then cancel_reason_form (codes "reason") ms _ (any_known cancel_reason_form) (λ reason reason_is.
+run_begin_cancel_well_formed ms =
+    required_then u64_form (codes "setup-scripts-running") ms _ u64_well_formed (λ setup_scripts_running setup_scripts_running_is.
+    required_then u64_form (codes "running") ms _ u64_well_formed (λ running running_is.
+    required_then cancel_reason_form (codes "reason") ms _ (any_well_formed cancel_reason_form) (λ reason reason_is.
     record { is = (setup_scripts_running_is, running_is) })))
 
-pub run_paused_known : (ms : Members) → Holds IsCore (run_paused_form ms)
+pub run_paused_well_formed : (ms : Members) → Holds IsCore (run_paused_form ms)
 unfolding run_paused_form
-run_paused_known ms =
-    required_then u64_form (codes "setup-scripts-running") ms _ u64_known (λ setup_scripts_running setup_scripts_running_is.
-    required_then u64_form (codes "running") ms _ u64_known (λ running running_is.
+run_paused_well_formed ms =
+    required_then u64_form (codes "setup-scripts-running") ms _ u64_well_formed (λ setup_scripts_running setup_scripts_running_is.
+    required_then u64_form (codes "running") ms _ u64_well_formed (λ running running_is.
     record { is = (setup_scripts_running_is, running_is) }))
 
-pub run_continued_known : (ms : Members) → Holds IsCore (run_continued_form ms)
+pub run_continued_well_formed : (ms : Members) → Holds IsCore (run_continued_form ms)
 unfolding run_continued_form
-run_continued_known ms =
-    required_then u64_form (codes "setup-scripts-running") ms _ u64_known (λ setup_scripts_running setup_scripts_running_is.
-    required_then u64_form (codes "running") ms _ u64_known (λ running running_is.
+run_continued_well_formed ms =
+    required_then u64_form (codes "setup-scripts-running") ms _ u64_well_formed (λ setup_scripts_running setup_scripts_running_is.
+    required_then u64_form (codes "running") ms _ u64_well_formed (λ running running_is.
     record { is = (setup_scripts_running_is, running_is) }))
 
-pub stress_sub_run_finished_known : (ms : Members) → Holds IsCore (stress_sub_run_finished_form ms)
+pub stress_sub_run_finished_well_formed : (ms : Members) → Holds IsCore (stress_sub_run_finished_form ms)
 unfolding stress_sub_run_finished_form
-stress_sub_run_finished_known ms =
-    required_then stress_progress_form (codes "progress") ms _ stress_progress_known (λ progress progress_is.
-    required_then duration_form (codes "sub-elapsed") ms _ duration_known (λ sub_elapsed sub_elapsed_is.
-    required_then run_stats_form (codes "sub-stats") ms _ run_stats_known (λ sub_stats sub_stats_is.
+stress_sub_run_finished_well_formed ms =
+    required_then stress_progress_form (codes "progress") ms _ stress_progress_well_formed (λ progress progress_is.
+    required_then duration_form (codes "sub-elapsed") ms _ duration_well_formed (λ sub_elapsed sub_elapsed_is.
+    required_then run_stats_form (codes "sub-stats") ms _ run_stats_well_formed (λ sub_stats sub_stats_is.
     record { is = (progress_is, sub_elapsed_is, sub_stats_is) })))
 
-pub run_finished_known : (ms : Members) → Holds IsCore (run_finished_form ms)
+pub run_finished_well_formed : (ms : Members) → Holds IsCore (run_finished_form ms)
 unfolding run_finished_form
-run_finished_known ms =
-    required_then uuid_form (codes "run-id") ms _ uuid_known (λ run_id run_id_is.
-    required_then stamp_form (codes "start-time") ms _ stamp_known (λ start_time start_time_is.
-    required_then duration_form (codes "run-elapsed") ms _ duration_known (λ elapsed elapsed_is.
-    required_then run_finished_stats_form (codes "run-stats") ms _ run_finished_stats_known (λ run_stats run_stats_is.
-    maybe_then tests_not_seen_form (codes "outstanding-not-seen") ms _ tests_not_seen_known (λ outstanding_not_seen outstanding_not_seen_is.
+run_finished_well_formed ms =
+    required_then uuid_form (codes "run-id") ms _ uuid_well_formed (λ run_id run_id_is.
+    required_then stamp_form (codes "start-time") ms _ stamp_well_formed (λ start_time start_time_is.
+    required_then duration_form (codes "run-elapsed") ms _ duration_well_formed (λ elapsed elapsed_is.
+    required_then run_finished_stats_form (codes "run-stats") ms _ run_finished_stats_well_formed (λ run_stats run_stats_is.
+    maybe_then tests_not_seen_form (codes "outstanding-not-seen") ms _ tests_not_seen_well_formed (λ outstanding_not_seen outstanding_not_seen_is.
     record { is = (run_id_is, start_time_is, elapsed_is, run_stats_is, outstanding_not_seen_is) })))))

@@ -19,11 +19,11 @@ module _ {T : Type 0} (form : Data → Option T) where
   Misses OutOfMemory number text = IsSome text
 
   -- what a line gives that isn't blank
-  abbrev pub Tells : Result T LineError → ℕ → Option (List ℕ) → Type 0
-  Tells (Ok x) number text = option_and_then (text_form form) text ≡ Some x
-  Tells (Err e) number text = Misses e number text
+  abbrev pub AnswersEvent : Result T LineError → ℕ → Option (List ℕ) → Type 0
+  AnswersEvent (Ok x) number text = option_and_then (text_form form) text ≡ Some x
+  AnswersEvent (Err e) number text = Misses e number text
 
   -- nothing comes of a line exactly where it is blank
   abbrev pub Answers : Option (Result T LineError) → ℕ → Option (List ℕ) → Type 0
   Answers None number text = blank text ≡ true
-  Answers (Some r) number text = (blank text ≡ false) × Tells r number text
+  Answers (Some r) number text = (blank text ≡ false) × AnswersEvent r number text

@@ -1,7 +1,7 @@
 -- What the lines of a log give, one after the other.
 use Rattle.std.specs.Prelude.{◌≡◌, List, [], ◌∷◌, Option, Some, None, Result, Ok, Err, MatchBool}
 use Rattle.serde_json.specs.Data.{Data}
-use Rattle.rec_codec.specs.LineEvents.{blank, Tells}
+use Rattle.rec_codec.specs.LineEvents.{blank, AnswersEvent}
 use Rattle.rec_codec.specs.Lines.{NumberedLine, text_of}
 use Rattle.rec_codec.specs.declared.line_events.LineError.{LineError}
 use Rattle.rec_codec.specs.declared.line_events.LineError.TheVariants.{ReadRunLog, ParseEvent, OutOfMemory}
@@ -20,7 +20,7 @@ module _ {T : Type 0} (form : Data → Option T) where
   -- a line that isn't blank gives one item
   abbrev pub GivesItem : NumberedLine → List NumberedLine → Option (Result T LineError) → List NumberedLine → Type 0
   GivesItem line rest None left = ⊥
-  GivesItem line rest (Some r) left = Tells form r line.number (text_of line.bytes) × (left ≡ left_after r rest)
+  GivesItem line rest (Some r) left = AnswersEvent form r line.number (text_of line.bytes) × (left ≡ left_after r rest)
 
   -- the first line that isn't blank gives the next item
   abbrev pub GivesNext : List NumberedLine → Option (Result T LineError) → List NumberedLine → Type 0

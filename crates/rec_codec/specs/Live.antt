@@ -14,8 +14,7 @@ is_loaded (Split out err) = true
 is_loaded (Combined output) = true
 is_loaded NotLoaded = false
 
--- What isn't loaded is never written. An empty text stands in its place, which is no null, so that the
--- value of each output is writable.
+-- What isn't loaded is never written; an empty text stands in its place.
 abbrev pub live_value : ChildOutputDescription → Data
 live_value (Split out err) =
     tagged (codes "split") (struct (optional (codes "stdout") output_bytes_value out ∷ optional (codes "stderr") output_bytes_value err ∷ []))

@@ -7,11 +7,11 @@ use Rattle.rec_events.specs.declared.outputs.ChildOutputDescription.TheVariants.
 use Rattle.rec_forms.specs.ListLaws.{maybe_back}
 use Rattle.rec_forms.specs.Members.{get_member-members_of}
 use Rattle.rec_forms.specs.Outputs.{output_bytes_value, output_bytes_form}
-use Rattle.rec_forms.specs.OutputLaws.{output_bytes_back, output_bytes_writable, output_bytes_known}
-use Rattle.rec_forms.specs.Writable.{IsWritable, weaker, struct_writable, tagged_writable, string_writable, optional_writable}
+use Rattle.rec_forms.specs.OutputLaws.{output_bytes_back, output_bytes_writable, output_bytes_well_formed}
+use Rattle.rec_forms.specs.Writable.{IsWritable, weaker, struct_writable, tagged_writable, optional_writable}
 use Rattle.rec_codec.specs.Live.{live_value, live_form, live_split_form, IsLive, is_loaded, live_combined_form}
-use Rattle.rec_forms.specs.Known.{Known}
-use Rattle.rec_forms.specs.KnownLaws.{map_holds, object_then, maybe_then, variant_known}
+use Rattle.rec_forms.specs.GivesWellFormed.{GivesWellFormed}
+use Rattle.rec_forms.specs.WellFormedLaws.{map_holds, object_then, maybe_then, variant_well_formed}
 
 pub live_back : (o : ChildOutputDescription) → IsLive o → live_form (live_value o) ≡ Some o
 unfolding live_form live_split_form
@@ -24,33 +24,33 @@ live_back (Split out err) h =
 live_back (Combined output) h = rw (output_bytes_back output h)
 live_back NotLoaded h = absurd h
 
-pub live_writable : (o : ChildOutputDescription) → IsWritable 2 (live_value o)
-live_writable (Split out err) =
-    tagged_writable (codes "split") _ (struct_writable _ (
-      optional_writable output_bytes_value output_bytes_writable out,
-      (optional_writable output_bytes_value output_bytes_writable err, tt),
+pub live_writable : (o : ChildOutputDescription) → IsLive o → IsWritable 2 (live_value o)
+live_writable (Split out err) h =
+    tagged_writable (codes "split") _ refl (struct_writable _ refl (
+      optional_writable output_bytes_value output_bytes_writable out h.0,
+      (optional_writable output_bytes_value output_bytes_writable err h.1, tt),
     ))
-live_writable (Combined output) = tagged_writable (codes "combined") _ (weaker 0 1 (omega arith) (output_bytes_writable output))
-live_writable NotLoaded = string_writable []
+live_writable (Combined output) h = tagged_writable (codes "combined") _ refl (weaker 0 1 (omega arith) (output_bytes_writable output h))
+live_writable NotLoaded h = absurd h
 
 -- ---- what is read is well-formed
 
-live_split_known : Known IsLive live_split_form
+live_split_well_formed : GivesWellFormed IsLive live_split_form
 unfolding live_split_form
-live_split_known = record {
+live_split_well_formed = record {
   each = λ d.
       object_then d _ (λ ms.
-      maybe_then output_bytes_form (codes "stdout") ms _ output_bytes_known (λ out out_is.
-      maybe_then output_bytes_form (codes "stderr") ms _ output_bytes_known (λ err err_is.
+      maybe_then output_bytes_form (codes "stdout") ms _ output_bytes_well_formed (λ out out_is.
+      maybe_then output_bytes_form (codes "stderr") ms _ output_bytes_well_formed (λ err err_is.
       record { is = (out_is, err_is) })));
 }
 
-live_combined_known : Known IsLive live_combined_form
-live_combined_known = record { each = λ d. map_holds Combined (output_bytes_form d) (output_bytes_known.each d) (λ output is. is) }
+live_combined_well_formed : GivesWellFormed IsLive live_combined_form
+live_combined_well_formed = record { each = λ d. map_holds Combined (output_bytes_form d) (output_bytes_well_formed.each d) (λ output is. is) }
 
-pub live_known : Known IsLive live_form
+pub live_well_formed : GivesWellFormed IsLive live_form
 unfolding live_form
-live_known = variant_known IsLive [] ((codes "split", live_split_form) ∷ (codes "combined", live_combined_form) ∷ []) tt (live_split_known, (live_combined_known, tt))
+live_well_formed = variant_well_formed IsLive [] ((codes "split", live_split_form) ∷ (codes "combined", live_combined_form) ∷ []) tt (live_split_well_formed, (live_combined_well_formed, tt))
 
 -- what is well-formed was loaded
 pub live_loaded : (o : ChildOutputDescription) → IsLive o → is_loaded o ≡ true

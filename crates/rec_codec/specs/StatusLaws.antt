@@ -1,5 +1,5 @@
 -- Attempts read back where their outputs do, and are writable where these are.
-use Rattle.std.specs.Prelude.{◌≡◌, ℕ, suc, ◌+◌, ◌<◌, length, nat_lt, true, Option, Some, codes, List, [], ◌∷◌}
+use Rattle.std.specs.Prelude.{◌≡◌, ℕ, suc, ◌+◌, ◌<◌, length, nat_lt, true, refl, Option, Some, codes, List, [], ◌∷◌}
 use Rattle.std.proofs.Common.{arith}
 use Rattle.std.proofs.lemmas.Bool.Decides.{nat_tests}
 use Rattle.serde_json.specs.Data.{Data, string, Members}
@@ -9,20 +9,20 @@ use Rattle.rec_events.specs.declared.outputs.ChildExecutionOutputDescription.The
 use Rattle.rec_events.specs.declared.statuses.ExecuteStatus.{ExecuteStatus}
 use Rattle.rec_events.specs.declared.statuses.ExecutionStatuses.{ExecutionStatuses}
 use Rattle.rec_forms.specs.ErrorTexts.{error_summary_value, error_summary_form, IsErrorSummary, error_slice_value, error_slice_form, IsErrorSlice}
-use Rattle.rec_forms.specs.ErrorTextLaws.{error_summary_back, error_summary_writable, error_slice_back, error_slice_writable, error_slice_known, error_summary_known}
-use Rattle.rec_forms.specs.InstanceLaws.{retry_data_back, retry_data_writable, retry_data_known}
+use Rattle.rec_forms.specs.ErrorTextLaws.{error_summary_back, error_summary_writable, error_slice_back, error_slice_writable, error_slice_well_formed, error_summary_well_formed}
+use Rattle.rec_forms.specs.InstanceLaws.{retry_data_back, retry_data_writable, retry_data_well_formed}
 use Rattle.rec_forms.specs.Lists.{list_value, list_form, some_form}
 use Rattle.rec_forms.specs.ListLaws.{list_back, maybe_back}
 use Rattle.rec_forms.specs.Members.{get_member-members_of}
-use Rattle.rec_forms.specs.NumberLaws.{text_back, below_tells, text_known}
+use Rattle.rec_forms.specs.NumberLaws.{text_back, below_tells, text_well_formed}
 use Rattle.rec_forms.specs.Results.{execution_result_value, execution_result_form, IsExecutionResult, flaky_result_form}
-use Rattle.rec_forms.specs.ResultLaws.{flaky_result_back, flaky_result_writable, execution_result_back, execution_result_writable, execution_result_known}
+use Rattle.rec_forms.specs.ResultLaws.{flaky_result_back, flaky_result_writable, execution_result_back, execution_result_writable, execution_result_well_formed}
 use Rattle.rec_forms.specs.Shape.{text_of, only}
-use Rattle.rec_forms.specs.TimeLaws.{stamp_back, stamp_writable, duration_back, duration_writable, duration_known, stamp_known}
+use Rattle.rec_forms.specs.TimeLaws.{stamp_back, stamp_writable, duration_back, duration_writable, duration_well_formed, stamp_well_formed}
 use Rattle.rec_forms.specs.Writable.{IsWritable, weaker, struct_writable, tagged_writable, string_writable, boolean_writable, list_writable, optional_writable}
 use Rattle.rec_codec.specs.Status.{description_value, description_form, output_case_form, IsDescription, course_form, status_value, status_form, IsStatus, statuses_value, attempts_form, statuses_form, AreStatuses, IsCourse, start_error_form}
-use Rattle.rec_forms.specs.Known.{Holds, Known}
-use Rattle.rec_forms.specs.KnownLaws.{any_known, and_then_holds, map_holds, only_holds, object_then, required_then, maybe_then, then_holds, variant_known, list_known}
+use Rattle.rec_forms.specs.GivesWellFormed.{Holds, GivesWellFormed}
+use Rattle.rec_forms.specs.WellFormedLaws.{any_well_formed, and_then_holds, map_holds, only_holds, object_then, required_then, maybe_then, then_holds, variant_well_formed, list_well_formed}
 use Rattle.rec_forms.specs.Instances.{retry_data_form}
 use Rattle.rec_forms.specs.Times.{duration_form, stamp_form}
 use Rattle.serde_json.specs.Find.{as_bool}
@@ -68,37 +68,37 @@ module _ {S O : Type 0} (P : O → Type 0) (output_value : O → Data) (output_f
         flaky_result_back s.flaky_result,
       )
 
-module _ {S O : Type 0} (n : ℕ) (output_value : O → Data) (writable : (o : O) → IsWritable n (output_value o)) where
-  pub description_writable : (d : ChildExecutionOutputDescription S O) → IsWritable (n + 6) (description_value output_value d)
-  description_writable (Output result output errors) =
-      weaker (suc (suc (n + 4))) (n + 6) (omega arith) (tagged_writable (codes "output") _ (struct_writable _ (
-        optional_writable execution_result_value (λ r. weaker 4 (n + 4) (omega arith) (execution_result_writable r)) result,
+module _ {S O : Type 0} (P : O → Type 0) (n : ℕ) (output_value : O → Data) (writable : (o : O) → P o → IsWritable n (output_value o)) where
+  pub description_writable : (d : ChildExecutionOutputDescription S O) → IsDescription P d → IsWritable (n + 6) (description_value output_value d)
+  description_writable (Output result output errors) h =
+      weaker (suc (suc (n + 4))) (n + 6) (omega arith) (tagged_writable (codes "output") _ refl (struct_writable _ refl (
+        optional_writable execution_result_value (λ r is. weaker 4 (n + 4) (omega arith) (execution_result_writable r is)) result h.0,
         (
-          weaker n (n + 4) (omega arith) (writable output),
-          (optional_writable (list_value string) (λ ts. weaker 1 (n + 4) (omega arith) (list_writable string string_writable ts)) errors, tt),
+          weaker n (n + 4) (omega arith) (writable output h.1),
+          (optional_writable (list_value string) (λ ts are. weaker 1 (n + 4) (omega arith) (list_writable string string_writable ts are)) errors h.2, tt),
         ),
       )))
-  description_writable (StartError message) = weaker 1 (n + 6) (omega arith) (tagged_writable (codes "start-error") _ (string_writable message))
+  description_writable (StartError message) h = weaker 1 (n + 6) (omega arith) (tagged_writable (codes "start-error") _ refl (string_writable message h))
 
-  pub status_writable : (s : ExecuteStatus S O) → IsWritable (n + 7) (status_value output_value s)
-  status_writable s =
-      weaker (suc (n + 6)) (n + 7) (omega arith) (struct_writable _ (
-        weaker 1 (n + 6) (omega arith) (retry_data_writable s.retry_data),
+  pub status_writable : (s : ExecuteStatus S O) → IsStatus P s → IsWritable (n + 7) (status_value output_value s)
+  status_writable s h =
+      weaker (suc (n + 6)) (n + 7) (omega arith) (struct_writable _ refl (
+        weaker 1 (n + 6) (omega arith) (retry_data_writable s.retry_data h.retry_data),
         (
-          description_writable s.output,
+          description_writable s.output h.output,
           (
-            weaker 4 (n + 6) (omega arith) (execution_result_writable s.result),
+            weaker 4 (n + 6) (omega arith) (execution_result_writable s.result h.result),
             (
-              weaker 1 (n + 6) (omega arith) (stamp_writable s.start_time),
+              weaker 1 (n + 6) (omega arith) (stamp_writable s.start_time h.course.start_time),
               (
-                weaker 1 (n + 6) (omega arith) (duration_writable s.time_taken),
+                weaker 1 (n + 6) (omega arith) (duration_writable s.time_taken h.course.time_taken),
                 (
                   boolean_writable s.is_slow,
                   (
-                    weaker 1 (n + 6) (omega arith) (duration_writable s.delay_before_start),
+                    weaker 1 (n + 6) (omega arith) (duration_writable s.delay_before_start h.course.delay_before_start),
                     (
-                      optional_writable error_summary_value (λ e. weaker 1 (n + 6) (omega arith) (error_summary_writable e)) s.error_summary,
-                      (optional_writable error_slice_value (λ e. weaker 1 (n + 6) (omega arith) (error_slice_writable e)) s.output_error_slice, tt),
+                      optional_writable error_summary_value (λ e is. weaker 1 (n + 6) (omega arith) (error_summary_writable e is)) s.error_summary h.error_summary,
+                      (optional_writable error_slice_value (λ e is. weaker 1 (n + 6) (omega arith) (error_slice_writable e is)) s.output_error_slice h.output_error_slice, tt),
                     ),
                   ),
                 ),
@@ -108,63 +108,63 @@ module _ {S O : Type 0} (n : ℕ) (output_value : O → Data) (writable : (o : O
         ),
       ))
 
-  pub statuses_writable : (s : ExecutionStatuses S O) → IsWritable (n + 9) (statuses_value output_value s)
-  statuses_writable s =
-      weaker (suc (suc (n + 7))) (n + 9) (omega arith) (struct_writable _ (
-        list_writable (status_value output_value) status_writable s.statuses,
+  pub statuses_writable : (s : ExecutionStatuses S O) → AreStatuses P s → IsWritable (n + 9) (statuses_value output_value s)
+  statuses_writable s h =
+      weaker (suc (suc (n + 7))) (n + 9) (omega arith) (struct_writable _ refl (
+        list_writable (status_value output_value) status_writable s.statuses h.statuses,
         (weaker 0 (suc (n + 7)) (omega arith) (flaky_result_writable s.flaky_result), tt),
       ))
 
 -- ---- what is read is well-formed
 
-pub course_known : (ms : Members) → Holds IsCourse (course_form ms)
+pub course_well_formed : (ms : Members) → Holds IsCourse (course_form ms)
 unfolding course_form
-course_known ms =
-    required_then stamp_form (codes "start-time") ms _ stamp_known (λ start_time start_time_is.
-    required_then duration_form (codes "time-taken") ms _ duration_known (λ time_taken time_taken_is.
-    required_then as_bool (codes "is-slow") ms _ (any_known as_bool) (λ is_slow is_slow_is.
-    required_then duration_form (codes "delay-before-start") ms _ duration_known (λ delay_before_start delay_before_start_is.
+course_well_formed ms =
+    required_then stamp_form (codes "start-time") ms _ stamp_well_formed (λ start_time start_time_is.
+    required_then duration_form (codes "time-taken") ms _ duration_well_formed (λ time_taken time_taken_is.
+    required_then as_bool (codes "is-slow") ms _ (any_well_formed as_bool) (λ is_slow is_slow_is.
+    required_then duration_form (codes "delay-before-start") ms _ duration_well_formed (λ delay_before_start delay_before_start_is.
     record { is = record { start_time = start_time_is; time_taken = time_taken_is; delay_before_start = delay_before_start_is } }))))
 
 -- a list that is not empty
-some_known : {T : Type 0} {P : T → Type 0} (form : Data → Option T) → Known P form → Known (λ xs. AllByRecursion P xs × (0 < length xs)) (some_form form)
-some_known form h = record {
+some_well_formed : {T : Type 0} {P : T → Type 0} (form : Data → Option T) → GivesWellFormed P form → GivesWellFormed (λ xs. AllByRecursion P xs × (0 < length xs)) (some_form form)
+some_well_formed form h = record {
   each = λ d.
-      and_then_holds (λ xs. only (nat_lt 0 (length xs)) xs) (list_form form d) ((list_known form h).each d) (λ xs all.
+      and_then_holds (λ xs. only (nat_lt 0 (length xs)) xs) (list_form form d) ((list_well_formed form h).each d) (λ xs all.
       only_holds (nat_lt 0 (length xs)) xs (λ passed. (all, below_tells 0 (length xs) passed)));
 }
 
-module _ {S O : Type 0} (P : O → Type 0) (output_form : Data → Option O) (known : Known P output_form) where
-  output_case_known : Known {T = ChildExecutionOutputDescription S O} (IsDescription P) (output_case_form output_form)
+module _ {S O : Type 0} (P : O → Type 0) (output_form : Data → Option O) (gives : GivesWellFormed P output_form) where
+  output_case_well_formed : GivesWellFormed {T = ChildExecutionOutputDescription S O} (IsDescription P) (output_case_form output_form)
   unfolding output_case_form
-  output_case_known = record {
+  output_case_well_formed = record {
     each = λ d.
         object_then d _ (λ ms.
-        maybe_then execution_result_form (codes "result") ms _ execution_result_known (λ result result_is.
-        required_then output_form (codes "output") ms _ known (λ output output_is.
-        maybe_then (list_form text_of) (codes "errors") ms _ (list_known text_of text_known) (λ errors errors_is.
+        maybe_then execution_result_form (codes "result") ms _ execution_result_well_formed (λ result result_is.
+        required_then output_form (codes "output") ms _ gives (λ output output_is.
+        maybe_then (list_form text_of) (codes "errors") ms _ (list_well_formed text_of text_well_formed) (λ errors errors_is.
         record { is = (result_is, output_is, errors_is) }))));
   }
 
-  start_error_known : Known {T = ChildExecutionOutputDescription S O} (IsDescription P) (start_error_form output_form)
-  start_error_known = record { each = λ d. map_holds StartError (text_of d) (text_known.each d) (λ message is. is) }
+  start_error_well_formed : GivesWellFormed {T = ChildExecutionOutputDescription S O} (IsDescription P) (start_error_form output_form)
+  start_error_well_formed = record { each = λ d. map_holds StartError (text_of d) (text_well_formed.each d) (λ message is. is) }
 
-  pub description_known : Known {T = ChildExecutionOutputDescription S O} (IsDescription P) (description_form output_form)
+  pub description_well_formed : GivesWellFormed {T = ChildExecutionOutputDescription S O} (IsDescription P) (description_form output_form)
   unfolding description_form
-  description_known =
-      variant_known (IsDescription P) [] ((codes "output", output_case_form output_form) ∷ (codes "start-error", start_error_form output_form) ∷ []) tt (output_case_known, (start_error_known, tt))
+  description_well_formed =
+      variant_well_formed (IsDescription P) [] ((codes "output", output_case_form output_form) ∷ (codes "start-error", start_error_form output_form) ∷ []) tt (output_case_well_formed, (start_error_well_formed, tt))
 
-  pub status_known : Known {T = ExecuteStatus S O} (IsStatus P) (status_form output_form)
+  pub status_well_formed : GivesWellFormed {T = ExecuteStatus S O} (IsStatus P) (status_form output_form)
   unfolding status_form
-  status_known = record {
+  status_well_formed = record {
     each = λ d.
         object_then d _ (λ ms.
-        then_holds (course_form ms) _ (course_known ms) (λ course course_is.
-        required_then retry_data_form (codes "retry-data") ms _ retry_data_known (λ retry_data retry_data_is.
-        required_then (description_form output_form) (codes "output") ms _ description_known (λ output output_is.
-        required_then execution_result_form (codes "result") ms _ execution_result_known (λ result result_is.
-        maybe_then error_summary_form (codes "error-summary") ms _ error_summary_known (λ error_summary error_summary_is.
-        maybe_then error_slice_form (codes "output-error-slice") ms _ error_slice_known (λ output_error_slice output_error_slice_is.
+        then_holds (course_form ms) _ (course_well_formed ms) (λ course course_is.
+        required_then retry_data_form (codes "retry-data") ms _ retry_data_well_formed (λ retry_data retry_data_is.
+        required_then (description_form output_form) (codes "output") ms _ description_well_formed (λ output output_is.
+        required_then execution_result_form (codes "result") ms _ execution_result_well_formed (λ result result_is.
+        maybe_then error_summary_form (codes "error-summary") ms _ error_summary_well_formed (λ error_summary error_summary_is.
+        maybe_then error_slice_form (codes "output-error-slice") ms _ error_slice_well_formed (λ output_error_slice output_error_slice_is.
         record {
           is = record {
             course = course_is;
@@ -177,16 +177,16 @@ module _ {S O : Type 0} (P : O → Type 0) (output_form : Data → Option O) (kn
         })))))));
   }
 
-  attempts_known : Known {T = List (ExecuteStatus S O)} (λ ss. AllByRecursion (IsStatus P) ss × (0 < length ss)) (attempts_form output_form)
+  attempts_well_formed : GivesWellFormed {T = List (ExecuteStatus S O)} (λ ss. AllByRecursion (IsStatus P) ss × (0 < length ss)) (attempts_form output_form)
   unfolding attempts_form
-  attempts_known = some_known (status_form output_form) status_known
+  attempts_well_formed = some_well_formed (status_form output_form) status_well_formed
 
-  pub statuses_known : Known {T = ExecutionStatuses S O} (AreStatuses P) (statuses_form output_form)
+  pub statuses_well_formed : GivesWellFormed {T = ExecutionStatuses S O} (AreStatuses P) (statuses_form output_form)
   unfolding statuses_form
-  statuses_known = record {
+  statuses_well_formed = record {
     each = λ d.
         object_then d _ (λ ms.
-        required_then flaky_result_form (codes "flaky-result") ms _ (any_known flaky_result_form) (λ flaky_result flaky_result_is.
-        required_then (attempts_form output_form) (codes "statuses") ms _ attempts_known (λ statuses statuses_is.
+        required_then flaky_result_form (codes "flaky-result") ms _ (any_well_formed flaky_result_form) (λ flaky_result flaky_result_is.
+        required_then (attempts_form output_form) (codes "statuses") ms _ attempts_well_formed (λ statuses statuses_is.
         record { is = record { statuses = statuses_is.0; some = statuses_is.1 } })));
   }

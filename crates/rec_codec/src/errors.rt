@@ -1,10 +1,10 @@
-//! Why an item is not written.
+//! The causes for which an item isn't written.
 ghost use Rattle.rec_codec.specs.declared.errors.ToValueError.TheVariants.{OutOfMemory};
 
 use std::alloc::{AllocError, AllocFailed};
 use thiserror::Error;
 
-/// Why an item has no JSON value.
+/// Names the cause for which no JSON value was made of an item.
 #[derive(Clone, Copy, PartialEq, Eq, Debug, Drop, Error)]
 pub enum ToValueError {
     /// An output in it was not loaded.

@@ -3,7 +3,7 @@ ghost use Rattle.std.specs.Prelude.{◌≡◌, OnOk, IfOk, Some};
 ghost use Rattle.serde_json.specs.View.{view, members_view};
 ghost use Rattle.rec_forms.specs.Gives.{Gives};
 ghost use Rattle.rec_forms.specs.Shape.{with_members};
-ghost use Rattle.rec_codec.specs.Writes.{Writes, Refuses};
+ghost use Rattle.rec_codec.specs.Writes.{Writes, PutsLoaded};
 ghost use Rattle.rec_codec.specs.EventForms.{kind_fields, kind_named, kind_form, kind_loaded, IsKind, event_value, event_form, IsEvent};
 
 use crate::core_kinds::{core_from, put_core};
@@ -24,7 +24,7 @@ fn put_kind<S: OutputForm>(
 ) -> Result<(), ToValueError>
     ensures written { OnOk result (members_view object.new.entries
         ≡ with_members (members_view object.old.entries) (kind_fields S.output_value kind.now)) }
-    ensures loaded { Refuses result (kind_loaded S.loaded kind.now) }
+    ensures loaded { PutsLoaded result (kind_loaded S.loaded kind.now) }
     ensures known { OnOk result (IsKind S.output_well_formed kind.now) }
 {
     match kind {
@@ -33,7 +33,7 @@ fn put_kind<S: OutputForm>(
     }
 }
 
-// The value of an event.
+// Makes the value of an event.
 #[tactic(auto, unfolding(rec_forms::specs::Shape::members_of))]
 fn value_from<S: OutputForm>(
     alloc: Global,
@@ -49,8 +49,13 @@ fn value_from<S: OutputForm>(
     Ok(Value::from(object))
 }
 
-/// The value of an event: an object with its times, the name of its kind and the members of that
-/// kind. `NotLoaded` comes exactly where an output isn't loaded, unless memory runs out first.
+/// Makes the value of an event: an object with its times, the name of its kind and the members of
+/// that kind. It is read as this event again.
+///
+/// # Errors
+///
+/// `NotLoaded` comes exactly where an output of the event isn't loaded, and `OutOfMemory` where
+/// there was not enough memory.
 pub fn event_to_value<S: OutputForm>(
     alloc: Global,
     event: &TestEventSummary<S>,
@@ -59,6 +64,7 @@ pub fn event_to_value<S: OutputForm>(
     ensures known { OnOk result (IsEvent S.output_well_formed event.now) }
     ensures reads_back { IfOk result (λ v. event_form S.output_form (view v) ≡ Some event.now) }
 {
+    // in a call of its own, so that `reads_back` can rest on the other clauses
     let value = value_from(alloc, event)?;
     Ok(value)
 }
@@ -98,7 +104,12 @@ fn kind_from<S: OutputForm>(
     }
 }
 
-/// The event for which `value` stands; `NotAValue` exactly where it stands for none.
+/// Reads the event for which `value` stands.
+///
+/// # Errors
+///
+/// `NotAValue` comes exactly where the value stands for no event, and `OutOfMemory` where there was
+/// not enough memory.
 pub fn event_from_value<S: OutputForm>(
     alloc: Global,
     value: &Value,
@@ -106,6 +117,7 @@ pub fn event_from_value<S: OutputForm>(
     ensures read { Gives result (event_form S.output_form (view value.now)) }
     ensures known { IfOk result (IsEvent S.output_well_formed) }
 {
+    // in a call of its own, so that `known` can rest on `read`
     event_from(alloc, value)
 }
 

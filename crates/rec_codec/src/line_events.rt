@@ -4,7 +4,7 @@ ghost use Rattle.rec_forms.specs.Gives.{Gives};
 ghost use Rattle.rec_forms.specs.TextForm.{text_form};
 ghost use Rattle.rec_codec.specs.EventForms.{event_form};
 ghost use Rattle.rec_codec.specs.Lines.{text_of};
-ghost use Rattle.rec_codec.specs.LineEvents.{Answers, Tells};
+ghost use Rattle.rec_codec.specs.LineEvents.{Answers, AnswersEvent};
 
 use crate::{Line, OutputForm, event_from_value};
 use rec_events::TestEventSummary;
@@ -12,21 +12,27 @@ use rec_forms::{FromValueError, parse_value};
 use std::alloc::Global;
 use thiserror::Error;
 
-/// Why a line of a session or a log gives no event.
+/// Names the cause for which a line of a session or a log gives no event.
 #[derive(Clone, Copy, PartialEq, Eq, Debug, Drop, Error)]
 pub enum LineError {
     /// The line isn't UTF-8.
     #[error("line {line_number} can't be read")]
-    ReadRunLog { line_number: u64 },
+    ReadRunLog {
+        /// The number of the line.
+        line_number: u64,
+    },
     /// The line is no JSON value, or one that stands for no event.
     #[error("line {line_number} isn't an event")]
-    ParseEvent { line_number: u64 },
+    ParseEvent {
+        /// The number of the line.
+        line_number: u64,
+    },
     /// There was not enough memory to read it.
     #[error("out of memory")]
     OutOfMemory,
 }
 
-// The event of a text.
+// Reads the event of a text.
 fn event_from_text<S: OutputForm>(
     alloc: Global,
     text: &str,
@@ -37,7 +43,13 @@ fn event_from_text<S: OutputForm>(
     event_from_value(alloc, &value)
 }
 
-/// What a line gives: an event, or why it gives none, or nothing where it is blank.
+/// Reads the event of a line. `None` comes exactly where the line is blank.
+///
+/// # Errors
+///
+/// The item is `ReadRunLog` exactly where the line isn't UTF-8, and `ParseEvent` exactly where its
+/// text is no JSON value or one that stands for no event. Both have the line's number. It is
+/// `OutOfMemory` where there was not enough memory.
 pub fn read_line<S: OutputForm>(
     alloc: Global,
     line: Line<'_>,
@@ -55,13 +67,13 @@ pub fn read_line<S: OutputForm>(
     Some(event_of_line(alloc, text, line.number))
 }
 
-// The event of a text, and its line's number where there is none.
+// Reads the event of a text that isn't blank. Where there is none, the fault has the line's number.
 fn event_of_line<S: OutputForm>(
     alloc: Global,
     text: &str,
     line_number: u64,
 ) -> Result<TestEventSummary<S>, LineError>
-    ensures { Tells (event_form S.output_form) result line_number (Some text.now) }
+    ensures { AnswersEvent (event_form S.output_form) result line_number (Some text.now) }
 {
     match event_from_text(alloc, text) {
         Ok(event) => Ok(event),

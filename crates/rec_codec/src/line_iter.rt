@@ -1,4 +1,4 @@
-//! Goes over the events of a log.
+//! The events of a log, one after the other.
 ghost use Rattle.std.specs.Prelude.{◌≡◌, ◌+◌, ◌<◌, ◌^◌, length};
 ghost use Rattle.rec_codec.specs.Lines.{lines, numbered};
 ghost use Rattle.rec_codec.specs.LineItems.{left_after};
@@ -8,8 +8,9 @@ use rec_events::TestEventSummary;
 use std::alloc::Global;
 use std::marker::{Model, PhantomData};
 
-/// Goes over the lines of a log: an item for each line that isn't blank. It goes on after a line
-/// that gives no event, and ends where there was not enough memory for one.
+/// Goes over the lines of a log, in order: one item for each line that isn't blank, as `read_line`
+/// reads it. After a line that gives no event it goes on with the next one. After `OutOfMemory` it
+/// ends.
 #[derive(Drop)]
 pub struct LineIter<'a, S: OutputForm> {
     alloc: Global,
@@ -27,7 +28,8 @@ impl<'a, S: OutputForm> Model for LineIter<'a, S> {
 }
 
 impl<'a, S: OutputForm> LineIter<'a, S> {
-    /// The items of the text's lines, the first of which has the number `first_line`.
+    /// Makes an iterator over the lines of `text`, the first of which has the number `first_line`.
+    /// The number of each line has to be a u64.
     pub fn new(alloc: Global, text: &'a [u8], first_line: u64) -> LineIter<'a, S>
         requires { first_line + length text.now < 2 ^ 64 }
         ensures { result ≡ numbered first_line (lines text.now) }
@@ -39,11 +41,11 @@ impl<'a, S: OutputForm> LineIter<'a, S> {
         }
     }
 
-    // Lets the lines go that are left where there was not enough memory.
-    fn keep_after(&mut self, told: &Result<TestEventSummary<S>, LineError>)
-        ensures { self.new ≡ left_after told.now self.old }
+    // Ends the iterator after an item that says that there was not enough memory.
+    fn end_where_out_of_memory(&mut self, item: &Result<TestEventSummary<S>, LineError>)
+        ensures { self.new ≡ left_after item.now self.old }
     {
-        if let Err(LineError::OutOfMemory) = told {
+        if let Err(LineError::OutOfMemory) = item {
             self.lines = Lines::new(&[], 1);
         }
     }
@@ -62,9 +64,9 @@ impl<'a, S: OutputForm> Iterator for LineIter<'a, S> {
 
     fn next(&mut self) -> Option<Result<TestEventSummary<S>, LineError>> {
         while let Some(line) = self.lines.next() {
-            if let Some(told) = read_line(self.alloc, line) {
-                self.keep_after(&told);
-                return Some(told);
+            if let Some(item) = read_line(self.alloc, line) {
+                self.end_where_out_of_memory(&item);
+                return Some(item);
             }
         }
         None

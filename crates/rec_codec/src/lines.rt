@@ -6,16 +6,18 @@ ghost use Rattle.rec_codec.specs.Lines.{lines, numbered, text_of};
 use std::marker::Model;
 use std::str;
 
-/// A line of a text, without its newline.
+/// Holds a line of a text, without its newline.
 #[derive(Clone, Copy)]
 pub struct Line<'a> {
-    /// The number of the line. The first of a text is usually 1.
+    /// The number of the line in its text, whose first line is usually 1.
     pub number: u64,
+    /// The bytes of the line.
     pub bytes: &'a [u8],
 }
 
 impl<'a> Line<'a> {
-    /// The line as a text, without the Unicode white space at its ends. None where it isn't UTF-8.
+    /// Returns the line as a text, without the Unicode white space at its ends. `None` comes exactly
+    /// where the line isn't UTF-8.
     pub fn text(&self) -> Option<&'a str>
         ensures { option_map (λ text. text.now) result ≡ text_of self.now.bytes.now }
     {
@@ -47,7 +49,8 @@ impl<'a> Model for Lines<'a> {
 }
 
 impl<'a> Lines<'a> {
-    /// The lines of the text, the first of which has the number `first_line`.
+    /// Makes an iterator over the lines of `text`, the first of which has the number `first_line`.
+    /// The number of each line has to be a u64.
     pub fn new(text: &'a [u8], first_line: u64) -> Lines<'a>
         requires room { first_line + length text.now ≤ 2 ^ 64 }
         ensures { result ≡ numbered first_line (lines text.now) }
@@ -59,14 +62,14 @@ impl<'a> Lines<'a> {
     }
 }
 
-/// Where the first line ends, if it ends at LF.
+// Returns where the first line ends, if it ends at LF.
 fn line_end(bytes: &[u8]) -> Option<usize>
     ensures { result ≡ position (λ b. b == 10) bytes.now }
 {
     bytes.iter().position(|b| *b == b'\n')
 }
 
-/// The first line of what isn't empty, and what stands after it.
+// Splits what isn't empty into its first line and what stands after it.
 fn split_line(bytes: &[u8]) -> (&[u8], &[u8])
     requires { 0 < length bytes.now }
     ensures lines { lines bytes.now ≡ result.0.now ∷ lines result.1.now }

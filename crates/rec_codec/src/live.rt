@@ -26,7 +26,7 @@ fn split_from(alloc: Global, value: &Value) -> Result<ChildOutputDescription, Fr
 
 impl OutputForm for LiveSpec {
     ghost use Rattle.rec_codec.specs.Live.{IsLive, is_loaded, live_value, live_form};
-    ghost use Rattle.rec_codec.specs.LiveLaws.{live_back, live_writable, live_known};
+    ghost use Rattle.rec_codec.specs.LiveLaws.{live_back, live_writable, live_well_formed};
 
     ghost output_well_formed = { IsLive };
 
@@ -40,7 +40,7 @@ impl OutputForm for LiveSpec {
 
     ghost output_reads_back = { live_back };
 
-    ghost output_reads_known = { live_known };
+    ghost output_reads_well_formed = { live_well_formed };
 
     ghost output_writable = { live_writable };
 

@@ -11,7 +11,7 @@ use rec_events::{
     OutputEventKind, TestEventKindSummary, TestEventSummary,
 };
 
-// Whether an output is there.
+// Returns whether an output is there.
 fn has_output(output: &ChildOutputDescription) -> bool
     ensures { result ≡ is_loaded output.now }
 {
@@ -67,7 +67,7 @@ fn kind_has_outputs(kind: &OutputEventKind<LiveSpec>) -> bool
     }
 }
 
-/// Whether each output of the event was loaded, so that the event can be written.
+/// Returns whether each output of the event was loaded, so that the event can be written.
 pub fn has_all_outputs(event: &TestEventSummary<LiveSpec>) -> bool
     ensures { result ≡ kind_loaded is_loaded event.now.kind }
 {

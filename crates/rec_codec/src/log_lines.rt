@@ -1,32 +1,36 @@
 //! The lines of a log.
-ghost use Rattle.std.specs.Prelude.{◌≡◌, ◌++◌, ◌≤◌, [], ◌∷◌, Some, IfOk, OnOk, IsTrue};
+ghost use Rattle.std.specs.Prelude.{◌≡◌, IfOk, OnOk};
 ghost use Rattle.serde_json.specs.View.{view};
-ghost use Rattle.rec_forms.specs.Outputs.{stored_outputs_value, stored_outputs_form};
-ghost use Rattle.rec_forms.specs.Writable.{IsWritable};
-ghost use Rattle.rec_codec.specs.EventForms.{event_value, event_form};
+ghost use Rattle.rec_forms.specs.Outputs.{IsStoredOutputs, stored_outputs_value};
+ghost use Rattle.rec_codec.specs.EventForms.{event_value, IsEvent};
 ghost use Rattle.rec_codec.specs.Event.{event_line, IsLogged};
 
-use crate::event_to_value;
+use crate::{ToValueError, event_to_value};
 use rec_events::{RecordingSpec, TestEventSummary};
 use serde_json::Value;
 use std::alloc::{AllocError, Global};
 
-// The value of an event. The names of files are always loaded, so only memory can be short.
+// Makes the value of an event. The names of files are always loaded, so only memory can be short.
 fn recorded_value(
     alloc: Global,
     event: &TestEventSummary<RecordingSpec>,
 ) -> Result<Value, AllocError>
     ensures value { IfOk result (λ v. view v ≡ event_value stored_outputs_value event.now) }
-    ensures reads_back { IfOk result (λ v. event_form stored_outputs_form (view v) ≡ Some event.now) }
-    ensures writable { IfOk result (λ v. IsWritable 14 (view v)) }
+    ensures known { OnOk result (IsEvent IsStoredOutputs event.now) }
 {
     match event_to_value::<RecordingSpec>(alloc, event) {
         Ok(value) => Ok(value),
-        Err(_) => Err(AllocError),
+        Err(ToValueError::OutOfMemory) => Err(AllocError),
+        Err(ToValueError::NotLoaded) => unreachable!(),
     }
 }
 
-/// The line of an event in a log: its compact JSON text and LF.
+/// Makes the line of an event in a log: its compact JSON text and LF. The line is read as this event
+/// again.
+///
+/// # Errors
+///
+/// `AllocError` comes where there was not enough memory.
 pub fn log_line(
     alloc: Global,
     event: &TestEventSummary<RecordingSpec>,

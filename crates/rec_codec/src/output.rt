@@ -3,7 +3,7 @@ ghost use Rattle.std.specs.Prelude.{◌≡◌, ℕ, Bool, Option, Some, OnOk};
 ghost use Rattle.serde_json.specs.Data.{Data};
 ghost use Rattle.serde_json.specs.View.{view};
 ghost use Rattle.rec_forms.specs.Gives.{Gives};
-ghost use Rattle.rec_forms.specs.Known.{Known};
+ghost use Rattle.rec_forms.specs.GivesWellFormed.{GivesWellFormed};
 ghost use Rattle.rec_forms.specs.Writable.{IsWritable};
 ghost use Rattle.rec_codec.specs.Writes.{Writes};
 
@@ -13,7 +13,7 @@ use rec_forms::{Form, FromValueError};
 use serde_json::Value;
 use std::alloc::Global;
 
-/// A form of outputs that are written as JSON values, and read from them.
+/// Writes the outputs of one form as JSON values, and reads them.
 pub trait OutputForm: OutputSpec {
     // What holds of each output that a program has, if it is loaded.
     ghost output_well_formed: { Self.ChildOutput → Type 0 };
@@ -30,13 +30,22 @@ pub trait OutputForm: OutputSpec {
     // How deep the objects of a written value nest at most.
     ghost output_levels: { ℕ };
 
-    /// The value of the output; `NotLoaded` exactly where it isn't loaded, unless memory runs
-    /// out first.
+    /// Makes the value of the output. It is read as this output again.
+    ///
+    /// # Errors
+    ///
+    /// `NotLoaded` comes exactly where the output isn't loaded, and `OutOfMemory` where there was
+    /// not enough memory.
     fn output_to_value(alloc: Global, output: &Self::ChildOutput) -> Result<Value, ToValueError>
         ensures written { Writes result (output_value output.now) (loaded output.now) }
         ensures known { OnOk result (output_well_formed output.now) };
 
-    /// The output for which `value` stands; `NotAValue` exactly where it stands for none.
+    /// Reads the output for which `value` stands.
+    ///
+    /// # Errors
+    ///
+    /// `NotAValue` comes exactly where the value stands for no output, and `OutOfMemory` where there
+    /// was not enough memory.
     fn output_from_value(alloc: Global, value: &Value) -> Result<Self::ChildOutput, FromValueError>
         ensures read { Gives result (output_form (view value.now)) };
 
@@ -44,16 +53,17 @@ pub trait OutputForm: OutputSpec {
     ghost output_reads_back: { (o : Self.ChildOutput) → output_well_formed o → output_form (output_value o) ≡ Some o };
 
     // What is read is well-formed.
-    ghost output_reads_known: { Known output_well_formed output_form };
+    ghost output_reads_well_formed: { GivesWellFormed output_well_formed output_form };
 
-    // What is written is no null, has no float, and nests no deeper than `output_levels`.
-    ghost output_writable: { (o : Self.ChildOutput) → IsWritable output_levels (output_value o) };
+    // What is written is no null, is given back by its text, has no float, and nests no deeper than
+    // `output_levels`.
+    ghost output_writable: { (o : Self.ChildOutput) → output_well_formed o → IsWritable output_levels (output_value o) };
 }
 
 impl OutputForm for RecordingSpec {
     ghost use Rattle.std.specs.Prelude.{true};
     ghost use Rattle.rec_forms.specs.Outputs.{stored_outputs_value, stored_outputs_form, IsStoredOutputs};
-    ghost use Rattle.rec_forms.specs.OutputLaws.{stored_outputs_back, stored_outputs_writable, stored_outputs_known};
+    ghost use Rattle.rec_forms.specs.OutputLaws.{stored_outputs_back, stored_outputs_writable, stored_outputs_well_formed};
 
     ghost output_well_formed = { IsStoredOutputs };
 
@@ -67,7 +77,7 @@ impl OutputForm for RecordingSpec {
 
     ghost output_reads_back = { stored_outputs_back };
 
-    ghost output_reads_known = { stored_outputs_known };
+    ghost output_reads_well_formed = { stored_outputs_well_formed };
 
     ghost output_writable = { stored_outputs_writable };
 

@@ -3,11 +3,11 @@ ghost use Rattle.std.specs.Prelude.{◌≡◌, OnOk, codes};
 ghost use Rattle.serde_json.specs.View.{members_view};
 ghost use Rattle.rec_forms.specs.Gives.{Gives};
 ghost use Rattle.rec_forms.specs.Shape.{with_members};
-ghost use Rattle.rec_codec.specs.Writes.{Refuses};
+ghost use Rattle.rec_codec.specs.Writes.{PutsLoaded};
 ghost use Rattle.rec_codec.specs.OutputKinds.{output_name, reporting_fields, reporting_form, output_members, output_fields, output_loaded, IsOutput, script_finished_form, attempt_failed_form, test_finished_form};
 
 use crate::core_kinds::put_kind_name;
-use crate::part::{put_part, required_part};
+use crate::loaded_form::{put_loaded, required_loaded};
 use crate::script_kinds::{Command, Place, put_command, put_place};
 use crate::{OutputForm, ToValueError};
 use rec_events::{JunitFlakyFailStatus, OutputEventKind, TestOutputDisplay};
@@ -93,7 +93,7 @@ fn put_script_finished<S: OutputForm>(
     requires named { output_name kind.now ≡ codes "setup-script-finished" }
     ensures written { OnOk result (members_view object.new.entries
         ≡ with_members (members_view object.old.entries) (output_members S.output_value kind.now)) }
-    ensures loaded { Refuses result (output_loaded S.loaded kind.now) }
+    ensures loaded { PutsLoaded result (output_loaded S.loaded kind.now) }
     ensures known { OnOk result (IsOutput S.output_well_formed kind.now) }
 {
     let OutputEventKind::SetupScriptFinished {
@@ -112,7 +112,7 @@ fn put_script_finished<S: OutputForm>(
     put_place(alloc, object, stress_index, *index, *total)?;
     put_command(alloc, object, script_id, program, args)?;
     put_field(alloc, object, "no-capture", no_capture)?;
-    put_part(alloc, object, "run-status", run_status)?;
+    put_loaded(alloc, object, "run-status", run_status)?;
     Ok(())
 }
 
@@ -125,7 +125,7 @@ fn put_attempt_failed<S: OutputForm>(
     requires named { output_name kind.now ≡ codes "test-attempt-failed-will-retry" }
     ensures written { OnOk result (members_view object.new.entries
         ≡ with_members (members_view object.old.entries) (output_members S.output_value kind.now)) }
-    ensures loaded { Refuses result (output_loaded S.loaded kind.now) }
+    ensures loaded { PutsLoaded result (output_loaded S.loaded kind.now) }
     ensures known { OnOk result (IsOutput S.output_well_formed kind.now) }
 {
     let OutputEventKind::TestAttemptFailedWillRetry {
@@ -141,7 +141,7 @@ fn put_attempt_failed<S: OutputForm>(
     };
     put_optional(alloc, object, "stress-index", stress_index)?;
     put_field(alloc, object, "test-instance", test_instance)?;
-    put_part(alloc, object, "run-status", run_status)?;
+    put_loaded(alloc, object, "run-status", run_status)?;
     put_field(
         alloc,
         object,
@@ -162,7 +162,7 @@ fn put_test_finished<S: OutputForm>(
     requires named { output_name kind.now ≡ codes "test-finished" }
     ensures written { OnOk result (members_view object.new.entries
         ≡ with_members (members_view object.old.entries) (output_members S.output_value kind.now)) }
-    ensures loaded { Refuses result (output_loaded S.loaded kind.now) }
+    ensures loaded { PutsLoaded result (output_loaded S.loaded kind.now) }
     ensures known { OnOk result (IsOutput S.output_well_formed kind.now) }
 {
     let OutputEventKind::TestFinished {
@@ -190,7 +190,7 @@ fn put_test_finished<S: OutputForm>(
     put_optional(alloc, object, "stress-index", stress_index)?;
     put_field(alloc, object, "test-instance", test_instance)?;
     reporting.put(alloc, object)?;
-    put_part(alloc, object, "run-statuses", run_statuses)?;
+    put_loaded(alloc, object, "run-statuses", run_statuses)?;
     put_field(alloc, object, "current-stats", current_stats)?;
     put_field(alloc, object, "running", running)?;
     Ok(())
@@ -204,7 +204,7 @@ pub fn put_output<S: OutputForm>(
 ) -> Result<(), ToValueError>
     ensures written { OnOk result (members_view object.new.entries
         ≡ with_members (members_view object.old.entries) (output_fields S.output_value kind.now)) }
-    ensures loaded { Refuses result (output_loaded S.loaded kind.now) }
+    ensures loaded { PutsLoaded result (output_loaded S.loaded kind.now) }
     ensures known { OnOk result (IsOutput S.output_well_formed kind.now) }
 {
     put_kind_name(alloc, object, output_name(kind))?;
@@ -228,7 +228,7 @@ pub fn script_finished_from<S: OutputForm>(
     let place = Place::read(alloc, object)?;
     let no_capture = required_field(alloc, object, "no-capture")?;
     let command = Command::read(alloc, object)?;
-    let run_status = match required_part(alloc, object, "run-status") {
+    let run_status = match required_loaded(alloc, object, "run-status") {
         Ok(run_status) => run_status,
         Err(error) => {
             // by a call: in place, each case of what is let go is one of the proof
@@ -261,7 +261,7 @@ pub fn attempt_failed_from<S: OutputForm>(
     let failure_output = required_field(alloc, object, "failure-output")?;
     let running = required_field(alloc, object, "running")?;
     let test_instance = required_field(alloc, object, "test-instance")?;
-    let run_status = match required_part(alloc, object, "run-status") {
+    let run_status = match required_loaded(alloc, object, "run-status") {
         Ok(run_status) => run_status,
         Err(error) => {
             drop(test_instance);
@@ -291,7 +291,7 @@ pub fn test_finished_from<S: OutputForm>(
     let current_stats = required_field(alloc, object, "current-stats")?;
     let running = required_field(alloc, object, "running")?;
     let test_instance = required_field(alloc, object, "test-instance")?;
-    let run_statuses = match required_part(alloc, object, "run-statuses") {
+    let run_statuses = match required_loaded(alloc, object, "run-statuses") {
         Ok(run_statuses) => run_statuses,
         Err(error) => {
             drop(test_instance);

@@ -48,7 +48,7 @@ pub fn put_command(
     Ok(())
 }
 
-/// Which setup script it is: the one with `index` others before it, of `total`.
+/// Says which setup script it is: the one with `index` others before it, of `total`.
 #[derive(Drop)]
 pub struct Place {
     pub stress_index: Option<StressIndexSummary>,
@@ -69,7 +69,7 @@ impl Place {
     }
 }
 
-/// What a setup script runs.
+/// Says what a setup script runs.
 #[derive(Drop)]
 pub struct Command {
     pub script_id: ScriptId,

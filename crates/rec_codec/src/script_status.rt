@@ -2,17 +2,17 @@
 ghost use Rattle.std.specs.Prelude.{◌≡◌};
 ghost use Rattle.serde_json.specs.View.{view};
 
-use crate::part::{Part, put_part, required_part};
+use crate::loaded_form::{LoadedForm, put_loaded, required_loaded};
 use crate::{OutputForm, ToValueError};
 use rec_events::SetupScriptExecuteStatus;
 use rec_forms::{FromValueError, optional_field, put_field, put_optional, required_field};
 use serde_json::{Map, Value};
 use std::alloc::Global;
 
-impl<S: OutputForm> Part for SetupScriptExecuteStatus<S> {
+impl<S: OutputForm> LoadedForm for SetupScriptExecuteStatus<S> {
     ghost use Rattle.std.specs.Prelude.{◌+◌};
     ghost use Rattle.rec_codec.specs.ScriptStatus.{script_status_value, script_status_form, script_status_loaded, IsScriptStatus};
-    ghost use Rattle.rec_codec.specs.ScriptStatusLaws.{script_status_back, script_status_writable, script_status_known};
+    ghost use Rattle.rec_codec.specs.ScriptStatusLaws.{script_status_back, script_status_writable, script_status_well_formed};
 
     ghost well_formed = { IsScriptStatus S.output_well_formed };
 
@@ -26,14 +26,14 @@ impl<S: OutputForm> Part for SetupScriptExecuteStatus<S> {
 
     ghost reads_back = { script_status_back S.output_well_formed S.output_value S.output_form S.output_reads_back };
 
-    ghost reads_known = { script_status_known S.output_well_formed S.output_form S.output_reads_known };
+    ghost reads_well_formed = { script_status_well_formed S.output_well_formed S.output_form S.output_reads_well_formed };
 
-    ghost writable = { script_status_writable S.output_levels S.output_value S.output_writable };
+    ghost writable = { script_status_writable S.output_well_formed S.output_levels S.output_value S.output_writable };
 
     #[tactic(auto, unfolding(rec_forms::specs::Shape::members_of))]
     fn to_value(&self, alloc: Global) -> Result<Value, ToValueError> {
         let mut object = Map::new(alloc);
-        put_part(alloc, &mut object, "output", &self.output)?;
+        put_loaded(alloc, &mut object, "output", &self.output)?;
         put_field(alloc, &mut object, "result", &self.result)?;
         put_field(alloc, &mut object, "start-time", &self.start_time)?;
         put_field(alloc, &mut object, "time-taken", &self.time_taken)?;
@@ -57,7 +57,7 @@ impl<S: OutputForm> Part for SetupScriptExecuteStatus<S> {
         let error_summary = optional_field(alloc, object, "error-summary")?;
         let env_map = optional_field(alloc, object, "env-map")?;
         let result = required_field(alloc, object, "result")?;
-        let output = match required_part(alloc, object, "output") {
+        let output = match required_loaded(alloc, object, "output") {
             Ok(output) => output,
             Err(error) => {
                 // by a call: in place, each case of what is let go is one of the proof

@@ -7,7 +7,7 @@ ghost use Rattle.rec_events.specs.declared.outputs.ChildExecutionOutputDescripti
 ghost use Rattle.rec_codec.specs.Writes.{Writes};
 ghost use Rattle.rec_codec.specs.Status.{description_value, IsDescription, output_case_form, course_fields, course_form, IsCourse, attempts_form};
 
-use crate::part::{Part, each_to_value, put_part, required_part, some_from_value};
+use crate::loaded_form::{LoadedForm, each_to_value, put_loaded, required_loaded, some_from_value};
 use crate::{OutputForm, ToValueError};
 use rec_events::{
     ChildExecutionOutputDescription, Duration, ExecuteStatus, ExecutionResultDescription,
@@ -71,10 +71,10 @@ fn output_from<S: OutputForm>(
     })
 }
 
-impl<S: OutputForm> Part for ChildExecutionOutputDescription<S> {
+impl<S: OutputForm> LoadedForm for ChildExecutionOutputDescription<S> {
     ghost use Rattle.std.specs.Prelude.{◌+◌};
     ghost use Rattle.rec_codec.specs.Status.{description_value, description_form, description_loaded, IsDescription};
-    ghost use Rattle.rec_codec.specs.StatusLaws.{description_back, description_writable, description_known};
+    ghost use Rattle.rec_codec.specs.StatusLaws.{description_back, description_writable, description_well_formed};
 
     ghost well_formed = { IsDescription S.output_well_formed };
 
@@ -88,9 +88,9 @@ impl<S: OutputForm> Part for ChildExecutionOutputDescription<S> {
 
     ghost reads_back = { description_back S.output_well_formed S.output_value S.output_form S.output_reads_back };
 
-    ghost reads_known = { description_known S.output_well_formed S.output_form S.output_reads_known };
+    ghost reads_well_formed = { description_well_formed S.output_well_formed S.output_form S.output_reads_well_formed };
 
-    ghost writable = { description_writable S.output_levels S.output_value S.output_writable };
+    ghost writable = { description_writable S.output_well_formed S.output_levels S.output_value S.output_writable };
 
     #[tactic(auto, unfolding(rec_forms::specs::Shape::members_of))]
     fn to_value(&self, alloc: Global) -> Result<Value, ToValueError> {
@@ -164,10 +164,10 @@ impl Course {
     }
 }
 
-impl<S: OutputForm> Part for ExecuteStatus<S> {
+impl<S: OutputForm> LoadedForm for ExecuteStatus<S> {
     ghost use Rattle.std.specs.Prelude.{◌+◌};
     ghost use Rattle.rec_codec.specs.Status.{status_value, status_form, status_loaded, IsStatus};
-    ghost use Rattle.rec_codec.specs.StatusLaws.{status_back, status_writable, status_known};
+    ghost use Rattle.rec_codec.specs.StatusLaws.{status_back, status_writable, status_well_formed};
 
     ghost well_formed = { IsStatus S.output_well_formed };
 
@@ -181,15 +181,15 @@ impl<S: OutputForm> Part for ExecuteStatus<S> {
 
     ghost reads_back = { status_back S.output_well_formed S.output_value S.output_form S.output_reads_back };
 
-    ghost reads_known = { status_known S.output_well_formed S.output_form S.output_reads_known };
+    ghost reads_well_formed = { status_well_formed S.output_well_formed S.output_form S.output_reads_well_formed };
 
-    ghost writable = { status_writable S.output_levels S.output_value S.output_writable };
+    ghost writable = { status_writable S.output_well_formed S.output_levels S.output_value S.output_writable };
 
     #[tactic(auto, unfolding(rec_forms::specs::Shape::members_of))]
     fn to_value(&self, alloc: Global) -> Result<Value, ToValueError> {
         let mut object = Map::new(alloc);
         put_field(alloc, &mut object, "retry-data", &self.retry_data)?;
-        put_part(alloc, &mut object, "output", &self.output)?;
+        put_loaded(alloc, &mut object, "output", &self.output)?;
         put_field(alloc, &mut object, "result", &self.result)?;
         let course = Course {
             start_time: self.start_time,
@@ -218,7 +218,7 @@ impl<S: OutputForm> Part for ExecuteStatus<S> {
         let error_summary = optional_field(alloc, object, "error-summary")?;
         let output_error_slice = optional_field(alloc, object, "output-error-slice")?;
         let result = required_field(alloc, object, "result")?;
-        let output = match required_part(alloc, object, "output") {
+        let output = match required_loaded(alloc, object, "output") {
             Ok(output) => output,
             Err(error) => {
                 // by a call: in place, each case of what is let go is one of the proof
@@ -252,10 +252,10 @@ fn attempts_from<S: OutputForm>(
     some_from_value(alloc, object, key)
 }
 
-impl<S: OutputForm> Part for ExecutionStatuses<S> {
+impl<S: OutputForm> LoadedForm for ExecutionStatuses<S> {
     ghost use Rattle.std.specs.Prelude.{◌+◌};
     ghost use Rattle.rec_codec.specs.Status.{statuses_value, statuses_form, statuses_loaded, AreStatuses};
-    ghost use Rattle.rec_codec.specs.StatusLaws.{statuses_back, statuses_writable, statuses_known};
+    ghost use Rattle.rec_codec.specs.StatusLaws.{statuses_back, statuses_writable, statuses_well_formed};
 
     ghost well_formed = { AreStatuses S.output_well_formed };
 
@@ -269,9 +269,9 @@ impl<S: OutputForm> Part for ExecutionStatuses<S> {
 
     ghost reads_back = { statuses_back S.output_well_formed S.output_value S.output_form S.output_reads_back };
 
-    ghost reads_known = { statuses_known S.output_well_formed S.output_form S.output_reads_known };
+    ghost reads_well_formed = { statuses_well_formed S.output_well_formed S.output_form S.output_reads_well_formed };
 
-    ghost writable = { statuses_writable S.output_levels S.output_value S.output_writable };
+    ghost writable = { statuses_writable S.output_well_formed S.output_levels S.output_value S.output_writable };
 
     #[tactic(auto, unfolding(rec_forms::specs::Shape::members_of))]
     fn to_value(&self, alloc: Global) -> Result<Value, ToValueError> {

@@ -8,8 +8,8 @@ use rec_events::{LiveSpec, RecordingSpec, TestEventSummary};
 use std::alloc::{AllocError, Global};
 use std::test::Fail;
 
-// What the lines of a log give.
-fn told<S: OutputForm>(alloc: Global, log: &[u8], first_line: u64) -> Result<String, Fail>
+// Shows the items of the lines of a log.
+fn shown_items<S: OutputForm>(alloc: Global, log: &[u8], first_line: u64) -> Result<String, Fail>
     requires { first_line + length log.now < 2 ^ 64 }
 {
     let mut seen = String::new(alloc);
@@ -71,7 +71,7 @@ fn recorded_items() -> &'static str {
 fn a_session_by_its_items(rt: HostRuntime) -> Result<(), Fail> {
     let alloc = rt.alloc();
     let log = mixed(alloc)?;
-    let items = told::<LiveSpec>(alloc, log.as_slice(), 1)?;
+    let items = shown_items::<LiveSpec>(alloc, log.as_slice(), 1)?;
     assert!(rt; items.as_str() == live_items(), "{items}");
     Ok(())
 }
@@ -81,7 +81,7 @@ fn a_session_by_its_items(rt: HostRuntime) -> Result<(), Fail> {
 fn the_line_after_one_that_is_no_text(rt: HostRuntime) -> Result<(), Fail> {
     let alloc = rt.alloc();
     let log = log(alloc, &[run_start().as_bytes(), b"", b"\xff", b"{}"])?;
-    let items = told::<LiveSpec>(alloc, log.as_slice(), 2)?;
+    let items = shown_items::<LiveSpec>(alloc, log.as_slice(), 2)?;
     let want = "event;line 4 can't be read;line 5 isn't an event;";
     assert!(rt; items.as_str() == want, "{items}");
     Ok(())
@@ -91,7 +91,7 @@ fn the_line_after_one_that_is_no_text(rt: HostRuntime) -> Result<(), Fail> {
 fn a_log_by_its_items(rt: HostRuntime) -> Result<(), Fail> {
     let alloc = rt.alloc();
     let log = mixed(alloc)?;
-    let items = told::<RecordingSpec>(alloc, log.as_slice(), 5)?;
+    let items = shown_items::<RecordingSpec>(alloc, log.as_slice(), 5)?;
     assert!(rt; items.as_str() == recorded_items(), "{items}");
     Ok(())
 }
@@ -106,7 +106,7 @@ fn texts_without_events(rt: HostRuntime) -> Result<(), Fail> {
         (b"\n[]", "line 2 isn't an event;"),
         (b"{\n}", "line 1 isn't an event;line 2 isn't an event;"),
     ] {
-        let items = told::<LiveSpec>(alloc, text, 1)?;
+        let items = shown_items::<LiveSpec>(alloc, text, 1)?;
         assert!(rt; items.as_str() == want, "{items}");
     }
     Ok(())

@@ -28,16 +28,16 @@ fn a_text_by_its_lines(rt: HostRuntime) -> Result<(), Fail> {
     Ok(())
 }
 
-// What the line with these bytes gives.
-fn told(alloc: Global, bytes: &[u8]) -> &'static str {
+// Returns what the line with these bytes answers.
+fn answer(alloc: Global, bytes: &[u8]) -> &'static str {
     match read_line::<RecordingSpec>(alloc, Line { number: 4, bytes }) {
         None => "nothing",
-        Some(item) => told_fault(item.err()),
+        Some(item) => fault_name(item.err()),
     }
 }
 
-// What the fault of a line is, if it has one.
-fn told_fault(fault: Option<LineError>) -> &'static str {
+// Returns the name of the fault of a line, if it has one.
+fn fault_name(fault: Option<LineError>) -> &'static str {
     match fault {
         None => "an event",
         Some(LineError::ReadRunLog { line_number: 4 }) => "ReadRunLog",
@@ -51,9 +51,9 @@ fn run_start() -> &'static [u8] {
 }
 
 #[test]
-fn a_line_is_told(rt: HostRuntime) {
+fn a_line_by_its_answer(rt: HostRuntime) {
     let alloc = rt.alloc();
-    assert_eq!(rt; told(alloc, run_start()), "an event");
+    assert_eq!(rt; answer(alloc, run_start()), "an event");
     for (bytes, want) in [
         (b"".as_slice(), "nothing"),
         (b" \t\r", "nothing"),
@@ -62,6 +62,6 @@ fn a_line_is_told(rt: HostRuntime) {
         (b"{", "ParseEvent"),
         (b"{}", "ParseEvent"),
     ] {
-        assert_eq!(rt; told(alloc, bytes), want, "{bytes:?}");
+        assert_eq!(rt; answer(alloc, bytes), want, "{bytes:?}");
     }
 }

@@ -1,5 +1,5 @@
-use Rattle.rec_codec.proofs.LogLaws.{log_events_back}
+use Rattle.rec_codec.proofs.LogLaws.{log_reads_back}
 use Rattle.rec_codec.proofs.laws.log_reads.Goals as goal
 
 pub returns : goal.returns
-returns c = log_events_back
+returns c = log_reads_back

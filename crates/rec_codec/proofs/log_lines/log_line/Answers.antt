@@ -1,24 +1,15 @@
-use Rattle.std.proofs.Common.{arith}
-use Rattle.std.proofs.lemmas.Str.{IsUtf8-string_bytes}
+use Rattle.std.proofs.Common.{◌≡◌, false, sym, subst}
+use Rattle.serde_json.specs.Written.{has_float}
 use Rattle.rec_codec.specs.Event.{event_text}
-use Rattle.rec_codec.proofs.LogLaws.{IsLogged-from}
+use Rattle.rec_codec.proofs.LogLaws.{event_logged, event_value_writable}
 use Rattle.rec_codec.proofs.log_lines.log_line.Goals as goal
 
 pub returns-clause-line : goal.returns-clause-line
 unfolding event_text
 returns-clause-line c =
-    rw (c.in_ok-push.ensures.items, c.into_bytes-line.ensures.value, c.in_ok-text.ensures.text c.in_ok-value.ensures.writable.whole, c.in_ok-value.ensures.value)
+    let value = c.in_ok-value.ensures in
+    let whole = subst (λ d. has_float d ≡ false) (sym value.value) (event_value_writable c.args.event.now value.known).whole in
+    rw (c.in_ok-push.ensures.items, c.into_bytes-line.ensures.value, c.in_ok-text.ensures.text whole, value.value)
 
 pub returns-clause-logged : goal.returns-clause-logged
-returns-clause-logged c =
-    let value = c.in_ok-value.ensures in
-    let text = c.in_ok-text.ensures in
-    IsLogged-from
-    c.args.event.now
-    _
-    _
-    (text.text value.writable.whole)
-    value.value
-    (IsUtf8-string_bytes c.in_ok-text.text)
-    (text.reads_back (omega (arith, value.writable.shallow)))
-    value.reads_back
+returns-clause-logged c = event_logged c.args.event.now c.in_ok-value.ensures.known

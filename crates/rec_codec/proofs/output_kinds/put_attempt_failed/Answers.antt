@@ -8,7 +8,7 @@ returns-clause-written g c =
       c.in_ok-put_field-4.ensures.written,
       c.in_ok-put_field-3.ensures.written,
       c.in_ok-put_field-2.ensures.written,
-      c.in_ok-put_part.ensures.written,
+      c.in_ok-put_loaded.ensures.written,
       c.in_ok-put_field.ensures.written,
       c.in_ok-put_optional.ensures.written,
     )

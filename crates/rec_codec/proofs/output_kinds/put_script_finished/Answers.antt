@@ -5,7 +5,7 @@ pub returns-clause-written : goal.returns-clause-written
 returns-clause-written g c =
     rw (
       c.in-SetupScriptFinished.is,
-      c.in_ok-put_part.ensures.written,
+      c.in_ok-put_loaded.ensures.written,
       c.in_ok-put_field.ensures.written,
       c.in_ok-put_command.ensures.written,
       c.in_ok-put_place.ensures.written,

@@ -1,7 +1,7 @@
 use Rattle.std.proofs.Common.{◌≡◌, ◌<◌, ◌∷◌, length, sym, ap, ◌∙◌, arith}
 use Rattle.rec_codec.specs.EventForms.{event_form}
 use Rattle.rec_codec.specs.LineView.{line_view}
-use Rattle.rec_codec.proofs.LineItemLemmas.{length-left_after, same_past_blank, gives_told, gives_none}
+use Rattle.rec_codec.proofs.LineItemLemmas.{length-left_after, same_past_blank, gives_item, gives_none}
 use Rattle.rec_codec.proofs.line_iter.LineIterIterator.next.Goals as goal
 
 pub loop-line-smaller : goal.loop-line-smaller
@@ -30,30 +30,30 @@ loop-line-preserved g c =
 
 pub returns-in-Some-read_line-clause-steps : goal.returns-in-Some-read_line-clause-steps
 returns-in-Some-read_line-clause-steps g c =
-    gives_told
+    gives_item
     (event_form {S = g.row.S.Denot} g.S.OutputForm.output_form)
     (line_view c.in-Some.line)
     c.loop-line.self
     c.next.new.self
     c.args.self.now
-    c.keep_after.new.self
+    c.end_where_out_of_memory.new.self
     c.read_line.result
-    c.in-Some-read_line.told
+    c.in-Some-read_line.item
     c.loop-line.invariant.same
     (sym c.self.view_is ∙ c.in-Some.ensures.steps)
     c.in-Some-read_line.is
     c.read_line.ensures
-    c.keep_after.ensures
+    c.end_where_out_of_memory.ensures
 
 pub returns-in-Some-read_line-clause-goes : goal.returns-in-Some-read_line-clause-goes
 returns-in-Some-read_line-clause-goes g c =
     let split : c.loop-line.self ≡ line_view c.in-Some.line ∷ c.next.new.self = sym c.self.view_is ∙ c.in-Some.ensures.steps in
-    let fewer : length c.keep_after.new.self < length c.args.self.now =
+    let fewer : length c.end_where_out_of_memory.new.self < length c.args.self.now =
     omega (
       arith,
       ap length split,
-      ap length c.keep_after.ensures,
-      length-left_after c.in-Some-read_line.told c.next.new.self,
+      ap length c.end_where_out_of_memory.ensures,
+      length-left_after c.in-Some-read_line.item c.next.new.self,
       c.loop-line.invariant.shorter,
     ) in
     record { on = λ _. (tt, tt, fewer); keeps = tt; rests = λ _. tt }

@@ -1,14 +1,14 @@
-//! What holds outputs, and so isn't written where one isn't loaded.
+//! The forms of items that hold outputs, and so aren't written where one isn't loaded.
 ghost use Rattle.std.specs.Prelude.{◌≡◌, ℕ, Bool, Option, Some, OnOk, map};
 ghost use Rattle.std.specs.List.{AllByRecursion};
 ghost use Rattle.serde_json.specs.Data.{Data};
 ghost use Rattle.serde_json.specs.View.{view, members_view};
 ghost use Rattle.rec_forms.specs.Gives.{Gives};
-ghost use Rattle.rec_forms.specs.Known.{Known};
+ghost use Rattle.rec_forms.specs.GivesWellFormed.{GivesWellFormed};
 ghost use Rattle.rec_forms.specs.Shape.{with_member, required};
 ghost use Rattle.rec_forms.specs.Lists.{list_value, list_form, some_form};
 ghost use Rattle.rec_forms.specs.Writable.{IsWritable};
-ghost use Rattle.rec_codec.specs.Writes.{Writes, Refuses, every};
+ghost use Rattle.rec_codec.specs.Writes.{Writes, PutsLoaded, every};
 
 use crate::ToValueError;
 use rec_events::{Items, NonEmpty};
@@ -16,8 +16,8 @@ use rec_forms::{FromValueError, Object, member};
 use serde_json::Value;
 use std::alloc::Global;
 
-/// A type whose items hold outputs, and are written as JSON values where these are loaded.
-pub trait Part: Sized {
+/// Writes items that hold outputs as JSON values, where these outputs are loaded, and reads them.
+pub trait LoadedForm: Sized {
     // What holds of each item that a program has, if its outputs are loaded.
     ghost well_formed: { Self → Type 0 };
 
@@ -33,13 +33,22 @@ pub trait Part: Sized {
     // How deep the arrays and objects of a written value nest at most.
     ghost levels: { ℕ };
 
-    /// The value of the item; `NotLoaded` exactly where an output isn't loaded, unless memory
-    /// runs out first.
+    /// Makes the value of the item. It is read as this item again.
+    ///
+    /// # Errors
+    ///
+    /// `NotLoaded` comes exactly where an output in the item isn't loaded, and `OutOfMemory` where
+    /// there was not enough memory.
     fn to_value(&self, alloc: Global) -> Result<Value, ToValueError>
         ensures written { Writes result (value_of self.now) (loaded self.now) }
         ensures known { OnOk result (well_formed self.now) };
 
-    /// The item for which `value` stands; `NotAValue` exactly where it stands for none.
+    /// Reads the item for which `value` stands.
+    ///
+    /// # Errors
+    ///
+    /// `NotAValue` comes exactly where the value stands for no item, and `OutOfMemory` where there
+    /// was not enough memory.
     fn from_value(alloc: Global, value: &Value) -> Result<Self, FromValueError>
         ensures read { Gives result (form_of (view value.now)) };
 
@@ -47,14 +56,15 @@ pub trait Part: Sized {
     ghost reads_back: { (x : Self) → well_formed x → form_of (value_of x) ≡ Some x };
 
     // What is read is well-formed.
-    ghost reads_known: { Known well_formed form_of };
+    ghost reads_well_formed: { GivesWellFormed well_formed form_of };
 
-    // What is written is no null, has no float, and nests no deeper than `levels`.
-    ghost writable: { (x : Self) → IsWritable levels (value_of x) };
+    // What is written is no null, is given back by its text, has no float, and nests no deeper than
+    // `levels`.
+    ghost writable: { (x : Self) → well_formed x → IsWritable levels (value_of x) };
 }
 
-/// Writes a field.
-pub fn put_part<T: Part>(
+/// Writes a field that holds outputs.
+pub fn put_loaded<T: LoadedForm>(
     alloc: Global,
     object: &mut Object,
     key: &str,
@@ -62,7 +72,7 @@ pub fn put_part<T: Part>(
 ) -> Result<(), ToValueError>
     ensures written { OnOk result (members_view object.new.entries
         ≡ with_member key.now (Some (T.value_of item.now)) (members_view object.old.entries)) }
-    ensures loaded { Refuses result (T.loaded item.now) }
+    ensures loaded { PutsLoaded result (T.loaded item.now) }
     ensures known { OnOk result (T.well_formed item.now) }
 {
     let value = item.to_value(alloc)?;
@@ -70,8 +80,8 @@ pub fn put_part<T: Part>(
     Ok(())
 }
 
-/// Reads a field that has to be there.
-pub fn required_part<T: Part>(
+/// Reads a field that holds outputs and has to be there.
+pub fn required_loaded<T: LoadedForm>(
     alloc: Global,
     object: &Object,
     key: &str,
@@ -84,8 +94,8 @@ pub fn required_part<T: Part>(
     }
 }
 
-/// The array of the values of `items`.
-pub fn each_to_value<T: Part>(alloc: Global, items: &[T]) -> Result<Value, ToValueError>
+/// Makes the array of the values of `items`.
+pub fn each_to_value<T: LoadedForm>(alloc: Global, items: &[T]) -> Result<Value, ToValueError>
     ensures written { Writes result (list_value T.value_of items.now) (every T.loaded items.now) }
     ensures known { OnOk result (AllByRecursion T.well_formed items.now) }
 {
@@ -97,8 +107,8 @@ pub fn each_to_value<T: Part>(alloc: Global, items: &[T]) -> Result<Value, ToVal
     Ok(Value::from(values))
 }
 
-/// The items of an array.
-pub fn each_from_value<T: Part + Drop>(
+/// Reads the items of an array.
+pub fn each_from_value<T: LoadedForm + Drop>(
     alloc: Global,
     value: &Value,
 ) -> Result<Items<T>, FromValueError>
@@ -116,7 +126,7 @@ pub fn each_from_value<T: Part + Drop>(
 }
 
 /// Reads a field that has to be there and holds a list that isn't empty.
-pub fn some_from_value<T: Part + Drop>(
+pub fn some_from_value<T: LoadedForm + Drop>(
     alloc: Global,
     object: &Object,
     key: &str,

@@ -1,0 +1,13 @@
+use Rattle.std.proofs.Common.{◌≡◌, map, ◌++◌, drop}
+use Rattle.std.specs.List.{AllByRecursion}
+use Rattle.serde_json.specs.View.{view}
+use Rattle.rec_codec.specs.Writes.{every}
+use Rattle.rec_codec.proofs.loaded_form.each_to_value.Given as goal
+
+-- what is left completes the list
+abbrev pub invariant-loop-item : goal.invariant-loop-item
+invariant-loop-item g l = record {
+  written : map view l.values.items ++ map g.T.LoadedForm.value_of (drop l.item-index l.items) ≡ map g.T.LoadedForm.value_of l.items;
+  loaded : every g.T.LoadedForm.loaded (drop l.item-index l.items) ≡ every g.T.LoadedForm.loaded l.items;
+  known : AllByRecursion g.T.LoadedForm.well_formed (drop l.item-index l.items) → AllByRecursion g.T.LoadedForm.well_formed l.items;
+}
