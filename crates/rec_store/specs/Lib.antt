@@ -10,6 +10,7 @@ pub mod Namer
 pub mod NamerLaws
 pub mod OutputPaths
 pub mod Reading
+pub mod Recordable
 pub mod Recording
 pub mod Stopping
 pub mod Store

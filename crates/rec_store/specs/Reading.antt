@@ -1,5 +1,5 @@
 -- What a bundle's bytes are read as.
-use Rattle.std.specs.Prelude.{◌≡◌, ℕ, Bool, IsTrue, not, ◌&&◌, List, [], ◌∷◌, filter, Option, Some, None, is_some, option_map, option_and_then, map}
+use Rattle.std.specs.Prelude.{◌≡◌, ℕ, Bool, not, ◌&&◌, List, [], ◌∷◌, filter, Option, Some, None, is_some, option_map, option_and_then, map}
 use Rattle.std.specs.List.{list_any, list_all, flat_map}
 use Rattle.std.specs.Str.{bytes_eq, is_utf8}
 use Rattle.serde_json.specs.Data.{Data}
@@ -22,7 +22,6 @@ use Rattle.rec_format.specs.RunForms.{manifest_form}
 use Rattle.rec_store.specs.Entries.{build_scope_path, rerun_info_path, test_list_path, cargo_metadata_path, record_opts_path, bundle_entries}
 use Rattle.rec_format.specs.declared.head.SessionHead.{SessionHead}
 use Rattle.rec_format.specs.Versions.{portable_version}
-use Rattle.rec_store.specs.Store.{build_scope_entry, rerun_entry, AreMetaRead}
 use Rattle.rec_store.specs.Bundle.{run_info, outputs_stored}
 use Rattle.rec_store.specs.Kept.{KeptEvent, event_kept, event_resolved, event_paths}
 
@@ -110,15 +109,3 @@ recorded number m head events = record {
   events = map (event_kept m) events;
   outputs = outputs_stored number m events;
 }
-
--- the text of rerun information is read as it, where there is any
-abbrev pub IsRerunRead : Option RerunInfo → Type 0
-IsRerunRead None = Unit {0}
-IsRerunRead (Some info) = bytes_form rerun_info_form (rerun_entry info).content ≡ Some info
-
--- the texts of the parts of a head are read as these
-pub record AreRead (head : SessionHead) : Type 0 where
-  pub build_scope : bytes_form recorded_scope_form (build_scope_entry head.build_scope).content ≡ Some head.build_scope
-  pub rerun_info : IsRerunRead head.rerun_info
-  pub meta : AreMetaRead head.test_list head.record_opts
-  pub cargo_metadata : IsTrue (is_utf8 head.cargo_metadata)
