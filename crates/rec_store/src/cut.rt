@@ -39,7 +39,7 @@ const MARKER_END: &[u8] = b" bytes] ...\n\n";
 ///
 /// # Errors
 ///
-/// `AllocError` comes where memory ran out, which only an output that is cut takes.
+/// `AllocError` comes where memory ran out. An output within the limit takes none.
 pub fn truncate_output(
     alloc: Global,
     buf: &[u8],

@@ -101,7 +101,7 @@ impl<'n, N: OutputNamer> OutputRules<'n, N> {
         })
     }
 
-    /// Stores the outputs of what happened.
+    /// Stores the outputs of a kind of event.
     fn store_kind<S: Sink>(
         &self,
         store: &mut ContainerWriter<S>,

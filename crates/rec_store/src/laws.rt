@@ -11,8 +11,8 @@ ghost use Rattle.rec_store.specs.Recordable.{IsRecordable};
 
 /// States that the bundle of a run is read as what was recorded of it, with the outputs of its
 /// events cut at m bytes: where the head is well-formed, each event is well-formed with loaded
-/// outputs, outputs are numbered by u64s, no two outputs of one path differ, and the bundle's length
-/// is a u64.
+/// outputs, the lengths of outputs and their numbers are u64s, no two outputs of one path differ,
+/// and the bundle's length is a u64.
 pub fn bundle_reads()
     ensures { (number : List ℕ → ℕ) (m : ℕ) (head : SessionHead) (events : List LiveEvent) → IsHead head → AllByRecursion IsRecordable events
         → ((bytes : List ℕ) → number bytes < 2 ^ 64) → clash [] (run_outputs number m events) ≡ None

@@ -8,7 +8,7 @@ use sha2::{Digest, Sha256};
 ///
 /// A number is a function of the bytes, so equal outputs have one number. It takes no memory.
 pub trait OutputNamer {
-    /// The number of a byte string.
+    /// Maps a byte string to its number.
     ghost number: { Self → List ℕ → ℕ };
 
     /// Returns the number of these bytes.
