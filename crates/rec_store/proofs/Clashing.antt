@@ -8,24 +8,24 @@ use Rattle.rec_container.specs.declared.errors.ContainerWriteError.{ContainerWri
 use Rattle.rec_container.specs.declared.errors.ContainerWriteError.TheVariants as writing
 use Rattle.rec_store.specs.declared.error.RunStoreError.TheVariants.{NameCollision}
 use Rattle.rec_store.specs.Clashes.{with_entry, with_entries, differs, clash}
-use Rattle.rec_store.specs.Recording.{Takes, AddsEach, AddsUpTo}
+use Rattle.rec_store.specs.Recording.{AddsEntry, AddsEach, AddsUpTo}
 use Rattle.rec_store.specs.Stopping.{Stops}
 use Rattle.rec_store.proofs.Adding.{added, entries_after, no_collision, sound_added}
 
 -- ---- one entry: what a refusal says of the content that is there
 
-equal_taken : (b : Bool) → (if b then None else Some writing.NameCollision) ≡ None → not b ≡ false
-equal_taken true h = refl
-equal_taken false h = absurd (let k = h in cc)
+equal_accepted : (b : Bool) → (if b then None else Some writing.NameCollision) ≡ None → not b ≡ false
+equal_accepted true h = refl
+equal_accepted false h = absurd (let k = h in cc)
 
 equal_collides : (b : Bool) → (if b then None else Some writing.NameCollision) ≡ Some writing.NameCollision → not b ≡ true
 equal_collides true h = absurd (let k = h in cc)
 equal_collides false h = refl
 
-held_taken : (held : Option (List ℕ)) (content : List ℕ) (room : Option ContainerWriteError)
+held_accepted : (held : Option (List ℕ)) (content : List ℕ) (room : Option ContainerWriteError)
     → option_map_or (λ c. if bytes_eq c content then None else Some writing.NameCollision) held room ≡ None → differs held content ≡ false
-held_taken None content room h = refl
-held_taken (Some c) content room h = equal_taken (bytes_eq c content) h
+held_accepted None content room h = refl
+held_accepted (Some c) content room h = equal_accepted (bytes_eq c content) h
 
 held_collides : (held : Option (List ℕ)) (content : List ℕ) (fits : Bool)
     → option_map_or (λ c. if bytes_eq c content then None else Some writing.NameCollision) held (if fits then None else Some writing.CountOutOfRange) ≡ Some writing.NameCollision
@@ -33,17 +33,17 @@ held_collides : (held : Option (List ℕ)) (content : List ℕ) (fits : Bool)
 held_collides None content fits h = absurd (no_collision fits h)
 held_collides (Some c) content fits h = equal_collides (bytes_eq c content) h
 
-name_taken : (b : Bool) (x : Option ContainerWriteError) → (if not b then Some writing.BadName else x) ≡ None → x ≡ None
-name_taken true x h = h
-name_taken false x h = absurd (let k = h in cc)
+name_accepted : (b : Bool) (x : Option ContainerWriteError) → (if not b then Some writing.BadName else x) ≡ None → x ≡ None
+name_accepted true x h = h
+name_accepted false x h = absurd (let k = h in cc)
 
 name_collides : (b : Bool) (x : Option ContainerWriteError) → (if not b then Some writing.BadName else x) ≡ Some writing.NameCollision → x ≡ Some writing.NameCollision
 name_collides true x h = h
 name_collides false x h = absurd (let k = h in cc)
 
-differs_taken : (failed : Bool) (es : List Entry) (name content : List ℕ) → failed ≡ false → refusal failed es name content ≡ None → differs (content_of es name) content ≡ false
-differs_taken true es name content sound h = absurd (let k = sound in cc)
-differs_taken false es name content sound h = held_taken (content_of es name) content _ (name_taken (has_name_length name) _ h)
+differs_accepted : (failed : Bool) (es : List Entry) (name content : List ℕ) → failed ≡ false → refusal failed es name content ≡ None → differs (content_of es name) content ≡ false
+differs_accepted true es name content sound h = absurd (let k = sound in cc)
+differs_accepted false es name content sound h = held_accepted (content_of es name) content _ (name_accepted (has_name_length name) _ h)
 
 differs_collides : (failed : Bool) (es : List Entry) (name content : List ℕ) → failed ≡ false → refusal failed es name content ≡ Some writing.NameCollision
     → differs (content_of es name) content ≡ true
@@ -59,19 +59,19 @@ clash-here : (es : List Entry) (f : Entry) (fs : List Entry) → differs (conten
 clash-here es f fs h = ap (λ b. if b then Some f.name else clash (with_entry es f) fs) h
 
 module _ {S : Type 0} (taken : S → Option (List ℕ)) (faults : S → ℕ) where
-  -- after an entry that was taken the rest clashes as it does after what stands then
-  clash-taken : (old mid : Writing S) (f : Entry) (fs : List Entry) → old.failed ≡ false → Takes taken faults old mid f → clash old.entries (f ∷ fs) ≡ clash mid.entries fs
-  clash-taken old mid f fs sound h =
-      clash-next old.entries f fs (differs_taken old.failed old.entries f.name f.content sound h.0) ∙ ap (λ es. clash es fs) (sym (added taken faults old mid f h.1))
+  -- after an entry that was added the rest clashes as it does after what stands then
+  clash-added : (old mid : Writing S) (f : Entry) (fs : List Entry) → old.failed ≡ false → AddsEntry taken faults old mid f → clash old.entries (f ∷ fs) ≡ clash mid.entries fs
+  clash-added old mid f fs sound h =
+      clash-next old.entries f fs (differs_accepted old.failed old.entries f.name f.content sound h.0) ∙ ap (λ es. clash es fs) (sym (added taken faults old mid f h.1))
 
-  taken_none : (old new : Writing S) (fs : List Entry) → old.failed ≡ false → AddsEach taken faults old new fs → clash old.entries fs ≡ None
-  taken_none old new [] sound h = refl
-  taken_none old new (f ∷ fs) sound h = clash-taken old h.0 f fs sound h.1 ∙ taken_none h.0 new fs (sound_added taken faults old h.0 f h.1.1 sound) h.2
+  added_none : (old new : Writing S) (fs : List Entry) → old.failed ≡ false → AddsEach taken faults old new fs → clash old.entries fs ≡ None
+  added_none old new [] sound h = refl
+  added_none old new (f ∷ fs) sound h = clash-added old h.0 f fs sound h.1 ∙ added_none h.0 new fs (sound_added taken faults old h.0 f h.1.1 sound) h.2
 
   -- entries that were all added clash nowhere, and these stand then
   pub clash_none : (old new : Writing S) (fs : List Entry) → old.failed ≡ false → AddsEach taken faults old new fs
       → (clash old.entries fs ≡ None) × (new.entries ≡ with_entries old.entries fs)
-  clash_none old new fs sound h = (taken_none old new fs sound h, entries_after taken faults old new fs h)
+  clash_none old new fs sound h = (added_none old new fs sound h, entries_after taken faults old new fs h)
 
   stopped_found : (old new : Writing S) (fs : List Entry) (path : List ℕ) → old.failed ≡ false → AddsUpTo taken faults old new fs (NameCollision path)
       → clash old.entries fs ≡ Some path
@@ -79,7 +79,7 @@ module _ {S : Type 0} (taken : S → Option (List ℕ)) (faults : S → ℕ) whe
   stopped_found old new (f ∷ fs) path sound (inl h) =
       clash-here old.entries f fs (differs_collides old.failed old.entries f.name f.content sound h.1) ∙ ap Some (sym h.0)
   stopped_found old new (f ∷ fs) path sound (inr h) =
-      clash-taken old h.0 f fs sound h.1 ∙ stopped_found h.0 new fs path (sound_added taken faults old h.0 f h.1.1 sound) h.2
+      clash-added old h.0 f fs sound h.1 ∙ stopped_found h.0 new fs path (sound_added taken faults old h.0 f h.1.1 sound) h.2
 
   -- a name that collides is that of the first clash
   pub clash_found : (old new : Writing S) (fs : List Entry) (path : List ℕ) → old.failed ≡ false → Stops taken faults old new fs (NameCollision path)

@@ -10,8 +10,8 @@ use Rattle.rec_store.specs.declared.error.RunStoreError.TheVariants.{Failed, Not
 use Rattle.rec_store.specs.EventOutputs.{event_entries, event_recorded}
 use Rattle.rec_store.specs.Kept.{HasOutputs}
 use Rattle.rec_store.specs.Logging.{LogsLoaded}
-use Rattle.rec_store.specs.Recording.{Recording, Takes, RefusesEntry, AddsEach, AddsUpTo, Stores, Unstored, KeepsEntries}
-use Rattle.rec_store.specs.Stopping.{TakesFirst, Stops}
+use Rattle.rec_store.specs.Recording.{Recording, AddsEntry, RefusesEntry, AddsEach, AddsUpTo, Stores, Unstored, KeepsEntries}
+use Rattle.rec_store.specs.Stopping.{AddsFirst, Stops}
 use Rattle.rec_store.proofs.Adding.{added}
 use Rattle.rec_store.proofs.Clashing.{clash_none}
 use Rattle.rec_store.proofs.Held.{all_held, IsHeld}
@@ -31,12 +31,12 @@ module _ {S : Type 0} where
   keeps_then old mid new p q = (p.0 ++ q.0, q.1 ∙ ap (λ es. es ++ q.0) p.1 ∙ append_assoc old.entries p.0 q.0)
 
 module _ {S : Type 0} (taken : S → Option (List ℕ)) (faults : S → ℕ) where
-  keeps_taken : (old new : Writing S) (e : Entry) → Takes taken faults old new e → KeepsEntries old new
-  keeps_taken old new e h = let m = more_unless (is_some (content_of old.entries e.name)) old.entries e in (m.0, added taken faults old new e h.1 ∙ m.1)
+  keeps_entry : (old new : Writing S) (e : Entry) → AddsEntry taken faults old new e → KeepsEntries old new
+  keeps_entry old new e h = let m = more_unless (is_some (content_of old.entries e.name)) old.entries e in (m.0, added taken faults old new e h.1 ∙ m.1)
 
   keeps_each : (old new : Writing S) (es : List Entry) → AddsEach taken faults old new es → KeepsEntries old new
   keeps_each old new [] h = keeps_same old new h
-  keeps_each old new (e ∷ es) h = keeps_then old h.0 new (keeps_taken old h.0 e h.1) (keeps_each h.0 new es h.2)
+  keeps_each old new (e ∷ es) h = keeps_then old h.0 new (keeps_entry old h.0 e h.1) (keeps_each h.0 new es h.2)
 
   keeps_refused : (old new : Writing S) (e : Entry) (error : RunStoreError) → RefusesEntry taken faults old new e error → KeepsEntries old new
   keeps_refused old new e (NameCollision path) h = keeps_same old new h.2
@@ -50,12 +50,12 @@ module _ {S : Type 0} (taken : S → Option (List ℕ)) (faults : S → ℕ) whe
   keeps_up_to : (old new : Writing S) (es : List Entry) (error : RunStoreError) → AddsUpTo taken faults old new es error → KeepsEntries old new
   keeps_up_to old new [] error h = absurd h
   keeps_up_to old new (e ∷ es) error (inl h) = keeps_refused old new e error h
-  keeps_up_to old new (e ∷ es) error (inr h) = keeps_then old h.0 new (keeps_taken old h.0 e h.1) (keeps_up_to h.0 new es error h.2)
+  keeps_up_to old new (e ∷ es) error (inr h) = keeps_then old h.0 new (keeps_entry old h.0 e h.1) (keeps_up_to h.0 new es error h.2)
 
-  keeps_first : (old new : Writing S) (es : List Entry) → TakesFirst taken faults old new es → KeepsEntries old new
+  keeps_first : (old new : Writing S) (es : List Entry) → AddsFirst taken faults old new es → KeepsEntries old new
   keeps_first old new [] h = keeps_same old new h
   keeps_first old new (e ∷ es) (inl h) = keeps_same old new h
-  keeps_first old new (e ∷ es) (inr h) = keeps_then old h.0 new (keeps_taken old h.0 e h.1) (keeps_first h.0 new es h.2)
+  keeps_first old new (e ∷ es) (inr h) = keeps_then old h.0 new (keeps_entry old h.0 e h.1) (keeps_first h.0 new es h.2)
 
   keeps_stopped : (old new : Writing S) (es : List Entry) (error : RunStoreError) → Stops taken faults old new es error → KeepsEntries old new
   keeps_stopped old new es error (inl h) = keeps_up_to old new es error h
@@ -96,7 +96,7 @@ module _ {S L N : Type 0} (taken : S → Option (List ℕ)) (faults : S → ℕ)
         subst (AllByRecursion (λ path. IsTrue (is_some (content_of new.entries path)))) (sym (paths_of_event f m event)) (held_some new.entries (event_entries f m event) held)
 
     -- what the line of an event names stands in the store
-    pub named_outputs : (old new : Recording S L N) (event : LiveEvent) (r : Result ⊤ RunStoreError) → old.store.failed ≡ false
+    pub outputs_stand : (old new : Recording S L N) (event : LiveEvent) (r : Result ⊤ RunStoreError) → old.store.failed ≡ false
         → LogsLoaded taken faults log_taken log_faults number old new event r → OnOk r (HasOutputs new.store.entries (event_recorded (number old.namer) old.max_output event))
-    named_outputs old new event (Ok done) sound h = stand old.max_output (number old.namer) old.store new.store event sound h.0
-    named_outputs old new event (Err error) sound h = tt
+    outputs_stand old new event (Ok done) sound h = stand old.max_output (number old.namer) old.store new.store event sound h.0
+    outputs_stand old new event (Err error) sound h = tt

@@ -1,5 +1,7 @@
 pub mod Adding
 pub mod Clashing
+mod Counts
+mod EntrySpellings
 mod EventMapLaws
 mod Growing
 mod Held
@@ -9,6 +11,7 @@ pub mod OutputLaws
 mod OutputsRead
 mod PathLengths
 pub mod ReadLaws
+mod RecordedEvents
 pub mod Refusals
 mod Stopped
 pub mod Storing

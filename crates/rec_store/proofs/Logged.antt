@@ -10,7 +10,7 @@ use Rattle.rec_store.specs.EventOutputs.{event_entries, event_recorded}
 use Rattle.rec_store.specs.Logging.{AppendsLine, Unappended, AppendsAs, AppendsEvent, LogsLoaded}
 use Rattle.rec_store.specs.Recording.{Recording, AddsEach}
 use Rattle.rec_store.specs.Stopping.{StoresAs}
-use Rattle.rec_store.proofs.Stopped.{all_taken}
+use Rattle.rec_store.proofs.Stopped.{all_added}
 
 -- a line has its line feed at least
 pub some_line : (e : RecordedEvent) (line : List ℕ) → line ≡ event_line e → 0 < length line
@@ -64,7 +64,7 @@ module _ {S L N : Type 0} (taken : S → Option (List ℕ)) (faults : S → ℕ)
         h.1 ∙ as_at_first old mid new kept same,
         inr (
           h.0,
-          all_taken taken faults old.store new.store (event_entries (number old.namer) old.max_output event)
+          all_added taken faults old.store new.store (event_entries (number old.namer) old.max_output event)
               (same_adds old.store mid.store new.store (event_entries (number old.namer) old.max_output event) same added),
         ),
       )

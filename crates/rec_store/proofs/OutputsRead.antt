@@ -16,23 +16,23 @@ use Rattle.rec_store.proofs.Held.{IsHeld, all_held, all_weaker, all_with}
 use Rattle.rec_store.proofs.KeptLaws.{names, paths_of_events}
 use Rattle.rec_store.proofs.OutputLaws.{outputs_of_events, stored_are_outputs, with_outputs, clash_outputs, others_are_outputs}
 
-abbrev IsNamed : List (List ℕ) → Entry → Type 0
-IsNamed paths e = list_any (λ p. bytes_eq e.name p) paths ≡ true
+abbrev IsAmong : List (List ℕ) → Entry → Type 0
+IsAmong paths e = list_any (λ p. bytes_eq e.name p) paths ≡ true
 
 or_true : (b c : Bool) → c ≡ true → (b || c) ≡ true
 or_true true c h = refl
 or_true false c h = h
 
-named_among : (fs : List Entry) → AllByRecursion (IsNamed (names fs)) fs
-named_among [] = tt
-named_among (f ∷ fs) = (
+entries_among : (fs : List Entry) → AllByRecursion (IsAmong (names fs)) fs
+entries_among [] = tt
+entries_among (f ∷ fs) = (
   ap (λ b. b || list_any (λ p. bytes_eq f.name p) (names fs)) ((bytes_eq-Decides f.name f.name).1 refl),
-  all_weaker (IsNamed (names fs)) (IsNamed (names (f ∷ fs))) (λ e h. or_true (bytes_eq e.name f.name) (list_any (λ p. bytes_eq e.name p) (names fs)) h) fs (named_among fs),
+  all_weaker (IsAmong (names fs)) (IsAmong (names (f ∷ fs))) (λ e h. or_true (bytes_eq e.name f.name) (list_any (λ p. bytes_eq e.name p) (names fs)) h) fs (entries_among fs),
 )
 
-all_named : (paths : List (List ℕ)) (es : List Entry) → AllByRecursion (IsNamed paths) es → list_all (λ (e : Entry). list_any (λ p. bytes_eq e.name p) paths) es ≡ true
-all_named paths [] h = refl
-all_named paths (e ∷ es) h = ap (λ b. b && list_all (λ (d : Entry). list_any (λ p. bytes_eq d.name p) paths) es) h.0 ∙ all_named paths es h.1
+all_among : (paths : List (List ℕ)) (es : List Entry) → AllByRecursion (IsAmong paths) es → list_all (λ (e : Entry). list_any (λ p. bytes_eq e.name p) paths) es ≡ true
+all_among paths [] h = refl
+all_among paths (e ∷ es) h = ap (λ b. b && list_all (λ (d : Entry). list_any (λ p. bytes_eq d.name p) paths) es) h.0 ∙ all_among paths es h.1
 
 all_found : (es fs : List Entry) → AllByRecursion (IsHeld es) fs → list_all (λ p. is_some (content_of es p)) (names fs) ≡ true
 all_found es [] h = refl
@@ -42,13 +42,13 @@ abbrev chosen : List (List ℕ) → List Entry → List Entry → Option (List E
 chosen paths es others = only (list_all (λ p. is_some (content_of es p)) paths && list_all (λ (e : Entry). list_any (λ p. bytes_eq e.name p) paths) others) others
 
 -- entries that are held, and named by the events, are the outputs
-outputs_named : (events : List RecordedEvent) (es outs fs : List Entry) → flat_map event_paths events ≡ names fs → filter (λ (e : Entry). not (is_metadata e.name)) es ≡ outs
-    → AllByRecursion (IsHeld es) fs → AllByRecursion (IsNamed (names fs)) outs → outputs_of events es ≡ Some outs
-outputs_named events es outs fs paths others held named =
+outputs_among : (events : List RecordedEvent) (es outs fs : List Entry) → flat_map event_paths events ≡ names fs → filter (λ (e : Entry). not (is_metadata e.name)) es ≡ outs
+    → AllByRecursion (IsHeld es) fs → AllByRecursion (IsAmong (names fs)) outs → outputs_of events es ≡ Some outs
+outputs_among events es outs fs paths others held among =
     ap (λ l. chosen l es (filter (λ (e : Entry). not (is_metadata e.name)) es)) paths
     ∙ ap (chosen (names fs) es) others
     ∙ ap (λ b. only (b && list_all (λ (e : Entry). list_any (λ p. bytes_eq e.name p) (names fs)) outs) outs) (all_found es fs held)
-    ∙ ap (λ b. only b outs) (all_named (names fs) outs named)
+    ∙ ap (λ b. only b outs) (all_among (names fs) outs among)
 
 module _ (number : List ℕ → ℕ) (m : ℕ) (head : SessionHead) (events : List LiveEvent) (agree : clash [] (run_outputs number m events) ≡ None) where
   -- the store of a run holds each output
@@ -61,6 +61,6 @@ module _ (number : List ℕ → ℕ) (m : ℕ) (head : SessionHead) (events : Li
   -- and they are what its outputs are read as
   pub run_outputs_read : outputs_of (events_recorded number m events) (run_store number m head events) ≡ Some (outputs_stored number m events)
   run_outputs_read =
-      outputs_named (events_recorded number m events) (run_store number m head events) (outputs_stored number m events) (run_outputs number m events)
+      outputs_among (events_recorded number m events) (run_store number m head events) (outputs_stored number m events) (run_outputs number m events)
       (paths_of_events number m events) (others_are_outputs head (outputs_stored number m events) (stored_are_outputs number m events))
-      run_held (all_with (IsNamed (names (run_outputs number m events))) [] (run_outputs number m events) tt (named_among (run_outputs number m events)))
+      run_held (all_with (IsAmong (names (run_outputs number m events))) [] (run_outputs number m events) tt (entries_among (run_outputs number m events)))

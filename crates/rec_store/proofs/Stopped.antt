@@ -4,32 +4,32 @@ use Rattle.std.specs.Bool.{⊤}
 use Rattle.rec_container.specs.Container.{Entry}
 use Rattle.rec_container.specs.Writing.{Writing}
 use Rattle.rec_store.specs.declared.error.RunStoreError.{RunStoreError}
-use Rattle.rec_store.specs.Recording.{Takes, RefusesEntry, AddsEach}
-use Rattle.rec_store.specs.Stopping.{TakesFirst, Stops, StoresAs}
+use Rattle.rec_store.specs.Recording.{AddsEntry, RefusesEntry, AddsEach}
+use Rattle.rec_store.specs.Stopping.{AddsFirst, Stops, StoresAs}
 use Rattle.rec_store.proofs.Adding.{AddsUpTo-prefix, AddsUpTo-after}
 
 module _ {S : Type 0} (taken : S → Option (List ℕ)) (faults : S → ℕ) where
-  pub one_stored : (old new : Writing S) (e : Entry) (r : Result ⊤ RunStoreError) → OnOk r (Takes taken faults old new e) → OnOk r (new.failed ≡ false)
+  pub one_stored : (old new : Writing S) (e : Entry) (r : Result ⊤ RunStoreError) → OnOk r (AddsEntry taken faults old new e) → OnOk r (new.failed ≡ false)
       → IfErr r (RefusesEntry taken faults old new e) → StoresAs taken faults old new (e ∷ []) tt r
   one_stored old new e (Ok u) took sound refused = (refl, (new, took, refl), sound)
   one_stored old new e (Err error) took sound refused = inl (inl refused)
 
-  -- none of the entries was taken
-  pub none_taken : (w : Writing S) (es : List Entry) → TakesFirst taken faults w w es
-  none_taken w [] = refl
-  none_taken w (e ∷ es) = inl refl
+  -- none of the entries was added
+  pub none_added : (w : Writing S) (es : List Entry) → AddsFirst taken faults w w es
+  none_added w [] = refl
+  none_added w (e ∷ es) = inl refl
 
   -- all of them were
-  pub all_taken : (old new : Writing S) (es : List Entry) → AddsEach taken faults old new es → TakesFirst taken faults old new es
-  all_taken old new [] h = h
-  all_taken old new (e ∷ es) h = inr (h.0, h.1, all_taken h.0 new es h.2)
+  pub all_added : (old new : Writing S) (es : List Entry) → AddsEach taken faults old new es → AddsFirst taken faults old new es
+  all_added old new [] h = h
+  all_added old new (e ∷ es) h = inr (h.0, h.1, all_added h.0 new es h.2)
 
-  first_prefix : (old new : Writing S) (es fs : List Entry) → TakesFirst taken faults old new es → TakesFirst taken faults old new (es ++ fs)
-  first_prefix old new [] fs h = rw h (none_taken old fs)
+  first_prefix : (old new : Writing S) (es fs : List Entry) → AddsFirst taken faults old new es → AddsFirst taken faults old new (es ++ fs)
+  first_prefix old new [] fs h = rw h (none_added old fs)
   first_prefix old new (e ∷ es) fs (inl h) = inl h
   first_prefix old new (e ∷ es) fs (inr h) = inr (h.0, h.1, first_prefix h.0 new es fs h.2)
 
-  first_after : (old mid new : Writing S) (es fs : List Entry) → AddsEach taken faults old mid es → TakesFirst taken faults mid new fs → TakesFirst taken faults old new (es ++ fs)
+  first_after : (old mid new : Writing S) (es fs : List Entry) → AddsEach taken faults old mid es → AddsFirst taken faults mid new fs → AddsFirst taken faults old new (es ++ fs)
   first_after old mid new [] fs p q = rw (sym p) q
   first_after old mid new (e ∷ es) fs p q = inr (p.0, p.1, first_after p.0 mid new es fs p.2 q)
 

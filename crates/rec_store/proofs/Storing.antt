@@ -19,6 +19,7 @@ module _ {S L N : Type 0} (taken : S → Option (List ℕ)) (faults : S → ℕ)
 
   pub Stores-append : (a b c : Recording S L N) (es fs : List Entry) → Stores taken faults a b es → Stores taken faults b c fs → Stores taken faults a c (es ++ fs)
   Stores-append a b c es fs p q = record {
+    sound = p.sound;
     added = AddsEach-append taken faults a.store b.store c.store es fs p.added q.added;
     kept = kept_then a b c p.kept q.kept;
   }

@@ -7,8 +7,10 @@ pub mod EventOutputs
 pub mod Kept
 pub mod Logging
 pub mod Namer
+pub mod NamerLaws
 pub mod OutputPaths
 pub mod Reading
+pub mod Recordable
 pub mod Recording
 pub mod Stopping
 pub mod Store

@@ -13,16 +13,17 @@ use Rattle.rec_store.specs.declared.error.RunStoreError.{RunStoreError}
 use Rattle.rec_store.specs.declared.error.RunStoreError.TheVariants.{Failed, NotLoadedOutput, CountOutOfRange, RunLogWrite, OutOfMemory}
 
 module _ {L : Type 0} (taken : L → Option (List ℕ)) (faults : L → ℕ) {S N : Type 0} where
-  -- a line was appended to the log
+  -- a line was appended to the log, whose count of faults has not fallen
   pub record AppendsLine (old new : Recording S L N) (line : List ℕ) : Type 0 where
     pub taken_line : Appends (taken old.log) (taken new.log) line
+    pub later : faults old.log ≤ faults new.log
     pub kept : new ≡ record old { log = new.log; log_bytes = old.log_bytes + length line; events = old.events + 1 }
 
   -- why a line was not appended, and what stands then; want of memory is free before
   abbrev pub Unappended : Recording S L N → Recording S L N → List ℕ → RunStoreError → Type 0
   Unappended old new line CountOutOfRange = (new ≡ old) × (2 ^ 64 ≤ old.log_bytes + length line)
   Unappended old new line RunLogWrite =
-      Rose (faults old.log) (faults new.log) × TookPart (taken old.log) (taken new.log) line × (new ≡ record old { log = new.log; log_failed = true })
+      Rose (faults old.log) (faults new.log) × TookPart (taken old.log) (taken new.log) line × (new ≡ record old { log = new.log; log_failed = true }) × (faults old.log ≤ faults new.log)
   Unappended old new line e = ⊥
 
   -- a line was appended, or was not

@@ -1,5 +1,5 @@
 -- The number of an output.
-use Rattle.std.specs.Prelude.{ℕ, List, take}
+use Rattle.std.specs.Prelude.{ℕ, ◌%◌, ◌^◌, List, take}
 use Rattle.std.specs.Int.{w64, from_be_bytes}
 use Rattle.sha2.specs.Sha256.{sha256}
 
@@ -10,3 +10,7 @@ first_word digest = from_be_bytes w64 (take 8 digest)
 -- the first word of the SHA-256 digest
 unfoldable pub sha256_number : List ℕ → ℕ
 sha256_number bytes = first_word (sha256 bytes)
+
+-- a number as a u64 holds it
+abbrev pub as_u64 : ℕ → ℕ
+as_u64 n = n % 2 ^ 64

@@ -1,5 +1,5 @@
 -- What a bundle's bytes are read as.
-use Rattle.std.specs.Prelude.{◌≡◌, ℕ, Bool, IsTrue, not, ◌&&◌, List, [], ◌∷◌, filter, Option, Some, None, is_some, option_map, option_and_then, map}
+use Rattle.std.specs.Prelude.{◌≡◌, ℕ, Bool, not, ◌&&◌, List, [], ◌∷◌, filter, Option, Some, None, is_some, option_map, option_and_then, map}
 use Rattle.std.specs.List.{list_any, list_all, flat_map}
 use Rattle.std.specs.Str.{bytes_eq, is_utf8}
 use Rattle.serde_json.specs.Data.{Data}
@@ -22,7 +22,6 @@ use Rattle.rec_format.specs.RunForms.{manifest_form}
 use Rattle.rec_store.specs.Entries.{build_scope_path, rerun_info_path, test_list_path, cargo_metadata_path, record_opts_path, bundle_entries}
 use Rattle.rec_format.specs.declared.head.SessionHead.{SessionHead}
 use Rattle.rec_format.specs.Versions.{portable_version}
-use Rattle.rec_store.specs.Store.{build_scope_entry, rerun_entry, AreMetaRead}
 use Rattle.rec_store.specs.Bundle.{run_info, outputs_stored}
 use Rattle.rec_store.specs.Kept.{KeptEvent, event_kept, event_resolved, event_paths}
 
@@ -60,9 +59,9 @@ is_metadata path = list_any (λ p. bytes_eq path p) metadata_paths
 -- the other entries, where they are those that the events name
 abbrev pub outputs_of : List RecordedEvent → List Entry → Option (List Entry)
 outputs_of events es =
-    let named = flat_map event_paths events in
+    let paths = flat_map event_paths events in
     let others = filter (λ e. not (is_metadata e.name)) es in
-    only (list_all (λ p. is_some (content_of es p)) named && list_all (λ e. list_any (λ p. bytes_eq e.name p) named) others) others
+    only (list_all (λ p. is_some (content_of es p)) paths && list_all (λ e. list_any (λ p. bytes_eq e.name p) paths) others) others
 
 -- what manifest, log and store are read as
 abbrev pub record_of : List ℕ → List ℕ → List Entry → Option RunRecord
@@ -110,15 +109,3 @@ recorded number m head events = record {
   events = map (event_kept m) events;
   outputs = outputs_stored number m events;
 }
-
--- the text of rerun information is read as it, where there is any
-abbrev pub IsRerunRead : Option RerunInfo → Type 0
-IsRerunRead None = Unit {0}
-IsRerunRead (Some info) = bytes_form rerun_info_form (rerun_entry info).content ≡ Some info
-
--- the texts of the parts of a head are read as these
-pub record AreRead (head : SessionHead) : Type 0 where
-  pub build_scope : bytes_form recorded_scope_form (build_scope_entry head.build_scope).content ≡ Some head.build_scope
-  pub rerun_info : IsRerunRead head.rerun_info
-  pub meta : AreMetaRead head.test_list head.record_opts
-  pub cargo_metadata : IsTrue (is_utf8 head.cargo_metadata)

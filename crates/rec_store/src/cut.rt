@@ -16,7 +16,7 @@ pub enum CutOutput<'a> {
 }
 
 impl<'a> CutOutput<'a> {
-    /// The bytes to be stored.
+    /// Returns the bytes to be stored.
     pub fn as_bytes(&self) -> &[u8]
         ensures { result.now ≡ cut_bytes self.now }
     {
@@ -31,11 +31,15 @@ const MARKER_START: &[u8] = b"\n\n... [truncated ";
 
 const MARKER_END: &[u8] = b" bytes] ...\n\n";
 
-/// An output, cut to a limit of `max_size` bytes.
+/// Cuts an output to a limit of `max_size` bytes.
 ///
 /// An output of at most this many bytes is lent as it is. Of a longer one the prefix and the suffix
 /// are kept, and a marker between them that says by how many bytes the output exceeds the limit.
 /// What is cut has `max_size` bytes, or is the marker alone where this is longer.
+///
+/// # Errors
+///
+/// `AllocError` comes where memory ran out. An output within the limit takes none.
 pub fn truncate_output(
     alloc: Global,
     buf: &[u8],

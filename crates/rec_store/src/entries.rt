@@ -1,7 +1,7 @@
 //! Entries of a store, one at a time.
 ghost use Rattle.std.specs.Prelude.{◌≡◌, true, false, IfErr, OnOk};
 ghost use Rattle.rec_container.specs.Writing.{named, has_name_length};
-ghost use Rattle.rec_store.specs.Recording.{RefusesEntry, IsCollisionAt, Takes};
+ghost use Rattle.rec_store.specs.Recording.{RefusesEntry, IsCollisionAt, AddsEntry};
 
 use crate::error::RunStoreError;
 use rec_container::{ContainerWriteError, ContainerWriter, Sink};
@@ -17,7 +17,7 @@ pub(crate) fn add_entry<S: Sink>(
 ) -> Result<(), RunStoreError>
     requires sound { store.old.failed ≡ false }
     requires name { has_name_length path.now ≡ true }
-    ensures ok { OnOk result (Takes S.taken S.faults store.old store.new (named path.now content.now)) }
+    ensures ok { OnOk result (AddsEntry S.taken S.faults store.old store.new (named path.now content.now)) }
     ensures sound { OnOk result (store.new.failed ≡ false) }
     ensures err { IfErr result (RefusesEntry S.taken S.faults store.old store.new (named path.now content.now)) }
 {
@@ -26,11 +26,13 @@ pub(crate) fn add_entry<S: Sink>(
         Err(ContainerWriteError::NameCollision) => Err(collision(alloc, path)),
         Err(ContainerWriteError::CountOutOfRange) => Err(RunStoreError::CountOutOfRange),
         Err(ContainerWriteError::SinkFault) => Err(RunStoreError::StoreWrite),
-        Err(_) => Err(RunStoreError::OutOfMemory),
+        Err(ContainerWriteError::OutOfMemory) => Err(RunStoreError::OutOfMemory),
+        // The store has not failed, and the name has a length that a container takes.
+        Err(ContainerWriteError::Failed | ContainerWriteError::BadName) => unreachable!(),
     }
 }
 
-/// The refusal of other bytes under a path.
+/// Returns the refusal of other bytes under a path.
 fn collision(alloc: Global, path: &str) -> RunStoreError
     ensures { IsCollisionAt path.now result }
 {

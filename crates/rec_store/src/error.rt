@@ -12,22 +12,22 @@ pub enum RunStoreError {
     /// A sink failed in an earlier call of this recorder, which writes nothing since then.
     #[error("an earlier write failed")]
     Failed,
-    /// The event has an output that was not loaded. Nothing of it was written.
+    /// The event has an output that was not loaded. Nothing of the event was written.
     #[error("an output is not loaded")]
     NotLoadedOutput,
     /// The store has other bytes under this path.
-    #[error("other bytes are stored under this path")]
+    #[error("other bytes are stored under {}", .file_name.as_str())]
     NameCollision {
         /// The path.
         file_name: Text,
     },
-    /// A size would be no u64.
-    #[error("a size is out of range")]
+    /// The length of the store or of the log would be 2^64 bytes or more.
+    #[error("the store or the log would have 2^64 bytes or more")]
     CountOutOfRange,
-    /// The sink of the store failed.
+    /// The sink of the store failed. It took a proper prefix of what was to be written.
     #[error("writing the store failed")]
     StoreWrite,
-    /// The sink of the log failed.
+    /// The sink of the log failed. It took a proper prefix of the event's line.
     #[error("writing the log failed")]
     RunLogWrite,
     /// Memory ran out.

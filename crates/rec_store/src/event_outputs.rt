@@ -101,7 +101,7 @@ impl<'n, N: OutputNamer> OutputRules<'n, N> {
         })
     }
 
-    /// Stores the outputs of what happened.
+    /// Stores the outputs of a kind of event.
     fn store_kind<S: Sink>(
         &self,
         store: &mut ContainerWriter<S>,
@@ -255,12 +255,16 @@ impl<'n, N: OutputNamer> OutputRules<'n, N> {
         })
     }
 
-    /// Stores the outputs of an event, and gives the event as it is recorded.
+    /// Stores the outputs of an event, and returns the event as it is recorded.
     ///
     /// Outputs are stored one after the other, stdout before stderr. The first refusal ends it, and
-    /// those before it are stored. `Failed` comes exactly where the store's sink failed before, and
-    /// then nothing is stored; the other refusals are those of `RunRecorder::write_meta`. An output
-    /// that isn't loaded stores nothing; the recorder refuses its event before.
+    /// those before it are stored. An output that isn't loaded stores nothing; the recorder refuses
+    /// its event before.
+    ///
+    /// # Errors
+    ///
+    /// `Failed` comes exactly where the store's sink failed before, and then nothing is stored. The
+    /// other refusals are those of `RunRecorder::write_meta`.
     pub(crate) fn store_event<S: Sink>(
         &self,
         store: &mut ContainerWriter<S>,

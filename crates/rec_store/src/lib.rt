@@ -1,6 +1,7 @@
 //! The store and the log of a run, as they are written.
 #![tactic(auto)]
 
+mod bundle;
 mod cut;
 mod entries;
 mod error;
@@ -12,6 +13,7 @@ mod outputs;
 mod recorder;
 mod sizes;
 
+pub use bundle::{bundle_length, write_bundle};
 pub use cut::{CutOutput, truncate_output};
 pub use error::RunStoreError;
 pub use namer::{ConstantNamer, OutputNamer, Sha256Namer};

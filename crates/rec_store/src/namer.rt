@@ -1,19 +1,22 @@
-//! Numbers for outputs, by their bytes.
+//! The numbers that name outputs, by their bytes.
 ghost use Rattle.std.specs.Prelude.{◌≡◌, ◌<◌, ◌^◌, ℕ, List};
 ghost use Rattle.rec_store.specs.Namer.{first_word};
 
 use sha2::{Digest, Sha256};
 
-/// A number for an output, which names it in the store.
+/// Numbers outputs, which are stored under their numbers.
 ///
-/// The number is a function of the bytes, so equal outputs have one number. It takes no memory.
+/// A number is a function of the bytes, so equal outputs have one number. It takes no memory.
 pub trait OutputNamer {
-    /// The number of a byte string.
+    /// Maps a byte string to its number.
     ghost number: { Self → List ℕ → ℕ };
 
-    /// The number of these bytes.
+    /// Returns the number of these bytes.
     fn name(&self, bytes: &[u8]) -> u64
         ensures { result ≡ number self.now bytes.now };
+
+    // The number of each byte string is a u64.
+    ghost in_range: { (namer : Self) (bytes : List ℕ) → number namer bytes < 2 ^ 64 };
 }
 
 /// Numbers an output by the first eight bytes of its SHA-256 digest (FIPS 180-4), as a big-endian
@@ -23,8 +26,11 @@ pub struct Sha256Namer;
 
 impl OutputNamer for Sha256Namer {
     ghost use Rattle.rec_store.specs.Namer.{sha256_number};
+    ghost use Rattle.rec_store.specs.NamerLaws.{sha256_number_below};
 
     ghost number = { λ _. sha256_number };
+
+    ghost in_range = { λ _. sha256_number_below };
 
     #[tactic(auto, unfolding(crate::specs::Namer::sha256_number))]
     fn name(&self, bytes: &[u8]) -> u64 {
@@ -32,7 +38,7 @@ impl OutputNamer for Sha256Namer {
     }
 }
 
-/// Names every output by the same number, so that different outputs clash.
+/// Numbers every output alike, so that different outputs clash.
 #[derive(Clone, Copy, Debug, PartialEq, Eq)]
 pub struct ConstantNamer {
     /// The number of each output.
@@ -40,14 +46,20 @@ pub struct ConstantNamer {
 }
 
 impl OutputNamer for ConstantNamer {
-    ghost number = { λ namer _. namer.number };
+    ghost use Rattle.rec_store.specs.Namer.{as_u64};
+    ghost use Rattle.rec_store.specs.NamerLaws.{as_u64_below};
+
+    // A field of a program is below 2^64 by its type.
+    ghost number = { λ namer _. as_u64 namer.number };
+
+    ghost in_range = { λ namer _. as_u64_below namer.number };
 
     fn name(&self, _bytes: &[u8]) -> u64 {
         self.number
     }
 }
 
-/// The first eight bytes of a digest, as a big-endian number.
+/// Returns the first eight bytes of a digest, as a big-endian number.
 fn first_word_of(digest: &[u8; 32]) -> u64
     ensures { result ≡ first_word digest.now }
 {

@@ -19,7 +19,7 @@ use rec_events::{
 };
 use std::alloc::Global;
 
-/// By which rules outputs are stored.
+/// The rules by which outputs are stored.
 ///
 /// An output is cut to a limit, and stored under the number of what is kept of it and its kind. One
 /// without bytes is not stored, and equal outputs of one kind are stored once.
@@ -47,7 +47,7 @@ fn put_output<S: Sink>(
 }
 
 impl<'n, N: OutputNamer> OutputRules<'n, N> {
-    /// Stores an output, and says how it is recorded.
+    /// Stores an output, and returns how it is recorded.
     fn store_output<S: Sink>(
         &self,
         store: &mut ContainerWriter<S>,
@@ -68,7 +68,7 @@ impl<'n, N: OutputNamer> OutputRules<'n, N> {
         Ok(self.recorded(file_name, bytes.len()))
     }
 
-    /// How an output of so many bytes, which has some, is recorded.
+    /// Returns how an output of so many bytes, which has some, is recorded.
     fn recorded(&self, file_name: OutputFileName, size: usize) -> ZipStoreOutput
         ensures { result ≡ (if nat_le size self.now.max_size then Full file_name else Truncated file_name size) }
     {

@@ -5,7 +5,7 @@ ghost use Rattle.std.specs.Io.KnownBytes.{Appends};
 ghost use Rattle.rec_container.specs.Container.{ending};
 ghost use Rattle.rec_container.specs.Container.{AreFrom};
 ghost use Rattle.rec_store.specs.Ending.{sizes_of, sizes_of_log, Unended};
-ghost use Rattle.rec_store.specs.Recording.{RefusesEntry, has_failed, KeepsEntries, Stores, Unstored, AddsEach, AddsUpTo, Takes};
+ghost use Rattle.rec_store.specs.Recording.{RefusesEntry, has_failed, KeepsEntries, KeepsCounts, Stores, Unstored, AddsEach, AddsUpTo, AddsEntry};
 ghost use Rattle.rec_store.specs.EventOutputs.{event_entries, event_recorded};
 ghost use Rattle.rec_store.specs.Kept.{HasOutputs};
 ghost use Rattle.rec_store.specs.Logging.{AppendsAs, AppendsEvent, Logs, LogsLoaded, Unlogged};
@@ -38,7 +38,18 @@ use std::marker::Model;
 /// Records one run: metadata and outputs into a store, which is a container, and events into a
 /// log.
 ///
-/// Nothing is written after a sink has failed.
+/// Nothing is written after a sink has failed. A recording goes like this:
+///
+/// ```
+/// let mut recorder = RunRecorder::new(alloc, store, log, &Sha256Namer, 10_000);
+/// recorder.write_build_scope(&build_scope)?;
+/// recorder.write_meta("{}", &test_list, &opts)?;
+/// for event in events {
+///     recorder.write_event(event)?;
+/// }
+/// let end = recorder.finish();
+/// let sizes = end.result?;
+/// ```
 #[derive(Drop)]
 pub struct RunRecorder<'n, S: Sink, L: Sink, N: OutputNamer> {
     alloc: Global,
@@ -75,7 +86,7 @@ impl<'n, S: Sink, L: Sink, N: OutputNamer> Model for RunRecorder<'n, S, L, N> {
 }
 
 impl<'n, S: Sink, L: Sink, N: OutputNamer> RunRecorder<'n, S, L, N> {
-    /// A recorder over these sinks, which has written nothing. Outputs are cut at
+    /// Makes a recorder over these sinks, which has written nothing. Outputs are cut at
     /// `max_output_size` bytes.
     pub fn new(
         alloc: Global,
@@ -106,7 +117,7 @@ impl<'n, S: Sink, L: Sink, N: OutputNamer> RunRecorder<'n, S, L, N> {
         }
     }
 
-    /// Whether a sink has failed.
+    /// Returns whether a sink has failed.
     pub fn is_failed(&self) -> bool
         ensures value { result ≡ has_failed self.now }
         ensures store { result ≡ false → self.now.store.failed ≡ false }
@@ -114,16 +125,26 @@ impl<'n, S: Sink, L: Sink, N: OutputNamer> RunRecorder<'n, S, L, N> {
         self.store.is_failed() || self.log_failed
     }
 
+    /// Returns the writer of the store, which shows the entries so far.
+    pub fn store(&self) -> &ContainerWriter<S>
+        ensures { result.now ≡ self.now.store }
+    {
+        &self.store
+    }
+
     /// Writes the end of the store, and hands both sinks back in every case.
     ///
-    /// `Failed` comes exactly after a sink failed in an earlier call. Then nothing is written.
-    /// `StoreWrite` comes where the store's sink fails now.
+    /// # Errors
+    ///
+    /// - `Failed` comes exactly after a sink failed in an earlier call. Nothing is written.
+    /// - `StoreWrite` comes where the store's sink fails now. It took a proper prefix of the end.
     pub fn finish(self) -> RecorderEnd<S, L>
         ensures log { result.log ≡ self.entry.log }
         ensures ok { IfOk result.result (λ sizes. (has_failed self.entry ≡ false) × (sizes ≡ sizes_of self.entry)
             × Appends (S.taken self.entry.store.sink) (S.taken result.store) (ending self.entry.store.entries)) }
         ensures sound { AreFrom [] self.entry.store.entries }
         ensures err { IfErr result.result (Unended S.taken S.faults self.entry result.store) }
+        ensures later { S.faults self.entry.store.sink ≤ S.faults result.store }
     {
         let failed = self.is_failed();
         let RunRecorder {
@@ -150,7 +171,14 @@ impl<'n, S: Sink, L: Sink, N: OutputNamer> RunRecorder<'n, S, L, N> {
                 store: component_sizes(sizes),
             }),
             Err(ContainerWriteError::SinkFault) => Err(RunStoreError::StoreWrite),
-            Err(_) => Err(RunStoreError::Failed),
+            // An end mark takes no memory, and a writer that has not failed refuses it for its sink alone.
+            Err(
+                ContainerWriteError::Failed
+                | ContainerWriteError::BadName
+                | ContainerWriteError::NameCollision
+                | ContainerWriteError::CountOutOfRange
+                | ContainerWriteError::OutOfMemory,
+            ) => unreachable!(),
         };
         RecorderEnd {
             result,
@@ -161,7 +189,9 @@ impl<'n, S: Sink, L: Sink, N: OutputNamer> RunRecorder<'n, S, L, N> {
 
     /// Stores what was built.
     ///
-    /// The refusals are those of `write_meta`.
+    /// # Errors
+    ///
+    /// The refusals are those of [`RunRecorder::write_meta`].
     pub fn write_build_scope(
         &mut self,
         build_scope: &RecordedBuildScope,
@@ -170,28 +200,37 @@ impl<'n, S: Sink, L: Sink, N: OutputNamer> RunRecorder<'n, S, L, N> {
         ensures read { OnOk result (bytes_form recorded_scope_form (build_scope_entry build_scope.now).content ≡ Some build_scope.now) }
         ensures err { IfErr result (Unstored S.taken S.faults self.old self.new (build_scope_entry build_scope.now ∷ [])) }
         ensures entries { KeepsEntries self.old.store self.new.store }
+        ensures later { KeepsCounts S.faults L.faults self.old self.new }
     {
         self.store_item(BUILD_SCOPE_JSON_PATH, build_scope)
     }
 
     /// Stores which run this one is a rerun of.
     ///
-    /// The refusals are those of `write_meta`.
+    /// # Errors
+    ///
+    /// The refusals are those of [`RunRecorder::write_meta`].
     pub fn write_rerun_info(&mut self, rerun_info: &RerunInfo) -> Result<(), RunStoreError>
         ensures ok { OnOk result (Stores S.taken S.faults self.old self.new (rerun_entry rerun_info.now ∷ [])) }
         ensures read { OnOk result (bytes_form rerun_info_form (rerun_entry rerun_info.now).content ≡ Some rerun_info.now) }
         ensures err { IfErr result (Unstored S.taken S.faults self.old self.new (rerun_entry rerun_info.now ∷ [])) }
         ensures entries { KeepsEntries self.old.store self.new.store }
+        ensures later { KeepsCounts S.faults L.faults self.old self.new }
     {
         self.store_item(RERUN_INFO_JSON_PATH, rerun_info)
     }
 
     /// Stores the test list, cargo's metadata and the options of the recording, in this order.
     ///
-    /// `Failed` comes exactly after a sink failed in an earlier call, `NameCollision` exactly where
-    /// the store has other bytes under one of the three paths, `CountOutOfRange` exactly where the
-    /// store would be too long, and `StoreWrite` where the store's sink fails. Those before the
-    /// refused one are stored.
+    /// # Errors
+    ///
+    /// Those before the refused one are stored.
+    ///
+    /// - `Failed` comes exactly after a sink failed in an earlier call. Nothing is written.
+    /// - `NameCollision` comes exactly where the store has other bytes under one of the three paths.
+    /// - `CountOutOfRange` comes exactly where the store would have 2^64 bytes or more.
+    /// - `StoreWrite` comes where the store's sink fails now.
+    /// - `OutOfMemory` comes where memory ran out.
     pub fn write_meta(
         &mut self,
         cargo_metadata_json: &str,
@@ -202,6 +241,7 @@ impl<'n, S: Sink, L: Sink, N: OutputNamer> RunRecorder<'n, S, L, N> {
         ensures read { OnOk result (AreMetaRead test_list.now opts.now) }
         ensures err { IfErr result (Unstored S.taken S.faults self.old self.new (meta_entries cargo_metadata_json.now test_list.now opts.now)) }
         ensures entries { KeepsEntries self.old.store self.new.store }
+        ensures later { KeepsCounts S.faults L.faults self.old self.new }
     {
         if self.is_failed() {
             return Err(RunStoreError::Failed);
@@ -217,11 +257,14 @@ impl<'n, S: Sink, L: Sink, N: OutputNamer> RunRecorder<'n, S, L, N> {
     /// and each under its name; one that is there already is not stored again. Where one is refused,
     /// those before it stay.
     ///
-    /// - `Failed` comes exactly after a sink failed in an earlier call.
+    /// # Errors
+    ///
+    /// - `Failed` comes exactly after a sink failed in an earlier call. Nothing is written.
     /// - `NotLoadedOutput` comes exactly where an output of the event is not loaded. Nothing is stored.
     /// - `NameCollision` comes exactly where the store has other bytes under the path of an output.
-    /// - `CountOutOfRange` comes exactly where store or log would be too long.
+    /// - `CountOutOfRange` comes exactly where store or log would have 2^64 bytes or more.
     /// - `StoreWrite` and `RunLogWrite` come where the sink of the store or of the log fails now.
+    /// - `OutOfMemory` comes where memory ran out.
     ///
     /// After `RunLogWrite` a part of the line may stand in the log. Any other refusal leaves the log
     /// as it was.
@@ -230,6 +273,7 @@ impl<'n, S: Sink, L: Sink, N: OutputNamer> RunRecorder<'n, S, L, N> {
         ensures logged { OnOk result (IsLogged (event_recorded (N.number self.old.namer) self.old.max_output event)) }
         ensures err { IfErr result (Unlogged S.taken S.faults L.taken L.faults N.number self.old self.new event) }
         ensures entries { KeepsEntries self.old.store self.new.store }
+        ensures later { KeepsCounts S.faults L.faults self.old self.new }
         ensures outputs { OnOk result (HasOutputs self.new.store.entries (event_recorded (N.number self.old.namer) self.old.max_output event)) }
     {
         // An event is let go of by a call: in place, each of its kinds would be a case of the proof.
@@ -256,7 +300,7 @@ impl<'n, S: Sink, L: Sink, N: OutputNamer> RunRecorder<'n, S, L, N> {
         result
     }
 
-    /// Stores the outputs of an event, and gives the event as it is recorded.
+    /// Stores the outputs of an event, and returns the event as it is recorded.
     fn store_event(
         &mut self,
         event: TestEventSummary<LiveSpec>,
@@ -337,7 +381,7 @@ impl<'n, S: Sink, L: Sink, N: OutputNamer> RunRecorder<'n, S, L, N> {
         requires sound { self.old.store.failed ≡ false }
         requires name { has_name_length path.now ≡ true }
         ensures kept { self.new ≡ record self.old { store = self.new.store } }
-        ensures ok { OnOk result (Takes S.taken S.faults self.old.store self.new.store (named path.now content.now)) }
+        ensures ok { OnOk result (AddsEntry S.taken S.faults self.old.store self.new.store (named path.now content.now)) }
         ensures sound { OnOk result (self.new.store.failed ≡ false) }
         ensures err { IfErr result (RefusesEntry S.taken S.faults self.old.store self.new.store (named path.now content.now)) }
     {
@@ -345,7 +389,7 @@ impl<'n, S: Sink, L: Sink, N: OutputNamer> RunRecorder<'n, S, L, N> {
     }
 }
 
-/// The sizes of a log of so many bytes and events. A log is not compressed.
+/// Returns the sizes of a log of so many bytes and events. A log is not compressed.
 fn log_sizes(bytes: u64, events: u64) -> ComponentSizes
     ensures { result ≡ sizes_of_log bytes events }
 {
@@ -356,7 +400,7 @@ fn log_sizes(bytes: u64, events: u64) -> ComponentSizes
     }
 }
 
-/// The sizes of a store, which is a container.
+/// Returns the sizes of a store, which is a container.
 fn component_sizes(sizes: ContainerSizes) -> ComponentSizes
     ensures { result ≡ record { compressed = sizes.compressed; uncompressed = sizes.uncompressed; entries = sizes.entries } }
 {

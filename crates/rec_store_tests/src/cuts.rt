@@ -53,13 +53,13 @@ fn ascending(alloc: Global) -> Result<Vec<u8>, Fail> {
     Ok(bytes)
 }
 
-/// A cut of a text, as a text: who holds its bytes, and they.
-fn told(alloc: Global, text: &str, max_size: usize) -> Result<String, Fail> {
-    let cut = truncate_output(alloc, text.as_bytes(), max_size)?;
-    let mut told = String::from_str(alloc, holder(&cut))?;
-    told.push_str(" ")?;
-    told.push_str(str::from_utf8(cut.as_bytes()).unwrap_or("no text"))?;
-    Ok(told)
+/// Cuts a text, and returns who holds the bytes of the cut, and these bytes.
+fn cut_text(alloc: Global, output: &str, max_size: usize) -> Result<String, Fail> {
+    let cut = truncate_output(alloc, output.as_bytes(), max_size)?;
+    let mut text = String::from_str(alloc, holder(&cut))?;
+    text.push_str(" ")?;
+    text.push_str(str::from_utf8(cut.as_bytes()).unwrap_or("no text"))?;
+    Ok(text)
 }
 
 fn holder(cut: &CutOutput<'_>) -> &'static str {
@@ -72,10 +72,10 @@ fn holder(cut: &CutOutput<'_>) -> &'static str {
 #[test]
 fn an_output_within_the_limit_is_lent(rt: HostRuntime) -> Result<(), Fail> {
     let alloc = rt.alloc();
-    assert_eq!(rt; told(alloc, "", 0)?.as_str(), "lent ");
-    assert_eq!(rt; told(alloc, "abcdef", 6)?.as_str(), "lent abcdef");
+    assert_eq!(rt; cut_text(alloc, "", 0)?.as_str(), "lent ");
+    assert_eq!(rt; cut_text(alloc, "abcdef", 6)?.as_str(), "lent abcdef");
     assert_eq!(rt;
-        told(alloc, "hello world", 100)?.as_str(),
+        cut_text(alloc, "hello world", 100)?.as_str(),
         "lent hello world"
     );
     Ok(())
@@ -100,9 +100,9 @@ fn a_cut_keeps_the_bytes_of_both_ends(rt: HostRuntime) -> Result<(), Fail> {
 fn a_larger_output_keeps_both_ends(rt: HostRuntime) -> Result<(), Fail> {
     let alloc = rt.alloc();
     let text = repeated(alloc, "a", 1000)?;
-    assert_eq!(rt; told(alloc, text.as_str(), 100)?.as_str(), alike_cut());
+    assert_eq!(rt; cut_text(alloc, text.as_str(), 100)?.as_str(), alike_cut());
     assert_eq!(rt;
-        told(alloc, ends_differ(), 100)?.as_str(),
+        cut_text(alloc, ends_differ(), 100)?.as_str(),
         ends_differ_cut()
     );
     Ok(())
@@ -112,10 +112,16 @@ fn a_larger_output_keeps_both_ends(rt: HostRuntime) -> Result<(), Fail> {
 fn below_its_marker_a_limit_leaves_the_marker(rt: HostRuntime) -> Result<(), Fail> {
     let alloc = rt.alloc();
     let text = repeated(alloc, "x", 50)?;
-    assert_eq!(rt; told(alloc, text.as_str(), 0)?.as_str(), marker_of_fifty());
+    assert_eq!(rt;
+        cut_text(alloc, text.as_str(), 0)?.as_str(),
+        marker_of_fifty()
+    );
     let text = repeated(alloc, "x", 60)?;
-    assert_eq!(rt; told(alloc, text.as_str(), 10)?.as_str(), marker_of_fifty());
-    assert_eq!(rt; told(alloc, "a", 0)?.as_str(), marker_of_one());
+    assert_eq!(rt;
+        cut_text(alloc, text.as_str(), 10)?.as_str(),
+        marker_of_fifty()
+    );
+    assert_eq!(rt; cut_text(alloc, "a", 0)?.as_str(), marker_of_one());
     Ok(())
 }
 

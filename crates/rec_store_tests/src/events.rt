@@ -114,21 +114,21 @@ fn outputs_are_cut_at_the_limit_and_stored_once(rt: HostRuntime) -> Result<(), F
         Case {
             max_size: 2,
             outputs: &[abc()],
-            answers: "taken\nsound",
+            answers: "accepted\nsound",
             logged: &[abc_cut_logged()],
             store: marker_in_store(),
         },
         Case {
             max_size: 3,
             outputs: &[abc(), abcd()],
-            answers: "taken\ntaken\nsound",
+            answers: "accepted\naccepted\nsound",
             logged: &[abc_logged(), abcd_cut_logged()],
             store: abc_and_marker_in_store(),
         },
         Case {
             max_size: 100,
             outputs: &[abc(), abc(), abc_as_stderr()],
-            answers: "taken\ntaken\ntaken\nsound",
+            answers: "accepted\naccepted\naccepted\nsound",
             logged: &[abc_logged(), abc_logged(), abc_as_stderr_logged()],
             store: abc_twice_in_store(),
         },
@@ -186,7 +186,7 @@ fn both_under_zero() -> &'static str {
 }
 
 fn one_clashes() -> &'static str {
-    "taken\ncollision at out/0000000000000000-stdout\ntaken\ntaken\nsound"
+    "accepted\nother bytes are stored under out/0000000000000000-stdout\naccepted\naccepted\nsound"
 }
 
 fn stored_under_zero() -> &'static str {
@@ -199,7 +199,7 @@ fn outputs_stand_under_their_numbers(rt: HostRuntime) -> Result<(), Fail> {
     let seven = Case {
         max_size: 100,
         outputs: &[abc_and_hello()],
-        answers: "taken\nsound",
+        answers: "accepted\nsound",
         logged: &[abc_and_hello_logged()],
         store: standard_output_first(),
     };
@@ -243,7 +243,7 @@ fn an_output_that_is_not_loaded_leaves_all_as_it_was(rt: HostRuntime) -> Result<
     for text in [script(), failed_attempt(), two_attempts()] {
         let calls = [Call::Event(script()), Call::Unloaded(text)];
         let left = recorded(alloc, &Setup::sound(&Sha256Namer, 100), &calls)?;
-        assert!(rt; left.answers.as_str() == "taken\nan output is not loaded\nsound");
+        assert!(rt; left.answers.as_str() == "accepted\nan output is not loaded\nsound");
         assert!(rt; left.store.as_str() == abc_in_store());
         assert!(rt; left.log.as_str() == script_line());
     }

@@ -1,4 +1,4 @@
-//! Runs a recorder through a list of calls, and tells what they answer and leave as texts.
+//! Runs a recorder through a list of calls, and prints what they answer and leave.
 
 use crate::texts::{list_text, rerun_text, scope_text};
 use rec_codec::event_from_value;
@@ -79,7 +79,7 @@ pub(crate) fn recorded<N: OutputNamer>(
     let end = recorder.finish();
     match answers {
         Ok(answers) => {
-            let left = told_end(alloc, answers, &end);
+            let left = end_texts(alloc, answers, &end);
             drop(end);
             Ok(left?)
         }
@@ -127,7 +127,7 @@ fn answer<N: OutputNamer>(
         Call::Event(text) => recorder.write_event(event(alloc, text)?),
         Call::Unloaded(text) => recorder.write_event(unloaded(alloc, text)?),
     };
-    Ok(told(alloc, &answer)?)
+    Ok(answer_text(alloc, &answer)?)
 }
 
 fn write_scope<N: OutputNamer>(
@@ -235,24 +235,21 @@ fn unload(alloc: Global, event: &mut TestEventSummary<LiveSpec>) -> Result<(), A
 }
 
 /// An answer, as a text.
-fn told(alloc: Global, answer: &Result<(), RunStoreError>) -> Result<String, AllocError> {
+fn answer_text(alloc: Global, answer: &Result<(), RunStoreError>) -> Result<String, AllocError> {
     match answer {
-        Ok(()) => String::from_str(alloc, "taken"),
-        Err(RunStoreError::NameCollision { file_name }) => {
-            format!(in alloc; "collision at {}", file_name.as_str())
-        }
+        Ok(()) => String::from_str(alloc, "accepted"),
         Err(error) => format!(in alloc; "{error}"),
     }
 }
 
 /// What a recording left, beside its answers.
-fn told_end(
+fn end_texts(
     alloc: Global,
     answers: String,
     end: &RecorderEnd<FailingSink, FailingSink>,
 ) -> Result<Left, AllocError> {
-    let sizes = told_sizes(alloc, end)?;
-    let store = told_store(alloc, end.store.bytes())?;
+    let sizes = sizes_text(alloc, end)?;
+    let store = store_text(alloc, end.store.bytes())?;
     let log = String::from_str(alloc, str::from_utf8(end.log.bytes()).unwrap_or("no text"))?;
     Ok(Left {
         answers,
@@ -262,7 +259,7 @@ fn told_end(
     })
 }
 
-fn told_sizes(
+fn sizes_text(
     alloc: Global,
     end: &RecorderEnd<FailingSink, FailingSink>,
 ) -> Result<String, AllocError> {
@@ -287,7 +284,7 @@ fn told_sizes(
 }
 
 /// The entries of a store, a line each.
-fn told_store(alloc: Global, store: &[u8]) -> Result<String, AllocError> {
+fn store_text(alloc: Global, store: &[u8]) -> Result<String, AllocError> {
     let mut text = String::new(alloc);
     let Ok(container) = Container::parse(alloc, store) else {
         let length = store.len();

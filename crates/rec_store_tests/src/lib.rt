@@ -2,6 +2,8 @@
 #![tactic(auto)]
 
 #[cfg(test)]
+mod bundles;
+#[cfg(test)]
 mod cuts;
 #[cfg(test)]
 mod events;
@@ -9,5 +11,7 @@ mod events;
 mod helpers;
 #[cfg(test)]
 mod metadata;
+#[cfg(test)]
+mod sizes;
 #[cfg(test)]
 mod texts;

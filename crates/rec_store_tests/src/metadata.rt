@@ -16,8 +16,8 @@ fn outputs_are_named_by_their_digest(rt: HostRuntime) {
     }
 }
 
-fn all_taken() -> &'static str {
-    "taken\ntaken\ntaken\ntaken\nsound"
+fn all_accepted() -> &'static str {
+    "accepted\naccepted\naccepted\naccepted\nsound"
 }
 
 #[test]
@@ -26,7 +26,7 @@ fn metadata_is_stored_in_order(rt: HostRuntime) -> Result<(), Fail> {
     // Equal metadata changes nothing.
     let calls = [Call::Scope, Call::Rerun, Call::Meta("{}"), Call::Meta("{}")];
     let left = recorded(alloc, &Setup::sound(&Sha256Namer, 10), &calls)?;
-    assert!(rt; left.answers.as_str() == all_taken());
+    assert!(rt; left.answers.as_str() == all_accepted());
     assert!(rt; left.sizes.as_str() == "0 0 0, 1066 897 5, 1066 897");
     assert!(rt; left.store.as_str() == stored_text());
     assert!(rt; left.log.is_empty());
@@ -34,7 +34,7 @@ fn metadata_is_stored_in_order(rt: HostRuntime) -> Result<(), Fail> {
 }
 
 fn one_collides() -> &'static str {
-    "taken\ncollision at meta/cargo-metadata.json\nsound"
+    "accepted\nother bytes are stored under meta/cargo-metadata.json\nsound"
 }
 
 #[test]
@@ -47,7 +47,7 @@ fn other_metadata_is_refused(rt: HostRuntime) -> Result<(), Fail> {
 }
 
 fn nothing_after_the_store() -> &'static str {
-    "taken\nwriting the store failed\nan earlier write failed\nfailed"
+    "accepted\nwriting the store failed\nan earlier write failed\nfailed"
 }
 
 #[test]

@@ -63,7 +63,7 @@ returns g c =
     (c.as_bytes-2.ensures ∙ c.in_ok-cut.ensures.bytes) in
     let max = c.args.self.now.max_size in
     let size = length c.args.bytes.now in
-    let told = subst (λ (f : OutputFileName). c.recorded.result ≡ (if nat_le size max then Full f else Truncated f size)) c.new-file_name.ensures c.recorded.ensures in
-    let told_as = form number max c.args.kind c.args.bytes.now (sym c.if-is_empty.ensures) c.name.result c.as_bytes.result.now c.recorded.result c.name.ensures kept told in
+    let recorded = subst (λ (f : OutputFileName). c.recorded.result ≡ (if nat_le size max then Full f else Truncated f size)) c.new-file_name.ensures c.recorded.ensures in
+    let recorded_as = form number max c.args.kind c.args.bytes.now (sym c.if-is_empty.ensures) c.name.result c.as_bytes.result.now c.recorded.result c.name.ensures kept recorded in
     let added = subst (λ (f : OutputFileName). AddsEach g.S.Sink.taken g.S.Sink.faults c.args.store.now c.put_output.new.store (named (output_path f) c.as_bytes-2.result.now ∷ [])) c.new-file_name.ensures c.in_ok-put_output.ensures.1 in
-    (told_as, subst (λ (es : List Entry). AddsEach g.S.Sink.taken g.S.Sink.faults c.args.store.now c.put_output.new.store es) list added, c.in_ok-put_output.ensures.2)
+    (recorded_as, subst (λ (es : List Entry). AddsEach g.S.Sink.taken g.S.Sink.faults c.args.store.now c.put_output.new.store es) list added, c.in_ok-put_output.ensures.2)

@@ -11,7 +11,7 @@ use Rattle.rec_events.specs.declared.results.FlakyResult.{FlakyResult}
 use Rattle.rec_events.specs.declared.statuses.ExecuteStatus.{ExecuteStatus}
 use Rattle.rec_events.specs.declared.statuses.ExecutionStatuses.{ExecutionStatuses}
 use Rattle.rec_store.proofs.Adding.{AddsEach-append}
-use Rattle.rec_store.proofs.Stopped.{Stops-prefix, Stops-after, none_taken}
+use Rattle.rec_store.proofs.Stopped.{Stops-prefix, Stops-after, none_added}
 use Rattle.rec_store.proofs.outputs.OutputRules.store_statuses.Goals as goal
 
 nothing_left : {A : Type 0} (xs : List A) → length xs ≡ 0 → xs ≡ []
@@ -88,7 +88,7 @@ returns-in_err-push g c =
     let entries = status_entries (g.N.OutputNamer.number c.args.self.now.namer.now) c.args.self.now.max_size in
     let rest = into_iter_items c.next.new.self in
     let here = Stops-after taken faults c.loop-status.store new new (entries c.in-Some.status) (flat_map entries rest) OutOfMemory c.in_ok-status.ensures.1
-    (inr (refl, none_taken taken faults new (flat_map entries rest))) in
+    (inr (refl, none_added taken faults new (flat_map entries rest))) in
     let left = subst (λ (xs : List (Live ExecuteStatus)). Stops taken faults c.loop-status.store new (flat_map entries xs) OutOfMemory) (sym c.in-Some.ensures.steps.0) here in
     let all = c.into_iter-status-iterator.ensures.into_iter_gives.0 ∙ c.into_vec-status-items.ensures in
     rw (p.1, p.2) (subst (λ (xs : List (Live ExecuteStatus)). Stops taken faults c.args.store.now new (flat_map entries xs) OutOfMemory) all (c.loop-status.invariant.stops new OutOfMemory left))

@@ -1,4 +1,5 @@
-use Rattle.rec_store.proofs.Growing.{keeps_logged, named_outputs}
+use Rattle.rec_store.proofs.Counts.{counts_logged}
+use Rattle.rec_store.proofs.Growing.{keeps_logged, outputs_stand}
 use Rattle.rec_store.proofs.recorder.RunRecorder.write_event.Goals as goal
 
 pub returns-clause-entries : goal.returns-clause-entries
@@ -17,7 +18,7 @@ returns-clause-entries g c =
 
 pub returns-clause-outputs : goal.returns-clause-outputs
 returns-clause-outputs g c =
-    named_outputs
+    outputs_stand
     g.S.Sink.taken
     g.S.Sink.faults
     g.L.Sink.taken
@@ -28,4 +29,18 @@ returns-clause-outputs g c =
     c.args.event
     c.write_loaded.result
     (c.is_failed.ensures.store c.if-is_failed.false)
+    c.write_loaded.ensures
+
+pub returns-clause-later : goal.returns-clause-later
+returns-clause-later g c =
+    counts_logged
+    g.S.Sink.taken
+    g.S.Sink.faults
+    g.L.Sink.taken
+    g.L.Sink.faults
+    g.N.OutputNamer.number
+    c.args.self.now
+    c.write_loaded.new.self
+    c.args.event
+    c.write_loaded.result
     c.write_loaded.ensures
