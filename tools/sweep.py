@@ -29,7 +29,7 @@ class Sweep:
         self.folder = folder
 
     def run(self, session, words, refused=None):
-        """What a run ended with, left as bundle, printed and told, and how often each call came."""
+        """What a run ended with, left as bundle, printed and reported, and how often each call came."""
         paths = {name: self.folder / name for name in ("bundle", "session", "out", "diag")}
         paths["bundle"].write_bytes(OLD)
         paths["session"].write_bytes(session)
@@ -56,7 +56,7 @@ def sweep(tool, name, session, words):
             continue
         demand(status == 70, f"{name}: allocation {n} gives status {status}")
         demand(bundle == OLD and out == b"", f"{name}: allocation {n} changes a sink")
-        demand(line in (b"", b"OutOfMemory\n"), f"{name}: allocation {n} is told as {line}")
+        demand(line in (b"", b"OutOfMemory\n"), f"{name}: allocation {n} is reported as {line}")
     for n in range(1, calls["read"] + 1):
         status, bundle, out, line, _ = tool.run(session, words, ("read", n))
         demand((status, line) == (3, b"SourceFault\n"), f"{name}: read {n} gives {status} {line}")
