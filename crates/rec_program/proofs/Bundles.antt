@@ -38,11 +38,11 @@ module _ (number : List ℕ → ℕ) (m : ℕ) (head : SessionHead) (events : Li
       ∙ ap (λ l. bundle_entries (manifest_text number m head events) l store) logged
       ∙ ap (bundle_entries (manifest_text number m head events) (run_log number m events)) stored
 
-  -- what is weighed of it: manifest, log and the store's entries
-  pub same_weighed : (log : List ℕ) → log ≡ run_log number m events
+  -- what is judged of it: manifest, log and the store's entries
+  pub same_judged : (log : List ℕ) → log ≡ run_log number m events
       → named manifest_name manifest ∷ named log_name log ∷ run_store number m head events
       ≡ named manifest_name (manifest_text number m head events) ∷ named log_name (run_log number m events) ∷ run_store number m head events
-  same_weighed log logged =
+  same_judged log logged =
       ap (λ t. named manifest_name t ∷ named log_name log ∷ run_store number m head events) written
       ∙ ap (λ l. named manifest_name (manifest_text number m head events) ∷ named log_name l ∷ run_store number m head events) logged
 

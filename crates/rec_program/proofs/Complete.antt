@@ -2,7 +2,7 @@
 use Rattle.std.proofs.Common.{◌≡◌, ℕ, ◌+◌, ◌<◌, ◌≤◌, List, ◌++◌, length, Option, Some, None, Result, Ok, Err, IfErr, ap, sym, refl, ◌∙◌, arith, inl, inr, append-nil, length-append}
 use Rattle.std.specs.Io.KnownBytes.{Consumes, IsAtEnd}
 use Rattle.rec_container.specs.Causes.{Rose}
-use Rattle.rec_program.specs.Bundle.{refusal}
+use Rattle.rec_program.specs.Bundle.{session_refusal}
 use Rattle.rec_program.specs.Reading.{Unread}
 use Rattle.rec_program.specs.Export.{Undelivered, Fails}
 use Rattle.rec_program.specs.declared.settings.Settings.{Settings}
@@ -25,7 +25,7 @@ no_more (Some x) (Some y) session given has gave =
 
 module _ {S B T : Type 0} (left : S → Option (List ℕ)) (source_faults : S → ℕ) (taken : B → Option (List ℕ)) (bundle_faults : B → ℕ)
     (shown : T → Option (List ℕ)) (out_faults : T → ℕ) (number : List ℕ → ℕ) (settings : Settings) (s0 s1 : S) (b0 b1 : B) (t0 t1 : T) (session : List ℕ) (has : left s0 ≡ Some session)
-    (within : length session ≤ settings.session_limit) (valid : refusal number settings session ≡ None)
+    (within : length session ≤ settings.session_limit) (valid : session_refusal number settings session ≡ None)
     (source : ¬ (Rose (source_faults s0) (source_faults s1))) (bundle : ¬ (Rose (bundle_faults b0) (bundle_faults b1))) (trace : ¬ (Rose (out_faults t0) (out_faults t1))) where
   unread : (e : RecordExportError) → Unread left source_faults settings.session_limit s0 s1 e → e ≡ OutOfMemory
   unread SourceFault u = absurd (source u.0)
@@ -69,7 +69,7 @@ module _ {S B T : Type 0} (left : S → Option (List ℕ)) (source_faults : S �
   fails e (inl u) = unread e u.0
   fails e (inr (inl r)) =
       let same = same_session (left s0) (left s1) session r.0 has r.1.gave r.1.ended in
-      let refused : refusal number settings session ≡ Some e = ap (refusal number settings) (sym same) ∙ r.2 in
+      let refused : session_refusal number settings session ≡ Some e = ap (session_refusal number settings) (sym same) ∙ r.2 in
       absurd (let none = sym valid ∙ refused in cc)
   fails e (inr (inr d)) = undelivered d.1 d.2 e d.5
 

@@ -6,7 +6,7 @@ use Rattle.rec_codec.specs.Event.{LiveEvent}
 use Rattle.rec_codec.specs.Lines.{NumberedLine}
 use Rattle.rec_format.specs.declared.head.SessionHead.{SessionHead}
 use Rattle.rec_store.specs.Bundle.{run_bundle}
-use Rattle.rec_program.specs.Bundle.{count_refusal, refusal, refusal_after, session_events, session_head, size_refusal, sizes_refusal}
+use Rattle.rec_program.specs.Bundle.{count_refusal, session_refusal, refusal_after, session_events, session_head, size_refusal, sizes_refusal}
 use Rattle.rec_program.specs.Session.{event_lines, events_of, lines_refusal, session_lines}
 use Rattle.rec_program.specs.SessionTraces.{trace_refusal}
 use Rattle.rec_program.specs.declared.settings.Settings.{Settings}
@@ -37,13 +37,13 @@ unfolding session_events
 events_after session = refl
 
 module _ (number : List ℕ → ℕ) (settings : Settings) where
-  pub refused_head : (session : List ℕ) → session_head session ≡ None → refusal number settings session ≡ Some ParseHead
-  unfolding refusal
+  pub refused_head : (session : List ℕ) → session_head session ≡ None → session_refusal number settings session ≡ Some ParseHead
+  unfolding session_refusal
   refused_head session h = ap (λ o. refusal_after number settings o (event_lines (session_lines session))) h
 
   pub after_head : (session : List ℕ) (head : SessionHead) → session_head session ≡ Some head
-      → refusal number settings session ≡ refusal_after number settings (Some head) (event_lines (session_lines session))
-  unfolding refusal
+      → session_refusal number settings session ≡ refusal_after number settings (Some head) (event_lines (session_lines session))
+  unfolding session_refusal
   after_head session head h = ap (λ o. refusal_after number settings o (event_lines (session_lines session))) h
 
   -- why a session is refused after the sum of its sizes

@@ -2,8 +2,10 @@ pub mod Bundles
 pub mod Complete
 pub mod EntrySizes
 pub mod Judging
+pub mod Lines
 pub mod Numbers
 pub mod OptionSteps
 pub mod Recorded
 pub mod RecordedLines
+pub mod RecorderFaults
 pub mod SessionTraced

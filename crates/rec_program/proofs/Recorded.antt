@@ -21,13 +21,16 @@ use Rattle.rec_store.specs.Reading.{AreRead}
 use Rattle.rec_store.specs.Recording.{AddsEach, Recording, Stores, has_failed}
 use Rattle.rec_store.specs.Store.{metadata_of, store_entries}
 use Rattle.rec_store.specs.declared.error.RunStoreError.{RunStoreError}
-use Rattle.rec_store.specs.declared.error.RunStoreError.TheVariants.{NameCollision}
+use Rattle.rec_store.specs.declared.error.RunStoreError.TheVariants.{Failed, NotLoadedOutput, NameCollision, CountOutOfRange, StoreWrite, RunLogWrite, OutOfMemory}
 use Rattle.rec_store.specs.declared.sizes.StoreSizes.{StoreSizes}
 use Rattle.rec_store.proofs.Adding.{AreNew, with_entries-new, entries_after, taken_after, sound_after}
 use Rattle.rec_store.proofs.Clashing.{clash_none, clash_found}
 use Rattle.rec_store.proofs.OutputLaws.{clash_outputs, clash_push, log_push, outputs_of_event, outputs_push, with_outputs}
 use Rattle.rec_container.specs.Memory.{GrowingSinkState}
+use Rattle.std.specs.Option.{option_map}
 use Rattle.rec_program.specs.Recorded.{AreRecorded, HasRecorded, IsRunOf}
+use Rattle.rec_program.specs.RecorderFaults.{event_fault}
+use Rattle.rec_program.specs.declared.refusal.RecordExportError.TheVariants as refusals
 
 -- what holds in any case holds of an answer
 pub always : {T E V : Type 0} (r : Result T E) → V → OnOk r V
@@ -35,7 +38,7 @@ always (Ok x) v = v
 always (Err e) v = tt
 
 -- the paths of metadata differ
-metadata_new : (scope : RecordedBuildScope) (rerun : Option RerunInfo) (metadata : List ℕ) (list : TestListSummary) (opts : RecordOpts) → AreNew [] (metadata_of scope rerun metadata list opts)
+pub metadata_new : (scope : RecordedBuildScope) (rerun : Option RerunInfo) (metadata : List ℕ) (list : TestListSummary) (opts : RecordOpts) → AreNew [] (metadata_of scope rerun metadata list opts)
 metadata_new scope None metadata list opts = (refl, (refl, (refl, (refl, tt))))
 metadata_new scope (Some info) metadata list opts = (refl, (refl, (refl, (refl, (refl, tt)))))
 
@@ -111,6 +114,14 @@ module _ {N : Type 0} (number : N → List ℕ → ℕ) (faults : GrowingSinkSta
     recorded = has.recorded;
   }
 
+-- a recorder that recorded an event has not failed
+pub sound_logged : {N : Type 0} (number : N → List ℕ → ℕ) (faults : GrowingSinkState → ℕ) (event : LiveEvent) (old new : Recording GrowingSinkState GrowingSinkState N)
+    → Logs text_taken faults text_taken faults number old new event → has_failed new ≡ false
+sound_logged {N = N} number faults event old new logs =
+    let fs = event_entries (number old.namer) old.max_output event in
+    neither new.store.failed new.log_failed (sound_after text_taken faults old.store new.store fs logs.2 (first_false old.store.failed old.log_failed logs.0))
+    (ap (λ (r : Recording GrowingSinkState GrowingSinkState N). r.log_failed) logs.3.kept ∙ second_false old.store.failed old.log_failed logs.0)
+
 module _ {N : Type 0} (number : N → List ℕ → ℕ) (faults : GrowingSinkState → ℕ) (head : SessionHead) (events : List LiveEvent) (event : LiveEvent) (old new : Recording GrowingSinkState GrowingSinkState N)
     (has : HasRecorded number old.namer old.max_output head events old) where
   store_sound : old.store.failed ≡ false
@@ -137,6 +148,18 @@ module _ {N : Type 0} (number : N → List ℕ → ℕ) (faults : GrowingSinkSta
   clash_at path (inr (inr (inl h))) =
       same_clash ∙ clash_found text_taken faults old.store new.store (event_entries (number old.namer) old.max_output event) path store_sound h.3
   clash_at path (inr (inr (inr h))) = absurd h.3
+
+  -- what is refused of an event is a clash, or want of memory
+  pub refused_event : (e : RunStoreError) → Unlogged text_taken faults text_taken faults number old new event e
+      → (event_fault e ≡ refusals.OutOfMemory)
+      ⊎ (option_map refusals.NameCollision (clash (outputs_stored (number old.namer) old.max_output events) (event_entries (number old.namer) old.max_output event)) ≡ Some (event_fault e))
+  refused_event (NameCollision path) u = inr (ap (option_map refusals.NameCollision) (clash_at path u))
+  refused_event Failed u = inl refl
+  refused_event NotLoadedOutput u = inl refl
+  refused_event CountOutOfRange u = inl refl
+  refused_event StoreWrite u = inl refl
+  refused_event RunLogWrite u = inl refl
+  refused_event OutOfMemory u = inl refl
 
   -- the recorder has recorded one more event
   pub recorded_more : Logs text_taken faults text_taken faults number old new event → IsLogged (event_recorded (number old.namer) old.max_output event)

@@ -5,10 +5,11 @@ use Rattle.std.specs.List.{cons_option}
 use Rattle.std.specs.Option.{option_and_then, option_map, option_or, option_to_list}
 use Rattle.rec_container.specs.Container.{Entry}
 use Rattle.rec_codec.specs.Event.{LiveEvent, live_event, live_event_of}
-use Rattle.rec_codec.specs.EventForms.{event_form}
+use Rattle.rec_codec.specs.EventForms.{event_form, kind_loaded}
 use Rattle.rec_codec.specs.LineEvents.{Misses, blank}
 use Rattle.rec_codec.specs.Lines.{NumberedLine, is_blank}
-use Rattle.rec_codec.specs.Live.{live_form}
+use Rattle.rec_codec.specs.Live.{is_loaded, live_form}
+use Rattle.rec_codec.proofs.ReadEventLaws.{live_event_loaded}
 use Rattle.rec_codec.specs.declared.line_events.LineError.{LineError}
 use Rattle.rec_codec.specs.declared.line_events.LineError.TheVariants as lines
 use Rattle.rec_events.specs.declared.outputs.LiveSpec.{LiveSpec}
@@ -54,6 +55,12 @@ module _ (number : List ℕ → ℕ) (m : ℕ) (stored : List Entry) (n : ℕ) w
   line_of_fault (lines.ParseEvent k) (Some text) h e =
       inr (ap (λ b. if b then None else event_refusal number m stored n (live_event_of text)) h ∙ ap (event_refusal number m stored n) e.2 ∙ ap (λ i. Some (ParseEvent i)) (sym e.0))
   line_of_fault lines.OutOfMemory text h e = inl refl
+
+-- an event of a line is loaded
+pub event_is_loaded : (text : Option (List ℕ)) (event : LiveEvent) → option_and_then (text_form (event_form {S = LiveSpec} live_form)) text ≡ Some event → kind_loaded is_loaded event.kind ≡ true
+unfolding live_event_of
+event_is_loaded None event h = absurd (let k = h in cc)
+event_is_loaded (Some text) event h = live_event_loaded text event h
 
 -- ---- the lines after
 

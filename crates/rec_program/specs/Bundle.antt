@@ -56,15 +56,15 @@ module _ (number : List ℕ → ℕ) (settings : Settings) where
       (option_or (size_refusal head (events_of lines)) (trace_refusal settings (events_of lines))))
 
   -- why a session is refused that was read whole, if it is
-  unfoldable pub refusal : List ℕ → Option RecordExportError
-  refusal session = refusal_after (session_head session) (event_lines (session_lines session))
+  unfoldable pub session_refusal : List ℕ → Option RecordExportError
+  session_refusal session = refusal_after (session_head session) (event_lines (session_lines session))
 
   -- The session is valid, this is its bundle, and the bundle is read as what was recorded of the session. This is the text of its
   -- trace: begins and ends on every row take turns, and are the slices that the pauses leave, at their events' instants
   pub record AreOf (session bundle trace : List ℕ) : Type 0 where
     pub head : SessionHead
     pub has_head : session_head session ≡ Some head
-    pub valid : refusal session ≡ None
+    pub valid : session_refusal session ≡ None
     pub spelled : bundle ≡ run_bundle number settings.max_output head (session_events session)
     pub reads : IsReading bundle (recorded number settings.max_output head (session_events session))
     pub traced : trace ≡ run_trace settings head (session_events session)

@@ -4,7 +4,7 @@ use Rattle.std.specs.Io.KnownBytes.{Appends}
 use Rattle.rec_container.specs.Causes.{Rose}
 use Rattle.rec_container.specs.Taking.{TookPart}
 use Rattle.rec_store.specs.Bundle.{outputs_stored}
-use Rattle.rec_program.specs.Bundle.{session_events, refusal, AreOf}
+use Rattle.rec_program.specs.Bundle.{session_events, session_refusal, AreOf}
 use Rattle.rec_container.specs.Within.{Gave}
 use Rattle.rec_program.specs.Reading.{Unread}
 use Rattle.rec_program.specs.declared.counts.Exported.{Exported}
@@ -40,6 +40,6 @@ module _ {S B T : Type 0} (left : S → Option (List ℕ)) (source_faults : S �
   abbrev pub Fails : S → S → B → B → T → T → RecordExportError → Type 0
   Fails s0 s1 b0 b1 t0 t1 e =
       (Unread left source_faults settings.session_limit s0 s1 e × (b1 ≡ b0) × (t1 ≡ t0))
-      ⊎ ((session : List ℕ) × Gave left source_faults settings.session_limit s0 s1 session × (refusal number settings session ≡ Some e) × (b1 ≡ b0) × (t1 ≡ t0))
+      ⊎ ((session : List ℕ) × Gave left source_faults settings.session_limit s0 s1 session × (session_refusal number settings session ≡ Some e) × (b1 ≡ b0) × (t1 ≡ t0))
       ⊎ ((session : List ℕ) × (bundle : List ℕ) × (trace : List ℕ) × Gave left source_faults settings.session_limit s0 s1 session
       × AreOf number settings session bundle trace × Undelivered taken bundle_faults shown out_faults b0 b1 t0 t1 bundle trace e)

@@ -2,9 +2,11 @@ pub mod Bundle
 pub mod Export
 pub mod FaultLine
 pub mod LineFaults
+pub mod LinePieces
 pub mod Options
 pub mod Reading
 pub mod Recorded
+pub mod RecorderFaults
 pub mod Reporting
 pub mod Running
 pub mod Session
@@ -13,4 +15,5 @@ pub mod Sizes
 pub mod SessionTraces
 pub mod Status
 pub mod TraceFaults
+pub mod Usage
 pub mod Words

@@ -1,13 +1,10 @@
--- What is told of a fault.
-use Rattle.std.specs.Prelude.{◌≡◌, ℕ, List, Option, ◌⊎◌}
+-- What stands on the sink for faults.
+use Rattle.std.specs.Prelude.{ℕ, List, Option, ◌⊎◌}
 use Rattle.std.specs.Io.KnownBytes.{Appends}
 use Rattle.rec_container.specs.Causes.{Rose}
 use Rattle.rec_container.specs.Taking.{TookPart}
 
 module _ {G : Type 0} (taken : G → Option (List ℕ)) (faults : G → ℕ) where
-  -- the sink took the line; or it failed, and took a proper prefix; or there was no memory for the line
+  -- the sink took the line, or it failed and took a proper prefix of it
   abbrev pub Reports : G → G → List ℕ → Type 0
-  Reports old new line =
-      Appends (taken old) (taken new) line
-      ⊎ (Rose (faults old) (faults new) × TookPart (taken old) (taken new) line)
-      ⊎ (new ≡ old)
+  Reports old new line = Appends (taken old) (taken new) line ⊎ (Rose (faults old) (faults new) × TookPart (taken old) (taken new) line)

@@ -11,32 +11,33 @@ use Rattle.rec_program.specs.Words.{Asked, recording, help, version}
 use Rattle.rec_program.specs.declared.counts.Exported.{Exported}
 use Rattle.rec_program.specs.declared.refusal.RecordExportError.{RecordExportError}
 use Rattle.rec_program.specs.declared.settings.Settings.{Settings}
-use Rattle.rec_program.specs.declared.usage.TheConstants.{USAGE, VERSION}
+use Rattle.rec_program.specs.declared.usage.TheConstants.{USAGE}
+use Rattle.rec_program.specs.Usage.{versions_text}
 use Rattle.rec_program.specs.declared.words.WordsError.{WordsError}
 
-module _ {T G : Type 0} (shown : T → Option (List ℕ)) (out_faults : T → ℕ) (told : G → Option (List ℕ)) (diag_faults : G → ℕ) where
+module _ {T G : Type 0} (shown : T → Option (List ℕ)) (out_faults : T → ℕ) (noted : G → Option (List ℕ)) (diag_faults : G → ℕ) where
   -- the text was printed; or the output failed, which was reported
   abbrev pub Prints : List ℕ → ℕ → T → T → G → G → Type 0
   Prints text status o0 o1 d0 d1 =
       ((status ≡ 0) × Appends (shown o0) (shown o1) text × (d1 ≡ d0))
-      ⊎ ((status ≡ 11) × Rose (out_faults o0) (out_faults o1) × TookPart (shown o0) (shown o1) text × Reports told diag_faults d0 d1 sink_line)
+      ⊎ ((status ≡ 11) × Rose (out_faults o0) (out_faults o1) × TookPart (shown o0) (shown o1) text × Reports noted diag_faults d0 d1 sink_line)
 
 module _ {S B T G : Type 0} (left : S → Option (List ℕ)) (source_faults : S → ℕ) (taken : B → Option (List ℕ)) (bundle_faults : B → ℕ)
-    (shown : T → Option (List ℕ)) (out_faults : T → ℕ) (told : G → Option (List ℕ)) (diag_faults : G → ℕ) (number : List ℕ → ℕ) where
+    (shown : T → Option (List ℕ)) (out_faults : T → ℕ) (noted : G → Option (List ℕ)) (diag_faults : G → ℕ) (number : List ℕ → ℕ) where
   -- the session was exported, and nothing is reported; or it wasn't, and the cause is the status and is reported
   abbrev pub Records : Settings → ℕ → S → S → B → B → T → T → G → G → Type 0
   Records settings status s0 s1 b0 b1 o0 o1 d0 d1 =
       ((status ≡ 0) × ((exported : Exported) × Exports left source_faults taken bundle_faults shown out_faults number settings s0 s1 b0 b1 o0 o1 exported) × (d1 ≡ d0))
       ⊎ ((e : RecordExportError) × (status ≡ export_status e) × Fails left source_faults taken bundle_faults shown out_faults number settings s0 s1 b0 b1 o0 o1 e
-      × Reports told diag_faults d0 d1 (export_line e))
+      × Reports noted diag_faults d0 d1 (export_line e))
 
 module _ {S B T G : Type 0} (left : S → Option (List ℕ)) (source_faults : S → ℕ) (taken : B → Option (List ℕ)) (bundle_faults : B → ℕ)
-    (shown : T → Option (List ℕ)) (out_faults : T → ℕ) (told : G → Option (List ℕ)) (diag_faults : G → ℕ) (number : List ℕ → ℕ) where
+    (shown : T → Option (List ℕ)) (out_faults : T → ℕ) (noted : G → Option (List ℕ)) (diag_faults : G → ℕ) (number : List ℕ → ℕ) where
   -- what the program does for the command that its words are; faulty words touch nothing, and are reported
   abbrev pub Runs : Result Asked WordsError → ℕ → S → S → B → B → T → T → G → G → Type 0
   Runs (Ok (recording path settings)) status s0 s1 b0 b1 o0 o1 d0 d1 =
-      Records left source_faults taken bundle_faults shown out_faults told diag_faults number settings status s0 s1 b0 b1 o0 o1 d0 d1
-  Runs (Ok help) status s0 s1 b0 b1 o0 o1 d0 d1 = Prints shown out_faults told diag_faults USAGE.now status o0 o1 d0 d1 × (s1 ≡ s0) × (b1 ≡ b0)
-  Runs (Ok version) status s0 s1 b0 b1 o0 o1 d0 d1 = Prints shown out_faults told diag_faults VERSION.now status o0 o1 d0 d1 × (s1 ≡ s0) × (b1 ≡ b0)
+      Records left source_faults taken bundle_faults shown out_faults noted diag_faults number settings status s0 s1 b0 b1 o0 o1 d0 d1
+  Runs (Ok help) status s0 s1 b0 b1 o0 o1 d0 d1 = Prints shown out_faults noted diag_faults USAGE.now status o0 o1 d0 d1 × (s1 ≡ s0) × (b1 ≡ b0)
+  Runs (Ok version) status s0 s1 b0 b1 o0 o1 d0 d1 = Prints shown out_faults noted diag_faults versions_text status o0 o1 d0 d1 × (s1 ≡ s0) × (b1 ≡ b0)
   Runs (Err fault) status s0 s1 b0 b1 o0 o1 d0 d1 =
-      (status ≡ 2) × (s1 ≡ s0) × (b1 ≡ b0) × (o1 ≡ o0) × Reports told diag_faults d0 d1 (words_line fault)
+      (status ≡ 2) × (s1 ≡ s0) × (b1 ≡ b0) × (o1 ≡ o0) × Reports noted diag_faults d0 d1 (words_line fault)

@@ -41,6 +41,6 @@ abbrev pub IsTraceOf : ChromeTraceGroupBy → List TraceInput → SessionTrace �
 IsTraceOf g inputs t = IsTracedOr g inputs t.builder t.refusal
 
 -- the text of the trace of a history is answered, or why there is none, or memory ran out
-abbrev pub TellsTrace : List TraceInput → List ℕ → Result (String Global) RecordExportError → Type 0
-TellsTrace inputs text (Ok t) = (traces.history_refusal inputs ≡ None) × (string_bytes t ≡ text)
-TellsTrace inputs text (Err e) = (e ≡ OutOfMemory) ⊎ (option_map trace_fault (traces.history_refusal inputs) ≡ Some e)
+abbrev pub AnswersTrace : List TraceInput → List ℕ → Result (String Global) RecordExportError → Type 0
+AnswersTrace inputs text (Ok t) = (traces.history_refusal inputs ≡ None) × (string_bytes t ≡ text)
+AnswersTrace inputs text (Err e) = (e ≡ OutOfMemory) ⊎ (option_map trace_fault (traces.history_refusal inputs) ≡ Some e)

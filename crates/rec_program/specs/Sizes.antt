@@ -15,6 +15,6 @@ entries_refusal limit [] = None
 entries_refusal limit (e ∷ es) = option_or (entry_refusal limit e) (entries_refusal limit es)
 
 -- a refusal is answered, exactly where there is one; or memory runs out
-abbrev pub Weighs : {T : Type 0} → Result T RecordExportError → Option RecordExportError → Type 0
-Weighs (Ok x) refusal = refusal ≡ None
-Weighs (Err e) refusal = (e ≡ OutOfMemory) ⊎ (refusal ≡ Some e)
+abbrev pub AnswersRefusal : {T : Type 0} → Result T RecordExportError → Option RecordExportError → Type 0
+AnswersRefusal (Ok x) refusal = refusal ≡ None
+AnswersRefusal (Err e) refusal = (e ≡ OutOfMemory) ⊎ (refusal ≡ Some e)

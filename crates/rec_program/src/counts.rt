@@ -1,14 +1,14 @@
 //! What an export counts.
 
-/// What was exported.
+/// Counts what was exported.
 #[derive(Clone, Copy, Debug, PartialEq, Eq)]
 pub struct Exported {
-    /// How many events the log has.
+    /// The number of events in the log.
     pub events: u64,
-    /// How many outputs the store has.
+    /// The number of outputs in the store.
     pub outputs: u64,
-    /// How long the bundle is, in bytes.
+    /// The length of the bundle, in bytes.
     pub bundle_bytes: u64,
-    /// How long the trace is, in bytes.
+    /// The length of the trace, in bytes.
     pub trace_bytes: u64,
 }

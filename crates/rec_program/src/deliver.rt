@@ -7,6 +7,11 @@ use crate::refusal::RecordExportError;
 use rec_container::{Sink, write_all};
 
 /// Writes the whole bundle, and then the whole trace. It takes no memory.
+///
+/// # Errors
+///
+/// `BundleFault` where the bundle's sink failed, and `TraceFault` where the trace's sink failed after a
+/// whole bundle.
 pub fn deliver<B: Sink, T: Sink>(
     bytes: &[u8],
     text: &str,

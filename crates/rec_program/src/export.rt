@@ -1,7 +1,7 @@
 //! From a session to its bundle and its trace.
 ghost use Rattle.std.specs.Prelude.{◌≡◌, ◌≤◌, ℕ, List, length, IfOk, IfErr, Some, None};
 ghost use Rattle.rec_container.specs.Causes.{Rose};
-ghost use Rattle.rec_program.specs.Bundle.{refusal};
+ghost use Rattle.rec_program.specs.Bundle.{session_refusal};
 ghost use Rattle.rec_program.specs.Export.{Exports, Fails};
 ghost use Rattle.rec_program.specs.declared.refusal.RecordExportError.TheVariants.{OutOfMemory};
 
@@ -19,6 +19,34 @@ use std::alloc::Global;
 ///
 /// The whole session is judged, and both are built, before the first byte is written. Writing takes
 /// no memory.
+///
+/// # Errors
+///
+/// The error is the first cause in the order of the variants of [`RecordExportError`]:
+///
+/// - `SourceFault` comes where the source failed, and `SessionTooLarge` where it gave more bytes than
+///   `session_limit`.
+/// - `ParseHead`, `ReadRunLog`, `ParseEvent` and `NameCollision` come for the first line that is no
+///   head, no text, no event, or has an output that clashes with one before.
+/// - `CountOutOfRange` without an event comes where the bundle would have 2^64 bytes or more, and
+///   `FileTooLarge` where the manifest, the log or an entry of the store has more than `read_limit`.
+/// - What else names an event says why the trace can't be drawn.
+/// - `BundleFault` and `TraceFault` come where a sink failed. All errors but these leave both sinks as
+///   they were.
+/// - `OutOfMemory` may come at any time before the first byte is written.
+///
+/// # Examples
+///
+/// ```
+/// let mut source = SliceSource::new(session);
+/// let mut bundle = GrowingSink::new(alloc);
+/// let mut trace = GrowingSink::new(alloc);
+/// let settings = Settings::default();
+/// match record_and_export(alloc, &settings, &Sha256Namer, &mut source, &mut bundle, &mut trace) {
+///     Ok(exported) => println!(rt; "{} events", exported.events)?,
+///     Err(error) => println!(rt; "{error}")?,
+/// }
+/// ```
 pub fn record_and_export<S: Source, N: OutputNamer, B: Sink, T: Sink>(
     alloc: Global,
     settings: &Settings,
@@ -37,7 +65,7 @@ pub fn record_and_export<S: Source, N: OutputNamer, B: Sink, T: Sink>(
     ensures complete { (session : List ℕ)
         → S.left source.old ≡ Some session
         → length session ≤ settings.now.session_limit
-        → refusal (N.number namer.now) settings.now session ≡ None
+        → session_refusal (N.number namer.now) settings.now session ≡ None
         → ¬ Rose (S.faults source.old) (S.faults source.new)
         → ¬ Rose (B.faults bundle.old) (B.faults bundle.new)
         → ¬ Rose (T.faults trace.old) (T.faults trace.new)

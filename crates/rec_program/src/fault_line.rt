@@ -1,40 +1,127 @@
-//! The line that tells a fault: the name of its variant, ` name=value` for each field in order of
-//! declaration, and LF.
-ghost use Rattle.std.specs.Prelude.{◌≡◌, ℕ, List, IfOk, string_bytes};
-ghost use Rattle.rec_program.specs.FaultLine.{words_line, export_line, sink_line, span_text};
+//! The line of each fault: its name, ` name=value` for each field in order of declaration, and LF.
+ghost use Rattle.std.specs.Prelude.{◌≡◌, ◌++◌, ◌∷◌, [], ℕ, List, codes, decimal};
+ghost use Rattle.rec_program.specs.FaultLine.{words_line, words_name, words_fields, export_line, export_name, export_fields, sink_line, memory_line, optional_number, span_shown, shown_text, fields_text};
+ghost use Rattle.rec_program.specs.LinePieces.{fields_bytes, line_bytes, value_bytes};
 ghost use Rattle.rec_program.specs.Reporting.{Reports};
+ghost use Rattle.rec_program.specs.declared.refusal.RecordExportError.TheVariants.{MissingTestStart};
+ghost use Rattle.rec_trace.specs.declared.spans.SpanKey.TheVariants.{Test};
 
+use crate::line::{FaultText, Field, FieldValue, write_line};
 use crate::refusal::RecordExportError;
 use crate::words::WordsError;
-use rec_container::{Sink, SinkFailed, write_all};
+use rec_container::{Sink, SinkFailed};
+use rec_events::{OwnedTestInstanceId, RustBinaryId, TestCaseName};
 use rec_trace::SpanKey;
-use std::alloc::{AllocError, Global};
+use std::alloc::AllocError;
 
-/// A fault that is told in one line.
+/// A fault that has a line.
 pub trait FaultLine {
     ghost line_of: { Self → List ℕ };
 
-    /// The line, with its LF.
-    fn fault_line(&self, alloc: Global) -> Result<String, AllocError>
-        ensures { IfOk result (λ line. string_bytes line ≡ line_of self.now) };
+    /// Returns the line, which is lent: no memory is taken for it.
+    fn text(&self) -> FaultText<'_>
+        ensures { line_bytes result ≡ line_of self.now };
+}
+
+/// Writes the line of a fault to `diag`. It takes no memory.
+///
+/// A fault of `diag` ends the writing, and is written nowhere.
+pub fn report<F: FaultLine, G: Sink>(fault: &F, diag: &mut G)
+    ensures { Reports G.taken G.faults diag.old diag.new (F.line_of fault.now) }
+{
+    let text = fault.text();
+    let _ = write_line(text.name, &text.fields, diag);
+}
+
+/// A field of which nothing is written.
+const NOTHING: Field<'static> = Field {
+    label: "",
+    value: FieldValue::Text(""),
+};
+
+/// Returns no field.
+fn no_fields<'a>() -> [Field<'a>; 4]
+    ensures { (rest : List ℕ) → fields_bytes result rest ≡ rest }
+{
+    [NOTHING, NOTHING, NOTHING, NOTHING]
+}
+
+/// Returns a field with a number.
+fn number(label: &str, number: u64) -> Field<'_>
+    ensures label { result.label.now ≡ label.now }
+    ensures value { value_bytes result.value ≡ decimal number }
+{
+    Field {
+        label,
+        value: FieldValue::Number(number),
+    }
+}
+
+/// Returns a field with a text.
+fn text<'a>(label: &'a str, text: &'a str) -> Field<'a>
+    ensures label { result.label.now ≡ label.now }
+    ensures value { value_bytes result.value ≡ text.now }
+{
+    Field {
+        label,
+        value: FieldValue::Text(text),
+    }
+}
+
+/// Returns one field alone.
+fn one(field: Field<'_>) -> [Field<'_>; 4]
+    ensures { (rest : List ℕ) → fields_bytes result rest ≡ field.entry.label.now ++ (value_bytes field.entry.value ++ rest) }
+{
+    [field, NOTHING, NOTHING, NOTHING]
+}
+
+/// Returns three fields.
+fn three<'a>(first: Field<'a>, second: Field<'a>, third: Field<'a>) -> [Field<'a>; 4]
+    ensures { (rest : List ℕ) → fields_bytes result rest ≡ fields_bytes (first.entry ∷ second.entry ∷ third.entry ∷ []) rest }
+{
+    [first, second, third, NOTHING]
 }
 
 impl FaultLine for WordsError {
     ghost line_of = { words_line };
 
     #[tactic(auto, unfolding(crate::specs::FaultLine::words_line))]
-    fn fault_line(&self, alloc: Global) -> Result<String, AllocError> {
-        match self {
-            WordsError::NoCommand => String::from_str(alloc, "NoCommand\n"),
-            WordsError::UnknownCommand { at } => format!(in alloc; "UnknownCommand at={at}\n"),
-            WordsError::MissingPositional { at } => {
-                format!(in alloc; "MissingPositional at={at}\n")
-            }
-            WordsError::UnknownOption { at } => format!(in alloc; "UnknownOption at={at}\n"),
-            WordsError::RepeatedOption { at } => format!(in alloc; "RepeatedOption at={at}\n"),
-            WordsError::MissingValue { at } => format!(in alloc; "MissingValue at={at}\n"),
-            WordsError::BadValue { at } => format!(in alloc; "BadValue at={at}\n"),
+    fn text(&self) -> FaultText<'_> {
+        let fields = words_fields(self);
+        FaultText {
+            name: words_name(self),
+            fields,
         }
+    }
+}
+
+/// Returns the name of a fault of the words.
+fn words_name(fault: &WordsError) -> &'static str
+    ensures { result.now ≡ words_name fault.now }
+{
+    match fault {
+        WordsError::NoCommand => "NoCommand",
+        WordsError::UnknownCommand { .. } => "UnknownCommand",
+        WordsError::MissingPositional { .. } => "MissingPositional",
+        WordsError::UnknownOption { .. } => "UnknownOption",
+        WordsError::RepeatedOption { .. } => "RepeatedOption",
+        WordsError::MissingValue { .. } => "MissingValue",
+        WordsError::BadValue { .. } => "BadValue",
+    }
+}
+
+/// Returns the fields of a fault of the words.
+fn words_fields(fault: &WordsError) -> [Field<'_>; 4]
+    ensures { (rest : List ℕ) → fields_bytes result rest ≡ fields_text (words_fields fault.now) rest }
+{
+    match fault {
+        WordsError::NoCommand => no_fields(),
+        WordsError::UnknownCommand { at }
+        | WordsError::MissingPositional { at }
+        | WordsError::UnknownOption { at }
+        | WordsError::RepeatedOption { at }
+        | WordsError::MissingValue { at }
+        | WordsError::BadValue { at } => one(number(" at=", *at as u64)),
     }
 }
 
@@ -42,102 +129,179 @@ impl FaultLine for RecordExportError {
     ghost line_of = { export_line };
 
     #[tactic(auto, unfolding(crate::specs::FaultLine::export_line))]
-    fn fault_line(&self, alloc: Global) -> Result<String, AllocError> {
-        match self {
-            RecordExportError::SourceFault => String::from_str(alloc, "SourceFault\n"),
-            RecordExportError::SessionTooLarge { limit } => {
-                format!(in alloc; "SessionTooLarge limit={limit}\n")
-            }
-            RecordExportError::ParseHead => String::from_str(alloc, "ParseHead\n"),
-            RecordExportError::ReadRunLog { line_number } => {
-                format!(in alloc; "ReadRunLog line_number={line_number}\n")
-            }
-            RecordExportError::ParseEvent { line_number } => {
-                format!(in alloc; "ParseEvent line_number={line_number}\n")
-            }
-            RecordExportError::NameCollision { file_name } => {
-                let file_name = file_name.as_str();
-                format!(in alloc; "NameCollision file_name={file_name}\n")
-            }
-            RecordExportError::CountOutOfRange { event: None } => {
-                String::from_str(alloc, "CountOutOfRange event=None\n")
-            }
-            RecordExportError::CountOutOfRange { event: Some(event) } => {
-                format!(in alloc; "CountOutOfRange event={event}\n")
-            }
-            RecordExportError::FileTooLarge {
-                file_name,
-                size,
-                limit,
-            } => {
-                let file_name = file_name.as_str();
-                format!(in alloc; "FileTooLarge file_name={file_name} size={size} limit={limit}\n")
-            }
-            RecordExportError::KindNotBuilt { event } => {
-                format!(in alloc; "KindNotBuilt event={event}\n")
-            }
-            RecordExportError::MissingTestStart {
-                event,
-                binary_id,
-                test_name,
-            } => {
-                let binary_id = binary_id.as_str();
-                let test_name = test_name.as_str();
-                format!(in alloc;
-                    "MissingTestStart event={event} binary_id={binary_id} test_name={test_name}\n"
-                )
-            }
-            RecordExportError::SpanAlreadyOpen { event, span } => {
-                let span = span_text(alloc, span)?;
-                let span = span.as_str();
-                format!(in alloc; "SpanAlreadyOpen event={event} span={span}\n")
-            }
-            RecordExportError::SlotBusy { event, slot } => {
-                format!(in alloc; "SlotBusy event={event} slot={slot}\n")
-            }
-            RecordExportError::TimestampOutOfRange { event } => {
-                format!(in alloc; "TimestampOutOfRange event={event}\n")
-            }
-            RecordExportError::RowOutOfRange { event, number } => {
-                format!(in alloc; "RowOutOfRange event={event} number={number}\n")
-            }
-            RecordExportError::BundleFault => String::from_str(alloc, "BundleFault\n"),
-            RecordExportError::TraceFault => String::from_str(alloc, "TraceFault\n"),
-            RecordExportError::OutOfMemory => String::from_str(alloc, "OutOfMemory\n"),
+    fn text(&self) -> FaultText<'_> {
+        let fields = export_fields(self);
+        FaultText {
+            name: export_name(self),
+            fields,
         }
     }
 }
 
-/// What a span is of, as a fault's line tells it.
-fn span_text(alloc: Global, span: &SpanKey) -> Result<String, AllocError>
-    ensures { IfOk result (λ text. string_bytes text ≡ span_text span.now) }
+/// Returns the name of the refusal of a session.
+fn export_name(error: &RecordExportError) -> &'static str
+    ensures { result.now ≡ export_name error.now }
+{
+    match error {
+        RecordExportError::SourceFault => "SourceFault",
+        RecordExportError::SessionTooLarge { .. } => "SessionTooLarge",
+        RecordExportError::ParseHead => "ParseHead",
+        RecordExportError::ReadRunLog { .. } => "ReadRunLog",
+        RecordExportError::ParseEvent { .. } => "ParseEvent",
+        RecordExportError::NameCollision { .. } => "NameCollision",
+        RecordExportError::CountOutOfRange { .. } => "CountOutOfRange",
+        RecordExportError::FileTooLarge { .. } => "FileTooLarge",
+        RecordExportError::KindNotBuilt { .. } => "KindNotBuilt",
+        RecordExportError::MissingTestStart { .. } => "MissingTestStart",
+        RecordExportError::SpanAlreadyOpen { .. } => "SpanAlreadyOpen",
+        RecordExportError::SlotBusy { .. } => "SlotBusy",
+        RecordExportError::TimestampOutOfRange { .. } => "TimestampOutOfRange",
+        RecordExportError::RowOutOfRange { .. } => "RowOutOfRange",
+        RecordExportError::BundleFault => "BundleFault",
+        RecordExportError::TraceFault => "TraceFault",
+        RecordExportError::OutOfMemory => "OutOfMemory",
+    }
+}
+
+/// Returns the fields of the refusal of a session.
+fn export_fields(error: &RecordExportError) -> [Field<'_>; 4]
+    ensures { (rest : List ℕ) → fields_bytes result rest ≡ fields_text (export_fields error.now) rest }
+{
+    match error {
+        RecordExportError::SourceFault
+        | RecordExportError::ParseHead
+        | RecordExportError::BundleFault
+        | RecordExportError::TraceFault
+        | RecordExportError::OutOfMemory => no_fields(),
+        RecordExportError::SessionTooLarge { limit } => one(number(" limit=", *limit)),
+        RecordExportError::ReadRunLog { line_number }
+        | RecordExportError::ParseEvent { line_number } => {
+            one(number(" line_number=", *line_number))
+        }
+        RecordExportError::NameCollision { file_name } => {
+            one(text(" file_name=", file_name.as_str()))
+        }
+        RecordExportError::FileTooLarge {
+            file_name,
+            size,
+            limit,
+        } => three(
+            text(" file_name=", file_name.as_str()),
+            number(" size=", *size),
+            number(" limit=", *limit),
+        ),
+        RecordExportError::CountOutOfRange { event } => one(optional_event(*event)),
+        RecordExportError::KindNotBuilt { event }
+        | RecordExportError::TimestampOutOfRange { event } => one(number(" event=", *event)),
+        RecordExportError::SlotBusy { event, slot } => event_number(*event, " slot=", *slot),
+        RecordExportError::RowOutOfRange { event, number } => {
+            event_number(*event, " number=", *number)
+        }
+        RecordExportError::MissingTestStart {
+            event,
+            binary_id,
+            test_name,
+        } => missing_start(*event, binary_id, test_name),
+        RecordExportError::SpanAlreadyOpen { event, span } => open_span(*event, span),
+    }
+}
+
+/// Returns the number of an event, or that there is none.
+fn optional_event<'a>(event: Option<u64>) -> Field<'a>
+    ensures label { result.label.now ≡ codes " event=" }
+    ensures value { (rest : List ℕ) → value_bytes result.value ++ rest ≡ shown_text (optional_number event) rest }
+{
+    match event {
+        None => text(" event=", "None"),
+        Some(event) => number(" event=", event),
+    }
+}
+
+/// Returns the number of an event, and a number more.
+fn event_number(event: u64, label: &str, other: u64) -> [Field<'_>; 4]
+    ensures { (rest : List ℕ) → fields_bytes result rest ≡ codes " event=" ++ (decimal event ++ (label.now ++ (decimal other ++ rest))) }
+{
+    [
+        number(" event=", event),
+        number(label, other),
+        NOTHING,
+        NOTHING,
+    ]
+}
+
+/// Returns the number of an event, and the test that had not started at it.
+fn missing_start<'a>(
+    event: u64,
+    binary_id: &'a RustBinaryId,
+    test_name: &'a TestCaseName,
+) -> [Field<'a>; 4]
+    ensures { (rest : List ℕ) → fields_bytes result rest ≡ fields_text (export_fields (MissingTestStart event binary_id.now test_name.now)) rest }
+{
+    three(
+        number(" event=", event),
+        text(" binary_id=", binary_id.as_str()),
+        text(" test_name=", test_name.as_str()),
+    )
+}
+
+/// Returns the number of an event, and the span that was open at it.
+fn open_span(event: u64, span: &SpanKey) -> [Field<'_>; 4]
+    ensures { (rest : List ℕ) → fields_bytes result rest ≡ codes " event=" ++ (decimal event ++ (codes " span=" ++ shown_text (span_shown span.now) rest)) }
 {
     match span {
-        SpanKey::Run => String::from_str(alloc, "Run"),
-        SpanKey::SubRun => String::from_str(alloc, "SubRun"),
-        SpanKey::Script(index) => format!(in alloc; "Script {index}"),
-        SpanKey::Test(test) => {
-            let binary_id = test.binary_id.as_str();
-            let test_name = test.test_name.as_str();
-            format!(in alloc; "Test binary_id={binary_id} test_name={test_name}")
-        }
+        SpanKey::Run => [
+            number(" event=", event),
+            text(" span=", "Run"),
+            NOTHING,
+            NOTHING,
+        ],
+        SpanKey::SubRun => [
+            number(" event=", event),
+            text(" span=", "SubRun"),
+            NOTHING,
+            NOTHING,
+        ],
+        SpanKey::Script(index) => three(
+            number(" event=", event),
+            text(" span=", "Script"),
+            number(" ", *index as u64),
+        ),
+        SpanKey::Test(test) => open_test(event, test),
     }
+}
+
+/// Returns the number of an event, and the test that was open at it.
+fn open_test(event: u64, test: &OwnedTestInstanceId) -> [Field<'_>; 4]
+    ensures { (rest : List ℕ) → fields_bytes result rest ≡ codes " event=" ++ (decimal event ++ (codes " span=" ++ shown_text (span_shown (Test test.now)) rest)) }
+{
+    [
+        number(" event=", event),
+        text(" span=", "Test"),
+        text(" binary_id=", test.binary_id.as_str()),
+        text(" test_name=", test.test_name.as_str()),
+    ]
 }
 
 impl FaultLine for SinkFailed {
     ghost line_of = { λ _. sink_line };
 
     #[tactic(auto, unfolding(crate::specs::FaultLine::sink_line))]
-    fn fault_line(&self, alloc: Global) -> Result<String, AllocError> {
-        String::from_str(alloc, "SinkFailed\n")
+    fn text(&self) -> FaultText<'_> {
+        FaultText {
+            name: "SinkFailed",
+            fields: no_fields(),
+        }
     }
 }
 
-/// Writes the fault's line, if there is memory for it. What goes wrong here is told nowhere.
-pub fn report<F: FaultLine, G: Sink>(alloc: Global, fault: &F, diag: &mut G)
-    ensures { Reports G.taken G.faults diag.old diag.new (F.line_of fault.now) }
-{
-    if let Ok(line) = fault.fault_line(alloc) {
-        let _ = write_all(diag, line.as_bytes());
+impl FaultLine for AllocError {
+    ghost line_of = { λ _. memory_line };
+
+    #[tactic(auto, unfolding(crate::specs::FaultLine::memory_line))]
+    fn text(&self) -> FaultText<'_> {
+        FaultText {
+            name: "AllocError",
+            fields: no_fields(),
+        }
     }
 }

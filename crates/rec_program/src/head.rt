@@ -11,7 +11,7 @@ use rec_format::SessionHead;
 use rec_forms::{FromValueError, read_text};
 use std::alloc::Global;
 
-/// Takes the first line off, and answers it where it is a text.
+/// Takes the first line off, and returns it where it is a text.
 pub fn take_head<'a>(lines: &mut Lines<'a>) -> Option<&'a str>
     ensures text { option_map (λ text. text.now) result ≡ head_text lines.old }
     ensures others { lines.new ≡ event_lines lines.old }
@@ -20,7 +20,11 @@ pub fn take_head<'a>(lines: &mut Lines<'a>) -> Option<&'a str>
     line.text()
 }
 
-/// The head that the first line's text is read as.
+/// Reads the head of a session from the text of its first line.
+///
+/// # Errors
+///
+/// `ParseHead` where there is no text, or one that is no head; `OutOfMemory` where memory ran out.
 pub fn read_head(alloc: Global, text: Option<&str>) -> Result<SessionHead, RecordExportError>
     ensures head { IfOk result (λ head. head_in (option_map (λ t. t.now) text.entry) ≡ Some head) }
     ensures err { IfErr result (λ e. (e ≡ OutOfMemory) ⊎ ((e ≡ ParseHead) × (head_in (option_map (λ t. t.now) text.entry) ≡ None))) }

@@ -10,6 +10,7 @@ mod deliver;
 mod export;
 mod fault_line;
 mod head;
+mod line;
 mod options;
 mod prepare;
 mod program;
@@ -25,7 +26,8 @@ mod words;
 
 pub use counts::Exported;
 pub use export::record_and_export;
-pub use fault_line::FaultLine;
+pub use fault_line::{FaultLine, report};
+pub use line::{FaultText, Field, FieldValue};
 pub use program::run_program;
 pub use refusal::RecordExportError;
 pub use settings::Settings;

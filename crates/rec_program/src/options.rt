@@ -6,7 +6,7 @@ ghost use Rattle.rec_program.specs.Words.{texts};
 use crate::settings::Settings;
 use crate::words::WordsError;
 
-/// An option, named by the setting that it sets.
+/// Names an option by the setting that it sets.
 #[derive(Clone, Copy)]
 pub enum OptionName {
     MaxOutput,
@@ -14,7 +14,7 @@ pub enum OptionName {
     SessionLimit,
 }
 
-/// The limits that options set. One is `None` until its option comes.
+/// Holds the limits that options set. One is `None` until its option comes.
 #[derive(Clone, Copy)]
 pub struct Limits {
     pub max_output: Option<u64>,
@@ -53,7 +53,7 @@ impl Limits {
         }
     }
 
-    /// The settings: these limits, and the defaults where an option didn't come.
+    /// Returns the settings: these limits, and the defaults where an option didn't come.
     pub fn settings(&self) -> Settings
         ensures { result ≡ settings_of self.now }
     {
@@ -67,7 +67,7 @@ impl Limits {
         }
     }
 
-    /// The option that a word names, where it didn't come before.
+    /// Returns the option that a word names, where it didn't come before.
     fn new_option(&self, at: usize, word: &str) -> Result<OptionName, WordsError>
         ensures { result ≡ new_option self.now at (option_named word.now) }
     {
@@ -103,7 +103,7 @@ pub fn read_options(words: &[String]) -> Result<Limits, WordsError>
     Ok(limits)
 }
 
-/// The option that a word names.
+/// Returns the option that a word names.
 #[tactic(auto, unfolding(crate::specs::Options::option_named))]
 fn option_named(word: &str) -> Option<OptionName>
     ensures { result ≡ option_named word.now }
@@ -116,7 +116,7 @@ fn option_named(word: &str) -> Option<OptionName>
     }
 }
 
-/// A number of one or more decimal digits. Unlike `parse`, it refuses a sign.
+/// Reads a number of one or more decimal digits. Unlike `parse`, it refuses a sign.
 fn number(text: &str) -> Option<u64>
     ensures { result ≡ number_of text.now }
 {

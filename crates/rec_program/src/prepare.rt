@@ -1,10 +1,10 @@
 //! The judging of a session, and its bundle and its trace in memory.
 ghost use Rattle.std.specs.Prelude.{◌≡◌, ◌⊎◌, ◌<◌, ◌^◌, [], length, Some, None, IfOk, IfErr, OnOk, string_bytes, List, ℕ};
-ghost use Rattle.rec_program.specs.Bundle.{AreOf, refusal, refusal_after, session_events, sizes_refusal};
+ghost use Rattle.rec_program.specs.Bundle.{AreOf, session_refusal, refusal_after, session_events, sizes_refusal};
 ghost use Rattle.rec_codec.specs.Event.{LiveEvent};
 ghost use Rattle.rec_program.specs.Recorded.{IsRunOf};
 ghost use Rattle.rec_program.specs.Session.{events_of, lines_refusal};
-ghost use Rattle.rec_program.specs.Sizes.{Weighs};
+ghost use Rattle.rec_program.specs.Sizes.{AnswersRefusal};
 ghost use Rattle.rec_trace.specs.Refusals as traces;
 ghost use Rattle.rec_program.specs.SessionTraces.{run_trace, session_history};
 ghost use Rattle.rec_program.specs.declared.refusal.RecordExportError.TheVariants.{OutOfMemory};
@@ -24,7 +24,7 @@ use rec_format::SessionHead;
 use rec_store::OutputNamer;
 use std::alloc::Global;
 
-/// What is exported of a session, in memory.
+/// Holds what is exported of a session, in memory.
 #[derive(Drop)]
 pub struct Prepared {
     pub bundle: GrowingSink,
@@ -46,7 +46,7 @@ pub fn prepare<N: OutputNamer>(
     ensures outputs { IfOk result (λ p. p.outputs
         ≡ length (outputs_stored (N.number namer.now) settings.now.max_output (session_events session.now))) }
     ensures err { IfErr result (λ e. (e ≡ OutOfMemory)
-        ⊎ (refusal (N.number namer.now) settings.now session.now ≡ Some e)) }
+        ⊎ (session_refusal (N.number namer.now) settings.now session.now ≡ Some e)) }
 {
     let mut lines = Lines::new(session, 1);
     let head = read_head(alloc, take_head(&mut lines))?;
@@ -56,7 +56,7 @@ pub fn prepare<N: OutputNamer>(
     result
 }
 
-/// The bundle and the trace of a run with this head, and the events of the lines after it.
+/// Makes the bundle and the trace of a run with this head, and the events of the lines after it.
 fn bundle_run<N: OutputNamer>(
     alloc: Global,
     settings: &Settings,
@@ -99,7 +99,7 @@ fn bundle_run<N: OutputNamer>(
     })
 }
 
-/// The bundle of a run that was recorded, unless it is too long or a reader refuses one of its sizes.
+/// Makes the bundle of a run that was recorded, unless it is too long or a reader refuses one of its sizes.
 fn bundle_recorded(
     alloc: Global,
     settings: &Settings,
@@ -114,7 +114,7 @@ fn bundle_recorded(
         → IfOk result (λ b. IsReading b.bytes (recorded number settings.now.max_output head.now events)) }
     ensures judged { (number : List ℕ → ℕ) (events : List LiveEvent)
         → IsRunOf number settings.now.max_output head.now events run.now.store.bytes run.now.log.bytes run.now.sizes
-        → Weighs result (sizes_refusal number settings.now head.now events) }
+        → AnswersRefusal result (sizes_refusal number settings.now head.now events) }
 {
     let manifest = build_manifest(alloc, head, run.sizes)?;
     let bundle = build_bundle(alloc, &manifest, run.log.bytes(), run.store.bytes())?;
@@ -128,7 +128,7 @@ fn bundle_recorded(
     Ok(bundle)
 }
 
-/// How many entries a store has of a head.
+/// Counts the entries that a store has of a head.
 fn metadata_count(head: &SessionHead) -> u64
     ensures { result ≡ length (store_entries head.now) }
 {

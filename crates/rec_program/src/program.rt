@@ -1,7 +1,7 @@
 //! What the program does.
 ghost use Rattle.std.specs.Prelude.{◌≡◌, ◌↔◌, ◌≤◌, ◌⊎◌, ℕ, List, length, Some, None, Ok, IsErr};
 ghost use Rattle.rec_container.specs.Causes.{Rose};
-ghost use Rattle.rec_program.specs.Bundle.{refusal};
+ghost use Rattle.rec_program.specs.Bundle.{session_refusal};
 ghost use Rattle.rec_program.specs.Export.{Exports};
 ghost use Rattle.rec_store.specs.Namer.{sha256_number};
 ghost use Rattle.rec_program.specs.Running.{Prints, Records, Runs};
@@ -13,7 +13,7 @@ use crate::export::record_and_export;
 use crate::fault_line::report;
 use crate::settings::Settings;
 use crate::status::{FAULTY_WORDS, OUTPUT_FAILED, SUCCESS, export_status};
-use crate::usage::{USAGE, VERSION};
+use crate::usage::{USAGE, versions};
 use crate::words::{Command, read_words};
 use rec_container::{Sink, Source, write_all};
 use rec_store::Sha256Namer;
@@ -21,8 +21,8 @@ use std::alloc::Global;
 
 /// Does what the words ask for, and answers the status to end with.
 ///
-/// The words don't hold the program's name. A status other than 0 is told in one line on `diag`, if
-/// there is memory for it; a fault of `diag` changes no status.
+/// The words don't hold the program's name. With a status other than 0 the cause is one line on
+/// `diag`, which needs no memory. A fault of `diag` cuts the line, and changes no status.
 pub fn run_program<S: Source, B: Sink, T: Sink, G: Sink>(
     alloc: Global,
     words: &[String],
@@ -52,7 +52,7 @@ pub fn run_program<S: Source, B: Sink, T: Sink, G: Sink>(
         → command (texts words.now) ≡ Ok (recording path settings)
         → S.left source.old ≡ Some session
         → length session ≤ settings.session_limit
-        → refusal sha256_number settings session ≡ None
+        → session_refusal sha256_number settings session ≡ None
         → ¬ Rose (S.faults source.old) (S.faults source.new)
         → ¬ Rose (B.faults bundle.old) (B.faults bundle.new)
         → ¬ Rose (T.faults out.old) (T.faults out.new)
@@ -80,10 +80,10 @@ fn run<S: Source, B: Sink, T: Sink, G: Sink>(
                 settings,
             },
         ) => record(alloc, &settings, source, bundle, out, diag),
-        Ok(Command::Help) => print(alloc, USAGE, out, diag),
-        Ok(Command::Version) => print(alloc, VERSION, out, diag),
+        Ok(Command::Help) => print(USAGE, out, diag),
+        Ok(Command::Version) => print(versions(), out, diag),
         Err(fault) => {
-            report(alloc, &fault, diag);
+            report(&fault, diag);
             FAULTY_WORDS
         }
     }
@@ -104,21 +104,21 @@ fn record<S: Source, B: Sink, T: Sink, G: Sink>(
     match record_and_export(alloc, settings, &Sha256Namer, source, bundle, out) {
         Ok(_) => SUCCESS,
         Err(error) => {
-            report(alloc, &error, diag);
+            report(&error, diag);
             export_status(&error)
         }
     }
 }
 
 /// Prints a text.
-fn print<T: Sink, G: Sink>(alloc: Global, text: &str, out: &mut T, diag: &mut G) -> u8
+fn print<T: Sink, G: Sink>(text: &str, out: &mut T, diag: &mut G) -> u8
     ensures { Prints T.taken T.faults G.taken G.faults text.now result
         out.old out.new diag.old diag.new }
 {
     match write_all(out, text.as_bytes()) {
         Ok(()) => SUCCESS,
         Err(fault) => {
-            report(alloc, &fault, diag);
+            report(&fault, diag);
             OUTPUT_FAILED
         }
     }

@@ -8,6 +8,11 @@ use rec_container::{ReadError, Source, read_within};
 use std::alloc::Global;
 
 /// Reads the source to its end. It asks for at most `limit + 1` bytes.
+///
+/// # Errors
+///
+/// `SourceFault` where the source failed, `SessionTooLarge` where it gave more than `limit` bytes, and
+/// `OutOfMemory` where memory ran out.
 pub fn read_session<S: Source>(
     alloc: Global,
     limit: u64,

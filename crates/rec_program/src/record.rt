@@ -1,16 +1,20 @@
 //! Records a session into memory.
-ghost use Rattle.std.specs.Prelude.{◌≡◌, ◌⊎◌, ◌++◌, ◌∷◌, [], List, map, ℕ, false, None, Some, length, IfOk, IfErr, OnOk};
+ghost use Rattle.std.specs.Prelude.{◌≡◌, ◌⊎◌, ◌++◌, ◌∷◌, [], List, map, ℕ, false, true, None, Some, Ok, length, IfOk, IfErr, OnOk};
 ghost use Rattle.std.specs.Option.{option_to_list};
 ghost use Rattle.rec_codec.specs.Event.{LiveEvent};
+ghost use Rattle.rec_codec.specs.EventForms.{kind_loaded};
 ghost use Rattle.rec_codec.specs.LineView.{line_view};
+ghost use Rattle.rec_codec.specs.Live.{is_loaded};
+ghost use Rattle.rec_container.specs.Memory.{GrowingSinkState};
 ghost use Rattle.rec_format.specs.declared.head.SessionHead.{SessionHead};
-ghost use Rattle.rec_store.specs.Recording.{Stores, has_failed};
+ghost use Rattle.rec_store.specs.Recording.{Stores, Unstored, has_failed};
 ghost use Rattle.rec_store.specs.Reading.{AreRead, IsRerunRead};
 ghost use Rattle.rec_store.specs.Store.{rerun_entries, store_entries};
 ghost use Rattle.rec_program.specs.Recorded.{HasRecorded, IsRunOf, RecordsEvent, RecordsLine, RecordsLines};
 ghost use Rattle.rec_trace.specs.Kinds.{trace_input};
 ghost use Rattle.rec_trace.specs.Past.{TraceInput};
 ghost use Rattle.rec_trace.specs.declared.settings.ChromeTraceGroupBy.{ChromeTraceGroupBy};
+ghost use Rattle.rec_program.specs.RecorderFaults.{ComesAtEnd, ComesOfEvent, ComesOfHead, event_fault};
 ghost use Rattle.rec_program.specs.Session.{event_at, events_of, lines_refusal};
 ghost use Rattle.rec_program.specs.SessionTraces.{IsTraceOf, session_history};
 ghost use Rattle.rec_program.specs.declared.refusal.RecordExportError.TheVariants.{OutOfMemory};
@@ -22,10 +26,10 @@ use rec_codec::{Line, Lines, read_line};
 use rec_container::{GrowingSink, Sink};
 use rec_events::{LiveSpec, TestEventSummary};
 use rec_format::{RecordedSizes, RerunInfo, SessionHead};
-use rec_store::{OutputNamer, RunRecorder, RunStoreError};
-use std::alloc::Global;
+use rec_store::{OutputNamer, RunRecorder, RunStoreError, StoreSizes};
+use std::alloc::{AllocError, Global};
 
-/// A run that was recorded in memory.
+/// Holds a run that was recorded in memory.
 #[derive(Drop)]
 pub struct RecordedInMemory {
     /// The store, a whole container.
@@ -38,13 +42,15 @@ pub struct RecordedInMemory {
     pub trace: SessionTrace,
 }
 
-/// A recorder of a run into memory.
+/// Records a run into memory.
 type MemoryRecorder<'n, N> = RunRecorder<'n, GrowingSink, GrowingSink, N>;
 
 /// Records a head, and the events of the lines after it.
 ///
-/// Sinks in memory fail only for want of it, and a log or store of more bytes than a u64 counts
-/// doesn't fit into it. So a line's refusal is the only other one.
+/// # Errors
+///
+/// The first line's refusal, or `OutOfMemory`. Sinks in memory fail only for want of it, and a log or
+/// store of more bytes than a u64 counts doesn't fit into it.
 pub fn record_run<N: OutputNamer>(
     alloc: Global,
     settings: &Settings,
@@ -86,6 +92,7 @@ fn end_run<N: OutputNamer>(
     recorder: MemoryRecorder<'_, N>,
     trace: SessionTrace,
 ) -> Result<RecordedInMemory, RecordExportError>
+    requires sound { has_failed recorder ≡ false }
     ensures run { (namer : N) (m : ℕ) (head : SessionHead) (events : List LiveEvent)
         → HasRecorded N.number namer m head events recorder.entry → AreRead head
         → IfOk result (λ r. IsRunOf (N.number namer) m head events r.store.bytes r.log.bytes r.sizes) }
@@ -93,7 +100,7 @@ fn end_run<N: OutputNamer>(
     ensures err { IfErr result (λ e. e ≡ OutOfMemory) }
 {
     let end = recorder.finish();
-    let Ok(sizes) = end.result else {
+    let Ok(sizes) = sizes_at_end(end.result) else {
         drop(trace);
         return Err(RecordExportError::OutOfMemory);
     };
@@ -108,6 +115,33 @@ fn end_run<N: OutputNamer>(
     })
 }
 
+/// Returns the sizes of what was recorded, or the want of memory for which a store has no end.
+fn sizes_at_end(ended: Result<StoreSizes, RunStoreError>) -> Result<StoreSizes, AllocError>
+    requires { IfErr ended ComesAtEnd }
+    ensures { IfOk result (λ sizes. ended ≡ Ok sizes) }
+{
+    match ended {
+        Ok(sizes) => Ok(sizes),
+        Err(error) => Err(end_refusal(error)),
+    }
+}
+
+/// Returns the want of memory for which a store has no end.
+fn end_refusal(error: RunStoreError) -> AllocError
+    requires { ComesAtEnd error }
+{
+    match error {
+        // A sink in memory fails only for want of memory.
+        RunStoreError::StoreWrite => AllocError,
+        RunStoreError::Failed
+        | RunStoreError::NotLoadedOutput
+        | RunStoreError::NameCollision { .. }
+        | RunStoreError::CountOutOfRange
+        | RunStoreError::RunLogWrite
+        | RunStoreError::OutOfMemory => unreachable!(),
+    }
+}
+
 /// Records the events of lines, and traces them.
 fn record_lines<N: OutputNamer>(
     alloc: Global,
@@ -115,6 +149,8 @@ fn record_lines<N: OutputNamer>(
     recorder: &mut MemoryRecorder<'_, N>,
     trace: &mut SessionTrace,
 ) -> Result<(), RecordExportError>
+    requires sound { has_failed recorder.old ≡ false }
+    ensures sound { OnOk result (has_failed recorder.new ≡ false) }
     ensures recorded { (head : SessionHead) (events : List LiveEvent)
         → HasRecorded N.number recorder.old.namer recorder.old.max_output head events recorder.old
         → RecordsLines N.number recorder.old.namer recorder.old.max_output head events lines.entry recorder.new result }
@@ -134,6 +170,8 @@ fn record_line<N: OutputNamer>(
     recorder: &mut MemoryRecorder<'_, N>,
     trace: &mut SessionTrace,
 ) -> Result<(), RecordExportError>
+    requires sound { has_failed recorder.old ≡ false }
+    ensures sound { OnOk result (has_failed recorder.new ≡ false) }
     ensures recorded { (head : SessionHead) (events : List LiveEvent)
         → HasRecorded N.number recorder.old.namer recorder.old.max_output head events recorder.old
         → RecordsLine N.number recorder.old.namer recorder.old.max_output head events (line_view line.entry) recorder.new result }
@@ -153,6 +191,9 @@ fn record_event<N: OutputNamer>(
     recorder: &mut MemoryRecorder<'_, N>,
     trace: &mut SessionTrace,
 ) -> Result<(), RecordExportError>
+    requires sound { has_failed recorder.old ≡ false }
+    requires loaded { kind_loaded is_loaded event.kind ≡ true }
+    ensures sound { OnOk result (has_failed recorder.new ≡ false) }
     ensures recorded { (head : SessionHead) (events : List LiveEvent)
         → HasRecorded N.number recorder.old.namer recorder.old.max_output head events recorder.old
         → RecordsEvent N.number recorder.old.namer recorder.old.max_output head events event recorder.new result }
@@ -172,30 +213,83 @@ fn record_traced<N: OutputNamer>(
     event: TestEventSummary<LiveSpec>,
     recorder: &mut MemoryRecorder<'_, N>,
 ) -> Result<(), RecordExportError>
-    ensures { (head : SessionHead) (events : List LiveEvent)
+    requires sound { has_failed recorder.old ≡ false }
+    requires loaded { kind_loaded is_loaded event.kind ≡ true }
+    ensures sound { OnOk result (has_failed recorder.new ≡ false) }
+    ensures recorded { (head : SessionHead) (events : List LiveEvent)
         → HasRecorded N.number recorder.old.namer recorder.old.max_output head events recorder.old
         → RecordsEvent N.number recorder.old.namer recorder.old.max_output head events event recorder.new result }
 {
     match recorder.write_event(event) {
         Ok(()) => Ok(()),
-        Err(RunStoreError::NameCollision { file_name }) => {
-            Err(RecordExportError::NameCollision { file_name })
+        Err(error) => Err(event_refusal(error)),
+    }
+}
+
+/// Returns the refusal of a session for one of its events, which is loaded.
+fn event_refusal(error: RunStoreError) -> RecordExportError
+    requires { ComesOfEvent error }
+    ensures { result ≡ event_fault error }
+{
+    match error {
+        RunStoreError::NameCollision { file_name } => {
+            RecordExportError::NameCollision { file_name }
         }
-        Err(_) => Err(RecordExportError::OutOfMemory),
+        // A sink in memory fails only for want of memory, and a log or a store of more bytes than a
+        // u64 counts fits into no memory.
+        RunStoreError::CountOutOfRange
+        | RunStoreError::StoreWrite
+        | RunStoreError::RunLogWrite
+        | RunStoreError::OutOfMemory => RecordExportError::OutOfMemory,
+        RunStoreError::Failed | RunStoreError::NotLoadedOutput => unreachable!(),
+    }
+}
+
+/// Stores what a head says of the run.
+fn record_head<N: OutputNamer>(
+    recorder: &mut MemoryRecorder<'_, N>,
+    head: &SessionHead,
+) -> Result<(), AllocError>
+    requires sound { has_failed recorder.old ≡ false }
+    requires empty { recorder.old.store.entries ≡ [] }
+    ensures ok { OnOk result (Stores (λ (b : GrowingSinkState). Some b.bytes) (λ (b : GrowingSinkState). b.faults) recorder.old recorder.new (store_entries head.now)) }
+    ensures sound { OnOk result (has_failed recorder.new ≡ false) }
+    ensures read { OnOk result (AreRead head.now) }
+{
+    match write_head(recorder, head) {
+        Ok(()) => Ok(()),
+        Err(error) => Err(head_refusal(error)),
+    }
+}
+
+/// Returns the want of memory for which a head was not stored.
+fn head_refusal(error: RunStoreError) -> AllocError
+    requires { ComesOfHead error }
+{
+    match error {
+        // As in `event_refusal`.
+        RunStoreError::CountOutOfRange | RunStoreError::StoreWrite | RunStoreError::OutOfMemory =>
+            AllocError,
+        RunStoreError::Failed
+        | RunStoreError::NotLoadedOutput
+        | RunStoreError::NameCollision { .. }
+        | RunStoreError::RunLogWrite => unreachable!(),
     }
 }
 
 /// Stores what a head says of the run, each part once and in order.
-fn record_head<S: Sink, L: Sink, N: OutputNamer>(
+fn write_head<S: Sink, L: Sink, N: OutputNamer>(
     recorder: &mut RunRecorder<'_, S, L, N>,
     head: &SessionHead,
 ) -> Result<(), RunStoreError>
-    requires { has_failed recorder.old ≡ false }
+    requires sound { has_failed recorder.old ≡ false }
+    requires empty { recorder.old.store.entries ≡ [] }
     ensures ok { OnOk result (Stores S.taken S.faults recorder.old recorder.new (store_entries head.now)) }
     ensures read { OnOk result (AreRead head.now) }
+    ensures err { IfErr result ComesOfHead }
 {
     recorder.write_build_scope(&head.build_scope)?;
-    record_rerun(recorder, &head.rerun_info)?;
+    write_rerun(recorder, &head.rerun_info)?;
     recorder.write_meta(
         head.cargo_metadata.as_str(),
         &head.test_list,
@@ -204,12 +298,13 @@ fn record_head<S: Sink, L: Sink, N: OutputNamer>(
 }
 
 /// Stores which run this one is a rerun of, if any.
-fn record_rerun<S: Sink, L: Sink, N: OutputNamer>(
+fn write_rerun<S: Sink, L: Sink, N: OutputNamer>(
     recorder: &mut RunRecorder<'_, S, L, N>,
     rerun_info: &Option<RerunInfo>,
 ) -> Result<(), RunStoreError>
     ensures ok { OnOk result (Stores S.taken S.faults recorder.old recorder.new (rerun_entries rerun_info.now)) }
     ensures read { OnOk result (IsRerunRead rerun_info.now) }
+    ensures err { IfErr result (Unstored S.taken S.faults recorder.old recorder.new (rerun_entries rerun_info.now)) }
 {
     match rerun_info {
         Some(rerun_info) => recorder.write_rerun_info(rerun_info),

@@ -8,7 +8,7 @@ use rec_trace::{ChromeTraceError, SpanKey};
 use std::alloc::AllocError;
 use thiserror::Error;
 
-/// Why a session isn't exported. The source is judged first, then the session's length, the head, the
+/// Says why a session isn't exported. The source is judged first, then the session's length, the head, the
 /// lines from the first on, the sum of all sizes, each size, and then the trace from the first event
 /// on. Want of memory may come at any time before the first byte is written.
 #[derive(Debug, PartialEq, Drop, Error)]
@@ -35,7 +35,7 @@ pub enum RecordExportError {
         line_number: u64,
     },
     /// An output has the path of one that was stored before, and other bytes.
-    #[error("other bytes are stored under this path")]
+    #[error("other bytes are stored under the path {}", .file_name.as_str())]
     NameCollision {
         /// The path.
         file_name: Text,
@@ -47,7 +47,7 @@ pub enum RecordExportError {
         event: Option<u64>,
     },
     /// The manifest, the log or an entry of the store is longer than a reader takes.
-    #[error("an entry has {size} bytes, and the limit is {limit}")]
+    #[error("{} has {size} bytes, and the limit is {limit}", .file_name.as_str())]
     FileTooLarge {
         /// The name of the entry: the manifest's, the log's, or its path in the store.
         file_name: Text,
@@ -61,20 +61,20 @@ pub enum RecordExportError {
         event: u64,
     },
     /// The event finishes a test of which no attempt is open.
-    #[error("event {event} ends what isn't running")]
+    #[error("event {event} ends {} {}, which isn't running", .binary_id.as_str(), .test_name.as_str())]
     MissingTestStart {
         event: u64,
         binary_id: RustBinaryId,
         test_name: TestCaseName,
     },
     /// The event starts what is open already.
-    #[error("event {event} starts what is running already")]
+    #[error("event {event} starts {span}, which is running already")]
     SpanAlreadyOpen {
         event: u64,
         span: SpanKey,
     },
     /// The event starts a test on a slot on which another runs.
-    #[error("event {event} takes slot {slot}, which is held")]
+    #[error("event {event} starts on slot {slot}, on which another is running")]
     SlotBusy {
         event: u64,
         slot: u64,

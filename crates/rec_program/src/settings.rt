@@ -3,7 +3,7 @@ ghost use Rattle.std.specs.Prelude.{◌≡◌};
 
 use rec_trace::{ChromeTraceGroupBy, ChromeTraceMessageFormat};
 
-/// How the trace of a recording is drawn and written, and the recording's limits in bytes.
+/// Says how the trace of a recording is drawn and written, and how many bytes are the most.
 #[derive(Clone, Copy, Debug, PartialEq, Eq)]
 pub struct Settings {
     /// Which process and thread a test is drawn as.

@@ -3,7 +3,7 @@ ghost use Rattle.std.specs.Prelude.{◌∷◌, ◌≡◌, List};
 ghost use Rattle.rec_container.specs.Container.{Entry, IsContainer};
 ghost use Rattle.rec_container.specs.Writing.{named};
 ghost use Rattle.rec_store.specs.Entries.{log_name, manifest_name};
-ghost use Rattle.rec_program.specs.Sizes.{entries_refusal, entry_refusal, Weighs};
+ghost use Rattle.rec_program.specs.Sizes.{entries_refusal, entry_refusal, AnswersRefusal};
 
 use crate::refusal::RecordExportError;
 use rec_container::Container;
@@ -20,7 +20,7 @@ pub fn judge_sizes(
     store: &[u8],
 ) -> Result<(), RecordExportError>
     ensures { (es : List Entry) → IsContainer store.now es
-        → Weighs result (entries_refusal limit (named manifest_name manifest.now ∷ named log_name log.now ∷ es)) }
+        → AnswersRefusal result (entries_refusal limit (named manifest_name manifest.now ∷ named log_name log.now ∷ es)) }
 {
     judge_size(alloc, limit, PORTABLE_MANIFEST_FILE_NAME, manifest)?;
     judge_size(alloc, limit, RUN_LOG_FILE_NAME, log)?;
@@ -29,7 +29,7 @@ pub fn judge_sizes(
 
 /// Judges the size of each entry of a store.
 fn judge_entries(alloc: Global, limit: u64, store: &[u8]) -> Result<(), RecordExportError>
-    ensures { (es : List Entry) → IsContainer store.now es → Weighs result (entries_refusal limit es) }
+    ensures { (es : List Entry) → IsContainer store.now es → AnswersRefusal result (entries_refusal limit es) }
 {
     // What was recorded is a container, so nothing but memory is missing where it isn't read.
     let Ok(entries) = Container::parse(alloc, store) else {
@@ -40,7 +40,7 @@ fn judge_entries(alloc: Global, limit: u64, store: &[u8]) -> Result<(), RecordEx
 
 /// Judges the size of each entry.
 fn judge_each(alloc: Global, limit: u64, entries: &Container<'_>) -> Result<(), RecordExportError>
-    ensures { Weighs result (entries_refusal limit entries.now) }
+    ensures { AnswersRefusal result (entries_refusal limit entries.now) }
 {
     for i in 0..entries.len() {
         judge_size(alloc, limit, entries.name(i), entries.bytes(i))?;
@@ -55,7 +55,7 @@ fn judge_size(
     name: &str,
     content: &[u8],
 ) -> Result<(), RecordExportError>
-    ensures { Weighs result (entry_refusal limit (named name.now content.now)) }
+    ensures { AnswersRefusal result (entry_refusal limit (named name.now content.now)) }
 {
     let size = content.len() as u64;
     if size <= limit {

@@ -4,17 +4,18 @@ ghost use Rattle.rec_program.specs.Status.{export_status};
 
 use crate::refusal::RecordExportError;
 
+/// Means that all was done.
 pub const SUCCESS: u8 = 0;
-/// The words of the command line are faulty.
+/// Means that the words of the command line are faulty.
 pub const FAULTY_WORDS: u8 = 2;
-/// Standard output failed.
+/// Means that standard output failed.
 pub const OUTPUT_FAILED: u8 = 11;
-/// An event is of a kind that the trace doesn't draw yet.
+/// Means that an event is of a kind that the trace doesn't draw yet.
 pub const KIND_NOT_BUILT: u8 = 20;
-
+/// Means that memory ran out.
 pub const OUT_OF_MEMORY: u8 = 70;
 
-/// The status for a session that isn't exported.
+/// Returns the status for a session that isn't exported.
 pub fn export_status(error: &RecordExportError) -> u8
     ensures { result ≡ export_status error.now }
 {

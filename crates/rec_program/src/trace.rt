@@ -5,14 +5,14 @@ ghost use Rattle.rec_trace.specs.History.{trace_marks};
 ghost use Rattle.rec_trace.specs.Kinds.{trace_input};
 ghost use Rattle.rec_trace.specs.Past.{TraceInput};
 ghost use Rattle.rec_trace.specs.declared.settings.ChromeTraceGroupBy.{ChromeTraceGroupBy};
-ghost use Rattle.rec_program.specs.SessionTraces.{IsTraceOf, TellsTrace};
+ghost use Rattle.rec_program.specs.SessionTraces.{IsTraceOf, AnswersTrace};
 
 use crate::refusal::RecordExportError;
 use rec_events::{LiveSpec, TestEventSummary, Version};
 use rec_trace::{ChromeTraceError, ChromeTraceGroupBy, ChromeTraceMessageFormat, TraceBuilder};
 use std::alloc::{AllocError, Global};
 
-/// The trace of the events so far, or why they have none. A refusal is kept while further lines are
+/// Holds the trace of the events so far, or why they have none. A refusal is kept while further lines are
 /// read, since a line that fails comes before it.
 #[derive(Drop)]
 pub struct SessionTrace {
@@ -21,7 +21,7 @@ pub struct SessionTrace {
 }
 
 impl SessionTrace {
-    /// The trace of no event.
+    /// Makes the trace of no event.
     pub fn new(alloc: Global, group_by: ChromeTraceGroupBy) -> SessionTrace
         ensures { IsTraceOf group_by [] result }
     {
@@ -32,6 +32,10 @@ impl SessionTrace {
     }
 
     /// Adds what an event shows.
+    ///
+    /// # Errors
+    ///
+    /// Fails only where memory ran out.
     pub fn add(
         &mut self,
         alloc: Global,
@@ -53,7 +57,11 @@ impl SessionTrace {
         }
     }
 
-    /// The text of the trace, for this version of the runner.
+    /// Writes the text of the trace, for this version of the runner.
+    ///
+    /// # Errors
+    ///
+    /// Why there is no trace, or `OutOfMemory`.
     pub fn into_text(
         self,
         alloc: Global,
@@ -61,7 +69,7 @@ impl SessionTrace {
         format: ChromeTraceMessageFormat,
     ) -> Result<String, RecordExportError>
         ensures { (g : ChromeTraceGroupBy) (history : List TraceInput) → IsTraceOf g history self
-            → TellsTrace history (trace_text format version.now (trace_marks history)) result }
+            → AnswersTrace history (trace_text format version.now (trace_marks history)) result }
     {
         let SessionTrace { builder, refusal } = self;
         match refusal {

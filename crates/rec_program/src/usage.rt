@@ -1,6 +1,8 @@
 //! The texts that the program prints about itself.
+ghost use Rattle.std.specs.Prelude.{◌≡◌};
+ghost use Rattle.rec_program.specs.Usage.{versions_text};
 
-/// How the program is used.
+/// Says how the program is used.
 pub const USAGE: &str = "\
 Usage: rezovamy record BUNDLE [OPTION VALUE]..
 
@@ -24,12 +26,18 @@ name of an output, 7 for what is above the read limit, 8 for an event that
 ends what isn't open, starts what is, or takes a slot that is held, 9 for a
 number out of range, 10 if the bundle can't be written, 11 if standard output
 fails, 20 for an event of a kind that the trace doesn't draw yet, and 70 if
-memory runs out. With a status other than 0, a line on standard error tells
-the cause, if there is memory for it.
+memory runs out. With a status other than 0, a line on standard error names
+the cause.
 ";
 
-/// The version of the program, and those of the formats that it writes.
-pub const VERSION: &str = "\
+/// Returns the version of the program, and those of the formats that it writes.
+pub fn versions() -> &'static str
+    ensures { result.now ≡ versions_text }
+{
+    VERSION
+}
+
+const VERSION: &str = "\
 rezovamy 0.1.0
 portable recording format 1.1
 store format 3.0

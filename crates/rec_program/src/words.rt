@@ -7,7 +7,7 @@ use crate::options::read_options;
 use crate::settings::Settings;
 use thiserror::Error;
 
-/// What the words ask for.
+/// Says what the words ask for.
 #[derive(Clone, Copy)]
 pub enum Command<'w> {
     /// Records the session on standard input into the file `bundle`.
@@ -18,27 +18,38 @@ pub enum Command<'w> {
     Version,
 }
 
-/// The first fault of the words, from the left. `at` is the index of a word, the first being 0, or
+/// Names the first fault of the words, from the left. `at` is the index of a word, the first being 0, or
 /// the number of the words where one is missing.
 #[derive(Clone, Copy, Debug, PartialEq, Eq, Error)]
 pub enum WordsError {
+    /// There is no word.
     #[error("no command")]
     NoCommand,
+    /// The first word is no command, or stands not alone where it has to.
     #[error("unknown command at word {at}")]
     UnknownCommand { at: usize },
+    /// The bundle is missing.
     #[error("missing argument at word {at}")]
     MissingPositional { at: usize },
+    /// The word is no option.
     #[error("unknown option at word {at}")]
     UnknownOption { at: usize },
+    /// The option came before.
     #[error("repeated option at word {at}")]
     RepeatedOption { at: usize },
+    /// The value of the last option is missing.
     #[error("missing value at word {at}")]
     MissingValue { at: usize },
+    /// The value is no number of decimal digits up to u64's greatest.
     #[error("bad value at word {at}")]
     BadValue { at: usize },
 }
 
 /// Reads the words, which don't hold the program's name. It takes no memory.
+///
+/// # Errors
+///
+/// The first fault from the left, as the variants of [`WordsError`] name it.
 pub fn read_words(words: &[String]) -> Result<Command<'_>, WordsError>
     ensures { Reads result (command (texts words.now)) }
 {
@@ -79,7 +90,7 @@ fn read_record(words: &[String]) -> Result<Command<'_>, WordsError>
     })
 }
 
-/// The path of the bundle, where the words ask for a command that writes one.
+/// Returns the path of the bundle, where the words ask for a command that writes one.
 pub fn bundle_path(words: &[String]) -> Option<&str>
     ensures { option_map (λ path. path.now) result ≡ bundle_of (command (texts words.now)) }
 {

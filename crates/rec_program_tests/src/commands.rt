@@ -1,9 +1,9 @@
 //! The words of the command line, and the texts that the program prints about itself.
 
-use crate::running::{SOUND, path_of, run, told};
+use crate::running::{SOUND, line_of, outcome, path_of, run};
 use crate::texts::head;
 use rec_container::SliceSource;
-use rec_program::{Command, FaultLine, read_words};
+use rec_program::{Command, read_words};
 use std::alloc::{AllocError, Global};
 use std::test::Fail;
 
@@ -34,7 +34,7 @@ fn words_name_a_command_and_a_path(rt: HostRuntime) -> Result<(), Fail> {
         (&["--version"], "none", "0 out "),
     ];
     for (texts, path, expected) in cases {
-        let got = told(rt.alloc(), texts, &mut SliceSource::new(head().as_bytes()))?;
+        let got = outcome(rt.alloc(), texts, &mut SliceSource::new(head().as_bytes()))?;
         assert!(rt; got.as_str() == expected, "{got}");
         let got = path_of(rt.alloc(), texts)?;
         assert!(rt; got.as_str() == path, "{got}");
@@ -56,7 +56,7 @@ fn asked(alloc: Global, text: &str) -> Result<String, AllocError> {
             format!(in alloc; "{bundle} {output} {read} {session}")
         }
         Ok(_) => String::from_str(alloc, "a text"),
-        Err(fault) => fault.fault_line(alloc),
+        Err(fault) => line_of(alloc, &fault),
     }
 }
 
@@ -152,5 +152,44 @@ fn the_version_names_the_formats(rt: HostRuntime) -> Result<(), Fail> {
     let alloc = rt.alloc();
     let ran = run(alloc, &["--version"], &mut SliceSource::new(b""), SOUND)?;
     assert!(rt; ran.status == 0 && ran.out.as_slice() == version().as_bytes());
+    Ok(())
+}
+
+/// The text of `--help`, with the settings that hold where no option sets them.
+fn usage() -> &'static str {
+    "\
+Usage: rezovamy record BUNDLE [OPTION VALUE]..
+
+Reads the session of a test run from standard input, and writes it into the
+file BUNDLE, a portable recording. Its trace, a timeline for trace viewers,
+goes to standard output.
+
+Options of record, each at most once, with a number of bytes as its value:
+  --max-output     the most of an output that is kept (10485760)
+  --read-limit     the most of the manifest, the log or an entry of the
+                   store, for readers with this limit (268435456)
+  --session-limit  the most of a session (268435456)
+
+Other words, each of them alone:
+  --help     prints this text
+  --version  prints the version of the program and of its formats
+
+The status is 0 on success, 2 for faulty words, 3 if the session can't be
+read, 4 if it is too long, 5 for a faulty line, 6 for other bytes under the
+name of an output, 7 for what is above the read limit, 8 for an event that
+ends what isn't open, starts what is, or takes a slot that is held, 9 for a
+number out of range, 10 if the bundle can't be written, 11 if standard output
+fails, 20 for an event of a kind that the trace doesn't draw yet, and 70 if
+memory runs out. With a status other than 0, a line on standard error names
+the cause.
+"
+}
+
+#[test]
+fn the_usage_names_the_defaults(rt: HostRuntime) -> Result<(), Fail> {
+    let alloc = rt.alloc();
+    let ran = run(alloc, &["--help"], &mut SliceSource::new(b""), SOUND)?;
+    assert!(rt; ran.status == 0 && ran.out.as_slice() == usage().as_bytes());
+    assert!(rt; asked(alloc, "record b")?.as_str() == "b 10485760 268435456 268435456");
     Ok(())
 }

@@ -1,9 +1,10 @@
 //! The export of a session by a caller of its own: other namers, counts and limits.
 
+use crate::running::line_of;
 use crate::texts::{abc, finished, head, hello, run_started, session_of, test_started};
 use rec_container::{MemorySink, SliceSource};
 use rec_events::Text;
-use rec_program::{FaultLine, RecordExportError, Settings, export_status, record_and_export};
+use rec_program::{RecordExportError, Settings, export_status, record_and_export};
 use rec_store::{ConstantNamer, OutputNamer, Sha256Namer};
 use std::alloc::{AllocError, Global};
 use std::test::Fail;
@@ -25,7 +26,7 @@ fn exported<N: OutputNamer>(
             let outputs = exported.outputs;
             format!(in alloc; "{events} events, {outputs} outputs")
         }
-        Err(fault) => fault.fault_line(alloc),
+        Err(fault) => line_of(alloc, &fault),
     };
     let text = text?;
     let text = text.as_str();

@@ -1,6 +1,6 @@
 //! Faults of the source and of the sinks, at each of their calls.
 
-use crate::running::{Faults, SOUND, run, told};
+use crate::running::{Faults, SOUND, outcome, run};
 use crate::texts::{head, small_session, small_trace};
 use rec_container::{FailingSource, SliceSource};
 use std::alloc::{AllocError, Global};
@@ -12,22 +12,22 @@ fn faults_of_sources(rt: HostRuntime) -> Result<(), Fail> {
     for call in 1..=5 {
         let fail_at = [call];
         let mut source = FailingSource::new(head().as_bytes(), 100, &fail_at);
-        let got = told(rt.alloc(), &["record", "b"], &mut source)?;
+        let got = outcome(rt.alloc(), &["record", "b"], &mut source)?;
         assert!(rt; got.as_str() == "3 SourceFault\n", "{got}");
     }
     let mut source = FailingSource::new(head().as_bytes(), 1, &[]);
-    let got = told(rt.alloc(), &["record", "b"], &mut source)?;
+    let got = outcome(rt.alloc(), &["record", "b"], &mut source)?;
     assert!(rt; got.as_str() == "0 bundle out ", "{got}");
     Ok(())
 }
 
 /// What comes of a head alone, and what the sinks took.
-fn told_head(alloc: Global, words: &[&str], faults: Faults) -> Result<String, AllocError> {
+fn outcome_of_head(alloc: Global, words: &[&str], faults: Faults) -> Result<String, AllocError> {
     let mut source = SliceSource::new(head().as_bytes());
-    run(alloc, words, &mut source, faults)?.told_lengths(alloc)
+    run(alloc, words, &mut source, faults)?.outcome_and_lengths(alloc)
 }
 
-/// What the program tells where the bundle took so many pieces of 100 bytes, and then failed.
+/// What comes of a head alone where the bundle took so many pieces of 100 bytes, and then failed.
 fn bundle_fault(alloc: Global, pieces: u64) -> Result<String, AllocError> {
     let taken = pieces.saturating_mul(100);
     format!(in alloc; "10 {taken} 0 BundleFault\n")
@@ -43,7 +43,7 @@ fn faults_of_the_bundle_leave_no_trace(rt: HostRuntime) -> Result<(), Fail> {
             bundle: pieces + 1,
             ..SOUND
         };
-        let got = told_head(alloc, &["record", "b"], faults)?;
+        let got = outcome_of_head(alloc, &["record", "b"], faults)?;
         let expected = bundle_fault(alloc, pieces)?;
         assert!(rt; got.as_str() == expected.as_str(), "{got}");
     }
@@ -51,7 +51,7 @@ fn faults_of_the_bundle_leave_no_trace(rt: HostRuntime) -> Result<(), Fail> {
 }
 
 /// The faults of standard output and of `diag`, which changes no status.
-fn other_faults() -> [(&'static [&'static str], Faults, &'static str); 5] {
+fn other_faults() -> [(&'static [&'static str], Faults, &'static str); 7] {
     [
         (&["record", "b"], Faults { piece: 1, ..SOUND }, "0 1052 83 "),
         (
@@ -81,6 +81,24 @@ fn other_faults() -> [(&'static [&'static str], Faults, &'static str); 5] {
             },
             "2 0 0 UnknownOptio",
         ),
+        (
+            &["record", "b", "--output"],
+            Faults {
+                piece: 4,
+                diag: 6,
+                ..SOUND
+            },
+            "2 0 0 UnknownOption at=",
+        ),
+        (
+            &["record", "b", "--output"],
+            Faults {
+                piece: 4,
+                diag: 7,
+                ..SOUND
+            },
+            "2 0 0 UnknownOption at=2",
+        ),
         (&["recor"], Faults { diag: 1, ..SOUND }, "2 0 0 "),
     ]
 }
@@ -88,21 +106,21 @@ fn other_faults() -> [(&'static [&'static str], Faults, &'static str); 5] {
 #[test]
 fn faults_of_other_sinks(rt: HostRuntime) -> Result<(), Fail> {
     for (words, faults, expected) in other_faults() {
-        let got = told_head(rt.alloc(), words, faults)?;
+        let got = outcome_of_head(rt.alloc(), words, faults)?;
         assert!(rt; got.as_str() == expected, "{got}");
     }
     Ok(())
 }
 
 /// What comes of a run with one test, and what the sinks took.
-fn told_small(alloc: Global, failed_read: u64, faults: Faults) -> Result<String, Fail> {
+fn outcome_of_small(alloc: Global, failed_read: u64, faults: Faults) -> Result<String, Fail> {
     let session = small_session(alloc)?;
     let failed_reads = [failed_read];
     let mut source = FailingSource::new(session.as_bytes(), faults.piece, &failed_reads);
     let ran = run(alloc, &["record", "b"], &mut source, faults)?;
     let is_prefix = small_trace().as_bytes().starts_with(&ran.out);
     Ok(if is_prefix {
-        ran.told_lengths(alloc)?
+        ran.outcome_and_lengths(alloc)?
     } else {
         String::from_str(alloc, "another trace")?
     })
@@ -123,7 +141,7 @@ fn pieces_of_one_byte(rt: HostRuntime) -> Result<(), Fail> {
             bundle: failed_write,
             ..SOUND
         };
-        let got = told_small(alloc, failed_read, faults)?;
+        let got = outcome_of_small(alloc, failed_read, faults)?;
         assert!(rt; got.as_str() == expected, "{got}");
     }
     Ok(())
@@ -143,7 +161,7 @@ fn faults_of_the_trace_leave_the_bundle_whole(rt: HostRuntime) -> Result<(), Fai
             out: fail_at,
             ..SOUND
         };
-        let got = told_small(alloc, 0, faults)?;
+        let got = outcome_of_small(alloc, 0, faults)?;
         assert!(rt; got.as_str() == expected, "{got}");
     }
     Ok(())

@@ -10,6 +10,8 @@ mod exports;
 #[cfg(test)]
 mod faults;
 #[cfg(test)]
+mod lines;
+#[cfg(test)]
 mod running;
 #[cfg(test)]
 mod sessions;

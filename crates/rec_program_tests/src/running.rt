@@ -1,8 +1,8 @@
-//! Runs the program, and tells what it did as texts.
+//! Runs the program, and shows what it did as texts.
 
 use crate::texts::session_of;
-use rec_container::{FailingSink, SliceSource, Source};
-use rec_program::{bundle_path, run_program};
+use rec_container::{FailingSink, MemorySink, SliceSource, Source};
+use rec_program::{FaultLine, bundle_path, report, run_program};
 use std::alloc::{AllocError, Global};
 use std::str;
 
@@ -43,7 +43,7 @@ impl Ran {
     }
 
     /// The status, which sinks took something, and the line.
-    pub(crate) fn told(&self, alloc: Global) -> Result<String, AllocError> {
+    pub(crate) fn outcome(&self, alloc: Global) -> Result<String, AllocError> {
         let status = self.status;
         let bundle = if self.bundle.is_empty() {
             ""
@@ -56,7 +56,7 @@ impl Ran {
     }
 
     /// The status, how many bytes the bundle and standard output took, and the line.
-    pub(crate) fn told_lengths(&self, alloc: Global) -> Result<String, AllocError> {
+    pub(crate) fn outcome_and_lengths(&self, alloc: Global) -> Result<String, AllocError> {
         let status = self.status;
         let bundle = self.bundle.len();
         let out = self.out.len();
@@ -122,12 +122,12 @@ fn all_taken(
 }
 
 /// What comes of these words over a source.
-pub(crate) fn told<S: Source>(
+pub(crate) fn outcome<S: Source>(
     alloc: Global,
     words: &[&str],
     source: &mut S,
 ) -> Result<String, AllocError> {
-    run(alloc, words, source, SOUND)?.told(alloc)
+    run(alloc, words, source, SOUND)?.outcome(alloc)
 }
 
 /// What a recording with these options after the bundle's path makes of a session.
@@ -140,17 +140,25 @@ pub(crate) fn recorded(alloc: Global, options: &[&str], session: &[u8]) -> Resul
 }
 
 /// What comes of these lines after a head, under a read limit.
-pub(crate) fn told_lines(
+pub(crate) fn outcome_of_lines(
     alloc: Global,
     lines: &[&str],
     read_limit: &str,
 ) -> Result<String, AllocError> {
     let session = session_of(alloc, lines)?;
-    recorded(alloc, &["--read-limit", read_limit], session.as_bytes())?.told(alloc)
+    recorded(alloc, &["--read-limit", read_limit], session.as_bytes())?.outcome(alloc)
 }
 
 /// The path of the bundle that the words name.
 pub(crate) fn path_of(alloc: Global, words: &[&str]) -> Result<String, AllocError> {
     let words = words_of(alloc, words)?;
     String::from_str(alloc, bundle_path(&words).unwrap_or("none"))
+}
+
+/// The line of a fault.
+pub(crate) fn line_of<F: FaultLine>(alloc: Global, fault: &F) -> Result<String, AllocError> {
+    let mut sink = MemorySink::new(alloc);
+    sink.reserve(256)?;
+    report(fault, &mut sink);
+    String::from_str(alloc, str::from_utf8(sink.bytes()).unwrap_or("no text"))
 }

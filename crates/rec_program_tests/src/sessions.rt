@@ -1,13 +1,13 @@
 //! Which sessions are refused, and where.
 
-use crate::running::{recorded, told, told_lines};
+use crate::running::{outcome, outcome_of_lines, recorded};
 use crate::texts::{abc, bad_head, finished, head, run_started, session_of, test_started};
 use rec_container::EndlessSource;
 use std::alloc::{AllocError, Global};
 use std::test::Fail;
 
 /// What comes of a session in three parts.
-fn told_parts(
+fn outcome_of_parts(
     alloc: Global,
     before: &[u8],
     head: &str,
@@ -16,7 +16,7 @@ fn told_parts(
     let mut session = before.to_vec(alloc)?;
     session.extend_from_slice(head.as_bytes())?;
     session.extend_from_slice(after)?;
-    recorded(alloc, &[], &session)?.told(alloc)
+    recorded(alloc, &[], &session)?.outcome(alloc)
 }
 
 #[test]
@@ -40,17 +40,17 @@ fn heads_and_blank_lines(rt: HostRuntime) -> Result<(), Fail> {
         (b"", b"\n\n \xc2\n", "5 ReadRunLog line_number=3\n"),
     ];
     for (before, after, expected) in cases {
-        let got = told_parts(rt.alloc(), before, head(), after)?;
+        let got = outcome_of_parts(rt.alloc(), before, head(), after)?;
         assert!(rt; got.as_str() == expected, "{after:?}: {got}");
     }
     for head in ["", bad_head()] {
-        assert!(rt; told_parts(rt.alloc(), b"", head, b"")?.as_str() == "5 ParseHead\n");
+        assert!(rt; outcome_of_parts(rt.alloc(), b"", head, b"")?.as_str() == "5 ParseHead\n");
     }
     Ok(())
 }
 
 #[test]
-fn the_first_line_that_fails_is_told(rt: HostRuntime) -> Result<(), Fail> {
+fn the_first_line_that_fails_is_shown(rt: HostRuntime) -> Result<(), Fail> {
     let alloc = rt.alloc();
     let run = run_started();
     for (line, expected) in [
@@ -59,21 +59,21 @@ fn the_first_line_that_fails_is_told(rt: HostRuntime) -> Result<(), Fail> {
         ("null", "5 ParseEvent line_number=4\n"),
         ("\u{a0}", "8 SpanAlreadyOpen event=2 span=Run\n"),
     ] {
-        let got = told_lines(alloc, &[run, " ", line, run], "65536")?;
+        let got = outcome_of_lines(alloc, &[run, " ", line, run], "65536")?;
         assert!(rt; got.as_str() == expected, "{line:?}: {got}");
     }
     let wrong = finished(alloc, r#"{"split":{"stdout":"61626"}}"#)?;
-    let got = told_lines(alloc, &[run, wrong.as_str(), "{}"], "65536")?;
+    let got = outcome_of_lines(alloc, &[run, wrong.as_str(), "{}"], "65536")?;
     assert!(rt; got.as_str() == "5 ParseEvent line_number=3\n", "{got}");
     Ok(())
 }
 
 #[test]
-fn a_line_that_is_no_text_is_told(rt: HostRuntime) -> Result<(), Fail> {
+fn a_line_that_is_no_text_is_shown(rt: HostRuntime) -> Result<(), Fail> {
     let alloc = rt.alloc();
     let mut session = session_of(alloc, &[run_started(), "", ""])?.into_bytes();
     session.extend_from_slice(b"\xff\n{}\n")?;
-    let got = recorded(alloc, &[], &session)?.told(alloc)?;
+    let got = recorded(alloc, &[], &session)?.outcome(alloc)?;
     assert!(rt; got.as_str() == "5 ReadRunLog line_number=4\n", "{got}");
     Ok(())
 }
@@ -94,7 +94,7 @@ fn nested(alloc: Global) -> Result<String, AllocError> {
 fn a_line_that_nests_too_deep_is_no_event(rt: HostRuntime) -> Result<(), Fail> {
     let alloc = rt.alloc();
     let nested = nested(alloc)?;
-    let got = told_lines(alloc, &[nested.as_str()], "65536")?;
+    let got = outcome_of_lines(alloc, &[nested.as_str()], "65536")?;
     assert!(rt; got.as_str() == "5 ParseEvent line_number=2\n", "{got}");
     Ok(())
 }
@@ -109,11 +109,11 @@ fn the_session_limit_is_the_most_that_is_read(rt: HostRuntime) -> Result<(), Fai
         ("18446744073709551615", "0 bundle out "),
     ] {
         let ran = recorded(alloc, &["--session-limit", value], head().as_bytes())?;
-        assert!(rt; ran.told(alloc)?.as_str() == expected, "{value}");
+        assert!(rt; ran.outcome(alloc)?.as_str() == expected, "{value}");
     }
     let words = ["record", "b", "--session-limit", "10"];
     for byte in [b'x', b'\n'] {
-        let got = told(alloc, &words, &mut EndlessSource::new(byte))?;
+        let got = outcome(alloc, &words, &mut EndlessSource::new(byte))?;
         assert!(rt; got.as_str() == "4 SessionTooLarge limit=10\n", "{got}");
     }
     Ok(())
@@ -133,7 +133,7 @@ fn sizes_are_judged_in_their_order(rt: HostRuntime) -> Result<(), Fail> {
             "7 FileTooLarge file_name=manifest.json size=462 limit=0\n",
         ),
     ] {
-        let got = told_lines(alloc, &[], value)?;
+        let got = outcome_of_lines(alloc, &[], value)?;
         assert!(rt; got.as_str() == expected, "{got}");
     }
     let test = finished(alloc, abc())?;
@@ -145,7 +145,7 @@ fn sizes_are_judged_in_their_order(rt: HostRuntime) -> Result<(), Fail> {
             "7 FileTooLarge file_name=run.log.zst size=1915 limit=1914\n",
         ),
     ] {
-        let got = told_lines(alloc, &lines, value)?;
+        let got = outcome_of_lines(alloc, &lines, value)?;
         assert!(rt; got.as_str() == expected, "{got}");
     }
     Ok(())
@@ -179,7 +179,7 @@ fn an_output_is_judged_by_what_is_kept(rt: HostRuntime) -> Result<(), Fail> {
     ];
     for (options, expected) in cases {
         let ran = recorded(alloc, options, session.as_bytes())?;
-        assert!(rt; ran.told(alloc)?.as_str() == expected, "{expected}");
+        assert!(rt; ran.outcome(alloc)?.as_str() == expected, "{expected}");
     }
     Ok(())
 }

@@ -1,6 +1,6 @@
 //! The trace that a recording writes, and why there is none.
 
-use crate::running::{recorded, told_lines};
+use crate::running::{outcome_of_lines, recorded};
 use crate::texts::{
     abc, finished, replaced, run_paused, run_started, session_of, small_session, small_trace,
     test_started,
@@ -48,9 +48,9 @@ fn traces_are_written(rt: HostRuntime) -> Result<(), Fail> {
     Ok(())
 }
 
-/// Whether the program tells this of two lines after a head.
-fn tells(alloc: Global, first: &str, second: &str, expected: &str) -> Result<bool, AllocError> {
-    let got = told_lines(alloc, &[first, second], "65536")?;
+/// Whether this comes of two lines after a head.
+fn ends_with(alloc: Global, first: &str, second: &str, expected: &str) -> Result<bool, AllocError> {
+    let got = outcome_of_lines(alloc, &[first, second], "65536")?;
     Ok(got.as_str() == expected)
 }
 
@@ -63,16 +63,16 @@ fn second_start() -> &'static str {
 }
 
 #[test]
-fn spans_that_do_not_fit_are_told(rt: HostRuntime) -> Result<(), Fail> {
+fn spans_that_do_not_fit_are_shown(rt: HostRuntime) -> Result<(), Fail> {
     let alloc = rt.alloc();
     let run = run_started();
     let start = test_started();
     let test = finished(alloc, abc())?;
     let other = replaced(alloc, start, "\"t1\"", "\"t2", "\"")?;
-    assert!(rt; tells(alloc, run, test.as_str(), missing_start())?);
-    assert!(rt; tells(alloc, run, run, "8 SpanAlreadyOpen event=2 span=Run\n")?);
-    assert!(rt; tells(alloc, start, start, second_start())?);
-    assert!(rt; tells(alloc, start, other.as_str(), "8 SlotBusy event=2 slot=0\n")?);
+    assert!(rt; ends_with(alloc, run, test.as_str(), missing_start())?);
+    assert!(rt; ends_with(alloc, run, run, "8 SpanAlreadyOpen event=2 span=Run\n")?);
+    assert!(rt; ends_with(alloc, start, start, second_start())?);
+    assert!(rt; ends_with(alloc, start, other.as_str(), "8 SlotBusy event=2 slot=0\n")?);
     Ok(())
 }
 
@@ -81,15 +81,15 @@ fn a_line_that_fails_comes_before_the_trace(rt: HostRuntime) -> Result<(), Fail>
     let alloc = rt.alloc();
     let pause = run_paused();
     let test = finished(alloc, abc())?;
-    assert!(rt; tells(alloc, run_started(), pause, "20 KindNotBuilt event=2\n")?);
-    assert!(rt; tells(alloc, pause, "{}", "5 ParseEvent line_number=3\n")?);
-    assert!(rt; tells(alloc, test.as_str(), "{}", "5 ParseEvent line_number=3\n")?);
+    assert!(rt; ends_with(alloc, run_started(), pause, "20 KindNotBuilt event=2\n")?);
+    assert!(rt; ends_with(alloc, pause, "{}", "5 ParseEvent line_number=3\n")?);
+    assert!(rt; ends_with(alloc, test.as_str(), "{}", "5 ParseEvent line_number=3\n")?);
     Ok(())
 }
 
 #[test]
 fn sizes_come_before_the_trace(rt: HostRuntime) -> Result<(), Fail> {
-    let got = told_lines(rt.alloc(), &[run_started(), run_started()], "400")?;
+    let got = outcome_of_lines(rt.alloc(), &[run_started(), run_started()], "400")?;
     assert!(rt;
         got.as_str() == "7 FileTooLarge file_name=manifest.json size=466 limit=400\n",
         "{got}"
@@ -97,7 +97,7 @@ fn sizes_come_before_the_trace(rt: HostRuntime) -> Result<(), Fail> {
     Ok(())
 }
 
-/// A finished test that tells of 2^64 failed tests.
+/// A finished test that counts 2^64 failed tests.
 fn too_many_failed(alloc: Global) -> Result<String, AllocError> {
     let test = finished(alloc, abc())?;
     let most = "18446744073709551615";
@@ -106,20 +106,20 @@ fn too_many_failed(alloc: Global) -> Result<String, AllocError> {
     replaced(alloc, failed.as_str(), "\"exec-failed\":0", key, "1")
 }
 
-fn last_slot_told() -> &'static str {
+fn past_last_slot() -> &'static str {
     "9 RowOutOfRange event=2 number=18446744073709541616\n"
 }
 
 #[test]
-fn numbers_out_of_range_are_told(rt: HostRuntime) -> Result<(), Fail> {
+fn numbers_out_of_range_are_shown(rt: HostRuntime) -> Result<(), Fail> {
     let alloc = rt.alloc();
     let run = run_started();
     let late = replaced(alloc, run, "\"secs\":1000", "\"secs\":", "9223372036855")?;
     let last = started_on(alloc, "18446744073709541616")?;
     let failed = too_many_failed(alloc)?;
     let start = test_started();
-    assert!(rt; tells(alloc, late.as_str(), run, "9 TimestampOutOfRange event=1\n")?);
-    assert!(rt; tells(alloc, run, last.as_str(), last_slot_told())?);
-    assert!(rt; tells(alloc, start, failed.as_str(), "9 CountOutOfRange event=2\n")?);
+    assert!(rt; ends_with(alloc, late.as_str(), run, "9 TimestampOutOfRange event=1\n")?);
+    assert!(rt; ends_with(alloc, run, last.as_str(), past_last_slot())?);
+    assert!(rt; ends_with(alloc, start, failed.as_str(), "9 CountOutOfRange event=2\n")?);
     Ok(())
 }

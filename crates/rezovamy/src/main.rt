@@ -4,28 +4,34 @@
 ghost use Rattle.std.specs.Prelude.{◌≡◌, [], IfOk, string_bytes, unwrap_or};
 ghost use Rattle.rec_program.specs.Words.{bundle_of, command, texts};
 
-use rec_container::{FileSink, StdSink, StdSource};
-use rec_program::{FAULTY_WORDS, OUT_OF_MEMORY, bundle_path, run_program};
+use rec_container::{FileSink, Sink, StdSink, StdSource};
+use rec_program::{FAULTY_WORDS, OUT_OF_MEMORY, bundle_path, report, run_program};
 use std::alloc::{AllocError, Global};
 use std::process::ExitCode;
 use std::rt::Env;
 use std::{env, fs, io};
 
-/// The words after the program's name. A word that isn't UTF-8 is an error.
+/// Returns the words after the program's name. A word that isn't UTF-8 is an error.
 fn words_of<R: Env + AllocGlobal>(rt: &R) -> io::Result<Vec<String>> {
     let words = env::args(rt)?.skip(1).collect(rt.alloc())?;
     Ok(words)
 }
 
-/// The status where the words can't be had.
-fn status_without_words(error: &io::Error) -> u8 {
+/// Returns the status where the words can't be had. Only for a word that isn't UTF-8 there is no line.
+fn status_without_words<G: Sink>(error: &io::Error, diag: &mut G) -> u8 {
     match error.kind() {
-        io::ErrorKind::OutOfMemory => OUT_OF_MEMORY,
+        io::ErrorKind::OutOfMemory => status_without_memory(diag),
         _ => FAULTY_WORDS,
     }
 }
 
-/// The path of the file that the bundle goes into, empty where the words name none.
+/// Writes the line of want of memory, and returns its status.
+fn status_without_memory<G: Sink>(diag: &mut G) -> u8 {
+    report(&AllocError, diag);
+    OUT_OF_MEMORY
+}
+
+/// Returns the path of the file that the bundle goes into, empty where the words name none.
 fn path_of(alloc: Global, words: &[String]) -> Result<String, AllocError>
     ensures { IfOk result (λ path. string_bytes path ≡ unwrap_or (bundle_of (command (texts words.now))) []) }
 {
@@ -38,17 +44,17 @@ fn main(rt: HostRuntime) -> ExitCode {
     let _first = fs::open(&rt, "/").ok();
     let _second = fs::open(&rt, "/").ok();
     let _third = fs::open(&rt, "/").ok();
+    let mut diag = StdSink::new(rt.stderr());
     let words = match words_of(&rt) {
         Ok(words) => words,
-        Err(error) => return ExitCode::from(status_without_words(&error)),
+        Err(error) => return ExitCode::from(status_without_words(&error, &mut diag)),
     };
     let Ok(path) = path_of(rt.alloc(), &words) else {
-        return ExitCode::from(OUT_OF_MEMORY);
+        return ExitCode::from(status_without_memory(&mut diag));
     };
     let mut source = StdSource::new(rt.reader());
     let mut bundle = FileSink::new(&rt, path);
     let mut out = StdSink::new(io::writer(&rt));
-    let mut diag = StdSink::new(rt.stderr());
     let status = run_program(
         rt.alloc(),
         &words,

@@ -6,7 +6,7 @@ use Rattle.rec_store.specs.Reading.{IsReading, recorded}
 use Rattle.rec_store.proofs.ReadLaws.{bundle_reads_spec}
 use Rattle.rec_program.specs.Sizes.{entries_refusal}
 use Rattle.rec_program.specs.declared.refusal.RecordExportError.TheVariants.{OutOfMemory}
-use Rattle.rec_program.proofs.Bundles.{IsTooLong, manifest_read, same_entries, same_weighed}
+use Rattle.rec_program.proofs.Bundles.{IsTooLong, manifest_read, same_entries, same_judged}
 use Rattle.rec_program.proofs.Judging.{refused_count, refused_size, size_left}
 use Rattle.rec_program.proofs.prepare.bundle_recorded.Goals as goal
 
@@ -31,10 +31,10 @@ returns-in_err-judge_sizes-clause-judged c = λ number events run.
     let left = size_left number settings head events (subst (λ (es : List Entry). length (spell es) < 2 ^ 64) is c.in_ok-bundle.ensures.fits) in
     let es = run_store number settings.max_output head events in
     let sound : IsContainer c.bytes-4.result.now es = record { spelled = c.bytes-4.ensures ∙ run.store_spelled; entries = run.sound } in
-    let weighed = same_weighed number settings.max_output head events c.args.run.now.sizes c.deref-2.result.now run.sized (c.deref-2.ensures.value ∙ c.in_ok-manifest.ensures.text)
+    let judged = same_judged number settings.max_output head events c.args.run.now.sizes c.deref-2.result.now run.sized (c.deref-2.ensures.value ∙ c.in_ok-manifest.ensures.text)
     c.bytes-3.result.now (c.bytes-3.ensures ∙ run.log_written) in
     let e = c.in_err-judge_sizes.field-0.0 in
-    let refused = subst (λ (fs : List Entry). (e ≡ OutOfMemory) ⊎ (entries_refusal settings.read_limit fs ≡ Some e)) weighed (c.in_err-judge_sizes.ensures es sound) in
+    let refused = subst (λ (fs : List Entry). (e ≡ OutOfMemory) ⊎ (entries_refusal settings.read_limit fs ≡ Some e)) judged (c.in_err-judge_sizes.ensures es sound) in
     let p = err_from_is_err_and c.from_residual-in_err-judge_sizes.result c.from_residual-in_err-judge_sizes.ensures.1 in
     rw (p.1, p.2) (refused_size number settings head events e left refused)
 
@@ -67,6 +67,6 @@ returns-clause-judged c = λ number events run.
     let left = size_left number settings head events (subst (λ (es : List Entry). length (spell es) < 2 ^ 64) is c.in_ok-bundle.ensures.fits) in
     let es = run_store number settings.max_output head events in
     let sound : IsContainer c.bytes-4.result.now es = record { spelled = c.bytes-4.ensures ∙ run.store_spelled; entries = run.sound } in
-    let weighed = same_weighed number settings.max_output head events c.args.run.now.sizes c.deref-2.result.now run.sized (c.deref-2.ensures.value ∙ c.in_ok-manifest.ensures.text)
+    let judged = same_judged number settings.max_output head events c.args.run.now.sizes c.deref-2.result.now run.sized (c.deref-2.ensures.value ∙ c.in_ok-manifest.ensures.text)
     c.bytes-3.result.now (c.bytes-3.ensures ∙ run.log_written) in
-    left ∙ ap (entries_refusal settings.read_limit) (sym weighed) ∙ c.in_ok-judge_sizes.ensures es sound
+    left ∙ ap (entries_refusal settings.read_limit) (sym judged) ∙ c.in_ok-judge_sizes.ensures es sound

@@ -16,12 +16,14 @@ pub loop-line-init : goal.loop-line-init
 loop-line-init g c =
     let lines = c.into_iter-line-iterator.ensures.into_iter_gives in
     record {
+      sound = c.requires.sound;
       recorded = λ head events had. (events, had, λ r new all. subst (λ (ls : List NumberedLine). RecordsLines g.N.OutputNamer.number c.args.recorder.now.namer c.args.recorder.now.max_output head events ls new r) lines all);
       traced = λ group history had. (history, had, ap (λ (ls : List NumberedLine). history ++ map (trace_input group) (events_of ls)) (sym lines));
     }
 
 pub loop-line-preserved : goal.loop-line-preserved
 loop-line-preserved g c = record {
+  sound = c.in_ok-record_line.ensures.sound;
   recorded = λ head events had.
       let number = g.N.OutputNamer.number in
       let namer = c.args.recorder.now.namer in

@@ -1,8 +1,8 @@
-use Rattle.std.proofs.Common.{◌≡◌, List, ◌++◌, map, Result}
+use Rattle.std.proofs.Common.{◌≡◌, false, List, ◌++◌, map, Result}
 use Rattle.std.specs.Bool.{⊤}
 use Rattle.rec_codec.specs.Event.{LiveEvent}
 use Rattle.rec_format.specs.declared.head.SessionHead.{SessionHead}
-use Rattle.rec_store.specs.Recording.{Recording}
+use Rattle.rec_store.specs.Recording.{Recording, has_failed}
 use Rattle.rec_container.specs.Memory.{GrowingSinkState}
 use Rattle.rec_program.specs.Recorded.{HasRecorded, RecordsLines}
 use Rattle.rec_trace.specs.Kinds.{trace_input}
@@ -20,6 +20,7 @@ invariant-loop-line g l =
     let namer = l.fn.recorder.namer in
     let m = l.fn.recorder.max_output in
     record {
+      sound : has_failed l.recorder ≡ false;
       recorded : (head : SessionHead) (events : List LiveEvent) → HasRecorded number namer m head events l.fn.recorder
           → (so_far : List LiveEvent) × HasRecorded number namer m head so_far l.recorder
           × ((r : Result ⊤ RecordExportError) (new : Recording GrowingSinkState GrowingSinkState _) → RecordsLines number namer m head so_far l.line-iterator new r → RecordsLines number namer m head events l.fn.lines new r);

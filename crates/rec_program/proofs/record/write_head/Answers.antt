@@ -1,0 +1,71 @@
+use Rattle.std.proofs.Common.{List, ℕ, ◌∷◌, [], ◌++◌, subst}
+use Rattle.std.proofs.lemmas.Result.{err_from_is_err_and, IfErr-weaker, on_ok_weaker}
+use Rattle.rec_store.specs.Recording.{Stores, Unstored}
+use Rattle.rec_store.specs.Store.{build_scope_entry, meta_entries, rerun_entries}
+use Rattle.rec_store.proofs.Storing.{sound_stores, Stores-append, Unstored-after, Unstored-prefix}
+use Rattle.rec_program.specs.RecorderFaults.{ComesOfHead}
+use Rattle.rec_program.proofs.RecorderFaults.{head_comes}
+use Rattle.rec_program.proofs.record.write_head.Goals as goal
+
+pub returns-clause-ok : goal.returns-clause-ok
+returns-clause-ok g c =
+    let head = c.args.head.now in
+    let rest = meta_entries head.cargo_metadata head.test_list head.record_opts in
+    on_ok_weaker c.write_meta.result (λ stored.
+    Stores-append g.S.Sink.taken g.S.Sink.faults c.args.recorder.now c.write_build_scope.new.self c.write_meta.new.self (build_scope_entry head.build_scope ∷ []) (rerun_entries head.rerun_info ++ rest)
+    c.in_ok-write_build_scope.ensures.ok
+    (Stores-append g.S.Sink.taken g.S.Sink.faults c.write_build_scope.new.self c.write_rerun.new.recorder c.write_meta.new.self (rerun_entries head.rerun_info) rest c.in_ok-write_rerun.ensures.ok
+    (subst (λ (metadata : List ℕ). Stores g.S.Sink.taken g.S.Sink.faults c.write_rerun.new.recorder c.write_meta.new.self (meta_entries metadata head.test_list head.record_opts)) c.as_str.ensures.value stored)))
+    c.write_meta.ensures.ok
+
+pub returns-in_err-write_build_scope-clause-err : goal.returns-in_err-write_build_scope-clause-err
+returns-in_err-write_build_scope-clause-err g c =
+    let head = c.args.head.now in
+    let taken = g.S.Sink.taken in
+    let faults = g.S.Sink.faults in
+    let scope = build_scope_entry head.build_scope ∷ [] in
+    let rest = rerun_entries head.rerun_info ++ meta_entries head.cargo_metadata head.test_list head.record_opts in
+    let start = c.args.recorder.now in
+    let end = c.write_build_scope.new.self in
+    let e = c.in_err-write_build_scope.field-0.0 in
+    let p = err_from_is_err_and c.from_residual.result c.from_residual.ensures.1 in
+    rw (p.1, p.2) (head_comes taken faults start end c.requires.sound head e c.requires.empty (Unstored-prefix taken faults start end scope rest e c.in_err-write_build_scope.ensures.err))
+
+pub returns-in_err-write_rerun-clause-err : goal.returns-in_err-write_rerun-clause-err
+returns-in_err-write_rerun-clause-err g c =
+    let head = c.args.head.now in
+    let taken = g.S.Sink.taken in
+    let faults = g.S.Sink.faults in
+    let scope = build_scope_entry head.build_scope ∷ [] in
+    let rerun = rerun_entries head.rerun_info in
+    let meta = meta_entries head.cargo_metadata head.test_list head.record_opts in
+    let start = c.args.recorder.now in
+    let scoped = c.write_build_scope.new.self in
+    let end = c.write_rerun.new.recorder in
+    let e = c.in_err-write_rerun.field-0.0 in
+    let p = err_from_is_err_and c.from_residual-in_err-write_rerun.result c.from_residual-in_err-write_rerun.ensures.1 in
+    rw (p.1, p.2) (head_comes taken faults start end c.requires.sound head e c.requires.empty
+    (Unstored-after taken faults start scoped end scope (rerun ++ meta) e c.requires.sound c.in_ok-write_build_scope.ensures.ok
+    (Unstored-prefix taken faults scoped end rerun meta e c.in_err-write_rerun.ensures.err)))
+
+pub returns-clause-err : goal.returns-clause-err
+returns-clause-err g c =
+    let head = c.args.head.now in
+    let taken = g.S.Sink.taken in
+    let faults = g.S.Sink.faults in
+    let scope = build_scope_entry head.build_scope ∷ [] in
+    let rerun = rerun_entries head.rerun_info in
+    let meta = meta_entries head.cargo_metadata head.test_list head.record_opts in
+    let start = c.args.recorder.now in
+    let scoped = c.write_build_scope.new.self in
+    let rerunning = c.write_rerun.new.recorder in
+    let end = c.write_meta.new.self in
+    let first = c.in_ok-write_build_scope.ensures.ok in
+    let second = c.in_ok-write_rerun.ensures.ok in
+    let kept = sound_stores taken faults start scoped scope first c.requires.sound in
+    IfErr-weaker c.write_meta.result _ ComesOfHead
+    (λ e u. head_comes taken faults start end c.requires.sound head e c.requires.empty
+    (Unstored-after taken faults start scoped end scope (rerun ++ meta) e c.requires.sound first
+    (Unstored-after taken faults scoped rerunning end rerun meta e kept second
+    (subst (λ (metadata : List ℕ). Unstored taken faults rerunning end (meta_entries metadata head.test_list head.record_opts) e) c.as_str.ensures.value u))))
+    c.write_meta.ensures.err

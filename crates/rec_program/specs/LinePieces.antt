@@ -1,0 +1,20 @@
+-- A fault's line in pieces that are lent.
+use Rattle.std.specs.Prelude.{ℕ, List, [], ◌∷◌, ◌++◌}
+use Rattle.std.specs.Fmt.{decimal}
+use Rattle.rec_program.specs.declared.line.FaultText.{FaultText}
+use Rattle.rec_program.specs.declared.line.Field.{Field}
+use Rattle.rec_program.specs.declared.line.FieldValue.{FieldValue}
+use Rattle.rec_program.specs.declared.line.FieldValue.TheVariants.{Text, Number}
+
+abbrev pub value_bytes : FieldValue → List ℕ
+value_bytes (Text t) = t.now
+value_bytes (Number n) = decimal n
+
+-- fields one after the other, with what follows them
+abbrev pub fields_bytes : List Field → List ℕ → List ℕ
+fields_bytes [] rest = rest
+fields_bytes (f ∷ fs) rest = f.label.now ++ (value_bytes f.value ++ fields_bytes fs rest)
+
+-- the whole line
+abbrev pub line_bytes : FaultText → List ℕ
+line_bytes t = t.name.now ++ fields_bytes t.fields (10 ∷ [])
