@@ -4,6 +4,7 @@ pub mod FaultLine
 pub mod LineFaults
 pub mod LinePieces
 pub mod Options
+pub mod Prepared
 pub mod Reading
 pub mod Recorded
 pub mod RecorderFaults

@@ -1,6 +1,7 @@
 //! The head of a session.
 ghost use Rattle.std.specs.Prelude.{◌≡◌, ◌⊎◌, None, Some, IfOk, IfErr};
 ghost use Rattle.std.specs.Option.{option_map};
+ghost use Rattle.rec_format.specs.HeadForms.{IsHead};
 ghost use Rattle.rec_program.specs.Bundle.{head_in};
 ghost use Rattle.rec_program.specs.Session.{head_text, event_lines};
 ghost use Rattle.rec_program.specs.declared.refusal.RecordExportError.TheVariants.{OutOfMemory, ParseHead};
@@ -26,6 +27,7 @@ pub fn take_head<'a>(lines: &mut Lines<'a>) -> Option<&'a str>
 ///
 /// `ParseHead` where there is no text, or one that is no head; `OutOfMemory` where memory ran out.
 pub fn read_head(alloc: Global, text: Option<&str>) -> Result<SessionHead, RecordExportError>
+    ensures known { IfOk result IsHead }
     ensures head { IfOk result (λ head. head_in (option_map (λ t. t.now) text.entry) ≡ Some head) }
     ensures err { IfErr result (λ e. (e ≡ OutOfMemory) ⊎ ((e ≡ ParseHead) × (head_in (option_map (λ t. t.now) text.entry) ≡ None))) }
 {
