@@ -1,5 +1,5 @@
 -- The sizes of entries, one after the other.
-use Rattle.std.proofs.Common.{zero, suc, ◌≡◌, ℕ, ◌+◌, List, [], ◌∷◌, drop, map, slice_get, Option, Some, None, ap, sym, ◌∙◌, add-one}
+use Rattle.std.proofs.Common.{zero, suc, ◌≡◌, ℕ, ◌+◌, List, [], ◌∷◌, drop, map, slice_get, Option, Some, None, refl, ap, sym, ◌∙◌, add-one}
 use Rattle.std.specs.Option.{option_or}
 use Rattle.rec_container.specs.Container.{Entry}
 use Rattle.rec_container.specs.Writing.{named}
@@ -26,5 +26,7 @@ module _ (limit : ℕ) (es : List Entry) (i : ℕ) (name content : List ℕ) (ha
   refused_at e h = sym (here ∙ ap (λ o. option_or o (entries_refusal limit (drop (i + 1) es))) (sym h))
 
   -- after one that isn't refused, the rest decides
-  pub passed_at : None ≡ entry_refusal limit (named name content) → entries_refusal limit (drop (i + 1) es) ≡ entries_refusal limit es
-  passed_at h = sym (here ∙ ap (λ o. option_or o (entries_refusal limit (drop (i + 1) es))) (sym h))
+  pub passed_at : (found : Option RecordExportError) → ((e : RecordExportError) → found ≡ Some e → ⊥) → found ≡ entry_refusal limit (named name content)
+      → entries_refusal limit (drop (i + 1) es) ≡ entries_refusal limit es
+  passed_at None none h = sym (here ∙ ap (λ o. option_or o (entries_refusal limit (drop (i + 1) es))) (sym h))
+  passed_at (Some e) none h = absurd (none e refl)
