@@ -1,28 +1,28 @@
--- The entries of bundles, by their texts.
-use Rattle.std.proofs.Common.{◌≡◌, ℕ, ◌^◌, ◌≤◌, List, ◌∷◌, ◌++◌, length, Some, None, ap, sym, ◌∙◌, arith, ◌⊎◌, inl, inr}
-use Rattle.rec_container.specs.Container.{Entry, spell}
+-- The contents of bundles, and what is judged of them.
+use Rattle.std.proofs.Common.{◌≡◌, ℕ, List, ◌∷◌, Option, Some, None, ap, refl, ◌∙◌}
+use Rattle.std.specs.Option.{option_or}
+use Rattle.rec_container.specs.Container.{spell}
 use Rattle.rec_container.specs.Writing.{named}
-use Rattle.rec_container.proofs.Lengths.{length-spell-append}
 use Rattle.serde_json.specs.Written.{compact_text}
 use Rattle.rec_codec.specs.Event.{LiveEvent}
-use Rattle.rec_forms.specs.TextForm.{bytes_form}
-use Rattle.rec_format.specs.RunForms.{manifest_form, manifest_value}
+use Rattle.rec_format.specs.RunForms.{manifest_value}
 use Rattle.rec_format.specs.Runs.{manifest_of, recorded_info}
 use Rattle.rec_format.specs.declared.head.SessionHead.{SessionHead}
 use Rattle.rec_format.specs.declared.sizes.RecordedSizes.{RecordedSizes}
-use Rattle.rec_store.specs.Bundle.{manifest_text, run_entries, run_info, run_log, run_sizes, run_store}
+use Rattle.rec_store.specs.Bundle.{manifest_text, run_bundle, run_entries, run_log, run_sizes, run_store}
 use Rattle.rec_store.specs.Entries.{bundle_entries, log_name, manifest_name}
+use Rattle.rec_program.specs.Bundle.{sizes_refusal}
+use Rattle.rec_program.specs.Prepared.{contents_refusal, length_refusal}
+use Rattle.rec_program.specs.Sizes.{entries_refusal, entry_refusal}
+use Rattle.rec_program.specs.declared.settings.Settings.{Settings}
 use Rattle.rec_program.specs.declared.refusal.RecordExportError.{RecordExportError}
-use Rattle.rec_program.specs.declared.refusal.RecordExportError.TheVariants.{CountOutOfRange, OutOfMemory}
 
--- want of memory, or a container of so many bytes that is too long
-abbrev pub IsTooLong : ℕ → RecordExportError → Type 0
-IsTooLong n e = (e ≡ OutOfMemory) ⊎ ((e ≡ CountOutOfRange None) × (2 ^ 64 ≤ n))
-
--- what is too long for a prefix is so for the whole
-pub too_long_prefix : (es fs all : List Entry) (e : RecordExportError) → es ++ fs ≡ all → IsTooLong (length (spell es)) e → IsTooLong (length (spell all)) e
-too_long_prefix es fs all e is (inl h) = inl h
-too_long_prefix es fs all e is (inr h) = inr (h.0, omega (arith, h.1, length-spell-append es fs, ap (λ l. length (spell l)) is))
+-- the last of several causes, after the others
+or_assoc : {E : Type 0} (a b c d : Option E) → option_or (option_or a (option_or b c)) d ≡ option_or a (option_or b (option_or c d))
+or_assoc None None None d = refl
+or_assoc None None (Some z) d = refl
+or_assoc None (Some y) c d = refl
+or_assoc (Some x) b c d = refl
 
 module _ (number : List ℕ → ℕ) (m : ℕ) (head : SessionHead) (events : List LiveEvent) (sizes : RecordedSizes) (manifest : List ℕ) (same : sizes ≡ run_sizes number m head events)
     (text : manifest ≡ compact_text (manifest_value (manifest_of (recorded_info head sizes)))) where
@@ -38,15 +38,28 @@ module _ (number : List ℕ → ℕ) (m : ℕ) (head : SessionHead) (events : Li
       ∙ ap (λ l. bundle_entries (manifest_text number m head events) l store) logged
       ∙ ap (bundle_entries (manifest_text number m head events) (run_log number m events)) stored
 
-  -- what is judged of it: manifest, log and the store's entries
-  pub same_judged : (log : List ℕ) → log ≡ run_log number m events
-      → named manifest_name manifest ∷ named log_name log ∷ run_store number m head events
-      ≡ named manifest_name (manifest_text number m head events) ∷ named log_name (run_log number m events) ∷ run_store number m head events
-  same_judged log logged =
-      ap (λ t. named manifest_name t ∷ named log_name log ∷ run_store number m head events) written
-      ∙ ap (λ l. named manifest_name (manifest_text number m head events) ∷ named log_name l ∷ run_store number m head events) logged
+module _ (number : List ℕ → ℕ) (settings : Settings) (head : SessionHead) (events : List LiveEvent) (sizes : RecordedSizes) (same : sizes ≡ run_sizes number settings.max_output head events) where
+  abbrev m : ℕ
+  m = settings.max_output
 
-  -- the manifest is read as that of the run
-  pub manifest_read : bytes_form manifest_form manifest ≡ Some (manifest_of (recorded_info head sizes))
-      → bytes_form manifest_form (manifest_text number m head events) ≡ Some (manifest_of (run_info number m head events))
-  manifest_read read = ap (bytes_form manifest_form) (sym written) ∙ read ∙ ap (λ (z : RecordedSizes). Some (manifest_of (recorded_info head z))) same
+  -- what is judged of the contents, and then of the store's entries, is what is judged of the run's sizes
+  pub same_refusals : (log store : List ℕ) → log ≡ run_log number m events → store ≡ spell (run_store number m head events)
+      → option_or (contents_refusal settings.read_limit (compact_text (manifest_value (manifest_of (recorded_info head sizes)))) log store) (entries_refusal settings.read_limit (run_store number m head events))
+      ≡ sizes_refusal number settings head events
+  same_refusals log store logged stored =
+      let manifest = compact_text (manifest_value (manifest_of (recorded_info head sizes))) in
+      let text = manifest_text number m head events in
+      let entries = run_store number m head events in
+      let limit = settings.read_limit in
+      ap (λ (t : List ℕ). option_or (contents_refusal limit t log store) (entries_refusal limit entries)) (written number m head events sizes manifest same refl)
+      ∙ ap (λ (l : List ℕ). option_or (contents_refusal limit text l store) (entries_refusal limit entries)) logged
+      ∙ ap (λ (l : List ℕ). option_or (contents_refusal limit text (run_log number m events) l) (entries_refusal limit entries)) stored
+      ∙ or_assoc (length_refusal (run_bundle number m head events)) (entry_refusal limit (named manifest_name text)) (entry_refusal limit (named log_name (run_log number m events))) (entries_refusal limit entries)
+
+  -- the same, where the refusal of an entry is at hand
+  pub same_judged : (log store : List ℕ) (too_large : Option RecordExportError) → log ≡ run_log number m events → store ≡ spell (run_store number m head events)
+      → too_large ≡ entries_refusal settings.read_limit (run_store number m head events)
+      → option_or (contents_refusal settings.read_limit (compact_text (manifest_value (manifest_of (recorded_info head sizes)))) log store) too_large ≡ sizes_refusal number settings head events
+  same_judged log store too_large logged stored judged =
+      ap (λ (o : Option RecordExportError). option_or (contents_refusal settings.read_limit (compact_text (manifest_value (manifest_of (recorded_info head sizes)))) log store) o) judged
+      ∙ same_refusals log store logged stored

@@ -94,13 +94,14 @@ fn prepare_run<N: OutputNamer>(
     ensures err { IfErr result (λ e. (e ≡ OutOfMemory)
         ⊎ (refusal_after (N.number namer.now) settings.now (Some head.now) lines.entry ≡ Some e)) }
 {
+    let run = record_run(alloc, settings, namer, head, lines)?;
     let RecordedInMemory {
         store,
         log,
         sizes,
         too_large,
         trace,
-    } = record_run(alloc, settings, namer, head, lines)?;
+    } = run;
     let limit = settings.read_limit;
     let manifest = match judge_run(
         alloc,

@@ -9,6 +9,7 @@ use Rattle.rec_program.specs.Session.{event_lines, events_of, head_text}
 use Rattle.rec_trace.specs.Refusals as traces
 use Rattle.rec_trace.proofs.Timelines.{timeline}
 use Rattle.rec_program.specs.SessionTraces.{run_trace, session_history}
+use Rattle.rec_program.specs.Prepared.{prepared_bundle}
 use Rattle.rec_program.specs.declared.prepare.Prepared.{Prepared}
 use Rattle.rec_program.specs.declared.refusal.RecordExportError.{RecordExportError}
 use Rattle.rec_program.specs.declared.refusal.RecordExportError.TheVariants.{OutOfMemory}
@@ -19,6 +20,11 @@ use Rattle.rec_program.proofs.prepare.prepare.Goals as goal
 joined : {T E V W : Type 0} {P Q A R : T → Type 0} (r : Result T E) → ((x : T) → P x → Q x → A x → V → W → R x) → IfOk r P → IfOk r Q → IfOk r A → OnOk r V → OnOk r W → IfOk r R
 joined (Ok x) f p q a v w = f x p q a v w
 joined (Err e) f p q a v w = tt
+
+-- four facts make a fifth
+counted : {T E : Type 0} {P Q A V R : T → Type 0} (r : Result T E) → ((x : T) → P x → Q x → A x → V x → R x) → IfOk r P → IfOk r Q → IfOk r A → IfOk r V → IfOk r R
+counted (Ok x) f p q a v = f x p q a v
+counted (Err e) f p q a v = tt
 
 pub returns-in_err-head-clause-err : goal.returns-in_err-head-clause-err
 returns-in_err-head-clause-err g c =
@@ -39,30 +45,30 @@ returns-clause-texts g c =
     let has_head = ap head_in (sym text) ∙ c.in_ok-head.ensures.head in
     let lines = c.take_head.ensures.others ∙ ap event_lines c.new-lines.ensures in
     let events = ap events_of lines ∙ events_after session in
-    joined c.bundle_run-result.result (λ prepared spelled reads traced valid accepted. record {
+    joined c.prepare_run-result.result (λ prepared spelled reads traced valid accepted. record {
       head = head;
       has_head = has_head;
       valid = after_head number settings session head has_head ∙ ap (refusal_after number settings (Some head)) (sym lines) ∙ valid;
       spelled = spelled ∙ ap (run_bundle number settings.max_output head) events;
-      reads = subst (λ (es : List LiveEvent). IsReading prepared.bundle.bytes (recorded number settings.max_output head es)) events reads;
+      reads = subst (λ (es : List LiveEvent). IsReading (prepared_bundle prepared) (recorded number settings.max_output head es)) events reads;
       traced = traced ∙ ap (run_trace settings head) events;
       timeline = timeline settings.group_by (session_events session)
           (subst (λ (es : List LiveEvent). traces.history_refusal (session_history settings es) ≡ None) events accepted);
-    }) c.bundle_run-result.ensures.bundle c.bundle_run-result.ensures.reads c.bundle_run-result.ensures.trace c.bundle_run-result.ensures.valid c.bundle_run-result.ensures.accepted
+    }) c.prepare_run-result.ensures.bundle (c.prepare_run-result.ensures.reads c.in_ok-head.ensures.known) c.prepare_run-result.ensures.trace c.prepare_run-result.ensures.valid c.prepare_run-result.ensures.accepted
 
-pub returns-clause-events : goal.returns-clause-events
-returns-clause-events g c =
-    let lines = c.take_head.ensures.others ∙ ap event_lines c.new-lines.ensures in
-    let events = ap events_of lines ∙ events_after c.args.session.now in
-    subst (λ (es : List LiveEvent). IfOk c.bundle_run-result.result (λ p. p.events ≡ length es)) events c.bundle_run-result.ensures.events
-
-pub returns-clause-outputs : goal.returns-clause-outputs
-returns-clause-outputs g c =
+pub returns-clause-counts : goal.returns-clause-counts
+returns-clause-counts g c =
     let number = g.N.OutputNamer.number c.args.namer.now in
     let m = c.args.settings.now.max_output in
     let lines = c.take_head.ensures.others ∙ ap event_lines c.new-lines.ensures in
     let events = ap events_of lines ∙ events_after c.args.session.now in
-    subst (λ (es : List LiveEvent). IfOk c.bundle_run-result.result (λ p. p.outputs ≡ length (outputs_stored number m es))) events c.bundle_run-result.ensures.outputs
+    let made = c.prepare_run-result in
+    counted made.result (λ p counted stored bundle trace. record {
+      events = counted ∙ ap length events;
+      outputs = stored ∙ ap (λ (es : List LiveEvent). length (outputs_stored number m es)) events;
+      bundle_bytes = bundle;
+      trace_bytes = trace;
+    }) made.ensures.events made.ensures.outputs made.ensures.bundle_bytes made.ensures.trace_bytes
 
 pub returns-clause-err : goal.returns-clause-err
 returns-clause-err g c =
@@ -73,4 +79,4 @@ returns-clause-err g c =
     let has_head = ap head_in (sym text) ∙ c.in_ok-head.ensures.head in
     let lines = c.take_head.ensures.others ∙ ap event_lines c.new-lines.ensures in
     let same = ap (refusal_after number settings (Some head)) lines ∙ sym (after_head number settings c.args.session.now head has_head) in
-    subst (λ (o : Option RecordExportError). IfErr c.bundle_run-result.result (λ e. (e ≡ OutOfMemory) ⊎ (o ≡ Some e))) same c.bundle_run-result.ensures.err
+    subst (λ (o : Option RecordExportError). IfErr c.prepare_run-result.result (λ e. (e ≡ OutOfMemory) ⊎ (o ≡ Some e))) same c.prepare_run-result.ensures.err
