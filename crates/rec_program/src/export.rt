@@ -89,12 +89,6 @@ fn export<S: Source, N: OutputNamer, B: Sink, T: Sink>(
 {
     let session = read_session(alloc, settings.session_limit, source)?;
     let prepared = prepare(alloc, settings, namer, &session)?;
-    let text = prepared.trace.as_str();
-    deliver(prepared.bundle.bytes(), text, bundle, trace)?;
-    Ok(Exported {
-        events: prepared.events,
-        outputs: prepared.outputs,
-        bundle_bytes: prepared.bundle.bytes().len() as u64,
-        trace_bytes: text.len() as u64,
-    })
+    deliver(&prepared, bundle, trace)?;
+    Ok(prepared.exported)
 }
