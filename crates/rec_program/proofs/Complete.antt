@@ -2,6 +2,7 @@
 use Rattle.std.proofs.Common.{◌≡◌, ℕ, ◌+◌, ◌<◌, ◌≤◌, List, ◌++◌, length, Option, Some, None, Result, Ok, Err, IfErr, ap, sym, refl, ◌∙◌, arith, inl, inr, append-nil, length-append}
 use Rattle.std.specs.Io.KnownBytes.{Consumes, IsAtEnd}
 use Rattle.rec_container.specs.Causes.{Rose}
+use Rattle.rec_container.specs.Within.{Gave, GaveAtMost}
 use Rattle.rec_program.specs.Bundle.{session_refusal}
 use Rattle.rec_program.specs.Reading.{Unread}
 use Rattle.rec_program.specs.Export.{Undelivered, Fails}
@@ -23,13 +24,18 @@ no_more (Some x) None session given has gave = absurd gave
 no_more (Some x) (Some y) session given has gave =
     let same : x ≡ session = cc in let whole : session ≡ given ++ y = sym same ∙ gave in rw whole (omega (arith, length-append {A = ℕ}))
 
+-- a session that was read has no byte more than the limit
+pub gave_at_most : {S : Type 0} (left : S → Option (List ℕ)) (faults : S → ℕ) (limit : ℕ) (s0 s1 : S) (session : List ℕ) → Gave left faults limit s0 s1 session
+    → GaveAtMost left faults s0 s1 (limit + 1)
+gave_at_most left faults limit s0 s1 session gave = (gave.faultless, (length session, (omega (arith, gave.within), (session, (gave.gave, refl)))))
+
 module _ {S B T : Type 0} (left : S → Option (List ℕ)) (source_faults : S → ℕ) (taken : B → Option (List ℕ)) (bundle_faults : B → ℕ)
     (shown : T → Option (List ℕ)) (out_faults : T → ℕ) (number : List ℕ → ℕ) (settings : Settings) (s0 s1 : S) (b0 b1 : B) (t0 t1 : T) (session : List ℕ) (has : left s0 ≡ Some session)
     (within : length session ≤ settings.session_limit) (valid : session_refusal number settings session ≡ None)
     (source : ¬ (Rose (source_faults s0) (source_faults s1))) (bundle : ¬ (Rose (bundle_faults b0) (bundle_faults b1))) (trace : ¬ (Rose (out_faults t0) (out_faults t1))) where
   unread : (e : RecordExportError) → Unread left source_faults settings.session_limit s0 s1 e → e ≡ OutOfMemory
   unread SourceFault u = absurd (source u.0)
-  unread (SessionTooLarge most) u = let longer = no_more (left s0) (left s1) session u.1.0 has u.1.1 in let count = u.1.2 in absurd (omega arith)
+  unread (SessionTooLarge most) u = let longer = no_more (left s0) (left s1) session u.2.0 has u.2.1 in let count = u.2.2 in absurd (omega arith)
   unread ParseHead u = absurd u
   unread (ReadRunLog line_number) u = absurd u
   unread (ParseEvent line_number) u = absurd u
