@@ -2,7 +2,6 @@
 use Rattle.std.proofs.Common.{◌≡◌, ℕ, ◌+◌, ◌<◌, ◌≤◌, List, ◌++◌, length, Option, Some, None, Result, Ok, Err, IfErr, ap, sym, refl, ◌∙◌, arith, inl, inr, append-nil, length-append}
 use Rattle.std.specs.Io.KnownBytes.{Consumes, IsAtEnd}
 use Rattle.rec_container.specs.Causes.{Rose}
-use Rattle.rec_container.specs.Within.{Gave, GaveAtMost}
 use Rattle.rec_program.specs.Bundle.{session_refusal}
 use Rattle.rec_program.specs.Reading.{Unread}
 use Rattle.rec_program.specs.Export.{Undelivered, Fails}
@@ -23,11 +22,6 @@ no_more None b session given has gave = absurd cc
 no_more (Some x) None session given has gave = absurd gave
 no_more (Some x) (Some y) session given has gave =
     let same : x ≡ session = cc in let whole : session ≡ given ++ y = sym same ∙ gave in rw whole (omega (arith, length-append {A = ℕ}))
-
--- a session that was read has no byte more than the limit
-pub gave_at_most : {S : Type 0} (left : S → Option (List ℕ)) (faults : S → ℕ) (limit : ℕ) (s0 s1 : S) (session : List ℕ) → Gave left faults limit s0 s1 session
-    → GaveAtMost left faults s0 s1 (limit + 1)
-gave_at_most left faults limit s0 s1 session gave = (gave.faultless, (length session, (omega (arith, gave.within), (session, (gave.gave, refl)))))
 
 module _ {S B T : Type 0} (left : S → Option (List ℕ)) (source_faults : S → ℕ) (taken : B → Option (List ℕ)) (bundle_faults : B → ℕ)
     (shown : T → Option (List ℕ)) (out_faults : T → ℕ) (number : List ℕ → ℕ) (settings : Settings) (s0 s1 : S) (b0 b1 : B) (t0 t1 : T) (session : List ℕ) (has : left s0 ≡ Some session)

@@ -143,6 +143,6 @@ bundles_of_sessions_read_spec number settings session head in_range has_head acc
     let lines = event_lines (session_lines session) in
     let m = settings.max_output in
     subst (λ (es : List LiveEvent). IsReading (run_bundle number m head es) (recorded number m head es)) (events_after session) (
-      reads_after number settings head lines (read_head (head_text (session_lines session)) head has_head) in_range (sym (after_head number settings session head has_head) ∙ accepted)
-          (subst (λ (es : List LiveEvent). AllByRecursion HasLength (flat_map event_outputs es)) (sym (events_after session)) sizes)
+    reads_after number settings head lines (read_head (head_text (session_lines session)) head has_head) in_range (sym (after_head number settings session head has_head) ∙ accepted)
+    (subst (λ (es : List LiveEvent). AllByRecursion HasLength (flat_map event_outputs es)) (sym (events_after session)) sizes)
     )
