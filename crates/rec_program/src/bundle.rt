@@ -74,7 +74,7 @@ fn build_manifest(
     head: &SessionHead,
     sizes: RecordedSizes,
 ) -> Result<Vec<u8>, AllocError>
-    ensures text { IfOk result (λ b. b.items ≡ compact_text (manifest_value (manifest_of (recorded_info head.now sizes)))) }
+    ensures { IfOk result (λ b. b.items ≡ compact_text (manifest_value (manifest_of (recorded_info head.now sizes)))) }
 {
     let info = head.run_info(alloc, sizes)?;
     let manifest = PortableManifest::new(alloc, &info)?;

@@ -8,7 +8,7 @@ use rec_container::{FileSink, Sink, StdSink, StdSource};
 use rec_program::{FAULTY_WORDS, OUT_OF_MEMORY, bundle_path, report, run_program};
 use std::alloc::{AllocError, Global};
 use std::process::ExitCode;
-use std::rt::Env;
+use std::rt::{Env, Files};
 use std::{env, fs, io};
 
 /// Returns the words after the program's name. A word that isn't UTF-8 is an error.
@@ -38,6 +38,28 @@ fn path_of(alloc: Global, words: &[String]) -> Result<String, AllocError>
     String::from_str(alloc, bundle_path(words).unwrap_or(""))
 }
 
+/// Does what the words ask for with the standard streams and the bundle's file, and returns the status.
+fn status_of<R: AllocGlobal + Files + Input + Print, G: Sink>(
+    rt: &R,
+    words: &[String],
+    diag: &mut G,
+) -> u8 {
+    let Ok(path) = path_of(rt.alloc(), words) else {
+        return status_without_memory(diag);
+    };
+    let mut source = StdSource::new(rt.reader());
+    let mut bundle = FileSink::new(rt, path);
+    let mut out = StdSink::new(io::writer(rt));
+    run_program(
+        rt.alloc(),
+        words,
+        &mut source,
+        &mut bundle,
+        &mut out,
+        diag,
+    )
+}
+
 fn main(rt: HostRuntime) -> ExitCode {
     // Where a standard stream is closed, the next file that is opened would take its place. So these are
     // opened first: the root folder can neither be read nor written as a file.
@@ -49,19 +71,5 @@ fn main(rt: HostRuntime) -> ExitCode {
         Ok(words) => words,
         Err(error) => return ExitCode::from(status_without_words(&error, &mut diag)),
     };
-    let Ok(path) = path_of(rt.alloc(), &words) else {
-        return ExitCode::from(status_without_memory(&mut diag));
-    };
-    let mut source = StdSource::new(rt.reader());
-    let mut bundle = FileSink::new(&rt, path);
-    let mut out = StdSink::new(io::writer(&rt));
-    let status = run_program(
-        rt.alloc(),
-        &words,
-        &mut source,
-        &mut bundle,
-        &mut out,
-        &mut diag,
-    );
-    ExitCode::from(status)
+    ExitCode::from(status_of(&rt, &words, &mut diag))
 }
