@@ -1,5 +1,5 @@
 -- The contents of bundles, and what is judged of them.
-use Rattle.std.proofs.Common.{◌≡◌, ℕ, List, ◌∷◌, Option, Some, None, ap, refl, ◌∙◌}
+use Rattle.std.proofs.Common.{◌≡◌, ℕ, List, Option, Some, None, ap, refl, ◌∙◌}
 use Rattle.std.specs.Option.{option_or}
 use Rattle.rec_container.specs.Container.{spell}
 use Rattle.rec_container.specs.Writing.{named}

@@ -1,7 +1,6 @@
 -- Why a session is refused, and that it isn't.
-use Rattle.std.proofs.Common.{◌≡◌, ℕ, List, [], Option, Some, None, ap, sym, refl, ◌∙◌, ◌⊎◌, inl, inr}
+use Rattle.std.proofs.Common.{◌≡◌, ℕ, List, [], Option, Some, None, ap, refl, ◌∙◌, ◌⊎◌, inl, inr}
 use Rattle.std.specs.Option.{option_or}
-use Rattle.rec_codec.specs.Event.{LiveEvent}
 use Rattle.rec_codec.specs.Lines.{NumberedLine}
 use Rattle.rec_format.specs.declared.head.SessionHead.{SessionHead}
 use Rattle.rec_program.specs.Bundle.{count_refusal, session_refusal, refusal_after, session_events, session_head, size_refusal, sizes_refusal}

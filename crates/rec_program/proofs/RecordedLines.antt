@@ -1,5 +1,5 @@
 -- Lines that are recorded, one after the other.
-use Rattle.std.proofs.Common.{◌≡◌, ℕ, List, [], ◌∷◌, ◌++◌, length, Bool, true, false, Option, Some, None, Result, Ok, Err, refl, sym, ap, subst, ◌∙◌, ◌⊎◌, inl, inr, append_assoc, append-nil, true≢false, if◌then◌else◌}
+use Rattle.std.proofs.Common.{◌≡◌, ℕ, List, [], ◌∷◌, ◌++◌, true, false, Option, Some, None, Result, Ok, Err, refl, sym, ap, subst, ◌∙◌, ◌⊎◌, inl, inr, append_assoc, append-nil, true≢false, if◌then◌else◌}
 use Rattle.std.specs.Bool.{⊤}
 use Rattle.std.specs.List.{cons_option}
 use Rattle.std.specs.Option.{option_and_then, option_map, option_or, option_to_list}
@@ -7,7 +7,7 @@ use Rattle.rec_container.specs.Container.{Entry}
 use Rattle.rec_codec.specs.Event.{LiveEvent, live_event, live_event_of}
 use Rattle.rec_codec.specs.EventForms.{event_form, kind_loaded}
 use Rattle.rec_codec.specs.LineEvents.{Misses, blank}
-use Rattle.rec_codec.specs.Lines.{NumberedLine, is_blank}
+use Rattle.rec_codec.specs.Lines.{NumberedLine}
 use Rattle.rec_codec.specs.Live.{is_loaded, live_form}
 use Rattle.rec_codec.proofs.ReadEventLaws.{live_event_loaded}
 use Rattle.rec_codec.specs.declared.line_events.LineError.{LineError}

@@ -1,5 +1,5 @@
 -- Which refusals a recorder in memory doesn't give.
-use Rattle.std.proofs.Common.{◌≡◌, ℕ, List, [], ◌∷◌, ◌++◌, true, false, Option, Some, None, refl, sym, ap, subst, ◌∙◌, inl, inr}
+use Rattle.std.proofs.Common.{◌≡◌, ℕ, List, [], ◌∷◌, true, false, Option, sym, subst, ◌∙◌, inl, inr}
 use Rattle.rec_codec.specs.Event.{LiveEvent}
 use Rattle.rec_codec.specs.EventForms.{kind_loaded}
 use Rattle.rec_codec.specs.Live.{is_loaded}

@@ -1,5 +1,5 @@
 -- The bundle of a session that is accepted is read as what was recorded of it.
-use Rattle.std.proofs.Common.{◌≡◌, ℕ, ◌<◌, ◌^◌, List, [], ◌∷◌, ◌++◌, length, nat_lt, Bool, true, false, Option, Some, None, IfSome, refl, sym, ap, subst, ◌∙◌, arith, append-nil, if◌then◌else◌}
+use Rattle.std.proofs.Common.{◌≡◌, ℕ, ◌<◌, ◌^◌, List, [], ◌∷◌, ◌++◌, nat_lt, Bool, true, false, Option, Some, None, IfSome, refl, sym, ap, subst, ◌∙◌, arith, append-nil, if◌then◌else◌}
 use Rattle.std.proofs.lemmas.Bool.Decides.{nat_tests}
 use Rattle.std.specs.List.{AllByRecursion, cons_option, flat_map}
 use Rattle.std.specs.Option.{option_and_then, option_map, option_or, option_to_list}
@@ -21,10 +21,8 @@ use Rattle.rec_store.specs.Reading.{IsReading, recorded}
 use Rattle.rec_store.specs.Recordable.{HasLength, IsRecordable, event_outputs}
 use Rattle.rec_store.proofs.OutputLaws.{clash_push}
 use Rattle.rec_store.proofs.ReadLaws.{bundle_reads_spec}
-use Rattle.rec_program.specs.Bundle.{count_refusal, head_in, refusal_after, session_events, session_head, session_refusal, size_refusal}
+use Rattle.rec_program.specs.Bundle.{count_refusal, head_in, refusal_after, session_events, session_head, session_refusal}
 use Rattle.rec_program.specs.Session.{event_at, event_lines, event_refusal, events_of, head_text, line_refusal, lines_refusal, outputs_at, session_lines, text_refusal}
-use Rattle.rec_program.specs.SessionTraces.{trace_refusal}
-use Rattle.rec_program.specs.declared.refusal.RecordExportError.{RecordExportError}
 use Rattle.rec_program.specs.declared.refusal.RecordExportError.TheVariants.{CountOutOfRange, NameCollision}
 use Rattle.rec_program.specs.declared.settings.Settings.{Settings}
 use Rattle.rec_program.proofs.Judging.{after_head, after_count, after_lines, events_after}

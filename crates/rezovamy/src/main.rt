@@ -50,14 +50,7 @@ fn status_of<R: AllocGlobal + Files + Input + Print, G: Sink>(
     let mut source = StdSource::new(rt.reader());
     let mut bundle = FileSink::new(rt, path);
     let mut out = StdSink::new(io::writer(rt));
-    run_program(
-        rt.alloc(),
-        words,
-        &mut source,
-        &mut bundle,
-        &mut out,
-        diag,
-    )
+    run_program(rt.alloc(), words, &mut source, &mut bundle, &mut out, diag)
 }
 
 fn main(rt: HostRuntime) -> ExitCode {

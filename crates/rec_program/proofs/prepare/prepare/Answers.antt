@@ -1,7 +1,6 @@
 use Rattle.std.proofs.Common.{◌≡◌, ◌⊎◌, List, ◌∙◌, ap, sym, subst, inl, inr, length, Option, Some, None, Result, Ok, Err, IfOk, IfErr, OnOk}
 use Rattle.std.proofs.lemmas.Result.{err_from_is_err_and}
 use Rattle.rec_codec.specs.Event.{LiveEvent}
-use Rattle.rec_codec.specs.Lines.{NumberedLine}
 use Rattle.rec_store.specs.Bundle.{outputs_stored, run_bundle}
 use Rattle.rec_store.specs.Reading.{IsReading, recorded}
 use Rattle.rec_program.specs.Bundle.{head_in, refusal_after, session_events}
@@ -10,7 +9,6 @@ use Rattle.rec_trace.specs.Refusals as traces
 use Rattle.rec_trace.proofs.Timelines.{timeline}
 use Rattle.rec_program.specs.SessionTraces.{run_trace, session_history}
 use Rattle.rec_program.specs.Prepared.{prepared_bundle}
-use Rattle.rec_program.specs.declared.prepare.Prepared.{Prepared}
 use Rattle.rec_program.specs.declared.refusal.RecordExportError.{RecordExportError}
 use Rattle.rec_program.specs.declared.refusal.RecordExportError.TheVariants.{OutOfMemory}
 use Rattle.rec_program.proofs.Judging.{after_head, events_after, refused_head}
