@@ -1,11 +1,10 @@
 -- The sizes of entries, one after the other.
-use Rattle.std.proofs.Common.{zero, suc, ◌≡◌, ℕ, ◌+◌, List, [], ◌∷◌, drop, map, slice_get, Option, Some, None, ap, sym, ◌∙◌, ◌⊎◌, inl, inr, add-one}
+use Rattle.std.proofs.Common.{zero, suc, ◌≡◌, ℕ, ◌+◌, List, [], ◌∷◌, drop, map, slice_get, Option, Some, None, refl, ap, sym, ◌∙◌, add-one}
 use Rattle.std.specs.Option.{option_or}
 use Rattle.rec_container.specs.Container.{Entry}
 use Rattle.rec_container.specs.Writing.{named}
 use Rattle.rec_program.specs.Sizes.{entries_refusal, entry_refusal}
 use Rattle.rec_program.specs.declared.refusal.RecordExportError.{RecordExportError}
-use Rattle.rec_program.specs.declared.refusal.RecordExportError.TheVariants.{OutOfMemory}
 
 -- the entry at an index, and those after it
 entry_at : (es : List Entry) (i : ℕ) (name content : List ℕ) → slice_get (map (λ (e : Entry). e.name) es) i ≡ Some name → slice_get (map (λ (e : Entry). e.content) es) i ≡ Some content
@@ -22,11 +21,12 @@ module _ (limit : ℕ) (es : List Entry) (i : ℕ) (name content : List ℕ) (ha
   here : entries_refusal limit es ≡ option_or (entry_refusal limit (named name content)) (entries_refusal limit (drop (i + 1) es))
   here = sym before ∙ ap (entries_refusal limit) (entry_at es i name content has_name has_content) ∙ ap (λ n. option_or (entry_refusal limit (named name content)) (entries_refusal limit (drop n es))) (sym (add-one i))
 
-  -- an entry that is refused is the first
-  pub refused_at : (e : RecordExportError) → (e ≡ OutOfMemory) ⊎ (entry_refusal limit (named name content) ≡ Some e) → (e ≡ OutOfMemory) ⊎ (entries_refusal limit es ≡ Some e)
-  refused_at e (inl h) = inl h
-  refused_at e (inr h) = inr (here ∙ ap (λ o. option_or o (entries_refusal limit (drop (i + 1) es))) h)
+  -- the refusal of an entry is the first
+  pub refused_at : (e : RecordExportError) → Some e ≡ entry_refusal limit (named name content) → Some e ≡ entries_refusal limit es
+  refused_at e h = sym (here ∙ ap (λ o. option_or o (entries_refusal limit (drop (i + 1) es))) (sym h))
 
-  -- after one that isn't, the rest decides
-  pub passed_at : entry_refusal limit (named name content) ≡ None → entries_refusal limit (drop (i + 1) es) ≡ entries_refusal limit es
-  passed_at h = sym (here ∙ ap (λ o. option_or o (entries_refusal limit (drop (i + 1) es))) h)
+  -- after one that isn't refused, the rest decides
+  pub passed_at : (found : Option RecordExportError) → ((e : RecordExportError) → found ≡ Some e → ⊥) → found ≡ entry_refusal limit (named name content)
+      → entries_refusal limit (drop (i + 1) es) ≡ entries_refusal limit es
+  passed_at None none h = sym (here ∙ ap (λ o. option_or o (entries_refusal limit (drop (i + 1) es))) (sym h))
+  passed_at (Some e) none h = absurd (none e refl)

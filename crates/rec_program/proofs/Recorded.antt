@@ -17,7 +17,6 @@ use Rattle.rec_store.specs.Clashes.{clash, with_entries}
 use Rattle.rec_store.specs.Ending.{sizes_of, sizes_of_log, sizes_of_store}
 use Rattle.rec_store.specs.EventOutputs.{event_entries, event_recorded}
 use Rattle.rec_store.specs.Logging.{Logs, Unlogged}
-use Rattle.rec_store.specs.Reading.{AreRead}
 use Rattle.rec_store.specs.Recording.{AddsEach, Recording, Stores, has_failed}
 use Rattle.rec_store.specs.Store.{metadata_of, store_entries}
 use Rattle.rec_store.specs.declared.error.RunStoreError.{RunStoreError}
@@ -99,9 +98,9 @@ module _ {N : Type 0} (number : N → List ℕ → ℕ) (faults : GrowingSinkSta
 
   -- what a recorder leaves that is ended
   pub ended : (namer : N) (m : ℕ) (events : List LiveEvent) (now : Recording GrowingSinkState GrowingSinkState N) (store : GrowingSinkState) (sizes : StoreSizes) → HasRecorded number namer m head events now
-      → AreRead head → AreFrom [] now.store.entries → Appends (text_taken now.store.sink) (text_taken store) (ending now.store.entries) → sizes ≡ sizes_of now
+      → AreFrom [] now.store.entries → Appends (text_taken now.store.sink) (text_taken store) (ending now.store.entries) → sizes ≡ sizes_of now
       → IsRunOf (number namer) m head events store.bytes now.log.bytes (record { log = sizes.log; store = sizes.store })
-  ended namer m events now store sizes has read sound after same = record {
+  ended namer m events now store sizes has sound after same = record {
     store_spelled = after ∙ ap (λ l. l ++ ending now.store.entries) has.store_taken ∙ prefix-ending now.store.entries ∙ ap spell has.entries_stored;
     sound = subst (AreFrom []) has.entries_stored sound;
     log_written = has.log_taken;
@@ -110,7 +109,6 @@ module _ {N : Type 0} (number : N → List ℕ → ℕ) (faults : GrowingSinkSta
         ∙ ap (λ n. record { log = sizes_of_log n now.events; store = sizes_of_store now.store.entries }) has.log_counted
         ∙ ap (λ n. record { log = sizes_of_log (length (run_log (number namer) m events)) n; store = sizes_of_store now.store.entries }) has.events_counted
         ∙ ap (λ es. record { log = sizes_of_log (length (run_log (number namer) m events)) (length events); store = sizes_of_store es }) has.entries_stored;
-    head_read = read;
     recorded = has.recorded;
   }
 

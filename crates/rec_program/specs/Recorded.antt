@@ -11,7 +11,6 @@ use Rattle.rec_format.specs.declared.sizes.RecordedSizes.{RecordedSizes}
 use Rattle.rec_store.specs.Bundle.{events_recorded, outputs_stored, run_log, run_outputs, run_sizes, run_store}
 use Rattle.rec_store.specs.Clashes.{clash}
 use Rattle.rec_store.specs.EventOutputs.{event_entries}
-use Rattle.rec_store.specs.Reading.{AreRead}
 use Rattle.rec_store.specs.Recording.{Recording, has_failed}
 use Rattle.rec_container.specs.Memory.{GrowingSinkState}
 use Rattle.rec_program.specs.Session.{event_at, events_of, line_refusal, lines_refusal}
@@ -25,13 +24,12 @@ module _ (number : List ℕ → ℕ) (m : ℕ) where
     pub logged : AllByRecursion IsLogged (events_recorded number m events)
     pub distinct : clash [] (run_outputs number m events) ≡ None
 
-  -- store, log and sizes are those of a run with this head and these events, and its texts are read back
+  -- store, log and sizes are those of a run with this head and these events
   pub record IsRunOf (head : SessionHead) (events : List LiveEvent) (store log : List ℕ) (sizes : RecordedSizes) : Type 0 where
     pub store_spelled : store ≡ spell (run_store number m head events)
     pub sound : AreFrom [] (run_store number m head events)
     pub log_written : log ≡ run_log number m events
     pub sized : sizes ≡ run_sizes number m head events
-    pub head_read : AreRead head
     pub recorded : AreRecorded events
 
 module _ {N : Type 0} (number : N → List ℕ → ℕ) (namer : N) (m : ℕ) (head : SessionHead) where

@@ -8,7 +8,7 @@ ghost use Rattle.rec_codec.specs.Live.{is_loaded};
 ghost use Rattle.rec_container.specs.Memory.{GrowingSinkState};
 ghost use Rattle.rec_format.specs.declared.head.SessionHead.{SessionHead};
 ghost use Rattle.rec_store.specs.Recording.{Stores, Unstored, has_failed};
-ghost use Rattle.rec_store.specs.Reading.{AreRead, IsRerunRead};
+ghost use Rattle.rec_store.specs.Bundle.{run_store};
 ghost use Rattle.rec_store.specs.Store.{rerun_entries, store_entries};
 ghost use Rattle.rec_program.specs.Recorded.{HasRecorded, IsRunOf, RecordsEvent, RecordsLine, RecordsLines};
 ghost use Rattle.rec_trace.specs.Kinds.{trace_input};
@@ -16,11 +16,13 @@ ghost use Rattle.rec_trace.specs.Past.{TraceInput};
 ghost use Rattle.rec_trace.specs.declared.settings.ChromeTraceGroupBy.{ChromeTraceGroupBy};
 ghost use Rattle.rec_program.specs.RecorderFaults.{ComesAtEnd, ComesOfEvent, ComesOfHead, event_fault};
 ghost use Rattle.rec_program.specs.Session.{event_at, events_of, lines_refusal};
+ghost use Rattle.rec_program.specs.Sizes.{entries_refusal};
 ghost use Rattle.rec_program.specs.SessionTraces.{IsTraceOf, session_history};
 ghost use Rattle.rec_program.specs.declared.refusal.RecordExportError.TheVariants.{OutOfMemory};
 
 use crate::refusal::RecordExportError;
 use crate::settings::Settings;
+use crate::sizes::first_too_large;
 use crate::trace::SessionTrace;
 use rec_codec::{Line, Lines, read_line};
 use rec_container::{GrowingSink, Sink};
@@ -38,6 +40,8 @@ pub struct RecordedInMemory {
     pub log: GrowingSink,
     /// The sizes of both.
     pub sizes: RecordedSizes,
+    /// The refusal of the first entry of the store that is longer than the read limit, if one is.
+    pub too_large: Option<RecordExportError>,
     /// The trace of its events.
     pub trace: SessionTrace,
 }
@@ -60,6 +64,8 @@ pub fn record_run<N: OutputNamer>(
 ) -> Result<RecordedInMemory, RecordExportError>
     ensures valid { OnOk result (lines_refusal (N.number namer.now) settings.now.max_output [] lines.entry ≡ None) }
     ensures run { IfOk result (λ r. IsRunOf (N.number namer.now) settings.now.max_output head.now (events_of lines.entry) r.store.bytes r.log.bytes r.sizes) }
+    ensures too_large { IfOk result (λ r. r.too_large
+        ≡ entries_refusal settings.now.read_limit (run_store (N.number namer.now) settings.now.max_output head.now (events_of lines.entry))) }
     ensures traced { IfOk result (λ r. IsTraceOf settings.now.group_by (session_history settings.now (events_of lines.entry)) r.trace) }
     ensures err { IfErr result (λ e. (e ≡ OutOfMemory)
         ⊎ (lines_refusal (N.number namer.now) settings.now.max_output [] lines.entry ≡ Some e)) }
@@ -78,7 +84,7 @@ pub fn record_run<N: OutputNamer>(
     };
     let mut trace = SessionTrace::new(alloc, settings.group_by);
     match record_lines(alloc, lines, &mut recorder, &mut trace) {
-        Ok(()) => end_run(recorder, trace),
+        Ok(()) => end_run(alloc, settings.read_limit, recorder, trace),
         Err(error) => {
             drop(recorder);
             drop(trace);
@@ -87,20 +93,32 @@ pub fn record_run<N: OutputNamer>(
     }
 }
 
-/// Ends a recording.
+/// Judges the sizes of the store's entries, and ends a recording.
 fn end_run<N: OutputNamer>(
+    alloc: Global,
+    limit: u64,
     recorder: MemoryRecorder<'_, N>,
     trace: SessionTrace,
 ) -> Result<RecordedInMemory, RecordExportError>
     requires sound { has_failed recorder ≡ false }
     ensures run { (namer : N) (m : ℕ) (head : SessionHead) (events : List LiveEvent)
-        → HasRecorded N.number namer m head events recorder.entry → AreRead head
+        → HasRecorded N.number namer m head events recorder.entry
         → IfOk result (λ r. IsRunOf (N.number namer) m head events r.store.bytes r.log.bytes r.sizes) }
+    ensures too_large { (namer : N) (m : ℕ) (head : SessionHead) (events : List LiveEvent)
+        → HasRecorded N.number namer m head events recorder.entry
+        → IfOk result (λ r. r.too_large ≡ entries_refusal limit (run_store (N.number namer) m head events)) }
     ensures traced { IfOk result (λ r. r.trace ≡ trace) }
     ensures err { IfErr result (λ e. e ≡ OutOfMemory) }
 {
+    // The entries are judged while the recorder has them.
+    let Ok(too_large) = first_too_large(alloc, limit, recorder.store()) else {
+        drop(recorder);
+        drop(trace);
+        return Err(RecordExportError::OutOfMemory);
+    };
     let end = recorder.finish();
     let Ok(sizes) = sizes_at_end(end.result) else {
+        drop(too_large);
         drop(trace);
         return Err(RecordExportError::OutOfMemory);
     };
@@ -111,6 +129,7 @@ fn end_run<N: OutputNamer>(
             log: sizes.log,
             store: sizes.store,
         },
+        too_large,
         trace,
     })
 }
@@ -254,7 +273,6 @@ fn record_head<N: OutputNamer>(
     requires empty { recorder.old.store.entries ≡ [] }
     ensures ok { OnOk result (Stores (λ (b : GrowingSinkState). Some b.bytes) (λ (b : GrowingSinkState). b.faults) recorder.old recorder.new (store_entries head.now)) }
     ensures sound { OnOk result (has_failed recorder.new ≡ false) }
-    ensures read { OnOk result (AreRead head.now) }
 {
     match write_head(recorder, head) {
         Ok(()) => Ok(()),
@@ -285,7 +303,6 @@ fn write_head<S: Sink, L: Sink, N: OutputNamer>(
     requires sound { has_failed recorder.old ≡ false }
     requires empty { recorder.old.store.entries ≡ [] }
     ensures ok { OnOk result (Stores S.taken S.faults recorder.old recorder.new (store_entries head.now)) }
-    ensures read { OnOk result (AreRead head.now) }
     ensures err { IfErr result ComesOfHead }
 {
     recorder.write_build_scope(&head.build_scope)?;
@@ -302,8 +319,8 @@ fn write_rerun<S: Sink, L: Sink, N: OutputNamer>(
     recorder: &mut RunRecorder<'_, S, L, N>,
     rerun_info: &Option<RerunInfo>,
 ) -> Result<(), RunStoreError>
+    requires sound { has_failed recorder.old ≡ false }
     ensures ok { OnOk result (Stores S.taken S.faults recorder.old recorder.new (rerun_entries rerun_info.now)) }
-    ensures read { OnOk result (IsRerunRead rerun_info.now) }
     ensures err { IfErr result (Unstored S.taken S.faults recorder.old recorder.new (rerun_entries rerun_info.now)) }
 {
     match rerun_info {

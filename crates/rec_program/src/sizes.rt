@@ -1,55 +1,41 @@
 //! The sizes of what a reader reads.
-ghost use Rattle.std.specs.Prelude.{◌∷◌, ◌≡◌, List};
-ghost use Rattle.rec_container.specs.Container.{Entry, IsContainer};
+ghost use Rattle.std.specs.Prelude.{◌≡◌, IfOk};
 ghost use Rattle.rec_container.specs.Writing.{named};
-ghost use Rattle.rec_store.specs.Entries.{log_name, manifest_name};
 ghost use Rattle.rec_program.specs.Sizes.{entries_refusal, entry_refusal, AnswersRefusal};
 
 use crate::refusal::RecordExportError;
-use rec_container::Container;
+use rec_container::{ContainerWriter, GrowingSink};
 use rec_events::Text;
-use rec_format::{PORTABLE_MANIFEST_FILE_NAME, RUN_LOG_FILE_NAME};
-use std::alloc::Global;
+use std::alloc::{AllocError, Global};
 
-/// Judges the sizes of manifest, log and each entry of the store, in this order.
-pub fn judge_sizes(
+/// Returns the refusal of the first entry that is longer than the limit, if one is.
+///
+/// # Errors
+///
+/// Fails only where memory ran out.
+pub fn first_too_large(
     alloc: Global,
     limit: u64,
-    manifest: &[u8],
-    log: &[u8],
-    store: &[u8],
-) -> Result<(), RecordExportError>
-    ensures { (es : List Entry) → IsContainer store.now es
-        → AnswersRefusal result (entries_refusal limit (named manifest_name manifest.now ∷ named log_name log.now ∷ es)) }
-{
-    judge_size(alloc, limit, PORTABLE_MANIFEST_FILE_NAME, manifest)?;
-    judge_size(alloc, limit, RUN_LOG_FILE_NAME, log)?;
-    judge_entries(alloc, limit, store)
-}
-
-/// Judges the size of each entry of a store.
-fn judge_entries(alloc: Global, limit: u64, store: &[u8]) -> Result<(), RecordExportError>
-    ensures { (es : List Entry) → IsContainer store.now es → AnswersRefusal result (entries_refusal limit es) }
-{
-    // What was recorded is a container, so nothing but memory is missing where it isn't read.
-    let Ok(entries) = Container::parse(alloc, store) else {
-        return Err(RecordExportError::OutOfMemory);
-    };
-    judge_each(alloc, limit, &entries)
-}
-
-/// Judges the size of each entry.
-fn judge_each(alloc: Global, limit: u64, entries: &Container<'_>) -> Result<(), RecordExportError>
-    ensures { AnswersRefusal result (entries_refusal limit entries.now) }
+    entries: &ContainerWriter<GrowingSink>,
+) -> Result<Option<RecordExportError>, AllocError>
+    ensures { IfOk result (λ r. r ≡ entries_refusal limit entries.now.entries) }
 {
     for i in 0..entries.len() {
-        judge_size(alloc, limit, entries.name(i), entries.bytes(i))?;
+        let too_large = size_refusal(alloc, limit, entries.name(i), entries.bytes(i))?;
+        if let Some(refusal) = too_large {
+            return Ok(Some(refusal));
+        }
     }
-    Ok(())
+    Ok(None)
 }
 
 /// Judges the size of an entry.
-fn judge_size(
+///
+/// # Errors
+///
+/// `FileTooLarge` comes exactly where the content is longer than the limit, `OutOfMemory` where memory
+/// for its name ran out.
+pub fn judge_size(
     alloc: Global,
     limit: u64,
     name: &str,
@@ -57,14 +43,29 @@ fn judge_size(
 ) -> Result<(), RecordExportError>
     ensures { AnswersRefusal result (entry_refusal limit (named name.now content.now)) }
 {
+    match size_refusal(alloc, limit, name, content)? {
+        None => Ok(()),
+        Some(refusal) => Err(refusal),
+    }
+}
+
+/// Returns the refusal of an entry that is longer than the limit.
+fn size_refusal(
+    alloc: Global,
+    limit: u64,
+    name: &str,
+    content: &[u8],
+) -> Result<Option<RecordExportError>, AllocError>
+    ensures { IfOk result (λ r. r ≡ entry_refusal limit (named name.now content.now)) }
+{
     let size = content.len() as u64;
     if size <= limit {
-        return Ok(());
+        return Ok(None);
     }
     let file_name = Text::from_str(alloc, name)?;
-    Err(RecordExportError::FileTooLarge {
+    Ok(Some(RecordExportError::FileTooLarge {
         file_name,
         size,
         limit,
-    })
+    }))
 }

@@ -1,4 +1,4 @@
-use Rattle.std.proofs.Common.{◌≡◌, List, [], ◌∷◌, ◌++◌, map, Ok, ap, refl, sym, subst, append-nil, ◌∙◌}
+use Rattle.std.proofs.Common.{List, [], ◌++◌, map, Ok, ap, refl, sym, subst, append-nil, ◌∙◌}
 use Rattle.std.specs.Option.{option_to_list}
 use Rattle.rec_codec.specs.Event.{LiveEvent}
 use Rattle.rec_codec.specs.LineView.{line_view}

@@ -1,4 +1,4 @@
-use Rattle.std.proofs.Common.{◌≡◌, List, ℕ, [], Ok, Err, ap, subst, sym, inl}
+use Rattle.std.proofs.Common.{◌≡◌, [], Ok, Err, subst, sym, inl}
 use Rattle.std.proofs.lemmas.Result.{IfErr-weaker, IfOk-weaker}
 use Rattle.rec_store.specs.Recording.{Recording, Stores}
 use Rattle.rec_store.specs.Store.{store_entries}
@@ -43,7 +43,19 @@ returns-in-Ok-record_lines-clause-run g c =
     let stored = subst (λ (r : Recording GrowingSinkState GrowingSinkState g.row.N.Denot). Stores text_taken (λ (b : GrowingSinkState). b.faults) r start (store_entries head)) c.new-recorder.ensures c.in-Ok.ensures.ok in
     let has = begun number (λ (b : GrowingSinkState). b.faults) head namer m c.new.result c.new-2.result start c.new.ensures.bytes c.new-2.ensures.bytes stored in
     let recorded = lines_with number namer m head [] c.args.lines start c.record_lines.new.recorder (Ok tt) has (c.in-Ok-record_lines.ensures.recorded head [] (made_with number namer m head [] start has)) in
-    c.end_run.ensures.run namer m head (events_of c.args.lines) recorded.1 c.in-Ok.ensures.read
+    c.end_run.ensures.run namer m head (events_of c.args.lines) recorded.1
+
+pub returns-in-Ok-record_lines-clause-too_large : goal.returns-in-Ok-record_lines-clause-too_large
+returns-in-Ok-record_lines-clause-too_large g c =
+    let number = g.N.OutputNamer.number in
+    let namer = c.args.namer.now in
+    let m = c.args.settings.now.max_output in
+    let head = c.args.head.now in
+    let start = c.record_head.new.recorder in
+    let stored = subst (λ (r : Recording GrowingSinkState GrowingSinkState g.row.N.Denot). Stores text_taken (λ (b : GrowingSinkState). b.faults) r start (store_entries head)) c.new-recorder.ensures c.in-Ok.ensures.ok in
+    let has = begun number (λ (b : GrowingSinkState). b.faults) head namer m c.new.result c.new-2.result start c.new.ensures.bytes c.new-2.ensures.bytes stored in
+    let recorded = lines_with number namer m head [] c.args.lines start c.record_lines.new.recorder (Ok tt) has (c.in-Ok-record_lines.ensures.recorded head [] (made_with number namer m head [] start has)) in
+    c.end_run.ensures.too_large namer m head (events_of c.args.lines) recorded.1
 
 pub returns-in-Ok-record_lines-clause-traced : goal.returns-in-Ok-record_lines-clause-traced
 returns-in-Ok-record_lines-clause-traced g c =

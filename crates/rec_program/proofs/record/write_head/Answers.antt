@@ -7,6 +7,12 @@ use Rattle.rec_program.specs.RecorderFaults.{ComesOfHead}
 use Rattle.rec_program.proofs.RecorderFaults.{head_comes}
 use Rattle.rec_program.proofs.record.write_head.Goals as goal
 
+pub write_rerun-requires : goal.write_rerun-requires
+write_rerun-requires g c = record {
+  sound =
+      sound_stores g.S.Sink.taken g.S.Sink.faults c.args.recorder.now c.write_build_scope.new.self (build_scope_entry c.args.head.now.build_scope ∷ []) c.in_ok-write_build_scope.ensures.ok c.requires.sound;
+}
+
 pub returns-clause-ok : goal.returns-clause-ok
 returns-clause-ok g c =
     let head = c.args.head.now in
