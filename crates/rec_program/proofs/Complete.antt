@@ -1,5 +1,5 @@
 -- A valid session is exported, unless memory runs out or an object fails.
-use Rattle.std.proofs.Common.{◌≡◌, ℕ, ◌+◌, ◌<◌, ◌≤◌, List, ◌++◌, length, Option, Some, None, Result, Ok, Err, IfErr, ap, sym, refl, ◌∙◌, arith, inl, inr, append-nil, length-append}
+use Rattle.std.proofs.Common.{◌≡◌, ℕ, ◌≤◌, List, ◌++◌, length, Option, Some, None, Result, Ok, Err, IfErr, ap, sym, refl, ◌∙◌, arith, inl, inr, append-nil, length-append}
 use Rattle.std.specs.Io.KnownBytes.{Consumes, IsAtEnd}
 use Rattle.rec_container.specs.Causes.{Rose}
 use Rattle.rec_program.specs.Bundle.{session_refusal}
@@ -29,7 +29,7 @@ module _ {S B T : Type 0} (left : S → Option (List ℕ)) (source_faults : S �
     (source : ¬ (Rose (source_faults s0) (source_faults s1))) (bundle : ¬ (Rose (bundle_faults b0) (bundle_faults b1))) (trace : ¬ (Rose (out_faults t0) (out_faults t1))) where
   unread : (e : RecordExportError) → Unread left source_faults settings.session_limit s0 s1 e → e ≡ OutOfMemory
   unread SourceFault u = absurd (source u.0)
-  unread (SessionTooLarge most) u = let longer = no_more (left s0) (left s1) session u.1.0 has u.1.1 in let count = u.1.2 in absurd (omega arith)
+  unread (SessionTooLarge most) u = let longer = no_more (left s0) (left s1) session u.2.0 has u.2.1 in let count = u.2.2 in absurd (omega arith)
   unread ParseHead u = absurd u
   unread (ReadRunLog line_number) u = absurd u
   unread (ParseEvent line_number) u = absurd u

@@ -8,4 +8,5 @@ pub mod OptionSteps
 pub mod Recorded
 pub mod RecordedLines
 pub mod RecorderFaults
+pub mod SessionReads
 pub mod SessionTraced

@@ -65,7 +65,7 @@ event_is_loaded (Some text) event h = live_event_loaded text event h
 -- ---- the lines after
 
 -- the event of a line stands before those of the rest
-events_next : (events : List LiveEvent) (o : Option LiveEvent) (rest : List LiveEvent) → (events ++ option_to_list o) ++ rest ≡ events ++ cons_option o rest
+pub events_next : (events : List LiveEvent) (o : Option LiveEvent) (rest : List LiveEvent) → (events ++ option_to_list o) ++ rest ≡ events ++ cons_option o rest
 events_next events None rest = ap (λ l. l ++ rest) (append-nil events)
 events_next events (Some e) rest = append_assoc events (e ∷ []) rest
 
@@ -74,7 +74,7 @@ module _ (number : List ℕ → ℕ) (m : ℕ) (events : List LiveEvent) where
   outputs_next None = ap (outputs_stored number m) (append-nil events)
   outputs_next (Some e) = outputs_push number m events e
 
-  refusal_next : (line : NumberedLine) (rest : List NumberedLine) → line_refusal number m (outputs_stored number m events) line ≡ None
+  pub refusal_next : (line : NumberedLine) (rest : List NumberedLine) → line_refusal number m (outputs_stored number m events) line ≡ None
       → lines_refusal number m (outputs_stored number m events) (line ∷ rest) ≡ lines_refusal number m (outputs_stored number m (events ++ option_to_list (event_at line))) rest
   refusal_next line rest none =
       ap (λ o. option_or o (lines_refusal number m (with_entries (outputs_stored number m events) (outputs_at number m (event_at line))) rest)) none

@@ -36,7 +36,8 @@ module _ {S B T : Type 0} (left : S → Option (List ℕ)) (source_faults : S �
       × AreOf number settings session bundle trace
       × Appends (taken b0) (taken b1) bundle × Appends (shown t0) (shown t1) trace × CountsOf number settings.max_output session bundle trace exported
 
-  -- why a session isn't exported: it wasn't read, or it is refused, or a sink failed; before the first byte both sinks are as they were
+  -- why a session isn't exported: it wasn't read, or memory ran out, and the source gave at most one byte more than the limit; or it was read
+  -- and is refused; or a sink failed. Before the first byte both sinks are as they were
   abbrev pub Fails : S → S → B → B → T → T → RecordExportError → Type 0
   Fails s0 s1 b0 b1 t0 t1 e =
       (Unread left source_faults settings.session_limit s0 s1 e × (b1 ≡ b0) × (t1 ≡ t0))

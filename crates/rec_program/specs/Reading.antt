@@ -6,9 +6,10 @@ use Rattle.rec_program.specs.declared.refusal.RecordExportError.{RecordExportErr
 use Rattle.rec_program.specs.declared.refusal.RecordExportError.TheVariants.{SourceFault, SessionTooLarge, OutOfMemory}
 
 module _ {S : Type 0} (left : S → Option (List ℕ)) (faults : S → ℕ) where
-  -- the source wasn't read to its end, and why
+  -- the source wasn't read to its end, and why; where memory ran out, now or later, it gave at most one byte more than the limit, without a
+  -- fault
   abbrev pub Unread : ℕ → S → S → RecordExportError → Type 0
   Unread limit old new SourceFault = within.Unread left faults limit old new read.SourceFault
   Unread limit old new (SessionTooLarge most) = within.Unread left faults limit old new (read.TooLarge most)
-  Unread limit old new OutOfMemory = Unit {0}
+  Unread limit old new OutOfMemory = within.Unread left faults limit old new read.OutOfMemory
   Unread limit old new e = ⊥

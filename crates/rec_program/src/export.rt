@@ -17,15 +17,15 @@ use std::alloc::Global;
 
 /// Reads a session from the source to its end, and writes its bundle and then its trace.
 ///
-/// The whole session is judged, and both are built, before the first byte is written. Writing takes
-/// no memory.
+/// The whole session is judged, and the contents of both are made, before the first byte is written.
+/// Writing takes no memory.
 ///
 /// # Errors
 ///
 /// The error is the first cause in the order of the variants of [`RecordExportError`]:
 ///
-/// - `SourceFault` comes where the source failed, and `SessionTooLarge` where it gave more bytes than
-///   `session_limit`.
+/// - `SourceFault` comes where the source failed, and `SessionTooLarge` where it gave one byte more than
+///   `session_limit` and had not failed.
 /// - `ParseHead`, `ReadRunLog`, `ParseEvent` and `NameCollision` come for the first line that is no
 ///   head, no text, no event, or has an output that clashes with one before.
 /// - `CountOutOfRange` without an event comes where the bundle would have 2^64 bytes or more, and
@@ -33,7 +33,8 @@ use std::alloc::Global;
 /// - What else names an event says why the trace can't be drawn.
 /// - `BundleFault` and `TraceFault` come where a sink failed. All errors but these leave both sinks as
 ///   they were.
-/// - `OutOfMemory` may come at any time before the first byte is written.
+/// - `OutOfMemory` may come at any time before the first byte is written. Then too the source gave at
+///   most one byte more than `session_limit`, and had not failed.
 ///
 /// # Examples
 ///
@@ -89,12 +90,6 @@ fn export<S: Source, N: OutputNamer, B: Sink, T: Sink>(
 {
     let session = read_session(alloc, settings.session_limit, source)?;
     let prepared = prepare(alloc, settings, namer, &session)?;
-    let text = prepared.trace.as_str();
-    deliver(prepared.bundle.bytes(), text, bundle, trace)?;
-    Ok(Exported {
-        events: prepared.events,
-        outputs: prepared.outputs,
-        bundle_bytes: prepared.bundle.bytes().len() as u64,
-        trace_bytes: text.len() as u64,
-    })
+    deliver(&prepared, bundle, trace)?;
+    Ok(prepared.exported)
 }

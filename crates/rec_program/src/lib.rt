@@ -10,6 +10,7 @@ mod deliver;
 mod export;
 mod fault_line;
 mod head;
+pub mod laws;
 mod line;
 mod options;
 mod prepare;
