@@ -1,5 +1,5 @@
 -- A line that is written piece by piece.
-use Rattle.std.proofs.Common.{◌≡◌, zero, suc, ℕ, ◌+◌, ◌≤◌, List, [], ◌∷◌, ◌++◌, length, drop, Option, Some, None, Result, Ok, Err, OnErr, ap, sym, refl, ◌∙◌, arith, append_assoc, subst, add-one, append-nil}
+use Rattle.std.proofs.Common.{◌≡◌, zero, suc, ℕ, ◌+◌, ◌≤◌, List, [], ◌∷◌, ◌++◌, length, drop, Option, ap, sym, refl, ◌∙◌, arith, append_assoc, subst, add-one, append-nil}
 use lib.ListN.{get_or}
 use Rattle.std.specs.Io.KnownBytes.{Appends}
 use Rattle.std.proofs.KnownBytes.{Appends-trans}
