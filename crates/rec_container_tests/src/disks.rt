@@ -61,20 +61,3 @@ fn misses_what_is_not_there(rt: HostRuntime) -> Result<(), Fail> {
     assert_eq!(rt; disk.create(path), Err(DiskError::DiskFailed));
     Ok(())
 }
-
-#[test]
-fn keeps_real_files(rt: HostRuntime) -> Result<(), Fail> {
-    let mut disk = StdDisk::new(&rt);
-    let (log, old) = ("/tmp/rezovamy-disk-log", "/tmp/rezovamy-disk-old");
-    assert_eq!(rt; disk.create(log), Ok(()));
-    assert_eq!(rt; disk.append(log, b"one two"), Ok(7));
-    assert_eq!(rt; disk.rename(log, old), Ok(()));
-    assert_eq!(rt; (disk.exists(log), disk.len(old)), (Ok(false), Ok(7)));
-    let mut buf = [0; 4];
-    assert_eq!(rt; disk.read(old, 4, &mut buf), Ok(3));
-    assert_eq!(rt; buf, *b"two\0");
-    // No call takes a file away, so what is left is emptied.
-    assert_eq!(rt; disk.create(old), Ok(()));
-    assert_eq!(rt; disk.len(old), Ok(0));
-    Ok(())
-}

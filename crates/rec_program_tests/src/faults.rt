@@ -39,14 +39,13 @@ const TAKEN: [u64; 22] = [
 fn faults_of_the_bundle_leave_no_trace(rt: HostRuntime) -> Result<(), Fail> {
     let alloc = rt.alloc();
     // Each write of the bundle fails in turn.
-    let mut call = 0;
-    for taken in TAKEN {
-        call += 1;
+    for call in 0..22 {
         let faults = Faults {
             piece: 100,
-            bundle: call,
+            bundle: call as u64 + 1,
             ..SOUND
         };
+        let taken = TAKEN[call];
         let got = outcome_of_head(alloc, &["record", "b"], faults)?;
         let expected = format!(in alloc; "10 {taken} 0 BundleFault\n")?;
         assert!(rt; got.as_str() == expected.as_str(), "{got}");
