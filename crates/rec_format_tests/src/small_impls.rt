@@ -156,6 +156,13 @@ fn scope(alloc: Global, text: &str) -> Result<RecordedBuildScope, Fail> {
     Ok(read_text(alloc, text.as_bytes())?)
 }
 
+// Whether the scopes of two texts are equal.
+fn scopes_are_equal(alloc: Global, text: &str, other: &str) -> Result<bool, Fail> {
+    let value = scope(alloc, text)?;
+    let other = scope(alloc, other)?;
+    Ok(are_equal(&value, &other))
+}
+
 fn suite(alloc: Global, binary_id: &str) -> Result<RerunTestSuiteInfo, Fail> {
     Ok(RerunTestSuiteInfo {
         binary_id: RustBinaryId::new(String::from_str(alloc, binary_id)?),
@@ -164,16 +171,23 @@ fn suite(alloc: Global, binary_id: &str) -> Result<RerunTestSuiteInfo, Fail> {
     })
 }
 
+// Whether the suites of two binaries, without tests, are equal.
+fn suites_are_equal(alloc: Global, binary_id: &str, other: &str) -> Result<bool, Fail> {
+    let value = suite(alloc, binary_id)?;
+    let other = suite(alloc, other)?;
+    Ok(are_equal(&value, &other))
+}
+
+const CARGO: &str = r#"{"build-kind":"cargo","scope":{}}"#;
+
+const REUSED: &str = r#"{"build-kind":"reused","scope":{}}"#;
+
 #[test]
 fn equal_scopes_and_suites(rt: HostRuntime) -> Result<(), Fail> {
     let alloc = rt.alloc();
-    let cargo = scope(alloc, r#"{"build-kind":"cargo","scope":{}}"#)?;
-    let again = scope(alloc, r#"{"build-kind":"cargo","scope":{}}"#)?;
-    assert!(rt; are_equal(&cargo, &again));
-    let reused = scope(alloc, r#"{"build-kind":"reused","scope":{}}"#)?;
-    assert!(rt; !are_equal(&cargo, &reused));
-    let first = suite(alloc, "a")?;
-    assert!(rt; are_equal(&first, &suite(alloc, "a")?));
-    assert!(rt; !are_equal(&first, &suite(alloc, "b")?));
+    assert!(rt; scopes_are_equal(alloc, CARGO, CARGO)?);
+    assert!(rt; !scopes_are_equal(alloc, CARGO, REUSED)?);
+    assert!(rt; suites_are_equal(alloc, "a", "a")?);
+    assert!(rt; !suites_are_equal(alloc, "a", "b")?);
     Ok(())
 }
