@@ -27,7 +27,7 @@ def crates():
 
 
 def function_of(crate, file_name):
-    """`machine::Machine::observe` for the file of that function's states."""
+    """`span_tracker::SpanTracker::observe` for the file of that function's states."""
     stem = file_name.removesuffix(SUFFIX)
     return re.sub(rf"^Rattle-{crate}-(proofs|tests)\.", "", stem).replace(".", "::")
 

@@ -56,7 +56,7 @@ def sweep(tool, name, session, words):
             continue
         demand(status == 70, f"{name}: allocation {n} gives status {status}")
         demand(bundle == OLD and out == b"", f"{name}: allocation {n} changes a sink")
-        demand(line in (b"", b"OutOfMemory\n"), f"{name}: allocation {n} is reported as {line}")
+        demand(line in (b"AllocError\n", b"OutOfMemory\n"), f"{name}: allocation {n} is reported as {line}")
     for n in range(1, calls["read"] + 1):
         status, bundle, out, line, _ = tool.run(session, words, ("read", n))
         demand((status, line) == (3, b"SourceFault\n"), f"{name}: read {n} gives {status} {line}")
