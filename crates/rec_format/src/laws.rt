@@ -5,7 +5,7 @@ ghost use Rattle.serde_json.specs.Data.{Data};
 ghost use Rattle.serde_json.specs.Written.{compact_text};
 ghost use Rattle.rec_forms.specs.TextForm.{bytes_form};
 ghost use Rattle.rec_format.specs.HeadForms.{head_form, IsHead};
-ghost use Rattle.rec_format.specs.RunForms.{manifest_form, manifest_value};
+ghost use Rattle.rec_format.specs.RunForms.{manifest_form, manifest_value, IsManifest};
 ghost use Rattle.rec_format.specs.Runs.{manifest_of, recorded_info};
 ghost use Rattle.rec_format.specs.SizeForms.{AreSizes};
 ghost use Rattle.rec_format.specs.HeadTexts.{AreTextsRead};
@@ -16,6 +16,9 @@ ghost use Rattle.rec_format.specs.contracts.versions.StoreFormatMinorVersionOrd.
 ghost use Rattle.rec_format.specs.contracts.versions.PortableRecordingFormatMajorVersionOrd.TheImpl as portable_major;
 ghost use Rattle.rec_format.specs.contracts.versions.PortableRecordingFormatMinorVersionOrd.TheImpl as portable_minor;
 ghost use Rattle.rec_format.specs.contracts.versions.RunsJsonFormatVersionOrd.TheImpl as run_list;
+
+use crate::{PortableManifest, SessionHead};
+use rec_forms::Held;
 
 /// States that the version numbers of each kind are ordered as their numbers are.
 pub fn versions_are_ordered_by_their_numbers()
@@ -30,6 +33,20 @@ pub fn versions_are_ordered_by_their_numbers()
 pub fn read_heads_are_well_formed()
     ensures { (d : Data) (head : SessionHead) → head_form d ≡ Some head → IsHead head }
 {}
+
+/// States that a head that a program holds is well-formed, whether it is ever written or not.
+pub fn held_heads_are_well_formed(head: &SessionHead)
+    ensures { IsHead head.now }
+{
+    head.held();
+}
+
+/// States that a manifest that a program holds is well-formed, whether it is ever written or not.
+pub fn held_manifests_are_well_formed(manifest: &PortableManifest)
+    ensures { IsManifest manifest.now }
+{
+    manifest.held();
+}
 
 /// States that the texts of a well-formed head's build scope, rerun information, test list and record
 /// options are read as these, and that what cargo printed is UTF-8.

@@ -33,7 +33,8 @@ impl StoreFormatMajorVersion {
         StoreFormatMajorVersion { version }
     }
 
-    pub(crate) fn number(self) -> u32
+    /// Returns the number.
+    pub fn number(self) -> u32
         ensures { result ≡ self }
     {
         self.version
@@ -86,7 +87,8 @@ impl StoreFormatMinorVersion {
         StoreFormatMinorVersion { version }
     }
 
-    pub(crate) fn number(self) -> u32
+    /// Returns the number.
+    pub fn number(self) -> u32
         ensures { result ≡ self }
     {
         self.version
@@ -129,7 +131,8 @@ impl PortableRecordingFormatMajorVersion {
         PortableRecordingFormatMajorVersion { version }
     }
 
-    pub(crate) fn number(self) -> u32
+    /// Returns the number.
+    pub fn number(self) -> u32
         ensures { result ≡ self }
     {
         self.version
@@ -182,7 +185,8 @@ impl PortableRecordingFormatMinorVersion {
         PortableRecordingFormatMinorVersion { version }
     }
 
-    pub(crate) fn number(self) -> u32
+    /// Returns the number.
+    pub fn number(self) -> u32
         ensures { result ≡ self }
     {
         self.version

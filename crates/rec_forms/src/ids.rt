@@ -2,7 +2,7 @@
 ghost use Rattle.std.specs.Prelude.{◌≡◌};
 ghost use Rattle.uuid.specs.Text.{parsed};
 
-use crate::{Form, FromValueError};
+use crate::{Form, FromValueError, Held};
 use rec_events::{ReportUuid, RustBinaryId, ScriptId, TestCaseName, Text, Version, VersionError};
 use serde_json::Value;
 use std::alloc::{AllocError, Global};
@@ -39,6 +39,12 @@ impl Form for RustBinaryId {
     }
 }
 
+impl Held for RustBinaryId {
+    fn held(&self) {
+        let _text = self.as_str();
+    }
+}
+
 impl Form for TestCaseName {
     ghost use Rattle.serde_json.specs.Data.{string};
     ghost use Rattle.rec_events.specs.Names.{IsText};
@@ -70,6 +76,12 @@ impl Form for TestCaseName {
     }
 }
 
+impl Held for TestCaseName {
+    fn held(&self) {
+        let _text = self.as_str();
+    }
+}
+
 impl Form for ScriptId {
     ghost use Rattle.serde_json.specs.Data.{string};
     ghost use Rattle.rec_events.specs.Names.{IsText};
@@ -98,6 +110,12 @@ impl Form for ScriptId {
     fn from_value(alloc: Global, value: &Value) -> Result<ScriptId, FromValueError> {
         let text = Text::from_value(alloc, value)?;
         Ok(ScriptId::new(text.into_string()))
+    }
+}
+
+impl Held for ScriptId {
+    fn held(&self) {
+        let _text = self.as_str();
     }
 }
 
@@ -146,6 +164,14 @@ impl Form for ReportUuid {
     }
 }
 
+impl Held for ReportUuid {
+    fn held(&self) {
+        // its text reads as it, so it is sixteen bytes
+        let mut buffer = Uuid::encode_buffer();
+        let _text = self.uuid().hyphenated().encode_lower(&mut buffer);
+    }
+}
+
 impl Form for Version {
     ghost use Rattle.semver.specs.Identifiers.{parts_text};
     ghost use Rattle.rec_events.specs.Versions.{IsVersion};
@@ -179,5 +205,11 @@ impl Form for Version {
             Err(VersionError::OutOfMemory) => Err(FromValueError::OutOfMemory),
             Err(VersionError::NotAVersion) => Err(FromValueError::NotAValue),
         }
+    }
+}
+
+impl Held for Version {
+    fn held(&self) {
+        let _parsed = self.as_semver();
     }
 }

@@ -6,6 +6,7 @@ mod errors;
 mod fields;
 mod form;
 mod groups;
+mod held;
 mod ids;
 mod instances;
 mod laws;
@@ -33,6 +34,7 @@ pub use fields::{
     required_field, tagged,
 };
 pub use form::Form;
+pub use held::{Held, held_optional};
 pub use laws::{
     read_items_are_well_formed, well_formed_items_read_back, writable_values_read_back,
 };

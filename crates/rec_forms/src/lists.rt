@@ -3,7 +3,7 @@ ghost use Rattle.std.specs.Prelude.{◌≡◌, Some, map};
 ghost use Rattle.std.specs.List.{AllByRecursion};
 ghost use Rattle.rec_forms.specs.Lists.{list_value, list_form};
 
-use crate::{Form, FromValueError};
+use crate::{Form, FromValueError, Held};
 use rec_events::Items;
 use serde_json::Value;
 use std::alloc::{AllocError, Global};
@@ -46,5 +46,13 @@ impl<T: Form + Drop> Form for Items<T> {
             items.push(item)?;
         }
         Ok(Items::new(items))
+    }
+}
+
+impl<T: Held + Drop> Held for Items<T> {
+    fn held(&self) {
+        for item in self.as_slice() {
+            item.held();
+        }
     }
 }

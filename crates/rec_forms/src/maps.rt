@@ -2,7 +2,7 @@
 ghost use Rattle.std.specs.Prelude.{◌≡◌, suc};
 
 use crate::fields::put_field;
-use crate::{Form, FromValueError};
+use crate::{Form, FromValueError, Held};
 use rec_events::{Text, TextMap};
 use serde_json::{Map, Value};
 use std::alloc::{AllocError, Global};
@@ -46,5 +46,13 @@ impl<V: Form + Drop> Form for TextMap<V> {
             map.insert(Text::from_str(alloc, key.as_str())?, item)?;
         }
         Ok(map)
+    }
+}
+
+impl<V: Held + Drop> Held for TextMap<V> {
+    fn held(&self) {
+        for (_, item) in self.as_map() {
+            item.held();
+        }
     }
 }

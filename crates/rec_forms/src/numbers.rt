@@ -2,7 +2,7 @@
 ghost use Rattle.std.specs.Prelude.{◌≡◌, ◌^◌, ◌<◌, ℕ, FitsSigned};
 ghost use Rattle.std.specs.Int.{w32, w64};
 
-use crate::{Form, FromValueError};
+use crate::{Form, FromValueError, Held};
 use rec_events::NonZeroCount;
 use serde_json::Value;
 use std::alloc::{AllocError, Global};
@@ -39,6 +39,12 @@ impl Form for u32 {
     }
 }
 
+impl Held for u32 {
+    fn held(&self) {
+        let _number = *self;
+    }
+}
+
 impl Form for u64 {
     ghost use Rattle.rec_forms.specs.Shape.{natural};
     ghost use Rattle.rec_forms.specs.Writable.{natural_writable};
@@ -68,6 +74,12 @@ impl Form for u64 {
             Some(n) => Ok(n),
             None => Err(FromValueError::NotAValue),
         }
+    }
+}
+
+impl Held for u64 {
+    fn held(&self) {
+        let _number = *self;
     }
 }
 
@@ -103,6 +115,12 @@ impl Form for usize {
     }
 }
 
+impl Held for usize {
+    fn held(&self) {
+        let _number = *self;
+    }
+}
+
 impl Form for i64 {
     ghost use Rattle.rec_forms.specs.Shape.{integer};
     ghost use Rattle.rec_forms.specs.Writable.{integer_writable};
@@ -135,6 +153,12 @@ impl Form for i64 {
     }
 }
 
+impl Held for i64 {
+    fn held(&self) {
+        let _number = *self;
+    }
+}
+
 impl Form for i32 {
     ghost use Rattle.rec_forms.specs.Shape.{integer};
     ghost use Rattle.rec_forms.specs.NumberLaws.{i32_writable};
@@ -164,6 +188,12 @@ impl Form for i32 {
             Some(n) if -0x8000_0000 <= n && n <= 0x7fff_ffff => Ok(n as i32),
             _ => Err(FromValueError::NotAValue),
         }
+    }
+}
+
+impl Held for i32 {
+    fn held(&self) {
+        let _number = *self;
     }
 }
 
@@ -200,6 +230,10 @@ impl Form for bool {
     }
 }
 
+impl Held for bool {
+    fn held(&self) {}
+}
+
 impl Form for NonZeroCount {
     ghost use Rattle.rec_forms.specs.Shape.{natural};
     ghost use Rattle.rec_forms.specs.Numbers.{count_form, IsCount};
@@ -227,5 +261,11 @@ impl Form for NonZeroCount {
     fn from_value(alloc: Global, value: &Value) -> Result<NonZeroCount, FromValueError> {
         let count = u32::from_value(alloc, value)?;
         NonZeroCount::new(count).ok_or(FromValueError::NotAValue)
+    }
+}
+
+impl Held for NonZeroCount {
+    fn held(&self) {
+        let _number = self.get();
     }
 }

@@ -1,5 +1,5 @@
 //! Why tests are skipped, and which of these a report names.
-use crate::{Form, FromValueError};
+use crate::{Form, FromValueError, Held};
 use rec_events::{MismatchReason, ReportSkipPolicy};
 use serde_json::Value;
 use std::alloc::{AllocError, Global};
@@ -51,6 +51,10 @@ impl Form for MismatchReason {
     }
 }
 
+impl Held for MismatchReason {
+    fn held(&self) {}
+}
+
 impl Form for ReportSkipPolicy {
     ghost use Rattle.rec_forms.specs.Skipping.{skip_policy_value, skip_policy_form};
     ghost use Rattle.rec_forms.specs.SkippingLaws.{skip_policy_back, skip_policy_writable};
@@ -88,4 +92,8 @@ impl Form for ReportSkipPolicy {
             _ => Err(FromValueError::NotAValue),
         }
     }
+}
+
+impl Held for ReportSkipPolicy {
+    fn held(&self) {}
 }

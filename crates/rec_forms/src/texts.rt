@@ -2,7 +2,7 @@
 ghost use Rattle.serde_json.specs.Data.{string};
 ghost use Rattle.rec_forms.specs.Shape.{text_of};
 
-use crate::{Form, FromValueError};
+use crate::{Form, FromValueError, Held};
 use rec_events::Text;
 use serde_json::Value;
 use std::alloc::{AllocError, Global};
@@ -35,5 +35,11 @@ impl Form for Text {
             Some(text) => Ok(Text::from_str(alloc, text)?),
             None => Err(FromValueError::NotAValue),
         }
+    }
+}
+
+impl Held for Text {
+    fn held(&self) {
+        let _text = self.as_str();
     }
 }

@@ -1,6 +1,6 @@
 //! Instants and spans of time.
 use crate::fields::{put_field, required_field};
-use crate::{Form, FromValueError};
+use crate::{Form, FromValueError, Held};
 use rec_events::{Duration, Stamp};
 use serde_json::{Map, Value};
 use std::alloc::{AllocError, Global};
@@ -44,6 +44,14 @@ impl Form for Stamp {
     }
 }
 
+impl Held for Stamp {
+    fn held(&self) {
+        self.secs.held();
+        self.nanos.held();
+        self.offset.held();
+    }
+}
+
 impl Form for Duration {
     ghost use Rattle.rec_forms.specs.Times.{duration_value, duration_form, IsDuration};
     ghost use Rattle.rec_forms.specs.TimeLaws.{duration_back, duration_writable, duration_well_formed};
@@ -78,5 +86,12 @@ impl Form for Duration {
         let secs = required_field(alloc, object, "secs")?;
         let nanos = required_field(alloc, object, "nanos")?;
         Duration::new(secs, nanos).ok_or(FromValueError::NotAValue)
+    }
+}
+
+impl Held for Duration {
+    fn held(&self) {
+        self.secs.held();
+        self.nanos.held();
     }
 }

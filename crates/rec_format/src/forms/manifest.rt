@@ -1,6 +1,6 @@
 //! The manifest of a bundle.
 use crate::PortableManifest;
-use rec_forms::{Form, FromValueError, put_field, required_field};
+use rec_forms::{Form, FromValueError, Held, put_field, required_field};
 use serde_json::{Map, Value};
 use std::alloc::{AllocError, Global};
 
@@ -39,5 +39,12 @@ impl Form for PortableManifest {
             format_version: required_field(alloc, object, "format-version")?,
             run: required_field(alloc, object, "run")?,
         })
+    }
+}
+
+impl Held for PortableManifest {
+    fn held(&self) {
+        self.format_version.held();
+        self.run.held();
     }
 }

@@ -1,7 +1,9 @@
 //! The metadata of a run.
 use super::parts::{Identity, Invocation};
 use crate::{RecordedRun, StoreFormatMinorVersion};
-use rec_forms::{Form, FromValueError, defaulted_field, put_field, required_field};
+use rec_forms::{
+    Form, FromValueError, Held, defaulted_field, held_optional, put_field, required_field,
+};
 use serde_json::{Map, Value};
 use std::alloc::{AllocError, Global};
 
@@ -89,5 +91,22 @@ impl Form for RecordedRun {
             sizes,
             status,
         })
+    }
+}
+
+impl Held for RecordedRun {
+    fn held(&self) {
+        self.run_id.held();
+        self.nextest_version.held();
+        self.started_at.held();
+        self.last_written_at.held();
+        held_optional(&self.duration);
+        self.cli_args.held();
+        self.env_vars.held();
+        held_optional(&self.parent_run_id);
+        self.store_format_version.held();
+        self.store_format_minor_version.held();
+        self.sizes.held();
+        self.status.held();
     }
 }

@@ -1,6 +1,6 @@
 //! Sizes, which are written as their formats.
 use crate::{ComponentSizes, ComponentSizesFormat, RecordedSizes, RecordedSizesFormat};
-use rec_forms::{Form, FromValueError, defaulted_field, put_field, required_field};
+use rec_forms::{Form, FromValueError, Held, defaulted_field, put_field, required_field};
 use serde_json::{Map, Value};
 use std::alloc::{AllocError, Global};
 
@@ -44,6 +44,14 @@ impl Form for ComponentSizesFormat {
     }
 }
 
+impl Held for ComponentSizesFormat {
+    fn held(&self) {
+        self.compressed.held();
+        self.uncompressed.held();
+        self.entries.held();
+    }
+}
+
 impl Form for RecordedSizesFormat {
     ghost use Rattle.rec_format.specs.SizeForms.{sizes_format_value, sizes_format_form, IsSizesFormat};
     ghost use Rattle.rec_format.specs.SizeFormLaws.{sizes_format_back, sizes_format_writable, sizes_format_well_formed};
@@ -82,6 +90,13 @@ impl Form for RecordedSizesFormat {
     }
 }
 
+impl Held for RecordedSizesFormat {
+    fn held(&self) {
+        self.log.held();
+        self.store.held();
+    }
+}
+
 impl Form for ComponentSizes {
     ghost use Rattle.rec_format.specs.SizeForms.{component_value, component_form, IsComponent};
     ghost use Rattle.rec_format.specs.SizeFormLaws.{component_back, component_writable, component_well_formed};
@@ -109,6 +124,12 @@ impl Form for ComponentSizes {
     }
 }
 
+impl Held for ComponentSizes {
+    fn held(&self) {
+        ComponentSizesFormat::from(*self).held();
+    }
+}
+
 impl Form for RecordedSizes {
     ghost use Rattle.rec_format.specs.SizeForms.{sizes_value, sizes_form, AreSizes};
     ghost use Rattle.rec_format.specs.SizeFormLaws.{sizes_back, sizes_writable, sizes_well_formed};
@@ -133,5 +154,11 @@ impl Form for RecordedSizes {
 
     fn from_value(alloc: Global, value: &Value) -> Result<RecordedSizes, FromValueError> {
         Ok(RecordedSizesFormat::from_value(alloc, value)?.into())
+    }
+}
+
+impl Held for RecordedSizes {
+    fn held(&self) {
+        RecordedSizesFormat::from(*self).held();
     }
 }

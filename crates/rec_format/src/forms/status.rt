@@ -11,7 +11,8 @@ use crate::{
     CompletedRunStats, RecordedRunStatus, RecordedRunStatusFormat, StressCompletedRunStats,
 };
 use rec_forms::{
-    Form, FromValueError, Object, member, optional_field, put_field, put_optional, required_field,
+    Form, FromValueError, Held, Object, held_optional, member, optional_field, put_field,
+    put_optional, required_field,
 };
 use serde_json::{Map, Value};
 use std::alloc::{AllocError, Global};
@@ -168,6 +169,39 @@ impl Form for RecordedRunStatus {
     }
 }
 
+// States that the statistics of a run are well-formed.
+fn held_completed(stats: &CompletedRunStats)
+    ensures { AreCompleted stats.now }
+{
+    stats.initial_run_count.held();
+    stats.passed.held();
+    stats.failed.held();
+    stats.exit_code.held();
+}
+
+// States that the statistics of a stress run are well-formed.
+fn held_stress(stats: &StressCompletedRunStats)
+    ensures { AreStress stats.now }
+{
+    held_optional(&stats.initial_iteration_count);
+    stats.success_count.held();
+    stats.failed_count.held();
+    stats.exit_code.held();
+}
+
+impl Held for RecordedRunStatus {
+    fn held(&self) {
+        match self {
+            RecordedRunStatus::Incomplete | RecordedRunStatus::Unknown => {}
+            RecordedRunStatus::Completed(stats) | RecordedRunStatus::Cancelled(stats) => {
+                held_completed(stats)
+            }
+            RecordedRunStatus::StressCompleted(stats) | RecordedRunStatus::StressCancelled(stats) =>
+                { held_stress(stats) }
+        }
+    }
+}
+
 impl Form for RecordedRunStatusFormat {
     ghost use Rattle.rec_format.specs.StatusForms.{status_format_value, status_format_form, IsStatusFormat};
     ghost use Rattle.rec_format.specs.StatusFormLaws.{status_format_back, status_format_writable, status_format_well_formed};
@@ -196,5 +230,11 @@ impl Form for RecordedRunStatusFormat {
             Ok(status) => Ok(RecordedRunStatusFormat::from(status)),
             Err(error) => Err(error),
         }
+    }
+}
+
+impl Held for RecordedRunStatusFormat {
+    fn held(&self) {
+        RecordedRunStatus::from(*self).held();
     }
 }

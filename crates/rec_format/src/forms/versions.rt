@@ -4,7 +4,7 @@ use crate::{
     PortableRecordingFormatVersion, RunsJsonFormatVersion, StoreFormatMajorVersion,
     StoreFormatMinorVersion,
 };
-use rec_forms::{Form, FromValueError, put_field, required_field};
+use rec_forms::{Form, FromValueError, Held, put_field, required_field};
 use serde_json::{Map, Value};
 use std::alloc::{AllocError, Global};
 
@@ -37,6 +37,12 @@ impl Form for StoreFormatMajorVersion {
     }
 }
 
+impl Held for StoreFormatMajorVersion {
+    fn held(&self) {
+        self.number().held();
+    }
+}
+
 impl Form for StoreFormatMinorVersion {
     ghost use Rattle.rec_forms.specs.Numbers.{u32_form};
     ghost use Rattle.rec_forms.specs.NumberLaws.{u32_back, u32_well_formed, u32_writable};
@@ -63,6 +69,12 @@ impl Form for StoreFormatMinorVersion {
 
     fn from_value(alloc: Global, value: &Value) -> Result<StoreFormatMinorVersion, FromValueError> {
         Ok(StoreFormatMinorVersion::new(u32::from_value(alloc, value)?))
+    }
+}
+
+impl Held for StoreFormatMinorVersion {
+    fn held(&self) {
+        self.number().held();
     }
 }
 
@@ -98,6 +110,12 @@ impl Form for PortableRecordingFormatMajorVersion {
     }
 }
 
+impl Held for PortableRecordingFormatMajorVersion {
+    fn held(&self) {
+        self.number().held();
+    }
+}
+
 impl Form for PortableRecordingFormatMinorVersion {
     ghost use Rattle.rec_forms.specs.Numbers.{u32_form};
     ghost use Rattle.rec_forms.specs.NumberLaws.{u32_back, u32_well_formed, u32_writable};
@@ -130,6 +148,12 @@ impl Form for PortableRecordingFormatMinorVersion {
     }
 }
 
+impl Held for PortableRecordingFormatMinorVersion {
+    fn held(&self) {
+        self.number().held();
+    }
+}
+
 impl Form for RunsJsonFormatVersion {
     ghost use Rattle.rec_forms.specs.Numbers.{u32_form};
     ghost use Rattle.rec_forms.specs.NumberLaws.{u32_back, u32_well_formed, u32_writable};
@@ -156,6 +180,12 @@ impl Form for RunsJsonFormatVersion {
 
     fn from_value(alloc: Global, value: &Value) -> Result<RunsJsonFormatVersion, FromValueError> {
         Ok(RunsJsonFormatVersion::new(u32::from_value(alloc, value)?))
+    }
+}
+
+impl Held for RunsJsonFormatVersion {
+    fn held(&self) {
+        self.number().held();
     }
 }
 
@@ -197,5 +227,12 @@ impl Form for PortableRecordingFormatVersion {
             major: required_field(alloc, object, "major")?,
             minor: required_field(alloc, object, "minor")?,
         })
+    }
+}
+
+impl Held for PortableRecordingFormatVersion {
+    fn held(&self) {
+        self.major.held();
+        self.minor.held();
     }
 }
