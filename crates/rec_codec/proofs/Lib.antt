@@ -4,4 +4,5 @@ pub mod Trims
 pub mod LogLaws
 pub mod ReadEventLaws
 pub mod LineItemLemmas
+pub mod LineReadings
 pub mod KindTables

@@ -17,3 +17,4 @@ pub mod EventForms
 pub mod EventFormLaws
 pub mod LineEvents
 pub mod LineItems
+pub mod LineReading

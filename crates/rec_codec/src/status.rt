@@ -7,6 +7,7 @@ ghost use Rattle.rec_events.specs.declared.outputs.ChildExecutionOutputDescripti
 ghost use Rattle.rec_codec.specs.Writes.{Writes};
 ghost use Rattle.rec_codec.specs.Status.{description_value, IsDescription, output_case_form, course_fields, course_form, IsCourse, attempts_form};
 
+use crate::held::{HeldLoaded, HeldOutput, each_held};
 use crate::loaded_form::{LoadedForm, each_to_value, put_loaded, required_loaded, some_from_value};
 use crate::{OutputForm, ToValueError};
 use rec_events::{
@@ -14,8 +15,8 @@ use rec_events::{
     ExecutionStatuses, Items, NonEmpty, Stamp, Text,
 };
 use rec_forms::{
-    Form, FromValueError, Object, member, only_member, optional_field, put_field, put_optional,
-    required_field, tagged,
+    Form, FromValueError, Held, Object, held_optional, member, only_member, optional_field,
+    put_field, put_optional, required_field, tagged,
 };
 use serde_json::{Map, Value};
 use std::alloc::{AllocError, Global};
@@ -120,6 +121,23 @@ impl<S: OutputForm> LoadedForm for ChildExecutionOutputDescription<S> {
                 message: Text::from_value(alloc, value)?,
             }),
             _ => Err(FromValueError::NotAValue),
+        }
+    }
+}
+
+impl<S: HeldOutput> HeldLoaded for ChildExecutionOutputDescription<S> {
+    fn held_loaded(&self) {
+        match self {
+            ChildExecutionOutputDescription::Output {
+                result,
+                output,
+                errors,
+            } => {
+                held_optional(result);
+                S::held_output(output);
+                held_optional(errors);
+            }
+            ChildExecutionOutputDescription::StartError { message } => message.held(),
         }
     }
 }
@@ -240,6 +258,19 @@ impl<S: OutputForm> LoadedForm for ExecuteStatus<S> {
     }
 }
 
+impl<S: HeldOutput> HeldLoaded for ExecuteStatus<S> {
+    fn held_loaded(&self) {
+        self.retry_data.held();
+        self.output.held_loaded();
+        self.result.held();
+        self.start_time.held();
+        self.time_taken.held();
+        self.delay_before_start.held();
+        held_optional(&self.error_summary);
+        held_optional(&self.output_error_slice);
+    }
+}
+
 // Reads the attempts, of which there is at least one.
 #[tactic(auto, unfolding(crate::specs::Status::attempts_form))]
 fn attempts_from<S: OutputForm>(
@@ -292,5 +323,11 @@ impl<S: OutputForm> LoadedForm for ExecutionStatuses<S> {
             statuses: attempts_from(alloc, object, "statuses")?,
             flaky_result,
         })
+    }
+}
+
+impl<S: HeldOutput> HeldLoaded for ExecutionStatuses<S> {
+    fn held_loaded(&self) {
+        each_held(self.statuses.as_slice());
     }
 }
