@@ -1,12 +1,12 @@
 -- Entries, one after the other.
-use Rattle.std.proofs.Common.{zero, suc, ◌≡◌, ℕ, ◌+◌, List, [], ◌∷◌, ◌++◌, length, take, map, slice_get, None, Some, refl, sym, ap, subst, ◌∙◌, append_assoc, append-nil, arith, length-append}
+use Rattle.std.proofs.Common.{zero, suc, ◌≡◌, ℕ, ◌+◌, List, [], ◌∷◌, ◌++◌, length, take, map, slice_get, ◌≤◌, None, Some, refl, sym, ap, subst, ◌∙◌, append_assoc, append-nil, arith, length-append}
 use Rattle.std.specs.List.{flat_map}
 use Rattle.std.specs.Io.KnownBytes.{Appends}
 use Rattle.std.specs.declared.option.Option.{Option}
 use Rattle.std.proofs.KnownBytes.{Appends-trans}
 use Rattle.std.proofs.lemmas.Grind.{flat_map-append}
 use Rattle.std.proofs.lemmas.List.{take_at, drop_at}
-use Rattle.rec_container.specs.Container.{Entry, entry, entry_head, magic, spell, prefix, addition, ending, content_of, IsEntry, AreFrom, IsContainer, StandsAt, place_from}
+use Rattle.rec_container.specs.Container.{Entry, entry, entry_head, magic, spell, prefix, addition, ending, content_of, IsEntry, AreFrom, IsContainer, StandsAt, StandsWithin, place_from}
 use Rattle.rec_container.proofs.Lengths.{length-entry, length-entry_head, length-magic}
 
 -- one more entry
@@ -62,7 +62,25 @@ stands_from before (e ∷ es) after (suc i) content p size h =
     let longer : length (before ++ entry e) ≡ next = omega (arith, length-append before (entry e), length-entry e, size) in
     subst (λ (l : List ℕ). StandsAt l (place_from next es i) content) (sym parts) (stands_from (before ++ entry e) es after i content next longer h)
 
--- the content of an entry stands in the spelling
-pub place_from-stands : (es : List Entry) (i : ℕ) (content : List ℕ) → slice_get (map (λ (e : Entry). e.content) es) i ≡ Some content → StandsAt (spell es) (place_from 8 es i) content
-place_from-stands es i content h =
-    subst (λ (l : List ℕ). StandsAt l (place_from 8 es i) content) (sym (append_assoc magic (flat_map entry es) (0 ∷ []))) (stands_from magic es (0 ∷ []) i content 8 length-magic h)
+-- and end before what follows these
+ends_from : (p : ℕ) (es : List Entry) (i : ℕ) (content : List ℕ) → slice_get (map (λ (e : Entry). e.content) es) i ≡ Some content → place_from p es i + length content ≤ p + length (flat_map entry es)
+ends_from p [] i content h = absurd cc
+ends_from p (e ∷ es) zero content h =
+    let same : e.content ≡ content = cc in
+    omega (arith, ap length same, length-append (entry e) (flat_map entry es), length-entry e)
+ends_from p (e ∷ es) (suc i) content h =
+    omega (arith, ends_from (p + (11 + length e.name + length e.content)) es i content h, length-append (entry e) (flat_map entry es), length-entry e)
+
+-- the content of an entry stands in bytes that begin with the entries
+pub content_stands : (es : List Entry) (rest : List ℕ) (i : ℕ) (content : List ℕ) → slice_get (map (λ (e : Entry). e.content) es) i ≡ Some content
+    → StandsWithin (magic ++ flat_map entry es ++ rest) (place_from 8 es i) content
+content_stands es rest i content h =
+    record {
+      stands =
+          subst (λ (l : List ℕ). StandsAt l (place_from 8 es i) content) (sym (append_assoc magic (flat_map entry es) rest)) (stands_from magic es rest i content 8 length-magic h);
+      within =
+          omega (arith, ends_from 8 es i content h, length-magic, length-append magic (flat_map entry es), length-append (magic ++ flat_map entry es) rest);
+    }
+
+pub place_from-stands : (es : List Entry) (i : ℕ) (content : List ℕ) → slice_get (map (λ (e : Entry). e.content) es) i ≡ Some content → StandsWithin (spell es) (place_from 8 es i) content
+place_from-stands es i content h = content_stands es (0 ∷ []) i content h

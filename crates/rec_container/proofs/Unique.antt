@@ -5,7 +5,7 @@ use Rattle.std.proofs.lemmas.Slice.Eq.{bytes_eq-Decides}
 use Rattle.std.proofs.lemmas.List.{append_cancel_left, take_at}
 use Rattle.rec_container.specs.declared.errors.ContainerError.{ContainerError}
 use Rattle.rec_container.specs.declared.errors.ContainerError.TheVariants.{OutOfMemory}
-use Rattle.rec_container.specs.Container.{Entry, entry, magic, content_of, IsEntry, AreFrom, place_after, IsContainer, IsPrefix}
+use Rattle.rec_container.specs.Container.{Entry, entry, magic, content_of, IsEntry, AreFrom, place_after, IsContainer, IsPrefix, ParsedContainer}
 use Rattle.rec_container.specs.Reading.{step_at, IsFault, has_magic}
 use Rattle.rec_container.proofs.Grammar.{step_at-spelled, step_at-same, entry-tagged, entry_fields}
 
@@ -104,8 +104,8 @@ one_fault bytes e f (inr p) (inr q) =
     same_fault _ e f p.3 again
 
 -- what spells entries is read as these, unless memory runs out
-pub only_reading : (bytes : List ℕ) (r : Result (List Entry) ContainerError) → IfOk r (IsContainer bytes) → IfErr r (λ e. (e ≡ OutOfMemory) ⊎ IsFault bytes e)
-    → (es : List Entry) → IsContainer bytes es → MatchResult r (λ c. c ≡ es) (λ e. e ≡ OutOfMemory)
-only_reading bytes (Ok c) found fault es p = one_reading_spec bytes c es found p
+pub only_reading : (bytes : List ℕ) (r : Result ParsedContainer ContainerError) → IfOk r (λ c. (c.bytes ≡ bytes) × IsContainer bytes c.entries) → IfErr r (λ e. (e ≡ OutOfMemory) ⊎ IsFault bytes e)
+    → (es : List Entry) → IsContainer bytes es → MatchResult r (λ c. c.entries ≡ es) (λ e. e ≡ OutOfMemory)
+only_reading bytes (Ok c) found fault es p = one_reading_spec bytes c.entries es found.1 p
 only_reading bytes (Err e) found (inl memory) es p = memory
 only_reading bytes (Err e) found (inr f) es p = absurd (no_fault bytes es e p f)

@@ -1,5 +1,5 @@
 -- The container: bytes that spell a list of entries.
-use Rattle.std.specs.Prelude.{zero, suc, ◌≡◌, ℕ, ◌+◌, ◌<◌, ◌^◌, List, [], ◌∷◌, ◌++◌, length, take, drop, flat_map, IsUtf8, Option, Some, None, if◌then◌else◌, codes, sum_by}
+use Rattle.std.specs.Prelude.{zero, suc, ◌≡◌, ℕ, ◌+◌, ◌<◌, ◌≤◌, ◌^◌, List, [], ◌∷◌, ◌++◌, length, take, drop, flat_map, IsUtf8, Option, Some, None, if◌then◌else◌, codes, sum_by}
 use Rattle.std.specs.Int.{w16, w64, to_be_bytes}
 use Rattle.std.specs.Str.{bytes_eq}
 
@@ -69,6 +69,11 @@ pub record IsContainer (bytes : List ℕ) (es : List Entry) : Type 0 where
   pub spelled : bytes ≡ spell es
   pub entries : AreFrom [] es
 
+-- bytes that were parsed, and their entries
+pub record ParsedContainer : Type 0 where
+  pub bytes : List ℕ
+  pub entries : List Entry
+
 -- the bytes begin with the magic and whole entries
 pub record IsPrefix (bytes : List ℕ) (es : List Entry) (rest : List ℕ) : Type 0 where
   pub spelled : bytes ≡ magic ++ flat_map entry es ++ rest
@@ -87,3 +92,8 @@ place_from p (e ∷ es) (suc i) = place_from (p + (11 + length e.name + length e
 -- a part stands in bytes at a place
 abbrev pub StandsAt : List ℕ → ℕ → List ℕ → Type 0
 StandsAt bytes place part = take (length part) (drop place bytes) ≡ part
+
+-- and ends within them
+pub record StandsWithin (bytes : List ℕ) (place : ℕ) (part : List ℕ) : Type 0 where
+  pub stands : StandsAt bytes place part
+  pub within : place + length part ≤ length bytes

@@ -4,7 +4,7 @@ ghost use Rattle.std.specs.Io.KnownBytes.{WriteAppends};
 ghost use Rattle.rec_container.specs.Causes.{Counts, HasCause};
 
 use crate::streams::{Sink, SinkFailed};
-use std::alloc::Global;
+use std::alloc::{AllocError, Global};
 use std::marker::Model;
 
 /// A sink in memory that takes each piece whole, and memory for it. A write fails only for want of
@@ -35,11 +35,32 @@ impl GrowingSink {
         }
     }
 
+    /// Makes a sink without bytes or faults, whose first `capacity` bytes need no more memory.
+    ///
+    /// # Errors
+    ///
+    /// `AllocError` where memory is short.
+    pub fn with_capacity(alloc: Global, capacity: usize) -> Result<GrowingSink, AllocError>
+        ensures { IfOk result (λ s. (s.bytes ≡ []) × (s.faults ≡ 0)) }
+    {
+        Ok(GrowingSink {
+            bytes: Vec::with_capacity(alloc, capacity)?,
+            faults: 0,
+        })
+    }
+
     /// Returns the bytes taken so far.
     pub fn bytes(&self) -> &[u8]
         ensures { result.now ≡ self.now.bytes }
     {
         &self.bytes
+    }
+
+    /// Returns the bytes taken, without copying them.
+    pub fn into_bytes(self) -> Vec<u8>
+        ensures { result.items ≡ self.bytes }
+    {
+        self.bytes
     }
 
     /// Returns how many writes have failed.

@@ -1,6 +1,6 @@
 //! Laws of the container's grammar. The functions do nothing: their contracts are what they are for.
 ghost use Rattle.std.specs.Prelude.{◌≡◌, ◌<◌, ◌≤◌, [], ◌∷◌, ◌++◌, length, map, slice_get, List, ℕ, Some};
-ghost use Rattle.rec_container.specs.Container.{Entry, addition, content_bytes, ending, prefix, spell, AreFrom, IsContainer, StandsAt, place_from};
+ghost use Rattle.rec_container.specs.Container.{Entry, addition, content_bytes, ending, prefix, spell, AreFrom, IsContainer, StandsWithin, place_from};
 ghost use Rattle.rec_container.specs.Reading.{IsFault};
 ghost use Rattle.rec_container.specs.declared.errors.ContainerError.{ContainerError};
 
@@ -27,9 +27,9 @@ pub fn one_spelling()
     ensures whole { (es : List Entry) → AreFrom [] es → IsContainer (spell es) es }
 {}
 
-/// The content of each entry stands in the spelling at its place.
+/// The content of each entry stands in the spelling at its place, and ends within it.
 pub fn placed_contents()
-    ensures { (es : List Entry) (i : ℕ) (content : List ℕ) → slice_get (map (λ e. e.content) es) i ≡ Some content → StandsAt (spell es) (place_from 8 es i) content }
+    ensures { (es : List Entry) (i : ℕ) (content : List ℕ) → slice_get (map (λ e. e.content) es) i ≡ Some content → StandsWithin (spell es) (place_from 8 es i) content }
 {}
 
 /// No number about a container is above its length.

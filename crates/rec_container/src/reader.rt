@@ -1,7 +1,7 @@
 //! The reader of containers.
 ghost use Rattle.std.specs.Prelude.{◌≡◌, ◌<◌, [], length, MatchResult, IfOk, IfErr, IsTrue, ◌↔◌, ◌⊎◌, slice_get, map, List, ℕ, Some};
 ghost use Rattle.std.specs.Option.{option_map};
-ghost use Rattle.rec_container.specs.Container.{Entry, content_of, spell, place_from, IsContainer, StandsAt};
+ghost use Rattle.rec_container.specs.Container.{Entry, content_of, place_from, IsContainer, StandsWithin};
 ghost use Rattle.rec_container.specs.Reading.{IsFault};
 ghost use Rattle.rec_container.specs.declared.errors.ContainerError.TheVariants.{OutOfMemory};
 ghost use Rattle.rec_container.specs.Placed.{placed_entries};
@@ -16,28 +16,28 @@ use std::marker::Model;
 /// parsed.
 #[derive(Drop)]
 pub struct Container<'a> {
+    bytes: &'a [u8],
     entries: IndexedEntries<'a>,
 }
 
 impl<'a> Model for Container<'a> {
-    ghost use Rattle.std.specs.Prelude.{List};
-    ghost use Rattle.rec_container.specs.Container.{Entry};
-    ghost use Rattle.rec_container.specs.Placed.{placed_entries, PlacedFrom};
+    ghost use Rattle.rec_container.specs.Container.{ParsedContainer};
+    ghost use Rattle.rec_container.specs.Placed.{placed_entries, ArePlaced};
 
-    ghost Value = { List Entry };
+    ghost Value = { ParsedContainer };
 
-    ghost view = { λ c. placed_entries c.entries };
+    ghost view = { λ c. record { bytes = c.bytes.now; entries = placed_entries c.entries } };
 
-    ghost invariant = { λ c. PlacedFrom 8 c.entries };
+    ghost invariant = { λ c. ArePlaced c.bytes.now c.entries };
 }
 
 impl<'a> Container<'a> {
     /// Reads the bytes of a container, or answers the first fault from the left.
     pub fn parse(alloc: Global, bytes: &'a [u8]) -> Result<Container<'a>, ContainerError>
         // The entries are a list that the bytes spell.
-        ensures found { IfOk result (IsContainer bytes.now) }
+        ensures found { IfOk result (λ c. (c.bytes ≡ bytes.now) × IsContainer bytes.now c.entries) }
         // Bytes that spell a list give it, but for want of memory.
-        ensures only { (es : List Entry) → IsContainer bytes.now es → MatchResult result (λ c. c ≡ es) (λ e. e ≡ OutOfMemory) }
+        ensures only { (es : List Entry) → IsContainer bytes.now es → MatchResult result (λ c. c.entries ≡ es) (λ e. e ≡ OutOfMemory) }
         // Each fault has its cause in the bytes.
         ensures fault { IfErr result (λ e. (e ≡ OutOfMemory) ⊎ IsFault bytes.now e) }
     {
@@ -46,48 +46,48 @@ impl<'a> Container<'a> {
 
     /// Returns how many entries there are.
     pub fn len(&self) -> usize
-        ensures { result ≡ length self.now }
+        ensures { result ≡ length self.now.entries }
     {
         self.entries.len()
     }
 
     /// Returns whether there is no entry.
     pub fn is_empty(&self) -> bool
-        ensures { IsTrue result ↔ (self.now ≡ []) }
+        ensures { IsTrue result ↔ (self.now.entries ≡ []) }
     {
         self.entries.len() == 0
     }
 
     /// Returns the content under a name.
     pub fn get(&self, name: &str) -> Option<&'a [u8]>
-        ensures { option_map (λ c. c.now) result ≡ content_of self.now name.now }
+        ensures { option_map (λ c. c.now) result ≡ content_of self.now.entries name.now }
     {
         self.entries.get(name)
     }
 
     /// Returns the name of an entry.
     pub fn name(&self, i: usize) -> &'a str
-        requires { i < length self.now }
-        ensures { slice_get (map (λ e. e.name) self.now) i ≡ Some result.now }
+        requires { i < length self.now.entries }
+        ensures { slice_get (map (λ e. e.name) self.now.entries) i ≡ Some result.now }
     {
         self.entries.entry(i).name
     }
 
     /// Returns where the content of an entry begins in the bytes that were parsed.
     pub fn place(&self, i: usize) -> usize
-        requires { i < length self.now }
-        ensures place { result ≡ place_from 8 self.now i }
+        requires { i < length self.now.entries }
+        ensures place { result ≡ place_from 8 self.now.entries i }
 
-        // There the parsed bytes, which spell the entries, have the content.
-        ensures stands { (content : List ℕ) → slice_get (map (λ e. e.content) self.now) i ≡ Some content → StandsAt (spell self.now) result content }
+        // There the parsed bytes have the content, and it ends within them.
+        ensures stands { (content : List ℕ) → slice_get (map (λ e. e.content) self.now.entries) i ≡ Some content → StandsWithin self.now.bytes result content }
     {
         self.entries.entry(i).place
     }
 
     /// Returns the content of an entry.
     pub fn bytes(&self, i: usize) -> &'a [u8]
-        requires { i < length self.now }
-        ensures { slice_get (map (λ e. e.content) self.now) i ≡ Some result.now }
+        requires { i < length self.now.entries }
+        ensures { slice_get (map (λ e. e.content) self.now.entries) i ≡ Some result.now }
     {
         self.entries.entry(i).content
     }
@@ -95,7 +95,7 @@ impl<'a> Container<'a> {
 
 /// Reads entries up to the end mark.
 fn read<'a>(alloc: Global, bytes: &'a [u8]) -> Result<Container<'a>, ContainerError>
-    ensures found { IfOk result (IsContainer bytes.now) }
+    ensures found { IfOk result (λ c. (c.bytes ≡ bytes.now) × IsContainer bytes.now c.entries) }
     ensures fault { IfErr result (λ e. (e ≡ OutOfMemory) ⊎ IsFault bytes.now e) }
 {
     let Some(mut rest) = bytes.strip_prefix(b"nxtcont1".as_slice()) else {
@@ -108,5 +108,5 @@ fn read<'a>(alloc: Global, bytes: &'a [u8]) -> Result<Container<'a>, ContainerEr
         entries.push(held)?;
         rest = after;
     }
-    Ok(Container { entries })
+    Ok(Container { bytes, entries })
 }

@@ -7,6 +7,7 @@ use Rattle.rec_container.specs.Reading.{step_at}
 use Rattle.rec_container.specs.Placed.{placed_entry, placed_entries}
 use Rattle.rec_container.proofs.Prefixes.{reading_begins, reading_goes_on, reading_ends, magic_tested}
 use Rattle.rec_container.proofs.Grammar.{step_at-some}
+use Rattle.rec_container.proofs.Placed.{prefix_placed}
 use Rattle.rec_container.proofs.reader.read.Goals as goal
 
 pub returns-in_default-clause-fault : goal.returns-in_default-clause-fault
@@ -47,4 +48,7 @@ returns-clause-found c =
     let rest = c.loop-entries.rest.now in
     let ends : step_at at (placed_entries c.loop-entries.entries) rest ≡ Ok None =
     c.in_ok-held.ensures.step ∙ ap stepped c.in_default-2.is in
-    reading_ends c.args.bytes.now c.loop-entries.entries rest at c.loop-entries.invariant ends
+    (refl, reading_ends c.args.bytes.now c.loop-entries.entries rest at c.loop-entries.invariant ends)
+
+pub invariant_of-result : goal.invariant_of-result
+invariant_of-result c = prefix_placed c.args.bytes.now c.loop-entries.entries c.loop-entries.rest.now c.loop-entries.invariant.prefix c.loop-entries.invariant.placed

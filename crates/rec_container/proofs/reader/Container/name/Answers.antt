@@ -1,6 +1,6 @@
-use Rattle.std.proofs.Common.{◌∙◌, List, ap, sym, arith, length, map, slice_get}
+use Rattle.std.proofs.Common.{◌∙◌, ap, sym, arith, length, map, slice_get}
 use Rattle.std.proofs.lemmas.List.{length-map}
-use Rattle.rec_container.specs.Container.{Entry}
+use Rattle.rec_container.specs.Container.{Entry, ParsedContainer}
 use Rattle.rec_container.specs.Placed.{placed_entry}
 use Rattle.rec_container.proofs.Placed.{slice_get-placed_entries}
 use Rattle.rec_container.proofs.reader.Container.name.Goals as goal
@@ -8,7 +8,7 @@ use Rattle.rec_container.proofs.reader.Container.name.Goals as goal
 pub returns : goal.returns
 returns c =
     let part = λ (e : Entry). e.name in
-    ap (λ (es : List Entry). slice_get (map part es) c.args.i) (sym c.self.view_is) ∙ slice_get-placed_entries part c.self.inside.entries c.args.i c.entry.result.now c.entry.ensures
+    ap (λ (p : ParsedContainer). slice_get (map part p.entries) c.args.i) (sym c.self.view_is) ∙ slice_get-placed_entries part c.self.inside.entries c.args.i c.entry.result.now c.entry.ensures
 
 pub entry-requires : goal.entry-requires
-entry-requires c = omega (arith, c.requires, ap length c.self.view_is, length-map c.self.inside.entries placed_entry)
+entry-requires c = omega (arith, c.requires, ap (λ (p : ParsedContainer). length p.entries) c.self.view_is, length-map c.self.inside.entries placed_entry)
