@@ -9,6 +9,11 @@ mod KeptLaws
 mod Logged
 pub mod OutputLaws
 mod OutputsRead
+mod PartContents
+pub mod PartLaws
+mod PartOutputs
+pub mod PartRefusals
+mod PartsWithin
 mod PathLengths
 pub mod ReadLaws
 mod RecordedEvents

@@ -9,6 +9,8 @@ pub mod Logging
 pub mod Namer
 pub mod NamerLaws
 pub mod OutputPaths
+pub mod Parts
+pub mod Readers
 pub mod Reading
 pub mod Recordable
 pub mod Recording

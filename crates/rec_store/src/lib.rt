@@ -1,4 +1,4 @@
-//! The store and the log of a run, as they are written.
+//! The store and the log of a run: how they are written, and how the store's parts are read.
 #![tactic(auto)]
 
 mod bundle;
@@ -10,13 +10,18 @@ pub mod laws;
 mod namer;
 mod output_paths;
 mod outputs;
+pub mod parts;
+mod read_error;
 mod recorder;
 mod sizes;
+mod store_reader;
 
 pub use bundle::{bundle_length, write_bundle};
 pub use cut::{CutOutput, truncate_output};
 pub use error::RunStoreError;
 pub use namer::{ConstantNamer, OutputNamer, Sha256Namer};
 pub use output_paths::output_path;
+pub use read_error::RecordReadError;
 pub use recorder::{RecorderEnd, RunRecorder};
 pub use sizes::{ComponentSizes, StoreSizes};
+pub use store_reader::StoreReader;
