@@ -1,0 +1,4 @@
+pub mod Counted
+pub mod Opened
+pub mod Places
+pub mod StoreParts

@@ -1,0 +1,6 @@
+pub mod Errors
+pub mod Judging
+pub mod Opening
+pub mod OuterEntries
+pub mod Stores
+pub mod Windows

@@ -1,0 +1,13 @@
+//! Laws of bundles that are read. The functions do nothing: their contracts are what they are for.
+ghost use Rattle.std.specs.Prelude.{◌≡◌, List, ℕ, Result};
+ghost use Rattle.rec_format.specs.declared.manifest.PortableManifest.{PortableManifest};
+ghost use Rattle.rec_portable.specs.Judging.{IsJudged, IsNoContainer};
+ghost use Rattle.rec_portable.specs.declared.errors.PortableRecordingReadError.{PortableRecordingReadError};
+
+/// States that bytes are judged in one way: they are a container, and have one manifest or one first
+/// refusal; or they are none, and have one first fault.
+pub fn one_judgement()
+    ensures entries { (bytes : List ℕ) (limit : ℕ) (r s : Result PortableManifest PortableRecordingReadError) → IsJudged bytes limit r → IsJudged bytes limit s → r ≡ s }
+    ensures fault { (bytes : List ℕ) (e f : PortableRecordingReadError) → IsNoContainer bytes e → IsNoContainer bytes f → e ≡ f }
+    ensures either { (bytes : List ℕ) (limit : ℕ) (r : Result PortableManifest PortableRecordingReadError) (e : PortableRecordingReadError) → IsJudged bytes limit r → IsNoContainer bytes e → ⊥ }
+{}
