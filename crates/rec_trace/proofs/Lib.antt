@@ -8,6 +8,7 @@ pub mod Maps
 pub mod Once
 pub mod OpenTests
 pub mod Orders
+pub mod OutputsNotDrawn
 pub mod PlacesOfHistory
 pub mod Prefixes
 pub mod Rows

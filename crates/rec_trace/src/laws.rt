@@ -1,5 +1,6 @@
 //! Laws of the marks of a trace, as clauses of functions that do nothing.
-ghost use Rattle.std.specs.Prelude.{◌≡◌, ◌↔◌, ◌≤◌, ℕ, ℤ, true, List, [], ◌++◌, length, slice_get, Some, None};
+ghost use Rattle.std.specs.Prelude.{◌≡◌, ◌↔◌, ◌≤◌, ℕ, ℤ, true, List, [], ◌++◌, length, map, slice_get, Some, None};
+ghost use Rattle.rec_events.specs.EventMaps.{event_with};
 ghost use Rattle.rec_events.specs.declared.events.TestEventSummary.{TestEventSummary};
 ghost use Rattle.rec_trace.specs.History.{after, marks_after, trace_marks};
 ghost use Rattle.rec_trace.specs.Kinds as kinds;
@@ -43,4 +44,10 @@ pub fn timeline<S: OutputSpec>()
 pub fn prefixes()
     ensures accepted { (history more : List TraceInput) → history_refusal (history ++ more) ≡ None → history_refusal history ≡ None }
     ensures marks { (history more : List TraceInput) → trace_marks (history ++ more) ≡ trace_marks history ++ marks_after (after [] history) more }
+{}
+
+/// The outputs of events are not drawn: events have the same history whatever becomes of their outputs.
+pub fn outputs_are_not_drawn<S: OutputSpec, T: OutputSpec>()
+    ensures { (group : group_by.ChromeTraceGroupBy) (becomes : S.ChildOutput → T.ChildOutput) (events : List (TestEventSummary S S.ChildOutput))
+        → kinds.history group (map (event_with {T = T} becomes) events) ≡ kinds.history group events }
 {}
