@@ -1,11 +1,15 @@
 pub mod Bundles
+pub mod BundlesShown
+pub mod Commands
 pub mod Complete
 pub mod EntrySizes
 pub mod Judging
 pub mod Lines
+pub mod LogTraced
 pub mod Numbers
 pub mod OptionSteps
 pub mod Recorded
+pub mod RecordedDrawn
 pub mod RecordedLines
 pub mod RecorderFaults
 pub mod SessionReads

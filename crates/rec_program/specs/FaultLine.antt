@@ -60,18 +60,18 @@ words_name (RepeatedOption at) = codes "RepeatedOption"
 words_name (MissingValue at) = codes "MissingValue"
 words_name (BadValue at) = codes "BadValue"
 
--- the index of a word
-abbrev pub at_word : ℕ → Fields
-at_word at = field (codes "at") (number at) no_fields
+-- the index of a word or of a byte
+abbrev pub at_place : ℕ → Fields
+at_place at = field (codes "at") (number at) no_fields
 
 abbrev pub words_fields : WordsError → Fields
 words_fields NoCommand = no_fields
-words_fields (UnknownCommand at) = at_word at
-words_fields (MissingPositional at) = at_word at
-words_fields (UnknownOption at) = at_word at
-words_fields (RepeatedOption at) = at_word at
-words_fields (MissingValue at) = at_word at
-words_fields (BadValue at) = at_word at
+words_fields (UnknownCommand at) = at_place at
+words_fields (MissingPositional at) = at_place at
+words_fields (UnknownOption at) = at_place at
+words_fields (RepeatedOption at) = at_place at
+words_fields (MissingValue at) = at_place at
+words_fields (BadValue at) = at_place at
 
 -- the name and the fields of the refusal of a session
 abbrev pub export_name : RecordExportError → List ℕ

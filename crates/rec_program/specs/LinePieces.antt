@@ -4,11 +4,15 @@ use Rattle.std.specs.Fmt.{decimal}
 use Rattle.rec_program.specs.declared.line.FaultText.{FaultText}
 use Rattle.rec_program.specs.declared.line.Field.{Field}
 use Rattle.rec_program.specs.declared.line.FieldValue.{FieldValue}
-use Rattle.rec_program.specs.declared.line.FieldValue.TheVariants.{Text, Number}
+use Rattle.rec_program.specs.declared.line.FieldValue.TheVariants.{Text, Number, Version, Release}
+use Rattle.rec_format.specs.Incompatibility.{release_text}
+use Rattle.rec_format.specs.Versions.{version_text}
 
 abbrev pub value_bytes : FieldValue → List ℕ
 value_bytes (Text t) = t.now
 value_bytes (Number n) = decimal n
+value_bytes (Version major minor) = version_text major minor
+value_bytes (Release release) = release_text release
 
 -- fields one after the other, with what follows them
 abbrev pub fields_bytes : List Field → List ℕ → List ℕ

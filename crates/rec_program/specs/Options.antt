@@ -1,13 +1,15 @@
--- The options after a bundle, and the settings that they give.
-use Rattle.std.specs.Prelude.{ℕ, ◌+◌, ◌^◌, List, [], ◌∷◌, length, nat_lt, ◌&&◌, Option, Some, None, is_some, unwrap_or, Result, Ok, Err, codes, if◌then◌else◌}
+-- The options of the commands, and the settings that they give.
+use Rattle.std.specs.Prelude.{ℕ, ◌+◌, ◌^◌, List, [], ◌∷◌, length, nat_lt, ◌&&◌, Bool, true, false, Option, Some, None, is_some, option_map, unwrap_or, Result, Ok, Err, codes, if◌then◌else◌}
 use Rattle.std.specs.Option.{ok_or}
 use Rattle.std.specs.Str.{bytes_eq, all_ascii_digits}
 use Rattle.std.specs.Str.Parse.{digits_value}
 use Rattle.rec_container.specs.Reading.{◌>>=◌}
 use Rattle.rec_program.specs.Settings.{default_settings}
-use Rattle.rec_program.specs.declared.options.Limits.{Limits}
+use Rattle.rec_program.specs.declared.options.CommandName.{CommandName}
+use Rattle.rec_program.specs.declared.options.CommandName.TheVariants.{Record, Trace, Info}
 use Rattle.rec_program.specs.declared.options.OptionName.{OptionName}
 use Rattle.rec_program.specs.declared.options.OptionName.TheVariants.{MaxOutput, ReadLimit, SessionLimit}
+use Rattle.rec_program.specs.declared.options.OptionValues.{OptionValues}
 use Rattle.rec_program.specs.declared.settings.Settings.{Settings}
 use Rattle.rec_program.specs.declared.words.WordsError.{WordsError}
 use Rattle.rec_program.specs.declared.words.WordsError.TheVariants.{UnknownOption, RepeatedOption, MissingValue, BadValue}
@@ -20,46 +22,65 @@ option_named word =
     else if bytes_eq word (codes "--session-limit") then Some SessionLimit
     else None
 
+-- which commands take an option
+abbrev pub takes : CommandName → OptionName → Bool
+takes Record MaxOutput = true
+takes Trace MaxOutput = false
+takes Info MaxOutput = false
+takes command ReadLimit = true
+takes command SessionLimit = true
+
+-- the index of the word at which the options of a command begin: its name and its positional words stand before
+abbrev pub options_at : CommandName → ℕ
+options_at Record = 2
+options_at Trace = 1
+options_at Info = 1
+
 -- the number that one or more decimal digits write, where it fits 64 bits
 unfoldable pub number_of : List ℕ → Option ℕ
 number_of text =
     if all_ascii_digits text && nat_lt 0 (length text) && nat_lt (digits_value 10 text) (2 ^ 64) then Some (digits_value 10 text) else None
 
 -- no option came yet
-abbrev pub no_limits : Limits
-no_limits = record { max_output = None; read_limit = None; session_limit = None }
+abbrev pub no_values : OptionValues
+no_values = record { max_output = None; read_limit = None; session_limit = None }
 
--- the limit that an option set, if it came
-abbrev pub limit_of : Limits → OptionName → Option ℕ
-limit_of limits MaxOutput = limits.max_output
-limit_of limits ReadLimit = limits.read_limit
-limit_of limits SessionLimit = limits.session_limit
+-- whether an option came
+abbrev pub has_come : OptionValues → OptionName → Bool
+has_come values MaxOutput = is_some values.max_output
+has_come values ReadLimit = is_some values.read_limit
+has_come values SessionLimit = is_some values.session_limit
 
--- the limits after an option that sets one
-abbrev pub with_limit : Limits → OptionName → ℕ → Limits
-with_limit limits MaxOutput limit = record limits { max_output = Some limit }
-with_limit limits ReadLimit limit = record limits { read_limit = Some limit }
-with_limit limits SessionLimit limit = record limits { session_limit = Some limit }
+-- the values after an option and the text of its value, where the option takes it
+abbrev pub with_value : OptionValues → OptionName → List ℕ → Option OptionValues
+with_value values MaxOutput text = option_map (λ limit. record values { max_output = Some limit }) (number_of text)
+with_value values ReadLimit text = option_map (λ limit. record values { read_limit = Some limit }) (number_of text)
+with_value values SessionLimit text = option_map (λ limit. record values { session_limit = Some limit }) (number_of text)
 
--- the limits that options set, and the defaults elsewhere
-abbrev pub settings_of : Limits → Settings
-settings_of limits = record {
+-- the values of options, and the defaults elsewhere
+abbrev pub settings_of : OptionValues → Settings
+settings_of values = record {
   group_by = default_settings.group_by;
   message_format = default_settings.message_format;
-  max_output = unwrap_or limits.max_output default_settings.max_output;
-  read_limit = unwrap_or limits.read_limit default_settings.read_limit;
-  session_limit = unwrap_or limits.session_limit default_settings.session_limit;
+  max_output = unwrap_or values.max_output default_settings.max_output;
+  read_limit = unwrap_or values.read_limit default_settings.read_limit;
+  session_limit = unwrap_or values.session_limit default_settings.session_limit;
 }
 
--- an option that a word names and that didn't come before, or what is wrong with it
-abbrev pub new_option : Limits → ℕ → Option OptionName → Result OptionName WordsError
-new_option limits at None = Err (UnknownOption at)
-new_option limits at (Some name) = if is_some (limit_of limits name) then Err (RepeatedOption at) else Ok name
+-- an option that a word names, that the command takes and that didn't come before, or what is wrong with it
+abbrev pub new_option : CommandName → OptionValues → ℕ → Option OptionName → Result OptionName WordsError
+new_option command values at None = Err (UnknownOption at)
+new_option command values at (Some name) =
+    if takes command name then (if has_come values name then Err (RepeatedOption at) else Ok name) else Err (UnknownOption at)
 
--- the limits after all words, the first of which is the word `at`; or their first fault
-abbrev pub limits_from : Limits → ℕ → List (List ℕ) → Result Limits WordsError
-limits_from limits at [] = Ok limits
-limits_from limits at (word ∷ []) = new_option limits at (option_named word) >>= (λ name. Err (MissingValue (at + 1)))
-limits_from limits at (word ∷ value ∷ words) =
-    new_option limits at (option_named word) >>= (λ name.
-    ok_or (number_of value) (BadValue (at + 1)) >>= (λ limit. limits_from (with_limit limits name limit) (at + 2) words))
+-- the values after all words, the first of which is the word `at`; or their first fault
+abbrev pub values_from : CommandName → OptionValues → ℕ → List (List ℕ) → Result OptionValues WordsError
+values_from command values at [] = Ok values
+values_from command values at (word ∷ []) = new_option command values at (option_named word) >>= (λ name. Err (MissingValue (at + 1)))
+values_from command values at (word ∷ text ∷ words) =
+    new_option command values at (option_named word) >>= (λ name.
+    ok_or (with_value values name text) (BadValue (at + 1)) >>= (λ more. values_from command more (at + 2) words))
+
+-- the settings that the options of a command give, or their first fault
+abbrev pub settings_from : CommandName → List (List ℕ) → Result Settings WordsError
+settings_from command words = values_from command no_values (options_at command) words >>= (λ values. Ok (settings_of values))

@@ -1,43 +1,65 @@
 -- What the program does with its words.
-use Rattle.std.specs.Prelude.{◌≡◌, ℕ, List, Option, Ok, Err, Result, ◌⊎◌}
+use Rattle.std.specs.Prelude.{◌≡◌, ℕ, List, Option, Ok, Err, Result, Vec, ◌⊎◌}
+use Rattle.std.specs.declared.alloc.Global.{Global}
 use Rattle.std.specs.Io.KnownBytes.{Appends}
 use Rattle.rec_container.specs.Causes.{Rose}
 use Rattle.rec_container.specs.Taking.{TookPart}
 use Rattle.rec_program.specs.Export.{Exports, Fails}
+use Rattle.rec_container.specs.Container.{Entry}
 use Rattle.rec_program.specs.FaultLine.{words_line, export_line, sink_line}
+use Rattle.rec_program.specs.ReadingCommands.{Shows, Withholds, info_of, trace_of}
+use Rattle.rec_program.specs.ReadingLine.{reading_line}
 use Rattle.rec_program.specs.Reporting.{Reports}
-use Rattle.rec_program.specs.Status.{export_status}
-use Rattle.rec_program.specs.Words.{Asked, recording, help, version}
+use Rattle.rec_program.specs.Status.{export_status, reading_status}
+use Rattle.rec_program.specs.Words.{Asked, recording, tracing, informing, help, version}
 use Rattle.rec_program.specs.declared.counts.Exported.{Exported}
+use Rattle.rec_program.specs.declared.reading_error.ReadingError.{ReadingError}
 use Rattle.rec_program.specs.declared.refusal.RecordExportError.{RecordExportError}
 use Rattle.rec_program.specs.declared.settings.Settings.{Settings}
 use Rattle.rec_program.specs.declared.usage.TheConstants.{USAGE}
 use Rattle.rec_program.specs.Usage.{versions_text}
 use Rattle.rec_program.specs.declared.words.WordsError.{WordsError}
 
-module _ {T G : Type 0} (shown : T → Option (List ℕ)) (out_faults : T → ℕ) (noted : G → Option (List ℕ)) (diag_faults : G → ℕ) where
+module _ {T G : Type 0} (out_taken : T → Option (List ℕ)) (out_faults : T → ℕ) (diag_taken : G → Option (List ℕ)) (diag_faults : G → ℕ) where
   -- the text was printed; or the output failed, which was reported
   abbrev pub Prints : List ℕ → ℕ → T → T → G → G → Type 0
   Prints text status o0 o1 d0 d1 =
-      ((status ≡ 0) × Appends (shown o0) (shown o1) text × (d1 ≡ d0))
-      ⊎ ((status ≡ 11) × Rose (out_faults o0) (out_faults o1) × TookPart (shown o0) (shown o1) text × Reports noted diag_faults d0 d1 sink_line)
+      ((status ≡ 0) × Appends (out_taken o0) (out_taken o1) text × (d1 ≡ d0))
+      ⊎ ((status ≡ 11) × Rose (out_faults o0) (out_faults o1) × TookPart (out_taken o0) (out_taken o1) text × Reports diag_taken diag_faults d0 d1 sink_line)
+
+module _ {T G : Type 0} (out_taken : T → Option (List ℕ)) (out_faults : T → ℕ) (diag_taken : G → Option (List ℕ)) (diag_faults : G → ℕ) where
+  -- what was made was printed; or nothing was made, and the cause is the status and is reported
+  abbrev pub ShowsMade : Result (Vec ℕ Global) ReadingError → ℕ → T → T → G → G → Type 0
+  ShowsMade (Ok text) status o0 o1 d0 d1 = Prints out_taken out_faults diag_taken diag_faults text.items status o0 o1 d0 d1
+  ShowsMade (Err e) status o0 o1 d0 d1 = (status ≡ reading_status e) × (o1 ≡ o0) × Reports diag_taken diag_faults d0 d1 (reading_line e)
+
+module _ {S T G : Type 0} (left : S → Option (List ℕ)) (source_faults : S → ℕ) (out_taken : T → Option (List ℕ)) (out_faults : T → ℕ) (diag_taken : G → Option (List ℕ)) (diag_faults : G → ℕ) where
+  -- the bundle was read, and what the command prints of it was printed; or nothing is printed of it, and the cause is the status and is reported
+  abbrev pub ShowsBundle : (List Entry → Result (List ℕ) ReadingError) → ℕ → ℕ → S → S → T → T → G → G → Type 0
+  ShowsBundle printed limit status s0 s1 o0 o1 d0 d1 =
+      ((text : List ℕ) × Shows left source_faults printed limit s0 s1 text × Prints out_taken out_faults diag_taken diag_faults text status o0 o1 d0 d1)
+      ⊎ ((e : ReadingError) × (status ≡ reading_status e) × Withholds left source_faults printed limit s0 s1 e × (o1 ≡ o0) × Reports diag_taken diag_faults d0 d1 (reading_line e))
 
 module _ {S B T G : Type 0} (left : S → Option (List ℕ)) (source_faults : S → ℕ) (taken : B → Option (List ℕ)) (bundle_faults : B → ℕ)
-    (shown : T → Option (List ℕ)) (out_faults : T → ℕ) (noted : G → Option (List ℕ)) (diag_faults : G → ℕ) (number : List ℕ → ℕ) where
+    (out_taken : T → Option (List ℕ)) (out_faults : T → ℕ) (diag_taken : G → Option (List ℕ)) (diag_faults : G → ℕ) (number : List ℕ → ℕ) where
   -- the session was exported, and nothing is reported; or it wasn't, and the cause is the status and is reported
   abbrev pub Records : Settings → ℕ → S → S → B → B → T → T → G → G → Type 0
   Records settings status s0 s1 b0 b1 o0 o1 d0 d1 =
-      ((status ≡ 0) × ((exported : Exported) × Exports left source_faults taken bundle_faults shown out_faults number settings s0 s1 b0 b1 o0 o1 exported) × (d1 ≡ d0))
-      ⊎ ((e : RecordExportError) × (status ≡ export_status e) × Fails left source_faults taken bundle_faults shown out_faults number settings s0 s1 b0 b1 o0 o1 e
-      × Reports noted diag_faults d0 d1 (export_line e))
+      ((status ≡ 0) × ((exported : Exported) × Exports left source_faults taken bundle_faults out_taken out_faults number settings s0 s1 b0 b1 o0 o1 exported) × (d1 ≡ d0))
+      ⊎ ((e : RecordExportError) × (status ≡ export_status e) × Fails left source_faults taken bundle_faults out_taken out_faults number settings s0 s1 b0 b1 o0 o1 e
+      × Reports diag_taken diag_faults d0 d1 (export_line e))
 
 module _ {S B T G : Type 0} (left : S → Option (List ℕ)) (source_faults : S → ℕ) (taken : B → Option (List ℕ)) (bundle_faults : B → ℕ)
-    (shown : T → Option (List ℕ)) (out_faults : T → ℕ) (noted : G → Option (List ℕ)) (diag_faults : G → ℕ) (number : List ℕ → ℕ) where
+    (out_taken : T → Option (List ℕ)) (out_faults : T → ℕ) (diag_taken : G → Option (List ℕ)) (diag_faults : G → ℕ) (number : List ℕ → ℕ) where
   -- what the program does for the command that its words are; faulty words touch nothing, and are reported
   abbrev pub Runs : Result Asked WordsError → ℕ → S → S → B → B → T → T → G → G → Type 0
   Runs (Ok (recording path settings)) status s0 s1 b0 b1 o0 o1 d0 d1 =
-      Records left source_faults taken bundle_faults shown out_faults noted diag_faults number settings status s0 s1 b0 b1 o0 o1 d0 d1
-  Runs (Ok help) status s0 s1 b0 b1 o0 o1 d0 d1 = Prints shown out_faults noted diag_faults USAGE.now status o0 o1 d0 d1 × (s1 ≡ s0) × (b1 ≡ b0)
-  Runs (Ok version) status s0 s1 b0 b1 o0 o1 d0 d1 = Prints shown out_faults noted diag_faults versions_text status o0 o1 d0 d1 × (s1 ≡ s0) × (b1 ≡ b0)
+      Records left source_faults taken bundle_faults out_taken out_faults diag_taken diag_faults number settings status s0 s1 b0 b1 o0 o1 d0 d1
+  Runs (Ok (tracing settings)) status s0 s1 b0 b1 o0 o1 d0 d1 =
+      ShowsBundle left source_faults out_taken out_faults diag_taken diag_faults (trace_of settings) settings.session_limit status s0 s1 o0 o1 d0 d1 × (b1 ≡ b0)
+  Runs (Ok (informing settings)) status s0 s1 b0 b1 o0 o1 d0 d1 =
+      ShowsBundle left source_faults out_taken out_faults diag_taken diag_faults (info_of settings.read_limit) settings.session_limit status s0 s1 o0 o1 d0 d1 × (b1 ≡ b0)
+  Runs (Ok help) status s0 s1 b0 b1 o0 o1 d0 d1 = Prints out_taken out_faults diag_taken diag_faults USAGE.now status o0 o1 d0 d1 × (s1 ≡ s0) × (b1 ≡ b0)
+  Runs (Ok version) status s0 s1 b0 b1 o0 o1 d0 d1 = Prints out_taken out_faults diag_taken diag_faults versions_text status o0 o1 d0 d1 × (s1 ≡ s0) × (b1 ≡ b0)
   Runs (Err fault) status s0 s1 b0 b1 o0 o1 d0 d1 =
-      (status ≡ 2) × (s1 ≡ s0) × (b1 ≡ b0) × (o1 ≡ o0) × Reports noted diag_faults d0 d1 (words_line fault)
+      (status ≡ 2) × (s1 ≡ s0) × (b1 ≡ b0) × (o1 ≡ o0) × Reports diag_taken diag_faults d0 d1 (words_line fault)

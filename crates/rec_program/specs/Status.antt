@@ -1,5 +1,11 @@
 -- The statuses that the program ends with.
 use Rattle.std.specs.Prelude.{ℕ}
+use Rattle.rec_portable.specs.declared.errors.PortableRecordingReadError.{PortableRecordingReadError}
+use Rattle.rec_portable.specs.declared.errors.PortableRecordingReadError.TheVariants as bundles
+use Rattle.rec_trace.specs.declared.errors.ChromeTraceError.{ChromeTraceError}
+use Rattle.rec_program.specs.TraceFaults.{trace_fault}
+use Rattle.rec_program.specs.declared.reading_error.ReadingError.{ReadingError}
+use Rattle.rec_program.specs.declared.reading_error.ReadingError.TheVariants as reading
 use Rattle.rec_program.specs.declared.refusal.RecordExportError.{RecordExportError}
 use Rattle.rec_program.specs.declared.refusal.RecordExportError.TheVariants.{SourceFault, SessionTooLarge, ParseHead, ReadRunLog, ParseEvent, NameCollision, CountOutOfRange, FileTooLarge, KindNotBuilt, MissingTestStart, SpanAlreadyOpen, SlotBusy, TimestampOutOfRange, RowOutOfRange, BundleFault, TraceFault, OutOfMemory}
 
@@ -22,3 +28,27 @@ export_status BundleFault = 10
 export_status TraceFault = 11
 export_status (KindNotBuilt event) = 20
 export_status OutOfMemory = 70
+
+-- the status for a bundle that isn't read
+abbrev pub bundle_status : PortableRecordingReadError → ℕ
+bundle_status bundles.SourceFault = 3
+bundle_status (bundles.SpoolTooLarge limit) = 4
+bundle_status (bundles.FileTooLarge file_name size limit) = 7
+bundle_status (bundles.ReadArchive fault) = 12
+bundle_status (bundles.NotAWrapperArchive file_count zip_count) = 12
+bundle_status bundles.ParseManifest = 12
+bundle_status (bundles.UnsupportedFormatVersion found supported incompatibility) = 12
+bundle_status (bundles.UnsupportedStoreFormatVersion found supported incompatibility) = 12
+bundle_status (bundles.MissingFile file_name) = 12
+bundle_status (bundles.ExtractFile file_name) = 11
+bundle_status bundles.OutOfMemory = 70
+
+-- the status for a log that has no trace: that of a session which is refused for it
+abbrev pub trace_status : ChromeTraceError → ℕ
+trace_status e = export_status (trace_fault e)
+
+-- the status for a bundle of which a command prints nothing
+abbrev pub reading_status : ReadingError → ℕ
+reading_status (reading.Bundle e) = bundle_status e
+reading_status (reading.Trace e) = trace_status e
+reading_status reading.OutOfMemory = 70

@@ -3,22 +3,28 @@ use Rattle.std.specs.Prelude.{◌≡◌, ℕ, List, [], ◌∷◌, map, Option, 
 use Rattle.std.specs.Str.{bytes_eq}
 use Rattle.std.specs.declared.alloc.Global.{Global}
 use Rattle.rec_container.specs.Reading.{◌>>=◌}
-use Rattle.rec_program.specs.Options.{no_limits, limits_from, settings_of}
+use Rattle.rec_program.specs.Options.{settings_from}
+use Rattle.rec_program.specs.declared.options.CommandName.{CommandName}
+use Rattle.rec_program.specs.declared.options.CommandName.TheVariants.{Record, Trace, Info}
 use Rattle.rec_program.specs.declared.settings.Settings.{Settings}
 use Rattle.rec_program.specs.declared.words.Command.{Command}
 use Rattle.rec_program.specs.declared.words.Command.TheVariants as commands
 use Rattle.rec_program.specs.declared.words.WordsError.{WordsError}
 use Rattle.rec_program.specs.declared.words.WordsError.TheVariants.{NoCommand, UnknownCommand, MissingPositional}
 
--- what words ask for: a recording into a bundle at a path, or a text
+-- what words ask for: a recording into a bundle at a path; the trace of a bundle, or what its manifest says; or a text about the program
 pub data Asked : Type 0 where
   recording : List ℕ → Settings → Asked
+  tracing : Settings → Asked
+  informing : Settings → Asked
   help : Asked
   version : Asked
 
 -- a command as plain data
 abbrev pub asked : Command → Asked
 asked (commands.Record bundle settings) = recording bundle.now settings
+asked (commands.Trace settings) = tracing settings
+asked (commands.Info settings) = informing settings
 asked commands.Help = help
 asked commands.Version = version
 
@@ -26,21 +32,36 @@ asked commands.Version = version
 abbrev pub texts : List (String Global) → List (List ℕ)
 texts words = map string_bytes words
 
--- what stands after `record`: a bundle, and options from the word 2 on
-abbrev pub record_command : List (List ℕ) → Result Asked WordsError
-record_command [] = Err (MissingPositional 1)
-record_command (bundle ∷ words) = limits_from no_limits 2 words >>= (λ limits. Ok (recording bundle (settings_of limits)))
+-- the command of a name
+unfoldable pub command_named : List ℕ → Option CommandName
+command_named word =
+    if bytes_eq word (codes "record") then Some Record
+    else if bytes_eq word (codes "trace") then Some Trace
+    else if bytes_eq word (codes "info") then Some Info
+    else None
 
--- what a word that isn't `record` asks for, with the words after it
+-- what a command asks for with the words after its name: its positional words, and then its options
+abbrev pub command_after : CommandName → List (List ℕ) → Result Asked WordsError
+command_after Record [] = Err (MissingPositional 1)
+command_after Record (bundle ∷ words) = settings_from Record words >>= (λ settings. Ok (recording bundle settings))
+command_after Trace words = settings_from Trace words >>= (λ settings. Ok (tracing settings))
+command_after Info words = settings_from Info words >>= (λ settings. Ok (informing settings))
+
+-- what a word asks for that is the name of no such command, with the words after it
 abbrev pub other_command : List ℕ → List (List ℕ) → Result Asked WordsError
 other_command word [] =
     if bytes_eq word (codes "--help") then Ok help else if bytes_eq word (codes "--version") then Ok version else Err (UnknownCommand 0)
 other_command word (next ∷ words) = Err (UnknownCommand 0)
 
+-- what the first word asks for, by the command that it names, with the words after it
+abbrev pub command_from : Option CommandName → List ℕ → List (List ℕ) → Result Asked WordsError
+command_from (Some name) word words = command_after name words
+command_from None word words = other_command word words
+
 -- what the words ask for, or their first fault from the left
 abbrev pub command : List (List ℕ) → Result Asked WordsError
 command [] = Err NoCommand
-command (word ∷ words) = if bytes_eq word (codes "record") then record_command words else other_command word words
+command (word ∷ words) = command_from (command_named word) word words
 
 -- a command or a fault is answered, exactly as the words have it
 abbrev pub Reads : Result Command WordsError → Result Asked WordsError → Type 0
@@ -50,6 +71,8 @@ Reads (Err fault) read = read ≡ Err fault
 -- the path of the bundle that a command writes
 abbrev pub bundle_of : Result Asked WordsError → Option (List ℕ)
 bundle_of (Ok (recording bundle settings)) = Some bundle
+bundle_of (Ok (tracing settings)) = None
+bundle_of (Ok (informing settings)) = None
 bundle_of (Ok help) = None
 bundle_of (Ok version) = None
 bundle_of (Err fault) = None

@@ -1,17 +1,16 @@
 //! The line of each fault: its name, ` name=value` for each field in order of declaration, and LF.
-ghost use Rattle.std.specs.Prelude.{◌≡◌, ◌++◌, ◌∷◌, [], ℕ, List, codes, decimal};
-ghost use Rattle.rec_program.specs.FaultLine.{words_line, words_name, words_fields, export_line, export_name, export_fields, sink_line, memory_line, optional_number, span_shown, shown_text, fields_text};
-ghost use Rattle.rec_program.specs.LinePieces.{fields_bytes, line_bytes, value_bytes};
+ghost use Rattle.std.specs.Prelude.{◌≡◌, ℕ, List};
+ghost use Rattle.rec_program.specs.FaultLine.{words_line, words_name, words_fields, export_line, export_name, export_fields, sink_line, memory_line, fields_text};
+ghost use Rattle.rec_program.specs.LinePieces.{fields_bytes, line_bytes};
 ghost use Rattle.rec_program.specs.Reporting.{Reports};
-ghost use Rattle.rec_program.specs.declared.refusal.RecordExportError.TheVariants.{MissingTestStart};
-ghost use Rattle.rec_trace.specs.declared.spans.SpanKey.TheVariants.{Test};
 
-use crate::line::{FaultText, Field, FieldValue, write_line};
+use crate::fields::{
+    event_number, missing_start, no_fields, number, one, open_span, optional_event, text, three,
+};
+use crate::line::{FaultText, Fields, write_line};
 use crate::refusal::RecordExportError;
 use crate::words::WordsError;
 use rec_container::{Sink, SinkFailed};
-use rec_events::{OwnedTestInstanceId, RustBinaryId, TestCaseName};
-use rec_trace::SpanKey;
 use std::alloc::AllocError;
 
 /// A fault that has a line.
@@ -31,55 +30,6 @@ pub fn report<F: FaultLine, G: Sink>(fault: &F, diag: &mut G)
 {
     let text = fault.text();
     let _ = write_line(text.name, &text.fields, diag);
-}
-
-/// A field of which nothing is written.
-const NOTHING: Field<'static> = Field {
-    label: "",
-    value: FieldValue::Text(""),
-};
-
-/// Returns no field.
-fn no_fields<'a>() -> [Field<'a>; 4]
-    ensures { (rest : List ℕ) → fields_bytes result rest ≡ rest }
-{
-    [NOTHING, NOTHING, NOTHING, NOTHING]
-}
-
-/// Returns a field with a number.
-fn number(label: &str, number: u64) -> Field<'_>
-    ensures label { result.label.now ≡ label.now }
-    ensures value { value_bytes result.value ≡ decimal number }
-{
-    Field {
-        label,
-        value: FieldValue::Number(number),
-    }
-}
-
-/// Returns a field with a text.
-fn text<'a>(label: &'a str, text: &'a str) -> Field<'a>
-    ensures label { result.label.now ≡ label.now }
-    ensures value { value_bytes result.value ≡ text.now }
-{
-    Field {
-        label,
-        value: FieldValue::Text(text),
-    }
-}
-
-/// Returns one field alone.
-fn one(field: Field<'_>) -> [Field<'_>; 4]
-    ensures { (rest : List ℕ) → fields_bytes result rest ≡ field.entry.label.now ++ (value_bytes field.entry.value ++ rest) }
-{
-    [field, NOTHING, NOTHING, NOTHING]
-}
-
-/// Returns three fields.
-fn three<'a>(first: Field<'a>, second: Field<'a>, third: Field<'a>) -> [Field<'a>; 4]
-    ensures { (rest : List ℕ) → fields_bytes result rest ≡ fields_bytes (first.entry ∷ second.entry ∷ third.entry ∷ []) rest }
-{
-    [first, second, third, NOTHING]
 }
 
 impl FaultLine for WordsError {
@@ -111,7 +61,7 @@ fn words_name(fault: &WordsError) -> &'static str
 }
 
 /// Returns the fields of a fault of the words.
-fn words_fields(fault: &WordsError) -> [Field<'_>; 4]
+fn words_fields(fault: &WordsError) -> Fields<'_>
     ensures { (rest : List ℕ) → fields_bytes result rest ≡ fields_text (words_fields fault.now) rest }
 {
     match fault {
@@ -164,7 +114,7 @@ fn export_name(error: &RecordExportError) -> &'static str
 }
 
 /// Returns the fields of the refusal of a session.
-fn export_fields(error: &RecordExportError) -> [Field<'_>; 4]
+fn export_fields(error: &RecordExportError) -> Fields<'_>
     ensures { (rest : List ℕ) → fields_bytes result rest ≡ fields_text (export_fields error.now) rest }
 {
     match error {
@@ -204,82 +154,6 @@ fn export_fields(error: &RecordExportError) -> [Field<'_>; 4]
         } => missing_start(*event, binary_id, test_name),
         RecordExportError::SpanAlreadyOpen { event, span } => open_span(*event, span),
     }
-}
-
-/// Returns the number of an event, or that there is none.
-fn optional_event<'a>(event: Option<u64>) -> Field<'a>
-    ensures label { result.label.now ≡ codes " event=" }
-    ensures value { (rest : List ℕ) → value_bytes result.value ++ rest ≡ shown_text (optional_number event) rest }
-{
-    match event {
-        None => text(" event=", "None"),
-        Some(event) => number(" event=", event),
-    }
-}
-
-/// Returns the number of an event, and a number more.
-fn event_number(event: u64, label: &str, other: u64) -> [Field<'_>; 4]
-    ensures { (rest : List ℕ) → fields_bytes result rest ≡ codes " event=" ++ (decimal event ++ (label.now ++ (decimal other ++ rest))) }
-{
-    [
-        number(" event=", event),
-        number(label, other),
-        NOTHING,
-        NOTHING,
-    ]
-}
-
-/// Returns the number of an event, and the test that had not started at it.
-fn missing_start<'a>(
-    event: u64,
-    binary_id: &'a RustBinaryId,
-    test_name: &'a TestCaseName,
-) -> [Field<'a>; 4]
-    ensures { (rest : List ℕ) → fields_bytes result rest ≡ fields_text (export_fields (MissingTestStart event binary_id.now test_name.now)) rest }
-{
-    three(
-        number(" event=", event),
-        text(" binary_id=", binary_id.as_str()),
-        text(" test_name=", test_name.as_str()),
-    )
-}
-
-/// Returns the number of an event, and the span that was open at it.
-fn open_span(event: u64, span: &SpanKey) -> [Field<'_>; 4]
-    ensures { (rest : List ℕ) → fields_bytes result rest ≡ codes " event=" ++ (decimal event ++ (codes " span=" ++ shown_text (span_shown span.now) rest)) }
-{
-    match span {
-        SpanKey::Run => [
-            number(" event=", event),
-            text(" span=", "Run"),
-            NOTHING,
-            NOTHING,
-        ],
-        SpanKey::SubRun => [
-            number(" event=", event),
-            text(" span=", "SubRun"),
-            NOTHING,
-            NOTHING,
-        ],
-        SpanKey::Script(index) => three(
-            number(" event=", event),
-            text(" span=", "Script"),
-            number(" ", *index as u64),
-        ),
-        SpanKey::Test(test) => open_test(event, test),
-    }
-}
-
-/// Returns the number of an event, and the test that was open at it.
-fn open_test(event: u64, test: &OwnedTestInstanceId) -> [Field<'_>; 4]
-    ensures { (rest : List ℕ) → fields_bytes result rest ≡ codes " event=" ++ (decimal event ++ (codes " span=" ++ shown_text (span_shown (Test test.now)) rest)) }
-{
-    [
-        number(" event=", event),
-        text(" span=", "Test"),
-        text(" binary_id=", test.binary_id.as_str()),
-        text(" test_name=", test.test_name.as_str()),
-    ]
 }
 
 impl FaultLine for SinkFailed {

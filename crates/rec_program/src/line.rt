@@ -3,10 +3,13 @@ ghost use Rattle.std.specs.Prelude.{◌≡◌, [], ◌∷◌, ◌++◌, OnOk, On
 ghost use Rattle.std.specs.Io.KnownBytes.{Appends};
 ghost use Rattle.rec_container.specs.Causes.{HasCause};
 ghost use Rattle.rec_container.specs.Taking.{TookPart};
+ghost use Rattle.rec_format.specs.Incompatibility.{release_text};
+ghost use Rattle.rec_format.specs.Versions.{version_text};
 ghost use Rattle.rec_program.specs.LinePieces.{fields_bytes, value_bytes};
 
 use itoa::Buffer;
 use rec_container::{Sink, SinkFailed, write_all};
+use rec_format::Release;
 
 /// The value of a field.
 #[derive(Clone, Copy)]
@@ -15,6 +18,10 @@ pub enum FieldValue<'a> {
     Text(&'a str),
     /// A number, written in decimal.
     Number(u64),
+    /// A version of a format: two numbers with a dot between them.
+    Version { major: u32, minor: u32 },
+    /// A release of nextest: three numbers with dots between them.
+    Release(Release),
 }
 
 /// A field of a fault's line.
@@ -26,13 +33,16 @@ pub struct Field<'a> {
     pub value: FieldValue<'a>,
 }
 
+/// The fields of a line, and after them fields of which nothing is written. No line has more than seven.
+pub type Fields<'a> = [Field<'a>; 7];
+
 /// A fault's line without its LF: the name of the fault, and its fields.
 #[derive(Clone, Copy)]
 pub struct FaultText<'a> {
     /// The name.
     pub name: &'a str,
-    /// The fields, and after them fields of which nothing is written.
-    pub fields: [Field<'a>; 4],
+    /// The fields.
+    pub fields: Fields<'a>,
 }
 
 /// Writes a line with its LF: a name, and fields.
@@ -66,9 +76,48 @@ fn write_value<G: Sink>(value: FieldValue<'_>, diag: &mut G) -> Result<(), SinkF
 {
     match value {
         FieldValue::Text(text) => write_all(diag, text.as_bytes()),
-        FieldValue::Number(number) => {
-            let mut digits = Buffer::new();
-            write_all(diag, digits.format(number).as_bytes())
-        }
+        FieldValue::Number(number) => write_number(number, diag),
+        FieldValue::Version { major, minor } => write_version(major as u64, minor as u64, diag),
+        FieldValue::Release(release) => write_release(release, diag),
     }
+}
+
+/// Writes a number in decimal.
+fn write_number<G: Sink>(number: u64, diag: &mut G) -> Result<(), SinkFailed>
+    ensures ok { OnOk result (Appends (G.taken diag.old) (G.taken diag.new) (decimal number)) }
+    ensures fault { OnErr result (TookPart (G.taken diag.old) (G.taken diag.new) (decimal number)) }
+    ensures cause { HasCause (G.faults diag.old) (G.faults diag.new) result }
+{
+    let mut digits = Buffer::new();
+    write_all(diag, digits.format(number).as_bytes())
+}
+
+/// Writes two numbers with a dot between them.
+fn write_version<G: Sink>(major: u64, minor: u64, diag: &mut G) -> Result<(), SinkFailed>
+    ensures ok { OnOk result (Appends (G.taken diag.old) (G.taken diag.new) (version_text major minor)) }
+    ensures fault { OnErr result (TookPart (G.taken diag.old) (G.taken diag.new) (version_text major minor)) }
+    ensures cause { HasCause (G.faults diag.old) (G.faults diag.new) result }
+{
+    write_number(major, diag)?;
+    write_after_dot(minor, diag)
+}
+
+/// Writes a dot and a number.
+fn write_after_dot<G: Sink>(number: u64, diag: &mut G) -> Result<(), SinkFailed>
+    ensures ok { OnOk result (Appends (G.taken diag.old) (G.taken diag.new) (46 ∷ decimal number)) }
+    ensures fault { OnErr result (TookPart (G.taken diag.old) (G.taken diag.new) (46 ∷ decimal number)) }
+    ensures cause { HasCause (G.faults diag.old) (G.faults diag.new) result }
+{
+    write_all(diag, b".")?;
+    write_number(number, diag)
+}
+
+/// Writes three numbers with dots between them.
+fn write_release<G: Sink>(release: Release, diag: &mut G) -> Result<(), SinkFailed>
+    ensures ok { OnOk result (Appends (G.taken diag.old) (G.taken diag.new) (release_text release)) }
+    ensures fault { OnErr result (TookPart (G.taken diag.old) (G.taken diag.new) (release_text release)) }
+    ensures cause { HasCause (G.faults diag.old) (G.faults diag.new) result }
+{
+    write_version(release.major, release.minor, diag)?;
+    write_after_dot(release.patch, diag)
 }

@@ -1,10 +1,43 @@
-//! The options of `record`.
+//! The options of the commands.
 ghost use Rattle.std.specs.Prelude.{◌≡◌};
-ghost use Rattle.rec_program.specs.Options.{option_named, number_of, no_limits, limit_of, with_limit, settings_of, new_option, limits_from};
+ghost use Rattle.rec_program.specs.Options.{has_come, new_option, no_values, number_of, option_named, options_at, settings_from, settings_of, takes, values_from, with_value};
 ghost use Rattle.rec_program.specs.Words.{texts};
 
 use crate::settings::Settings;
 use crate::words::WordsError;
+
+/// Names a command that takes options.
+#[derive(Clone, Copy)]
+pub enum CommandName {
+    Record,
+    Trace,
+    Info,
+}
+
+impl CommandName {
+    /// Returns whether the command takes an option.
+    fn takes(self, option: OptionName) -> bool
+        ensures { result ≡ takes self option }
+    {
+        match option {
+            OptionName::MaxOutput => match self {
+                CommandName::Record => true,
+                CommandName::Trace | CommandName::Info => false,
+            },
+            OptionName::ReadLimit | OptionName::SessionLimit => true,
+        }
+    }
+
+    /// Returns the index of the word at which the options begin.
+    fn options_at(self) -> usize
+        ensures { result ≡ options_at self }
+    {
+        match self {
+            CommandName::Record => 2,
+            CommandName::Trace | CommandName::Info => 1,
+        }
+    }
+}
 
 /// Names an option by the setting that it sets.
 #[derive(Clone, Copy)]
@@ -14,47 +47,51 @@ pub enum OptionName {
     SessionLimit,
 }
 
-/// Holds the limits that options set. One is `None` until its option comes.
+/// Holds the values that options have. One is `None` until its option comes.
 #[derive(Clone, Copy)]
-pub struct Limits {
+pub struct OptionValues {
     pub max_output: Option<u64>,
     pub read_limit: Option<u64>,
     pub session_limit: Option<u64>,
 }
 
-impl Limits {
-    fn none() -> Limits
-        ensures { result ≡ no_limits }
+impl OptionValues {
+    fn none() -> OptionValues
+        ensures { result ≡ no_values }
     {
-        Limits {
+        OptionValues {
             max_output: None,
             read_limit: None,
             session_limit: None,
         }
     }
 
-    fn get(&self, name: OptionName) -> Option<u64>
-        ensures { result ≡ limit_of self.now name }
+    /// Returns whether an option came.
+    fn has_come(&self, name: OptionName) -> bool
+        ensures { result ≡ has_come self.now name }
     {
         match name {
-            OptionName::MaxOutput => self.max_output,
-            OptionName::ReadLimit => self.read_limit,
-            OptionName::SessionLimit => self.session_limit,
+            OptionName::MaxOutput => self.max_output.is_some(),
+            OptionName::ReadLimit => self.read_limit.is_some(),
+            OptionName::SessionLimit => self.session_limit.is_some(),
         }
     }
 
-    fn set(&mut self, name: OptionName, limit: u64)
-        ensures { self.new ≡ with_limit self.old name limit }
+    /// Returns the values after an option and the text of its value, where the option takes it.
+    fn with(self, name: OptionName, text: &str) -> Option<OptionValues>
+        ensures { result ≡ with_value self name text.now }
     {
+        let mut values = self;
         match name {
-            OptionName::MaxOutput => self.max_output = Some(limit),
-            OptionName::ReadLimit => self.read_limit = Some(limit),
-            OptionName::SessionLimit => self.session_limit = Some(limit),
+            OptionName::MaxOutput => values.max_output = Some(number(text)?),
+            OptionName::ReadLimit => values.read_limit = Some(number(text)?),
+            OptionName::SessionLimit => values.session_limit = Some(number(text)?),
         }
+        Some(values)
     }
 
-    /// Returns the settings: these limits, and the defaults where an option didn't come.
-    pub fn settings(&self) -> Settings
+    /// Returns the settings: these values, and the defaults where an option didn't come.
+    fn settings(&self) -> Settings
         ensures { result ≡ settings_of self.now }
     {
         let defaults = Settings::default();
@@ -67,40 +104,61 @@ impl Limits {
         }
     }
 
-    /// Returns the option that a word names, where it didn't come before.
-    fn new_option(&self, at: usize, word: &str) -> Result<OptionName, WordsError>
-        ensures { result ≡ new_option self.now at (option_named word.now) }
+    /// Returns the option that a word names, where the command takes it and it didn't come before.
+    fn new_option(
+        &self,
+        command: CommandName,
+        at: usize,
+        word: &str,
+    ) -> Result<OptionName, WordsError>
+        ensures { result ≡ new_option command self.now at (option_named word.now) }
     {
         let Some(name) = option_named(word) else {
             return Err(WordsError::UnknownOption { at });
         };
-        if self.get(name).is_some() {
+        if !command.takes(name) {
+            return Err(WordsError::UnknownOption { at });
+        }
+        if self.has_come(name) {
             return Err(WordsError::RepeatedOption { at });
         }
         Ok(name)
     }
 }
 
-/// Reads the words after the bundle, the first of which is the word 2.
-pub fn read_options(words: &[String]) -> Result<Limits, WordsError>
-    ensures { result ≡ limits_from no_limits 2 (texts words.now) }
+/// Reads the options of a command, which stand after its positional words.
+///
+/// # Errors
+///
+/// The first fault from the left. At one option it is judged whether the command takes it, whether it
+/// came before, whether a value follows, and whether it takes that value, in this order.
+pub fn read_settings(command: CommandName, words: &[String]) -> Result<Settings, WordsError>
+    ensures { result ≡ settings_from command (texts words.now) }
 {
-    let mut limits = Limits::none();
-    let mut at = 2;
+    let values = read_options(command, words)?;
+    Ok(values.settings())
+}
+
+/// Reads options and their values, up to the last word.
+fn read_options(command: CommandName, words: &[String]) -> Result<OptionValues, WordsError>
+    ensures { result ≡ values_from command no_values (options_at command) (texts words.now) }
+{
+    let mut values = OptionValues::none();
+    let mut at = command.options_at();
     let mut rest = words;
     'options: while let Some((word, others)) = rest.split_first() {
-        let name = limits.new_option(at, word.as_str())?;
+        let name = values.new_option(command, at, word.as_str())?;
         let Some((value, after)) = others.split_first() else {
             return Err(WordsError::MissingValue { at: at + 1 });
         };
-        let Some(limit) = number(value.as_str()) else {
+        let Some(more) = values.with(name, value.as_str()) else {
             return Err(WordsError::BadValue { at: at + 1 });
         };
-        limits.set(name, limit);
+        values = more;
         at += 2;
         rest = after;
     }
-    Ok(limits)
+    Ok(values)
 }
 
 /// Returns the option that a word names.

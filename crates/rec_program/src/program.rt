@@ -1,18 +1,29 @@
 //! What the program does.
 ghost use Rattle.std.specs.Prelude.{◌≡◌, ◌↔◌, ◌≤◌, ◌⊎◌, ℕ, List, length, Some, None, Ok, IsErr};
+ghost use Rattle.std.specs.Io.KnownBytes.{Appends};
 ghost use Rattle.rec_container.specs.Causes.{Rose};
-ghost use Rattle.rec_program.specs.Bundle.{session_refusal};
-ghost use Rattle.rec_program.specs.Export.{Exports};
+ghost use Rattle.rec_container.specs.Container.{Entry, IsContainer};
+ghost use Rattle.rec_container.specs.Within.{Gave};
+ghost use Rattle.rec_format.specs.declared.manifest.PortableManifest.{PortableManifest};
+ghost use Rattle.rec_portable.specs.Judging.{judged};
+ghost use Rattle.rec_portable.specs.OuterEntries.{log_part};
 ghost use Rattle.rec_store.specs.Namer.{sha256_number};
-ghost use Rattle.rec_program.specs.Running.{Prints, Records, Runs};
-ghost use Rattle.rec_program.specs.Words.{command, texts, recording};
+ghost use Rattle.rec_trace.specs.Timeline.{IsTimeline};
+ghost use Rattle.rec_program.specs.Bundle.{AreOf, session_refusal};
+ghost use Rattle.rec_program.specs.Export.{Exports};
+ghost use Rattle.rec_program.specs.LogTraces.{bundle_trace, log_history, log_lines, log_refusal};
+ghost use Rattle.rec_program.specs.ReadingCommands.{manifest_line};
+ghost use Rattle.rec_program.specs.Running.{Prints, Records, Runs, ShowsMade};
+ghost use Rattle.rec_program.specs.Words.{command, informing, recording, texts, tracing};
 ghost use Rattle.rec_program.specs.declared.counts.Exported.{Exported};
 ghost use Rattle.rec_program.specs.declared.settings.Settings.{Settings};
 
 use crate::export::record_and_export;
 use crate::fault_line::report;
+use crate::reading::{read_info, read_trace};
+use crate::reading_error::ReadingError;
 use crate::settings::Settings;
-use crate::status::{FAULTY_WORDS, OUTPUT_FAILED, SUCCESS, export_status};
+use crate::status::{FAULTY_WORDS, OUTPUT_FAILED, SUCCESS, export_status, reading_status};
 use crate::usage::{USAGE, versions};
 use crate::words::{Command, read_words};
 use rec_container::{Sink, Source, write_all};
@@ -57,6 +68,64 @@ pub fn run_program<S: Source, B: Sink, T: Sink, G: Sink>(
         → ¬ Rose (B.faults bundle.old) (B.faults bundle.new)
         → ¬ Rose (T.faults out.old) (T.faults out.new)
         → (result ≡ 0) ⊎ (result ≡ 70) }
+
+    // Status 0 of `info`: the source was read to its end, its bytes are a bundle, and `out` took the text of the manifest and LF.
+    ensures informed { (settings : Settings)
+        → command (texts words.now) ≡ Ok (informing settings)
+        → result ≡ 0
+        → (bytes : List ℕ) × (es : List Entry) × (manifest : PortableManifest)
+        × Gave S.left S.faults settings.session_limit source.old source.new bytes
+        × IsContainer bytes es
+        × (judged settings.read_limit es ≡ Ok manifest)
+        × Appends (T.taken out.old) (T.taken out.new) (manifest_line manifest) }
+
+    // Status 0 of `trace`: the source was read to its end, its bytes are a bundle, and `out` took the text of the trace of its log,
+    // with the version of the runner that the manifest names. Its begins and ends are the timeline of the events of the log.
+    ensures traced { (settings : Settings)
+        → command (texts words.now) ≡ Ok (tracing settings)
+        → result ≡ 0
+        → (bytes : List ℕ) × (es : List Entry) × (manifest : PortableManifest) × (log : List ℕ)
+        × Gave S.left S.faults settings.session_limit source.old source.new bytes
+        × IsContainer bytes es
+        × (judged settings.read_limit es ≡ Ok manifest)
+        × (log_part settings.read_limit es ≡ Ok log)
+        × (log_refusal settings.group_by (log_lines log) ≡ None)
+        × IsTimeline (log_history settings.group_by (log_lines log))
+        × Appends (T.taken out.old) (T.taken out.new) (bundle_trace settings manifest log) }
+
+    // Of a bundle that a recording wrote, `trace` prints the text that the recording printed, where both draw and write it alike.
+    ensures redrawn { (settings recorded : Settings) (number : List ℕ → ℕ) (session bytes trace : List ℕ)
+        → command (texts words.now) ≡ Ok (tracing settings)
+        → AreOf number recorded session bytes trace
+        → settings.group_by ≡ recorded.group_by
+        → settings.message_format ≡ recorded.message_format
+        → S.left source.old ≡ Some bytes
+        → result ≡ 0
+        → Appends (T.taken out.old) (T.taken out.new) trace }
+
+    // The manifest of a bundle within the limits is printed, unless memory runs out or an object fails.
+    ensures informed_complete { (settings : Settings) (bytes : List ℕ) (es : List Entry) (manifest : PortableManifest)
+        → command (texts words.now) ≡ Ok (informing settings)
+        → S.left source.old ≡ Some bytes
+        → length bytes ≤ settings.session_limit
+        → IsContainer bytes es
+        → judged settings.read_limit es ≡ Ok manifest
+        → ¬ Rose (S.faults source.old) (S.faults source.new)
+        → ¬ Rose (T.faults out.old) (T.faults out.new)
+        → (result ≡ 0) ⊎ (result ≡ 70) }
+
+    // So is the trace of a log within the limits that isn't refused.
+    ensures traced_complete { (settings : Settings) (bytes : List ℕ) (es : List Entry) (manifest : PortableManifest) (log : List ℕ)
+        → command (texts words.now) ≡ Ok (tracing settings)
+        → S.left source.old ≡ Some bytes
+        → length bytes ≤ settings.session_limit
+        → IsContainer bytes es
+        → judged settings.read_limit es ≡ Ok manifest
+        → log_part settings.read_limit es ≡ Ok log
+        → log_refusal settings.group_by (log_lines log) ≡ None
+        → ¬ Rose (S.faults source.old) (S.faults source.new)
+        → ¬ Rose (T.faults out.old) (T.faults out.new)
+        → (result ≡ 0) ⊎ (result ≡ 70) }
 {
     run(alloc, words, source, bundle, out, diag)
 }
@@ -80,8 +149,10 @@ fn run<S: Source, B: Sink, T: Sink, G: Sink>(
                 settings,
             },
         ) => record(alloc, &settings, source, bundle, out, diag),
-        Ok(Command::Help) => print(USAGE, out, diag),
-        Ok(Command::Version) => print(versions(), out, diag),
+        Ok(Command::Trace { settings }) => show(read_trace(alloc, &settings, source), out, diag),
+        Ok(Command::Info { settings }) => show(read_info(alloc, &settings, source), out, diag),
+        Ok(Command::Help) => print(USAGE.as_bytes(), out, diag),
+        Ok(Command::Version) => print(versions().as_bytes(), out, diag),
         Err(fault) => {
             report(&fault, diag);
             FAULTY_WORDS
@@ -110,12 +181,26 @@ fn record<S: Source, B: Sink, T: Sink, G: Sink>(
     }
 }
 
+/// Prints what was made of a bundle, or reports why nothing was.
+fn show<T: Sink, G: Sink>(made: Result<Vec<u8>, ReadingError>, out: &mut T, diag: &mut G) -> u8
+    ensures { ShowsMade T.taken T.faults G.taken G.faults made result
+        out.old out.new diag.old diag.new }
+{
+    match made {
+        Ok(text) => print(&text, out, diag),
+        Err(error) => {
+            report(&error, diag);
+            reading_status(&error)
+        }
+    }
+}
+
 /// Prints a text.
-fn print<T: Sink, G: Sink>(text: &str, out: &mut T, diag: &mut G) -> u8
+fn print<T: Sink, G: Sink>(text: &[u8], out: &mut T, diag: &mut G) -> u8
     ensures { Prints T.taken T.faults G.taken G.faults text.now result
         out.old out.new diag.old diag.new }
 {
-    match write_all(out, text.as_bytes()) {
+    match write_all(out, text) {
         Ok(()) => SUCCESS,
         Err(fault) => {
             report(&fault, diag);

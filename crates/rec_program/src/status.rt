@@ -1,17 +1,39 @@
 //! The statuses that the program ends with.
 ghost use Rattle.std.specs.Prelude.{◌≡◌};
-ghost use Rattle.rec_program.specs.Status.{export_status};
+ghost use Rattle.rec_program.specs.Status.{bundle_status, export_status, reading_status, trace_status};
 
+use crate::reading_error::ReadingError;
 use crate::refusal::RecordExportError;
+use rec_codec::LineError;
+use rec_portable::PortableRecordingReadError;
+use rec_trace::ChromeTraceError;
 
 /// Means that all was done.
 pub const SUCCESS: u8 = 0;
 /// Means that the words of the command line are faulty.
 pub const FAULTY_WORDS: u8 = 2;
+/// Means that standard input failed.
+const SOURCE_FAILED: u8 = 3;
+/// Means that a session or a bundle is longer than its limit.
+const TOO_LONG: u8 = 4;
+/// Means that a line is neither blank nor what it has to be.
+const FAULTY_LINE: u8 = 5;
+/// Means that an output clashes with another.
+const NAME_COLLISION: u8 = 6;
+/// Means that a manifest, a log or an entry of a store is longer than the read limit.
+const ABOVE_READ_LIMIT: u8 = 7;
+/// Means that an event contradicts those before it.
+const OUT_OF_ORDER: u8 = 8;
+/// Means that a number is out of range.
+const OUT_OF_RANGE: u8 = 9;
+/// Means that the file of the bundle failed.
+const BUNDLE_FAILED: u8 = 10;
 /// Means that standard output failed.
 pub const OUTPUT_FAILED: u8 = 11;
+/// Means that the bytes on standard input are no bundle that is read.
+const NO_BUNDLE: u8 = 12;
 /// Means that an event is of a kind that the trace doesn't draw yet.
-pub const KIND_NOT_BUILT: u8 = 20;
+const KIND_NOT_BUILT: u8 = 20;
 /// Means that memory ran out.
 pub const OUT_OF_MEMORY: u8 = 70;
 
@@ -20,22 +42,72 @@ pub fn export_status(error: &RecordExportError) -> u8
     ensures { result ≡ export_status error.now }
 {
     match error {
-        RecordExportError::SourceFault => 3,
-        RecordExportError::SessionTooLarge { .. } => 4,
+        RecordExportError::SourceFault => SOURCE_FAILED,
+        RecordExportError::SessionTooLarge { .. } => TOO_LONG,
         RecordExportError::ParseHead
         | RecordExportError::ReadRunLog { .. }
-        | RecordExportError::ParseEvent { .. } => 5,
-        RecordExportError::NameCollision { .. } => 6,
-        RecordExportError::FileTooLarge { .. } => 7,
+        | RecordExportError::ParseEvent { .. } => FAULTY_LINE,
+        RecordExportError::NameCollision { .. } => NAME_COLLISION,
+        RecordExportError::FileTooLarge { .. } => ABOVE_READ_LIMIT,
         RecordExportError::MissingTestStart { .. }
         | RecordExportError::SpanAlreadyOpen { .. }
-        | RecordExportError::SlotBusy { .. } => 8,
+        | RecordExportError::SlotBusy { .. } => OUT_OF_ORDER,
         RecordExportError::TimestampOutOfRange { .. }
         | RecordExportError::RowOutOfRange { .. }
-        | RecordExportError::CountOutOfRange { .. } => 9,
-        RecordExportError::BundleFault => 10,
+        | RecordExportError::CountOutOfRange { .. } => OUT_OF_RANGE,
+        RecordExportError::BundleFault => BUNDLE_FAILED,
         RecordExportError::TraceFault => OUTPUT_FAILED,
         RecordExportError::KindNotBuilt { .. } => KIND_NOT_BUILT,
         RecordExportError::OutOfMemory => OUT_OF_MEMORY,
+    }
+}
+
+/// Returns the status for a bundle of which a command prints nothing.
+pub fn reading_status(error: &ReadingError) -> u8
+    ensures { result ≡ reading_status error.now }
+{
+    match error {
+        ReadingError::Bundle(error) => bundle_status(error),
+        ReadingError::Trace(error) => trace_status(error),
+        ReadingError::OutOfMemory => OUT_OF_MEMORY,
+    }
+}
+
+/// Returns the status for a bundle that isn't read.
+fn bundle_status(error: &PortableRecordingReadError) -> u8
+    ensures { result ≡ bundle_status error.now }
+{
+    match error {
+        PortableRecordingReadError::SourceFault => SOURCE_FAILED,
+        PortableRecordingReadError::SpoolTooLarge { .. } => TOO_LONG,
+        PortableRecordingReadError::FileTooLarge { .. } => ABOVE_READ_LIMIT,
+        PortableRecordingReadError::ReadArchive { .. }
+        | PortableRecordingReadError::NotAWrapperArchive { .. }
+        | PortableRecordingReadError::ParseManifest
+        | PortableRecordingReadError::UnsupportedFormatVersion { .. }
+        | PortableRecordingReadError::UnsupportedStoreFormatVersion { .. }
+        | PortableRecordingReadError::MissingFile { .. } => NO_BUNDLE,
+        PortableRecordingReadError::ExtractFile { .. } => OUTPUT_FAILED,
+        PortableRecordingReadError::OutOfMemory => OUT_OF_MEMORY,
+    }
+}
+
+/// Returns the status for a log that has no trace: that of a session which is refused for it.
+fn trace_status(error: &ChromeTraceError) -> u8
+    ensures { result ≡ trace_status error.now }
+{
+    match error {
+        ChromeTraceError::ReadError(LineError::ReadRunLog { .. } | LineError::ParseEvent { .. }) =>
+            FAULTY_LINE,
+        ChromeTraceError::MissingTestStart { .. }
+        | ChromeTraceError::SpanAlreadyOpen { .. }
+        | ChromeTraceError::SlotBusy { .. } => OUT_OF_ORDER,
+        ChromeTraceError::TimestampOutOfRange { .. }
+        | ChromeTraceError::RowOutOfRange { .. }
+        | ChromeTraceError::CountOutOfRange { .. } => OUT_OF_RANGE,
+        ChromeTraceError::KindNotBuilt { .. } => KIND_NOT_BUILT,
+        ChromeTraceError::ReadError(LineError::OutOfMemory) | ChromeTraceError::OutOfMemory => {
+            OUT_OF_MEMORY
+        }
     }
 }

@@ -5,29 +5,35 @@ ghost use Rattle.rec_program.specs.Usage.{versions_text};
 /// Says how the program is used.
 pub const USAGE: &str = "\
 Usage: rezovamy record BUNDLE [OPTION VALUE]..
+       rezovamy trace [OPTION VALUE]..
+       rezovamy info [OPTION VALUE]..
 
-Reads the session of a test run from standard input, and writes it into the
-file BUNDLE, a portable recording. Its trace, a timeline for trace viewers,
+record reads the session of a test run from standard input, and writes it into
+the file BUNDLE, a portable recording. Its trace, a timeline for trace viewers,
 goes to standard output.
 
-Options of record, each at most once, with a number of bytes as its value:
-  --max-output     the most of an output that is kept (10485760)
-  --read-limit     the most of the manifest, the log or an entry of the
-                   store, for readers with this limit (268435456)
-  --session-limit  the most of a session (268435456)
+trace and info read such a bundle from standard input. trace prints the trace
+of its log, and info prints its manifest.
+
+Options, each at most once, with a number of bytes as its value:
+  --max-output     of record alone: the most of an output that is kept whole
+                   (10485760)
+  --read-limit     the most of the manifest, of the log and, for record, of
+                   an entry of the store (268435456)
+  --session-limit  the most of what is read from standard input (268435456)
 
 Other words, each of them alone:
   --help     prints this text
   --version  prints the version of the program and of its formats
 
-The status is 0 on success, 2 for faulty words, 3 if the session can't be
+The status is 0 on success, 2 for faulty words, 3 if standard input can't be
 read, 4 if it is too long, 5 for a faulty line, 6 for other bytes under the
 name of an output, 7 for what is above the read limit, 8 for an event that
 ends what isn't open, starts what is, or takes a slot that is held, 9 for a
 number out of range, 10 if the bundle can't be written, 11 if standard output
-fails, 20 for an event of a kind that the trace doesn't draw yet, and 70 if
-memory runs out. With a status other than 0, a line on standard error names
-the cause.
+fails, 12 for a bundle that is damaged, incomplete or of another version, 20
+for an event of a kind that the trace doesn't draw yet, and 70 if memory runs
+out. With a status other than 0, a line on standard error names the cause.
 ";
 
 /// Returns the version of the program, and those of the formats that it writes.

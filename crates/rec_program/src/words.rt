@@ -1,9 +1,10 @@
 //! The words of the command line.
 ghost use Rattle.std.specs.Prelude.{◌≡◌};
 ghost use Rattle.std.specs.Option.{option_map};
-ghost use Rattle.rec_program.specs.Words.{texts, command, record_command, other_command, bundle_of, Reads};
+ghost use Rattle.rec_program.specs.declared.options.CommandName.TheVariants.{Record};
+ghost use Rattle.rec_program.specs.Words.{texts, command, command_after, command_named, other_command, bundle_of, Reads};
 
-use crate::options::read_options;
+use crate::options::{CommandName, read_settings};
 use crate::settings::Settings;
 use thiserror::Error;
 
@@ -12,6 +13,10 @@ use thiserror::Error;
 pub enum Command<'w> {
     /// Records the session on standard input into the file `bundle`.
     Record { bundle: &'w str, settings: Settings },
+    /// Prints the trace of the bundle on standard input.
+    Trace { settings: Settings },
+    /// Prints the manifest of the bundle on standard input.
+    Info { settings: Settings },
     /// Prints how the program is used.
     Help,
     /// Prints the program's version and those of the formats that it writes.
@@ -31,7 +36,7 @@ pub enum WordsError {
     /// The bundle is missing.
     #[error("missing argument at word {at}")]
     MissingPositional { at: usize },
-    /// The word is no option.
+    /// The word is no option of the command.
     #[error("unknown option at word {at}")]
     UnknownOption { at: usize },
     /// The option came before.
@@ -56,13 +61,57 @@ pub fn read_words(words: &[String]) -> Result<Command<'_>, WordsError>
     let Some((first, others)) = words.split_first() else {
         return Err(WordsError::NoCommand);
     };
-    match first.as_str() {
-        "record" => read_record(others),
-        word => read_other(word, others),
+    match command_named(first.as_str()) {
+        Some(name) => read_command(name, others),
+        None => read_other(first.as_str(), others),
     }
 }
 
-/// Reads a word that isn't `record`, and the words after it.
+/// Returns the command that a word names.
+#[tactic(auto, unfolding(crate::specs::Words::command_named))]
+fn command_named(word: &str) -> Option<CommandName>
+    ensures { result ≡ command_named word.now }
+{
+    match word {
+        "record" => Some(CommandName::Record),
+        "trace" => Some(CommandName::Trace),
+        "info" => Some(CommandName::Info),
+        _ => None,
+    }
+}
+
+/// Reads the words after the name of a command: its positional words, and options with their values.
+fn read_command(name: CommandName, words: &[String]) -> Result<Command<'_>, WordsError>
+    ensures { Reads result (command_after name (texts words.now)) }
+{
+    match name {
+        CommandName::Record => read_record(words),
+        CommandName::Trace => {
+            let settings = read_settings(CommandName::Trace, words)?;
+            Ok(Command::Trace { settings })
+        }
+        CommandName::Info => {
+            let settings = read_settings(CommandName::Info, words)?;
+            Ok(Command::Info { settings })
+        }
+    }
+}
+
+/// Reads the words after `record`: the bundle, and the options.
+fn read_record(words: &[String]) -> Result<Command<'_>, WordsError>
+    ensures { Reads result (command_after Record (texts words.now)) }
+{
+    let Some((bundle, options)) = words.split_first() else {
+        return Err(WordsError::MissingPositional { at: 1 });
+    };
+    let settings = read_settings(CommandName::Record, options)?;
+    Ok(Command::Record {
+        bundle: bundle.as_str(),
+        settings,
+    })
+}
+
+/// Reads a word that names no command with options, and the words after it.
 fn read_other<'w>(word: &str, others: &'w [String]) -> Result<Command<'w>, WordsError>
     ensures { Reads result (other_command word.now (texts others.now)) }
 {
@@ -74,20 +123,6 @@ fn read_other<'w>(word: &str, others: &'w [String]) -> Result<Command<'w>, Words
         "--version" => Ok(Command::Version),
         _ => Err(WordsError::UnknownCommand { at: 0 }),
     }
-}
-
-/// Reads the words after `record`: the bundle, and options with their values.
-fn read_record(words: &[String]) -> Result<Command<'_>, WordsError>
-    ensures { Reads result (record_command (texts words.now)) }
-{
-    let Some((bundle, options)) = words.split_first() else {
-        return Err(WordsError::MissingPositional { at: 1 });
-    };
-    let limits = read_options(options)?;
-    Ok(Command::Record {
-        bundle: bundle.as_str(),
-        settings: limits.settings(),
-    })
 }
 
 /// Returns the path of the bundle, where the words ask for a command that writes one.

@@ -1,18 +1,13 @@
 //! What stands in a bundle.
 
 use crate::running::recorded;
-use crate::texts::{abc, finished, head, session_of, small_session, test_started};
+use crate::texts::{abc, finished, head, manifest, session_of, small_session, test_started};
 use rec_container::Container;
 use std::alloc::Global;
 use std::str;
 use std::test::Fail;
 
-/// The manifest of a run with this head and no events.
-fn manifest() -> &'static str {
-    r#"{"format-version":{"major":1,"minor":1},"run":{"cli-args":[],"env-vars":{},"last-written-at":{"nanos":0,"offset":0,"secs":1011},"nextest-version":"0.9.111","run-id":"550e8400-e29b-41d4-a716-446655440000","sizes":{"log":{"compressed":0,"entries":0,"uncompressed":0},"store":{"compressed":515,"entries":4,"uncompressed":377}},"started-at":{"nanos":0,"offset":0,"secs":1000},"status":{"status":"incomplete"},"store-format-minor-version":0,"store-format-version":3}}"#
-}
-
-/// Its store, a line an entry: each default of the build scope is written.
+/// The store of a run with a head alone, a line an entry: each default of the build scope is written.
 fn metadata_stored() -> &'static str {
     r#"meta/build-scope.json {"build-kind":"cargo","scope":{"features":{"all-features":false,"features":[],"no-default-features":false},"packages":{"exclude":[],"specs":[],"workspace":false},"targets":{"all-targets":false,"benches":{"all":false,"names":[]},"bins":{"all":false,"names":[]},"examples":{"all":false,"names":[]},"lib":false,"tests":{"all":false,"names":[]}}}}
 meta/test-list.json {"suites":{}}

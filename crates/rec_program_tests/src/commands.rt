@@ -3,13 +3,13 @@
 use crate::running::{SOUND, line_of, outcome, path_of, run};
 use crate::texts::head;
 use rec_container::SliceSource;
-use rec_program::{Command, read_words};
+use rec_program::{Command, Settings, read_words};
 use std::alloc::{AllocError, Global};
 use std::test::Fail;
 
 #[test]
 fn words_name_a_command_and_a_path(rt: HostRuntime) -> Result<(), Fail> {
-    let cases: [(&[&str], &str, &str); 14] = [
+    let cases: [(&[&str], &str, &str); 20] = [
         (&[], "none", "2 NoCommand\n"),
         (&["rec", "b"], "none", "2 UnknownCommand at=0\n"),
         (&["", "b"], "none", "2 UnknownCommand at=0\n"),
@@ -30,6 +30,20 @@ fn words_name_a_command_and_a_path(rt: HostRuntime) -> Result<(), Fail> {
             "b",
             "4 SessionTooLarge limit=9\n",
         ),
+        (&["trace", "b"], "none", "2 UnknownOption at=1\n"),
+        (
+            &["trace", "--max-output", "1"],
+            "none",
+            "2 UnknownOption at=1\n",
+        ),
+        (&["trace"], "none", "12 ReadArchive fault=BadMagic\n"),
+        (&["info", "--help"], "none", "2 UnknownOption at=1\n"),
+        (
+            &["info", "--session-limit", "9"],
+            "none",
+            "4 SpoolTooLarge limit=9\n",
+        ),
+        (&["info"], "none", "12 ReadArchive fault=BadMagic\n"),
         (&["--help"], "none", "0 out "),
         (&["--version"], "none", "0 out "),
     ];
@@ -42,6 +56,14 @@ fn words_name_a_command_and_a_path(rt: HostRuntime) -> Result<(), Fail> {
     Ok(())
 }
 
+/// The limits that a command has.
+fn limits(alloc: Global, name: &str, settings: Settings) -> Result<String, AllocError> {
+    let output = settings.max_output;
+    let read = settings.read_limit;
+    let session = settings.session_limit;
+    format!(in alloc; "{name} {output} {read} {session}")
+}
+
 /// What words with a blank between them ask for: the bundle with its settings, or the fault.
 fn asked(alloc: Global, text: &str) -> Result<String, AllocError> {
     let mut words = Vec::new(alloc);
@@ -49,12 +71,9 @@ fn asked(alloc: Global, text: &str) -> Result<String, AllocError> {
         words.push(String::from_str(alloc, word)?)?;
     }
     match read_words(&words) {
-        Ok(Command::Record { bundle, settings }) => {
-            let output = settings.max_output;
-            let read = settings.read_limit;
-            let session = settings.session_limit;
-            format!(in alloc; "{bundle} {output} {read} {session}")
-        }
+        Ok(Command::Record { bundle, settings }) => limits(alloc, bundle, settings),
+        Ok(Command::Trace { settings }) => limits(alloc, "trace", settings),
+        Ok(Command::Info { settings }) => limits(alloc, "info", settings),
         Ok(_) => String::from_str(alloc, "a text"),
         Err(fault) => line_of(alloc, &fault),
     }
@@ -143,6 +162,39 @@ fn faults_of_options(rt: HostRuntime) -> Result<(), Fail> {
     Ok(())
 }
 
+/// Words of the commands that read a bundle, and what they ask for.
+fn reading_commands() -> [(&'static str, &'static str); 12] {
+    [
+        ("trace", "trace 10485760 268435456 268435456"),
+        ("info", "info 10485760 268435456 268435456"),
+        ("trace --read-limit 2", "trace 10485760 2 268435456"),
+        ("info --session-limit 3", "info 10485760 268435456 3"),
+        ("info --session-limit 3 --read-limit 2", "info 10485760 2 3"),
+        ("trace --max-output 1", "UnknownOption at=1\n"),
+        ("info --max-output", "UnknownOption at=1\n"),
+        (
+            "trace --read-limit 1 --max-output 1",
+            "UnknownOption at=3\n",
+        ),
+        (
+            "info --read-limit 1 --read-limit x",
+            "RepeatedOption at=3\n",
+        ),
+        ("trace --read-limit", "MissingValue at=2\n"),
+        ("info --read-limit 1 --session-limit", "MissingValue at=4\n"),
+        ("trace --session-limit +1", "BadValue at=2\n"),
+    ]
+}
+
+#[test]
+fn options_of_reading_commands(rt: HostRuntime) -> Result<(), Fail> {
+    for (text, expected) in reading_commands() {
+        let got = asked(rt.alloc(), text)?;
+        assert!(rt; got.as_str() == expected, "{text}: {got}");
+    }
+    Ok(())
+}
+
 fn version() -> &'static str {
     "rezovamy 0.1.0\nportable recording format 1.1\nstore format 3.0\n"
 }
@@ -159,29 +211,35 @@ fn the_version_names_the_formats(rt: HostRuntime) -> Result<(), Fail> {
 fn usage() -> &'static str {
     "\
 Usage: rezovamy record BUNDLE [OPTION VALUE]..
+       rezovamy trace [OPTION VALUE]..
+       rezovamy info [OPTION VALUE]..
 
-Reads the session of a test run from standard input, and writes it into the
-file BUNDLE, a portable recording. Its trace, a timeline for trace viewers,
+record reads the session of a test run from standard input, and writes it into
+the file BUNDLE, a portable recording. Its trace, a timeline for trace viewers,
 goes to standard output.
 
-Options of record, each at most once, with a number of bytes as its value:
-  --max-output     the most of an output that is kept (10485760)
-  --read-limit     the most of the manifest, the log or an entry of the
-                   store, for readers with this limit (268435456)
-  --session-limit  the most of a session (268435456)
+trace and info read such a bundle from standard input. trace prints the trace
+of its log, and info prints its manifest.
+
+Options, each at most once, with a number of bytes as its value:
+  --max-output     of record alone: the most of an output that is kept whole
+                   (10485760)
+  --read-limit     the most of the manifest, of the log and, for record, of
+                   an entry of the store (268435456)
+  --session-limit  the most of what is read from standard input (268435456)
 
 Other words, each of them alone:
   --help     prints this text
   --version  prints the version of the program and of its formats
 
-The status is 0 on success, 2 for faulty words, 3 if the session can't be
+The status is 0 on success, 2 for faulty words, 3 if standard input can't be
 read, 4 if it is too long, 5 for a faulty line, 6 for other bytes under the
 name of an output, 7 for what is above the read limit, 8 for an event that
 ends what isn't open, starts what is, or takes a slot that is held, 9 for a
 number out of range, 10 if the bundle can't be written, 11 if standard output
-fails, 20 for an event of a kind that the trace doesn't draw yet, and 70 if
-memory runs out. With a status other than 0, a line on standard error names
-the cause.
+fails, 12 for a bundle that is damaged, incomplete or of another version, 20
+for an event of a kind that the trace doesn't draw yet, and 70 if memory runs
+out. With a status other than 0, a line on standard error names the cause.
 "
 }
 

@@ -12,6 +12,8 @@ mod faults;
 #[cfg(test)]
 mod lines;
 #[cfg(test)]
+mod reading;
+#[cfg(test)]
 mod running;
 #[cfg(test)]
 mod sessions;

@@ -2,8 +2,10 @@
 
 use crate::running::line_of;
 use rec_container::SinkFailed;
-use rec_program::RecordExportError;
-use rec_trace::SpanKey;
+use rec_events::{RustBinaryId, TestCaseName, Text};
+use rec_portable::PortableRecordingReadError;
+use rec_program::{ReadingError, RecordExportError, reading_status};
+use rec_trace::{ChromeTraceError, SpanKey};
 use std::alloc::{AllocError, Global};
 use std::test::Fail;
 
@@ -45,5 +47,62 @@ fn a_fault_without_fields_is_its_name(rt: HostRuntime) -> Result<(), Fail> {
     assert!(rt; line_of(alloc, &SinkFailed)?.as_str() == "SinkFailed\n");
     assert!(rt; line_of(alloc, &AllocError)?.as_str() == "AllocError\n");
     assert!(rt; line_of(alloc, &RecordExportError::OutOfMemory)?.as_str() == "OutOfMemory\n");
+    Ok(())
+}
+
+/// The status and the line of what a command doesn't print of a bundle.
+fn shown(alloc: Global, error: ReadingError) -> Result<String, AllocError> {
+    let status = reading_status(&error);
+    let line = line_of(alloc, &error)?;
+    format!(in alloc; "{status} {line}")
+}
+
+/// The status and the line of a log that has no trace.
+fn trace_shown(alloc: Global, error: ChromeTraceError) -> Result<String, AllocError> {
+    shown(alloc, ReadingError::Trace(error))
+}
+
+#[test]
+fn a_trace_is_refused_as_a_session_is(rt: HostRuntime) -> Result<(), Fail> {
+    let alloc = rt.alloc();
+    let late = trace_shown(alloc, ChromeTraceError::TimestampOutOfRange { event: 1 })?;
+    assert!(rt; late.as_str() == "9 TimestampOutOfRange event=1\n");
+    let busy = trace_shown(alloc, ChromeTraceError::SlotBusy { event: 3, slot: 0 })?;
+    assert!(rt; busy.as_str() == "8 SlotBusy event=3 slot=0\n");
+    let row = ChromeTraceError::RowOutOfRange {
+        event: 2,
+        number: 5,
+    };
+    assert!(rt; trace_shown(alloc, row)?.as_str() == "9 RowOutOfRange event=2 number=5\n");
+    let count = trace_shown(alloc, ChromeTraceError::CountOutOfRange { event: 4 })?;
+    assert!(rt; count.as_str() == "9 CountOutOfRange event=4\n");
+    Ok(())
+}
+
+#[test]
+fn a_missing_start_is_shown_by_its_test(rt: HostRuntime) -> Result<(), Fail> {
+    let alloc = rt.alloc();
+    let missing = ChromeTraceError::MissingTestStart {
+        event: 4,
+        binary_id: RustBinaryId::new(String::from_str(alloc, "alpha::a")?),
+        test_name: TestCaseName::new(String::from_str(alloc, "t1")?),
+    };
+    let got = trace_shown(alloc, missing)?;
+    let expected = "8 MissingTestStart event=4 binary_id=alpha::a test_name=t1\n";
+    assert!(rt; got.as_str() == expected, "{got}");
+    Ok(())
+}
+
+#[test]
+fn want_of_memory_has_its_line(rt: HostRuntime) -> Result<(), Fail> {
+    let alloc = rt.alloc();
+    assert!(rt; shown(alloc, ReadingError::OutOfMemory)?.as_str() == "70 OutOfMemory\n");
+    let file_name = Text::from_str(alloc, "store.zip")?;
+    let unwritten = PortableRecordingReadError::ExtractFile { file_name };
+    let got = shown(alloc, ReadingError::Bundle(unwritten))?;
+    assert!(rt;
+        got.as_str() == "11 ExtractFile file_name=store.zip\n",
+        "{got}"
+    );
     Ok(())
 }

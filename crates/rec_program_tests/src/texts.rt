@@ -11,6 +11,11 @@ pub(crate) fn head() -> &'static str {
     HEAD
 }
 
+/// The manifest of a run with this head and no events, 462 bytes.
+pub(crate) fn manifest() -> &'static str {
+    r#"{"format-version":{"major":1,"minor":1},"run":{"cli-args":[],"env-vars":{},"last-written-at":{"nanos":0,"offset":0,"secs":1011},"nextest-version":"0.9.111","run-id":"550e8400-e29b-41d4-a716-446655440000","sizes":{"log":{"compressed":0,"entries":0,"uncompressed":0},"store":{"compressed":515,"entries":4,"uncompressed":377}},"started-at":{"nanos":0,"offset":0,"secs":1000},"status":{"status":"incomplete"},"store-format-minor-version":0,"store-format-version":3}}"#
+}
+
 /// A head whose run id is a number.
 pub(crate) fn bad_head() -> &'static str {
     r#"{"run-id":1,"nextest-version":"0.9.111","started-at":{"secs":1000,"nanos":0,"offset":0},"last-written-at":{"secs":1011,"nanos":0,"offset":0},"status":{"status":"incomplete"},"cargo-metadata":"{}","test-list":{"suites":{}},"record-opts":{"run-mode":"test"},"build-scope":{"build-kind":"cargo","scope":{}}}"#

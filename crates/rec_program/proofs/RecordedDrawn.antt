@@ -1,0 +1,163 @@
+-- What was recorded of a session is drawn as the session was.
+use Rattle.std.proofs.Common.{◌≡◌, ℕ, List, [], map, Option, Some, None, option_map, refl, sym, ap, ◌∙◌}
+use Rattle.std.specs.Option.{option_or}
+use Rattle.semver.specs.Parse.{Parts}
+use Rattle.rec_container.specs.Container.{Entry, IsContainer, content_of}
+use Rattle.rec_container.proofs.Unique.{one_reading_spec}
+use Rattle.rec_codec.specs.Event.{LiveEvent, RecordedEvent, log_events}
+use Rattle.rec_codec.specs.LineReading.{events_before_fault, first_line_fault}
+use Rattle.rec_codec.specs.Lines.{NumberedLine, lines}
+use Rattle.rec_codec.proofs.LineReadings.{log_events-whole}
+use Rattle.rec_events.specs.declared.outputs.RecordingSpec.{RecordingSpec}
+use Rattle.rec_forms.specs.Recording.{record_opts_form, test_list_form}
+use Rattle.rec_forms.specs.Shape.{◌>>=◌}
+use Rattle.rec_forms.specs.TextForm.{bytes_form}
+use Rattle.rec_format.specs.RerunForms.{rerun_info_form}
+use Rattle.rec_format.specs.RunForms.{manifest_form}
+use Rattle.rec_format.specs.Runs.{info_of}
+use Rattle.rec_format.specs.ScopeForms.{recorded_scope_form}
+use Rattle.rec_format.specs.declared.head.SessionHead.{SessionHead}
+use Rattle.rec_format.specs.declared.manifest.PortableManifest.{PortableManifest}
+use Rattle.rec_store.specs.Entries.{build_scope_path, bundle_entries, cargo_metadata_path, log_name, manifest_name, record_opts_path, rerun_info_path, test_list_path}
+use Rattle.rec_store.specs.Kept.{event_resolved, outputs_kept, outputs_resolved}
+use Rattle.rec_store.specs.Reading.{RunRecord, maybe_part, outputs_of, part, record_of, recorded, text_part}
+use Rattle.rec_trace.specs.Drawing.{trace_text}
+use Rattle.rec_trace.specs.History.{trace_marks}
+use Rattle.rec_trace.specs.Kinds.{history}
+use Rattle.rec_trace.specs.Refusals.{history_refusal}
+use Rattle.rec_trace.specs.declared.settings.ChromeTraceGroupBy.{ChromeTraceGroupBy}
+use Rattle.rec_trace.proofs.OutputsNotDrawn.{same-history}
+use Rattle.rec_program.specs.Bundle.{AreOf, count_refusal, refusal_after, session_events, size_refusal}
+use Rattle.rec_program.specs.LogTraces.{RecordedIsDrawn, bundle_trace, log_history, log_lines, log_refusal, log_trace}
+use Rattle.rec_program.specs.Session.{event_lines, events_of, lines_refusal, session_lines}
+use Rattle.rec_program.specs.SessionTraces.{run_trace, session_history, trace_refusal}
+use Rattle.rec_program.specs.TraceFaults.{trace_fault}
+use Rattle.rec_program.specs.declared.settings.Settings.{Settings}
+use Rattle.rec_program.proofs.Judging.{after_count, after_head, after_lines, events_after}
+use Rattle.rec_program.proofs.LogTraced.{refusal-whole}
+
+-- ---- what a record's manifest and log are
+
+-- a step that was made
+made : {A B : Type 0} (o : Option A) (f : A → Option B) (b : B) → (o >>= f) ≡ Some b → (a : A) × (o ≡ Some a) × (f a ≡ Some b)
+made None f b h = absurd cc
+made (Some a) f b h = (a, refl, h)
+
+same-item : {A : Type 0} (x y : A) → Some x ≡ Some y → x ≡ y
+same-item x y h = cc
+
+-- the manifest and the log from which a record comes
+pub record ComeFrom (text log_bytes : List ℕ) (es : List Entry) (r : RunRecord) : Type 0 where
+  pub manifest : PortableManifest
+  pub events : List RecordedEvent
+  pub manifest_read : bytes_form manifest_form text ≡ Some manifest
+  pub log_read : log_events (lines log_bytes) ≡ Some events
+  pub run_is : info_of manifest.run ≡ r.run
+  pub events_are : map (event_resolved es) events ≡ r.events
+
+come-from : (text log_bytes : List ℕ) (es : List Entry) (r : RunRecord) → record_of text log_bytes es ≡ Some r → ComeFrom text log_bytes es r
+come-from text log_bytes es r h =
+    let manifest = made (bytes_form manifest_form text) _ r h in
+    let events = made (log_events (lines log_bytes)) _ r manifest.2 in
+    let metadata = made (text_part es cargo_metadata_path) _ r events.2 in
+    let list = made (part test_list_form es test_list_path) _ r metadata.2 in
+    let opts = made (part record_opts_form es record_opts_path) _ r list.2 in
+    let scope = made (part recorded_scope_form es build_scope_path) _ r opts.2 in
+    let rerun = made (maybe_part rerun_info_form (content_of es rerun_info_path)) _ r scope.2 in
+    let outputs = made (outputs_of events.0 es) _ r rerun.2 in
+    let same = same-item _ r outputs.2 in
+    record {
+      manifest = manifest.0;
+      events = events.0;
+      manifest_read = manifest.1;
+      log_read = events.1;
+      run_is = ap (λ (x : RunRecord). x.run) same;
+      events_are = ap (λ (x : RunRecord). x.events) same;
+    }
+
+-- ---- the history of a log that was recorded
+
+module _ (number : List ℕ → ℕ) (m : ℕ) (head : SessionHead) (live : List LiveEvent) (text log_bytes : List ℕ) (es : List Entry) (from : ComeFrom text log_bytes es (recorded number m head live)) (g : ChromeTraceGroupBy) where
+  -- its events have the history of the session's
+  events-history : history g from.events ≡ history g live
+  events-history =
+      sym (same-history RecordingSpec g (outputs_resolved es) from.events)
+      ∙ ap (history g) from.events_are
+      ∙ same-history RecordingSpec g (outputs_kept m) live
+
+  -- each of its lines gives an event, or is blank
+  whole : (events_before_fault (log_lines log_bytes) ≡ from.events) × (first_line_fault (log_lines log_bytes) ≡ None)
+  whole = (log_events-whole 1 (lines log_bytes) from.events).0 from.log_read
+
+  pub recorded-history : log_history g (log_lines log_bytes) ≡ history g live
+  recorded-history = ap (history g) whole.0 ∙ events-history
+
+  -- so it is refused where they are
+  pub recorded-refusal : log_refusal g (log_lines log_bytes) ≡ history_refusal (history g live)
+  recorded-refusal = refusal-whole g (log_lines log_bytes) whole.1 ∙ ap history_refusal recorded-history
+
+  pub recorded-version : from.manifest.run.nextest_version ≡ head.nextest_version
+  recorded-version = ap (λ i. i.nextest_version) from.run_is
+
+-- ---- an accepted session
+
+second-none : {E : Type 0} (a b : Option E) → option_or a b ≡ None → b ≡ None
+second-none None b h = h
+second-none (Some x) b h = absurd cc
+
+none-mapped : {A B : Type 0} (f : A → B) (o : Option A) → option_map f o ≡ None → o ≡ None
+none-mapped f None h = refl
+none-mapped f (Some x) h = absurd cc
+
+module _ (number : List ℕ → ℕ) (settings : Settings) where
+  -- the events of a session that is accepted have a trace
+  accepted : (session : List ℕ) (head : SessionHead) → refusal_after number settings (Some head) (event_lines (session_lines session)) ≡ None
+      → history_refusal (session_history settings (session_events session)) ≡ None
+  accepted session head valid =
+      let ls = event_lines (session_lines session) in
+      let events = events_of ls in
+      let sizes = second-none (lines_refusal number settings.max_output [] ls) (after_lines number settings head ls) valid in
+      let size = second-none (count_refusal number settings head events) (after_count number settings head ls) sizes in
+      let trace = second-none (size_refusal number settings head events) (trace_refusal settings events) size in
+      ap (λ l. history_refusal (session_history settings l)) (sym (events_after session)) ∙ none-mapped trace_fault (history_refusal (session_history settings events)) trace
+
+  -- the text of a log with the history of these events
+  same-text : (head : SessionHead) (events : List LiveEvent) (version : Parts) (ls : List NumberedLine) → version ≡ head.nextest_version
+      → log_history settings.group_by ls ≡ session_history settings events → log_trace settings.group_by settings.message_format version ls ≡ run_trace settings head events
+  unfolding log_trace run_trace
+  same-text head events version ls same all =
+      ap (λ v. trace_text settings.message_format v (trace_marks (log_history settings.group_by ls))) same
+      ∙ ap (λ h. trace_text settings.message_format head.nextest_version (trace_marks h)) all
+
+  -- with the settings of the recording
+  drawn-again : (session bundle trace : List ℕ) (es : List Entry) (manifest : PortableManifest) (manifest_text log : List ℕ) → AreOf number settings session bundle trace → IsContainer bundle es
+      → content_of es manifest_name ≡ Some manifest_text → bytes_form manifest_form manifest_text ≡ Some manifest → content_of es log_name ≡ Some log
+      → (log_refusal settings.group_by (log_lines log) ≡ None) × (bundle_trace settings manifest log ≡ trace)
+  drawn-again session bundle trace es manifest manifest_text log are spelled manifest_at manifest_is log_at =
+      let m = settings.max_output in
+      let g = settings.group_by in
+      let head = are.head in
+      let events = session_events session in
+      let reads = are.reads in
+      let same : es ≡ bundle_entries reads.manifest reads.log reads.store = one_reading_spec bundle es (bundle_entries reads.manifest reads.log reads.store) spelled reads.bundled in
+      let text_is : manifest_text ≡ reads.manifest = same-item _ _ (sym manifest_at ∙ ap (λ l. content_of l manifest_name) same) in
+      let log_is : log ≡ reads.log = same-item _ _ (sym log_at ∙ ap (λ l. content_of l log_name) same) in
+      let from = come-from manifest_text log reads.entries (recorded number m head events)
+      (ap (λ t. record_of t log reads.entries) text_is ∙ ap (λ l. record_of reads.manifest l reads.entries) log_is ∙ reads.read) in
+      let manifest_same : manifest ≡ from.manifest = same-item _ _ (sym manifest_is ∙ from.manifest_read) in
+      let version = ap (λ (p : PortableManifest). p.run.nextest_version) manifest_same ∙ recorded-version number m head events manifest_text log reads.entries from g in
+      let all = recorded-history number m head events manifest_text log reads.entries from g in (
+        recorded-refusal number m head events manifest_text log reads.entries from g
+            ∙ accepted session head (sym (after_head number settings session head are.has_head) ∙ are.valid),
+        same-text head events manifest.run.nextest_version (log_lines log) version all ∙ sym are.traced,
+      )
+
+-- and with others that group and write alike
+pub recorded-is_drawn : (number : List ℕ → ℕ) (recording drawing : Settings) → RecordedIsDrawn number recording drawing
+recorded-is_drawn number recording drawing session bundle trace es manifest manifest_text log same_group same_form are spelled manifest_at manifest_is log_at =
+    let version = manifest.run.nextest_version in
+    let ls = log_lines log in
+    let again = drawn-again number recording session bundle trace es manifest manifest_text log are spelled manifest_at manifest_is log_at in (
+      ap (λ g. log_refusal g ls) same_group ∙ again.0,
+      ap (λ g. log_trace g drawing.message_format version ls) same_group ∙ ap (λ f. log_trace recording.group_by f version ls) same_form ∙ again.1,
+    )

@@ -1,0 +1,51 @@
+use Rattle.std.proofs.Common.{List, ℕ, Result, subst}
+use Rattle.rec_store.specs.Namer.{sha256_number}
+use Rattle.rec_program.specs.LogTraces.{bundle_trace}
+use Rattle.rec_program.specs.ReadingCommands.{info_of, manifest_line, trace_of}
+use Rattle.rec_program.specs.Running.{Runs}
+use Rattle.rec_program.specs.Words.{Asked}
+use Rattle.rec_program.specs.declared.words.WordsError.{WordsError}
+use Rattle.rec_program.proofs.Commands.{info_printed, informed, recorded_whole, redrawn, shown_or_memory, trace_printed, traced}
+use Rattle.rec_program.proofs.program.run_program.Goals as goal
+
+pub returns-clause-recorded : goal.returns-clause-recorded
+returns-clause-recorded g c = λ path settings asked zeroed.
+    let runs = subst (λ (a : Result Asked WordsError). Runs g.S.Source.left g.S.Source.faults g.B.Sink.taken g.B.Sink.faults g.T.Sink.taken g.T.Sink.faults g.G.Sink.taken g.G.Sink.faults sha256_number a c.run.result
+    c.args.source.now c.run.new.source c.args.bundle.now c.run.new.bundle c.args.out.now c.run.new.out c.args.diag.now c.run.new.diag) asked c.run.ensures in
+    recorded_whole g.S.Source.left g.S.Source.faults g.B.Sink.taken g.B.Sink.faults g.T.Sink.taken g.T.Sink.faults g.G.Sink.taken g.G.Sink.faults sha256_number settings c.run.result
+    c.args.source.now c.run.new.source c.args.bundle.now c.run.new.bundle c.args.out.now c.run.new.out c.args.diag.now c.run.new.diag zeroed runs
+
+pub returns-clause-informed : goal.returns-clause-informed
+returns-clause-informed g c = λ settings asked zeroed.
+    let runs = subst (λ (a : Result Asked WordsError). Runs g.S.Source.left g.S.Source.faults g.B.Sink.taken g.B.Sink.faults g.T.Sink.taken g.T.Sink.faults g.G.Sink.taken g.G.Sink.faults sha256_number a c.run.result
+    c.args.source.now c.run.new.source c.args.bundle.now c.run.new.bundle c.args.out.now c.run.new.out c.args.diag.now c.run.new.diag) asked c.run.ensures in
+    informed g.S.Source.left g.S.Source.faults g.T.Sink.taken g.T.Sink.faults g.G.Sink.taken g.G.Sink.faults settings c.run.result
+    c.args.source.now c.run.new.source c.args.out.now c.run.new.out c.args.diag.now c.run.new.diag zeroed runs.0
+
+pub returns-clause-traced : goal.returns-clause-traced
+returns-clause-traced g c = λ settings asked zeroed.
+    let runs = subst (λ (a : Result Asked WordsError). Runs g.S.Source.left g.S.Source.faults g.B.Sink.taken g.B.Sink.faults g.T.Sink.taken g.T.Sink.faults g.G.Sink.taken g.G.Sink.faults sha256_number a c.run.result
+    c.args.source.now c.run.new.source c.args.bundle.now c.run.new.bundle c.args.out.now c.run.new.out c.args.diag.now c.run.new.diag) asked c.run.ensures in
+    traced g.S.Source.left g.S.Source.faults g.T.Sink.taken g.T.Sink.faults g.G.Sink.taken g.G.Sink.faults settings c.run.result
+    c.args.source.now c.run.new.source c.args.out.now c.run.new.out c.args.diag.now c.run.new.diag zeroed runs.0
+
+pub returns-clause-redrawn : goal.returns-clause-redrawn
+returns-clause-redrawn g c = λ settings recorded number session bytes trace asked are group format has zeroed.
+    let runs = subst (λ (a : Result Asked WordsError). Runs g.S.Source.left g.S.Source.faults g.B.Sink.taken g.B.Sink.faults g.T.Sink.taken g.T.Sink.faults g.G.Sink.taken g.G.Sink.faults sha256_number a c.run.result
+    c.args.source.now c.run.new.source c.args.bundle.now c.run.new.bundle c.args.out.now c.run.new.out c.args.diag.now c.run.new.diag) asked c.run.ensures in
+    redrawn g.S.Source.left g.S.Source.faults g.T.Sink.taken g.T.Sink.faults g.G.Sink.taken g.G.Sink.faults settings c.run.result
+    c.args.source.now c.run.new.source c.args.out.now c.run.new.out c.args.diag.now c.run.new.diag zeroed recorded number session bytes trace are group format has runs.0
+
+pub returns-clause-informed_complete : goal.returns-clause-informed_complete
+returns-clause-informed_complete g c = λ settings bytes es manifest asked has short is judged source out.
+    let runs = subst (λ (a : Result Asked WordsError). Runs g.S.Source.left g.S.Source.faults g.B.Sink.taken g.B.Sink.faults g.T.Sink.taken g.T.Sink.faults g.G.Sink.taken g.G.Sink.faults sha256_number a c.run.result
+    c.args.source.now c.run.new.source c.args.bundle.now c.run.new.bundle c.args.out.now c.run.new.out c.args.diag.now c.run.new.diag) asked c.run.ensures in
+    shown_or_memory g.S.Source.left g.S.Source.faults g.T.Sink.taken g.T.Sink.faults g.G.Sink.taken g.G.Sink.faults (info_of settings.read_limit) settings.session_limit c.run.result
+    c.args.source.now c.run.new.source c.args.out.now c.run.new.out c.args.diag.now c.run.new.diag bytes es (manifest_line manifest) has short is (info_printed settings.read_limit es manifest judged) source out runs.0
+
+pub returns-clause-traced_complete : goal.returns-clause-traced_complete
+returns-clause-traced_complete g c = λ settings bytes es manifest log asked has short is judged log_is accepted source out.
+    let runs = subst (λ (a : Result Asked WordsError). Runs g.S.Source.left g.S.Source.faults g.B.Sink.taken g.B.Sink.faults g.T.Sink.taken g.T.Sink.faults g.G.Sink.taken g.G.Sink.faults sha256_number a c.run.result
+    c.args.source.now c.run.new.source c.args.bundle.now c.run.new.bundle c.args.out.now c.run.new.out c.args.diag.now c.run.new.diag) asked c.run.ensures in
+    shown_or_memory g.S.Source.left g.S.Source.faults g.T.Sink.taken g.T.Sink.faults g.G.Sink.taken g.G.Sink.faults (trace_of settings) settings.session_limit c.run.result
+    c.args.source.now c.run.new.source c.args.out.now c.run.new.out c.args.diag.now c.run.new.diag bytes es (bundle_trace settings manifest log) has short is (trace_printed settings es manifest log judged log_is accepted) source out runs.0
