@@ -3,8 +3,9 @@
 
 - Each link to a file or a heading of this repository, in README.md and docs/, leads there.
 - Each path in backquotes with a slash and a known ending, as `rec_store/specs/Cut.antt`, is there.
-- In docs/PROOFS.md each call of a table is a function or a type of the crate whose heading stands above it, each clause
-  stands in the contract of a function of one of these names, and each definition stands in some `specs/`.
+- In docs/PROOFS.md each call of a table is a function or a type of the crate whose heading stands above it, each answer
+  a variant of some crate, each clause stands in the contract of a function of one of these names, and each definition
+  in some `specs/`.
 - README.md has at most 150 lines, and no paragraph of docs/PROOFS.md has more than five.
 """
 
@@ -80,22 +81,26 @@ def quoted(cell):
 
 def check_proofs(page, known):
     crate = ""
+    everywhere = [folder.name for folder in sorted(CRATES.iterdir())]
     for line in page.read_text().splitlines():
         heading = re.match(r"## `(\w+)`", line)
         if line.startswith("## "):
             crate = heading.group(1) if heading else ""
         cells = [cell.strip() for cell in line.strip().strip("|").split(" | ")]
-        if not crate or not line.startswith("| ") or len(cells) < 2 or cells[0] in ("Call", "Law", "Answer of `record_and_export`"):
+        if not crate or not line.startswith("| ") or len(cells) < 2:
             continue
-        check_row(page, crate, line.strip()[2:].removesuffix("|").split(" | "), known)
+        if cells[0] in ("Call", "Law") or cells[0].startswith("Answer of "):
+            places = everywhere if cells[0].startswith("Answer of ") else [crate]
+            continue
+        check_row(page, crate, places, line.strip()[2:].removesuffix("|").split(" | "), known)
 
 
-def check_row(page, crate, cells, known):
-    code = "\n".join(sources(crate, "src", "rt").values())
+def check_row(page, crate, places, cells, known):
+    code = "\n".join(text for place in places for text in sources(place, "src", "rt").values())
     calls = quoted(cells[0])
     for name in calls:
         if not re.search(rf"\b(?:fn|struct|enum|trait) {name}\b|^ +{name}\b", code, re.M):
-            fault(page, f"{crate} has no {name}")
+            fault(page, f"no {name} in {', '.join(places)}")
     if len(cells) == 4:
         clauses = clauses_of(crate, set(calls))
         for name in quoted(cells[2]):
