@@ -47,3 +47,12 @@ fn a_sink_grows(rt: HostRuntime) -> Result<(), Fail> {
     assert_eq!(rt; sink.faults(), 0);
     Ok(())
 }
+
+#[test]
+fn a_sink_with_room_grows_too(rt: HostRuntime) -> Result<(), Fail> {
+    let mut sink = GrowingSink::with_capacity(rt.alloc(), 3)?;
+    write_all(&mut sink, b"one")?;
+    write_all(&mut sink, b" two")?;
+    assert!(rt; sink.into_bytes().as_slice() == b"one two".as_slice());
+    Ok(())
+}

@@ -137,6 +137,16 @@ fn entries_are_extracted_whole(rt: HostRuntime) -> Result<(), Fail> {
 }
 
 #[test]
+fn a_store_is_extracted_as_it_is(rt: HostRuntime) -> Result<(), Fail> {
+    let alloc = rt.alloc();
+    let bytes = current_bundle(alloc, b"lo", b"nxtcont1\0")?;
+    let question = Question::Entry("store.zip", true);
+    let whole = "9 of 9, past the limit 0: nxtcont1\0";
+    assert!(rt; answers(alloc, &bytes, AMPLE, question, whole)?);
+    Ok(())
+}
+
+#[test]
 fn other_entries_are_extracted(rt: HostRuntime) -> Result<(), Fail> {
     let alloc = rt.alloc();
     let question = Question::Entry("notes", true);

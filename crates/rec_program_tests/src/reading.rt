@@ -207,6 +207,51 @@ fn manifests_that_are_refused_are_shown(rt: HostRuntime) -> Result<(), Fail> {
     Ok(())
 }
 
+/// Manifests that are no JSON.
+fn no_values() -> [&'static str; 2] {
+    ["", "{"]
+}
+
+#[test]
+fn a_manifest_that_is_no_json_is_refused(rt: HostRuntime) -> Result<(), Fail> {
+    let alloc = rt.alloc();
+    for text in no_values() {
+        let bundle = bundle_of(alloc, text, b"", b"")?;
+        assert!(rt; outcome_of(alloc, &["info"], &bundle)?.as_str() == "12 ParseManifest\n");
+        assert!(rt; outcome_of(alloc, &["trace"], &bundle)?.as_str() == "12 ParseManifest\n");
+    }
+    Ok(())
+}
+
+/// A bundle of which neither version is read.
+fn of_other_versions(alloc: Global) -> Result<Vec<u8>, AllocError> {
+    let newer = replaced(alloc, manifest(), "\"minor\":1", "\"minor\":2", "")?;
+    let older = "\"store-format-version\":2";
+    let both = replaced(
+        alloc,
+        newer.as_str(),
+        "\"store-format-version\":3",
+        older,
+        "",
+    )?;
+    bundle_of(alloc, both.as_str(), b"", b"")
+}
+
+#[test]
+fn the_version_of_the_bundle_is_judged_before_that_of_the_store(
+    rt: HostRuntime,
+) -> Result<(), Fail> {
+    let alloc = rt.alloc();
+    let bundle = of_other_versions(alloc)?;
+    let got = outcome_of(alloc, &["info"], &bundle)?;
+    assert!(rt;
+        got.as_str()
+            == "12 UnsupportedFormatVersion found=1.2 supported=1.1 incompatibility=MinorTooNew recording_minor=2 supported_minor=1\n",
+        "{got}"
+    );
+    Ok(())
+}
+
 #[test]
 fn only_the_trace_needs_the_log(rt: HostRuntime) -> Result<(), Fail> {
     let alloc = rt.alloc();
@@ -299,6 +344,23 @@ fn the_first_cause_of_a_log_is_shown(rt: HostRuntime) -> Result<(), Fail> {
 }
 
 #[test]
+fn an_instant_out_of_range_is_shown(rt: HostRuntime) -> Result<(), Fail> {
+    let alloc = rt.alloc();
+    let greatest = "\"secs\":9223372036854775807";
+    let line = replaced(alloc, run_started(), "\"secs\":1000", greatest, "")?;
+    assert!(rt;
+        ends_with(
+            alloc,
+            line.as_str(),
+            "",
+            "",
+            "9 TimestampOutOfRange event=1\n"
+        )?
+    );
+    Ok(())
+}
+
+#[test]
 fn a_line_of_a_log_that_is_no_text_is_shown(rt: HostRuntime) -> Result<(), Fail> {
     let got = outcome_of_log(rt.alloc(), b"\n\xff\n{}")?;
     assert!(rt;
@@ -336,6 +398,25 @@ fn limits_are_the_most_that_is_read(rt: HostRuntime) -> Result<(), Fail> {
     let words = ["info", "--session-limit", "10"];
     let got = outcome(alloc, &words, &mut EndlessSource::new(b'n'))?;
     assert!(rt; got.as_str() == "4 SpoolTooLarge limit=10\n", "{got}");
+    Ok(())
+}
+
+/// Bytes that are no bundle, and what comes of them under a session limit of 10.
+fn spooled() -> [(&'static [u8], &'static str); 2] {
+    [
+        (b"01234567890", "4 SpoolTooLarge limit=10\n"),
+        (b"0123456789", "12 ReadArchive fault=BadMagic\n"),
+    ]
+}
+
+#[test]
+fn the_session_limit_is_judged_before_the_bytes(rt: HostRuntime) -> Result<(), Fail> {
+    for (bytes, expected) in spooled() {
+        for command in ["info", "trace"] {
+            let got = outcome_of(rt.alloc(), &[command, "--session-limit", "10"], bytes)?;
+            assert!(rt; got.as_str() == expected, "{command}: {got}");
+        }
+    }
     Ok(())
 }
 
