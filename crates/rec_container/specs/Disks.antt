@@ -87,7 +87,7 @@ RenamesFile fs gs from to None (Ok x) = ⊥
 RenamesFile fs gs from to (Some bytes) (Ok x) = AreSame (renamed fs from to (Some bytes)) gs
 RenamesFile fs gs from to file (Err e) = Refuses file e × AreSame fs gs
 
--- ---- the same of any disk, which may tell no files
+-- ---- the same of any disk, which may not say its files
 
 -- files that are known before and after, or never
 abbrev pub BothKnown : Option Files → Option Files → (Files → Files → Type 0) → Type 0

@@ -10,7 +10,7 @@ use std::fs;
 use std::io::{Read, Write};
 use std::rt::Files;
 
-/// A reader as a source. Each error of the reader is a fault.
+/// Gives what a reader gives. Each error of the reader is a fault.
 #[derive(Drop)]
 pub struct StdSource<R> {
     reader: R,
@@ -51,8 +51,8 @@ impl<R: Read> Source for StdSource<R> {
     }
 }
 
-/// A writer as a sink. Each write is flushed. An error of either is a fault, and so is a write that
-/// takes nothing of a piece.
+/// Writes to a writer what it takes. Each write is flushed. An error of either is a fault, and so
+/// is a write that takes nothing of a piece.
 #[derive(Drop)]
 pub struct StdSink<W> {
     writer: W,
@@ -108,7 +108,7 @@ impl<W: Write> Sink for StdSink<W> {
     }
 }
 
-/// A file as a sink, with faults as [`StdSink`] has them.
+/// Writes to a file what it takes, with faults as [`StdSink`] has them.
 ///
 /// The first write creates the file, or empties the one that is there. Where that fails, the write
 /// is a fault, and the next write tries again.

@@ -6,7 +6,7 @@ ghost use Rattle.rec_container.specs.declared.errors.ContainerError.TheVariants 
 use std::alloc::{AllocError, AllocFailed};
 use thiserror::Error;
 
-/// Why a container was not written further.
+/// Says why a container was not written further.
 #[derive(Clone, Copy, Debug, PartialEq, Eq, Error)]
 pub enum ContainerWriteError {
     /// The sink failed at a call before this one.
@@ -37,7 +37,7 @@ impl From<AllocError> for ContainerWriteError {
     }
 }
 
-/// How large a written container is.
+/// Says how large a written container is.
 #[derive(Clone, Copy, Debug, PartialEq, Eq)]
 pub struct ContainerSizes {
     /// The container's bytes, from the magic to the end mark.
@@ -48,7 +48,7 @@ pub struct ContainerSizes {
     pub entries: u64,
 }
 
-/// What is wrong with the bytes of a container: the first fault from the left.
+/// Says what is wrong with the bytes of a container: the first fault from the left.
 ///
 /// `at` counts bytes from the first one of the container.
 #[derive(Clone, Copy, Debug, PartialEq, Eq, Error)]

@@ -127,7 +127,12 @@ impl FailingSink {
         }
     }
 
-    /// Makes the spare room at least `room`.
+    /// Makes the spare room at least `room` bytes.
+    ///
+    /// # Errors
+    ///
+    /// `AllocError` means that there was not enough memory. The spare room is then no smaller, and
+    /// all else of the sink is as it was.
     pub fn reserve(&mut self, room: usize) -> Result<(), AllocError>
         ensures ok { OnOk result (room ≤ self.new.room) }
         ensures grown { self.old.room ≤ self.new.room }

@@ -10,7 +10,7 @@ use std::alloc::{AllocError, Global};
 use std::collections::BTreeMap;
 use std::marker::Model;
 
-/// Files by their paths.
+/// Holds files by their paths.
 #[derive(Drop)]
 pub(crate) struct FileMap {
     alloc: Global,

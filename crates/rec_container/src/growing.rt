@@ -7,8 +7,8 @@ use crate::streams::{Sink, SinkFailed};
 use std::alloc::{AllocError, Global};
 use std::marker::Model;
 
-/// A sink in memory that takes each piece whole, and memory for it. A write fails only for want of
-/// memory.
+/// Keeps what it takes in memory: each piece whole, and memory for it. A write fails only for want
+/// of memory.
 #[derive(Drop)]
 pub struct GrowingSink {
     bytes: Vec<u8>,

@@ -8,7 +8,7 @@ use std::alloc::{AllocError, Global};
 use std::collections::BTreeMap;
 use std::marker::Model;
 
-/// An entry, and where its content begins.
+/// Holds an entry, and where its content begins.
 #[derive(Clone, Copy)]
 pub(crate) struct PlacedEntry<'a> {
     pub(crate) name: &'a str,
@@ -16,7 +16,8 @@ pub(crate) struct PlacedEntry<'a> {
     pub(crate) place: usize,
 }
 
-/// Entries in the order in which they were added, and an index of their contents, sorted by name.
+/// Holds entries in the order in which they were added, and an index of their contents, sorted by
+/// name.
 #[derive(Drop)]
 pub(crate) struct IndexedEntries<'a> {
     entries: Vec<PlacedEntry<'a>>,

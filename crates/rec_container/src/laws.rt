@@ -4,35 +4,37 @@ ghost use Rattle.rec_container.specs.Container.{Entry, addition, content_bytes, 
 ghost use Rattle.rec_container.specs.Reading.{IsFault};
 ghost use Rattle.rec_container.specs.declared.errors.ContainerError.{ContainerError};
 
-/// Bytes spell at most one list of entries.
+/// States that bytes spell at most one list of entries.
 pub fn one_reading()
     ensures { (bytes : List ℕ) (es fs : List Entry) → IsContainer bytes es → IsContainer bytes fs → es ≡ fs }
 {}
 
-/// No container begins a longer one: its end is known without what follows.
+/// States that no container begins a longer one: its end is known without what follows.
 pub fn no_prefix()
     ensures { (bytes more : List ℕ) (es fs : List Entry) → IsContainer bytes es → IsContainer (bytes ++ more) fs → more ≡ [] }
 {}
 
-/// Bytes that spell entries have no fault, and others have one first fault at most.
+/// States that bytes that spell entries have no fault, and that others have one first fault at
+/// most.
 pub fn one_fault()
     ensures spelled { (bytes : List ℕ) (es : List Entry) (e : ContainerError) → IsContainer bytes es → IsFault bytes e → ⊥ }
     ensures others { (bytes : List ℕ) (e f : ContainerError) → IsFault bytes e → IsFault bytes f → e ≡ f }
 {}
 
-/// What the calls of a writer write, one after the other, is the spelling of its entries.
+/// States that what the calls of a writer write, one after the other, is the spelling of its
+/// entries.
 pub fn one_spelling()
     ensures push { (es : List Entry) (e : Entry) → prefix (es ++ e ∷ []) ≡ prefix es ++ addition es e }
     ensures end { (es : List Entry) → prefix es ++ ending es ≡ spell es }
     ensures whole { (es : List Entry) → AreFrom [] es → IsContainer (spell es) es }
 {}
 
-/// The content of each entry stands in the spelling at its place, and ends within it.
+/// States that the content of each entry stands in the spelling at its place, and ends within it.
 pub fn placed_contents()
     ensures { (es : List Entry) (i : ℕ) (content : List ℕ) → slice_get (map (λ e. e.content) es) i ≡ Some content → StandsWithin (spell es) (place_from 8 es i) content }
 {}
 
-/// No number about a container is above its length.
+/// States that no number about a container is above its length.
 pub fn within_length()
     ensures more { (es fs : List Entry) → length (spell es) ≤ length (spell (es ++ fs)) }
     ensures contents { (es : List Entry) → content_bytes es < length (spell es) }

@@ -8,7 +8,7 @@ use crate::streams::{Sink, SinkFailed, Source, SourceFailed};
 use std::alloc::{AllocError, Global};
 use std::marker::Model;
 
-/// Bytes as a source. It never fails.
+/// Gives the bytes that it was made with. It never fails.
 #[derive(Drop)]
 pub struct SliceSource<'a> {
     rest: &'a [u8],
@@ -51,7 +51,7 @@ impl Source for SliceSource<'_> {
     }
 }
 
-/// One byte without end. It never fails.
+/// Gives one byte without end. It never fails.
 #[derive(Drop)]
 pub struct EndlessSource {
     byte: u8,
@@ -94,8 +94,8 @@ impl Source for EndlessSource {
     }
 }
 
-/// A sink in memory. A write takes the whole piece and no memory, so it fails where the spare room
-/// is too small for it.
+/// Keeps what it takes in memory. A write takes the whole piece and no more memory, so it fails
+/// where the spare room is too small for it.
 #[derive(Drop)]
 pub struct MemorySink {
     bytes: Vec<u8>,
@@ -123,7 +123,12 @@ impl MemorySink {
         }
     }
 
-    /// Makes the spare room at least `room`.
+    /// Makes the spare room at least `room` bytes.
+    ///
+    /// # Errors
+    ///
+    /// `AllocError` means that there was not enough memory. The bytes and the count of faults are
+    /// as they were, and the spare room is no smaller.
     pub fn reserve(&mut self, room: usize) -> Result<(), AllocError>
         ensures ok { OnOk result (room ≤ self.new.room) }
         ensures grown { self.old.room ≤ self.new.room }

@@ -13,7 +13,7 @@ use crate::file_map::FileMap;
 use std::alloc::{AllocError, Global};
 use std::marker::Model;
 
-/// A disk in memory. It fails exactly at the calls of [`Disk`] whose numbers it was made with.
+/// Keeps files in memory. It fails exactly at the calls of [`Disk`] whose numbers it was made with.
 #[derive(Drop)]
 pub struct MemoryDisk {
     files: FileMap,
@@ -46,8 +46,12 @@ impl MemoryDisk {
         }
     }
 
-    /// Puts a file on the disk, in the place of one that is there. This is no call that can fail by
-    /// its number: an error means that memory ran out, and the files are as they were.
+    /// Puts a file on the disk, in the place of one that is there. This is no call that has a
+    /// number, so it can't fail by one.
+    ///
+    /// # Errors
+    ///
+    /// `AllocError` means that memory ran out. The disk is as it was.
     pub fn put(&mut self, path: &str, bytes: &[u8]) -> Result<(), AllocError>
         ensures ok { OnOk result (HasFile self.old.files self.new.files path.now (Some bytes.now)) }
         ensures err { OnErr result (self.new ≡ self.old) }

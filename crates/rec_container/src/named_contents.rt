@@ -14,7 +14,7 @@ ghost use Rattle.rec_container.specs.Taking.{TookPart};
 use crate::streams::{Sink, SinkFailed, write_all};
 use crate::writer::{grown, write_two};
 
-/// A name and its content.
+/// Holds a name and its content.
 #[derive(Clone, Copy)]
 pub struct NamedContent<'a> {
     /// The name, of 1 to 65535 bytes.

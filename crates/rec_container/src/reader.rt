@@ -12,8 +12,8 @@ use crate::steps::read_step;
 use std::alloc::Global;
 use std::marker::Model;
 
-/// The entries of a container, in its order. Names and contents are windows of the bytes that were
-/// parsed.
+/// Lends the entries of a container, in its order. Names and contents are windows of the bytes that
+/// were parsed.
 #[derive(Drop)]
 pub struct Container<'a> {
     bytes: &'a [u8],
@@ -32,7 +32,34 @@ impl<'a> Model for Container<'a> {
 }
 
 impl<'a> Container<'a> {
-    /// Reads the bytes of a container, or answers the first fault from the left.
+    /// Reads the bytes of a container. Names and contents aren't copied.
+    ///
+    /// # Errors
+    ///
+    /// Bytes that are no container are refused with their first fault from the left:
+    ///
+    /// - `BadMagic`: they don't begin with `nxtcont1`.
+    /// - `Truncated`: the tag, length, name or content that begins at `at` isn't there whole.
+    /// - `BadTag`: the byte at `at` is neither an entry's tag nor the end mark.
+    /// - `BadName`: the length of a name at `at` is 0, or the name at `at` isn't UTF-8.
+    /// - `DuplicateName`: the name at `at` is that of an earlier entry.
+    /// - `TrailingBytes`: bytes follow the end mark, from `at` on.
+    ///
+    /// `OutOfMemory` may come at any time instead, and is the only error that the bytes of a
+    /// container give.
+    ///
+    /// # Examples
+    ///
+    /// A container is written into memory, and read again:
+    ///
+    /// ```
+    /// let mut writer = ContainerWriter::new(alloc, GrowingSink::new(alloc));
+    /// writer.add("greeting", b"hello")?;
+    /// let end = writer.finish();
+    /// let sizes = end.result?;
+    /// let container = Container::parse(alloc, end.sink.bytes())?;
+    /// let content = container.get("greeting");
+    /// ```
     pub fn parse(alloc: Global, bytes: &'a [u8]) -> Result<Container<'a>, ContainerError>
         // The entries are a list that the bytes spell.
         ensures found { IfOk result (λ c. (c.bytes ≡ bytes.now) × IsContainer bytes.now c.entries) }
@@ -93,7 +120,8 @@ impl<'a> Container<'a> {
     }
 }
 
-/// Reads entries up to the end mark.
+/// Reads the magic, and then entries up to the end mark. It is a call of its own so that the clause
+/// `only` of [`Container::parse`] can rest on these two: bytes that spell a list have no fault.
 fn read<'a>(alloc: Global, bytes: &'a [u8]) -> Result<Container<'a>, ContainerError>
     ensures found { IfOk result (λ c. (c.bytes ≡ bytes.now) × IsContainer bytes.now c.entries) }
     ensures fault { IfErr result (λ e. (e ≡ OutOfMemory) ⊎ IsFault bytes.now e) }

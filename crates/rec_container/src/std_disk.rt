@@ -10,7 +10,7 @@ use std::io::{ErrorKind, Read, Seek, SeekFrom};
 use std::rt::Files;
 use std::{fs, io};
 
-/// The files of a runtime as a disk.
+/// Keeps files where a runtime has them.
 ///
 /// A directory is no file. Each error of the runtime is a fault, but for one that says that there
 /// is no such file, and so is a write that takes nothing of a piece.

@@ -11,28 +11,32 @@ ghost use Rattle.rec_container.specs.Taking.{TookPart};
 
 use thiserror::Error;
 
-/// A read failed.
+/// Says that a read failed.
 #[derive(Debug, Drop, Error)]
 #[error("the source failed")]
 pub struct SourceFailed;
 
-/// A write failed.
+/// Says that a write failed.
 #[derive(Debug, Drop, Error)]
 #[error("the sink failed")]
 pub struct SinkFailed;
 
-/// Where bytes come from.
+/// Gives bytes, piece by piece.
 pub trait Source {
-    /// The bytes that are left, where they are known.
+    /// Names the bytes that are left, where they are known.
     ghost left: { Self → Option (List ℕ) };
 
-    /// How often it has failed. The count stays at u64's greatest once it is there.
+    /// Counts how often it has failed. The count stays at u64's greatest once it is there.
     ghost faults: { Self → ℕ };
 
     /// Moves the first bytes that are left to the start of `buf`, and answers how many.
     ///
-    /// With room in `buf`, 0 means that nothing is left. A read that fails takes nothing, and one
-    /// that doesn't fail counts no fault.
+    /// With room in `buf`, 0 means that nothing is left. A read that doesn't fail counts no fault.
+    ///
+    /// # Errors
+    ///
+    /// `SourceFailed` means that the source failed: its count of faults rose, and all bytes that
+    /// were left still are.
     fn read(&mut self, buf: &mut [u8]) -> Result<usize, SourceFailed>
         ensures bound { ReadsAtMost result buf.new }
         ensures bytes { ReadConsumes (left self.old) (left self.new) result buf.new }
@@ -40,17 +44,19 @@ pub trait Source {
         ensures faultless { OnOk result (faults self.new ≡ faults self.old) };
 }
 
-/// Where bytes go.
+/// Takes bytes, piece by piece.
 pub trait Sink {
-    /// The bytes taken so far, where they are known.
+    /// Names the bytes taken so far, where they are known.
     ghost taken: { Self → Option (List ℕ) };
 
-    /// How often it has failed. The count stays at u64's greatest once it is there.
+    /// Counts how often it has failed. The count stays at u64's greatest once it is there.
     ghost faults: { Self → ℕ };
 
     /// Takes the first bytes of `piece`, and answers how many: at least one, unless it is empty.
     ///
-    /// A write that fails takes nothing.
+    /// # Errors
+    ///
+    /// `SinkFailed` means that the sink failed: its count of faults rose, and it took nothing.
     fn write(&mut self, piece: &[u8]) -> Result<usize, SinkFailed>
         ensures bound { IfOk result (λ n. n ≤ length piece.now) }
         ensures progress { IfOk result (λ n. 0 < length piece.now → 0 < n) }
@@ -58,7 +64,12 @@ pub trait Sink {
         ensures cause { HasCause (faults self.old) (faults self.new) result };
 }
 
-/// Writes until all bytes are taken. On a fault a proper prefix of them was.
+/// Writes until all bytes are taken.
+///
+/// # Errors
+///
+/// `SinkFailed` means that the sink failed at one of the writes: its count of faults rose, and it
+/// took a proper prefix of the bytes.
 pub fn write_all<K: Sink>(sink: &mut K, bytes: &[u8]) -> Result<(), SinkFailed>
     ensures ok { OnOk result (Appends (K.taken sink.old) (K.taken sink.new) bytes.now) }
     ensures fault { OnErr result (TookPart (K.taken sink.old) (K.taken sink.new) bytes.now) }
@@ -72,6 +83,11 @@ pub fn write_all<K: Sink>(sink: &mut K, bytes: &[u8]) -> Result<(), SinkFailed>
 }
 
 /// Writes as [`write_all`] does, for a sink whose type isn't known.
+///
+/// # Errors
+///
+/// `SinkFailed` means that the sink failed at one of the writes: its count of faults rose, and it
+/// took a proper prefix of the bytes.
 pub fn write_all_dyn(sink: &mut dyn Sink, bytes: &[u8]) -> Result<(), SinkFailed>
     ensures ok { OnOk result (Appends (taken sink.old) (taken sink.new) bytes.now) }
     ensures fault { OnErr result (TookPart (taken sink.old) (taken sink.new) bytes.now) }

@@ -8,7 +8,7 @@ use thiserror::Error;
 
 const PIECE: usize = 4096;
 
-/// Why the bytes of a source were not read.
+/// Says why the bytes of a source were not read.
 #[derive(Clone, Copy, Debug, PartialEq, Eq, Error)]
 pub enum ReadError {
     /// The source failed.

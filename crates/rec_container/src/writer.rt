@@ -16,7 +16,7 @@ use std::marker::Model;
 
 /// Writes a container to a sink, entry by entry.
 ///
-/// It keeps a copy of the entries, to tell a name that is added again.
+/// It keeps a copy of the entries, to know a name that is added again.
 #[derive(Drop)]
 pub struct ContainerWriter<K: Sink> {
     alloc: Global,
@@ -27,7 +27,7 @@ pub struct ContainerWriter<K: Sink> {
     failed: bool,
 }
 
-/// How the writing ended, and the sink.
+/// Says how the writing ended, and holds the sink.
 #[derive(Drop)]
 pub struct ContainerEnd<K> {
     /// The sizes of the whole container, or why the end mark is missing.
@@ -134,8 +134,24 @@ impl<K: Sink> ContainerWriter<K> {
 
     /// Adds an entry. A name that is there with equal bytes changes nothing.
     ///
-    /// The magic goes before the first entry. After `SinkFault` the writer is failed; any other
-    /// refusal leaves it and the sink as they were.
+    /// The magic goes before the first entry.
+    ///
+    /// # Errors
+    ///
+    /// These come exactly where they are the cause, the first of them where there are more:
+    ///
+    /// - `Failed`: the sink failed at an earlier call.
+    /// - `BadName`: the name has no byte, or more than 65535.
+    /// - `NameCollision`: an entry of this name with other bytes is there.
+    /// - `CountOutOfRange`: with the entry the container would have 2^64 bytes or more.
+    ///
+    /// An entry that none of them refuses may give two others:
+    ///
+    /// - `SinkFault`: the sink failed, and took a proper prefix of what was to be written. The
+    ///   entry isn't there, and the writer is failed from now on.
+    /// - `OutOfMemory`: memory ran out, and nothing was written.
+    ///
+    /// All errors but `SinkFault` leave the writer and the sink as they were.
     pub fn add(&mut self, name: &str, bytes: &[u8]) -> Result<(), ContainerWriteError>
         ensures accepted { OnOk result (refusal self.old.failed self.old.entries name.now bytes.now ≡ None) }
         ensures added { OnOk result (Adds K.taken K.faults self.old self.new name.now bytes.now) }
@@ -186,6 +202,12 @@ impl<K: Sink> ContainerWriter<K> {
     }
 
     /// Writes the end mark, after the magic where there is no entry, and hands the sink back.
+    ///
+    /// # Errors
+    ///
+    /// The result that comes with the sink is `Failed` exactly where the sink failed at an earlier
+    /// call; it is then as it was. It is `SinkFault` where the sink fails now. It took a proper
+    /// prefix of what was to be written. No other error comes.
     pub fn finish(self) -> ContainerEnd<K>
         ensures ok { IfOk result.result (λ sizes. (self.failed ≡ false) × HasSizesOf self.entries sizes
             × Appends (K.taken self.sink) (K.taken result.sink) (ending self.entries)) }
