@@ -3,7 +3,7 @@ ghost use Rattle.std.specs.Prelude.{◌≡◌, ℕ, ◌<◌, ◌↔◌, IsSome, 
 
 use std::marker::Model;
 
-/// A count of at least one.
+/// Holds a count of at least one.
 #[derive(Clone, Copy, PartialEq, Eq, Debug, Drop)]
 pub struct NonZeroCount {
     value: u32,

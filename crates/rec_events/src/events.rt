@@ -7,7 +7,7 @@ use crate::{
     Text,
 };
 
-/// What happened, without outputs. `running` is how many tests run after the event, and
+/// Says what happened, without outputs. `running` is how many tests run after the event, and
 /// `setup_scripts_running` how many setup scripts.
 #[derive(PartialEq, Eq, Drop)]
 pub enum CoreEventKind {
@@ -106,7 +106,7 @@ pub enum CoreEventKind {
     },
 }
 
-/// What happened, with outputs.
+/// Says what happened, with outputs.
 #[derive(Drop)]
 #[derive_where(PartialEq; S::ChildOutput)]
 pub enum OutputEventKind<S: OutputSpec> {
@@ -145,7 +145,7 @@ pub enum OutputEventKind<S: OutputSpec> {
     },
 }
 
-/// What happened.
+/// Says what happened.
 #[derive(Drop)]
 #[derive_where(PartialEq; S::ChildOutput)]
 pub enum TestEventKindSummary<S: OutputSpec> {
@@ -153,7 +153,7 @@ pub enum TestEventKindSummary<S: OutputSpec> {
     Output(OutputEventKind<S>),
 }
 
-/// An event of a run: when it happened, how long after the run's start, and what it is.
+/// Holds an event of a run: when it happened, how long after the run's start, and what it is.
 #[derive(Drop)]
 #[derive_where(PartialEq; S::ChildOutput)]
 pub struct TestEventSummary<S: OutputSpec> {

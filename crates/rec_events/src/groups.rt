@@ -8,10 +8,10 @@ use crate::{Text, TryClone};
 use std::alloc::{AllocError, Global};
 use std::marker::Model;
 
-/// How the group of all tests that are in no other group is written.
+/// Spells the group of all tests that are in no other group.
 const GLOBAL_GROUP: &str = "@global";
 
-/// The name of a test group of one's own: any text but `@global`.
+/// Names a test group of one's own: any text but `@global`.
 #[derive(PartialEq, Eq, Drop)]
 pub struct GroupName {
     text: Text,
@@ -48,7 +48,7 @@ impl TryClone for GroupName {
     }
 }
 
-/// The group that a test is in.
+/// Names the group that a test is in.
 #[derive(PartialEq, Eq, Drop)]
 pub enum TestGroup {
     Global,

@@ -8,7 +8,7 @@ use std::fmt;
 use std::marker::Model;
 use uuid::Uuid;
 
-/// The name of a test binary. Any text is one.
+/// Names a test binary. Any text is a name.
 #[derive(PartialEq, Eq, PartialOrd, Ord, Drop, Debug)]
 pub struct RustBinaryId {
     text: Text,
@@ -56,7 +56,7 @@ impl TryClone for RustBinaryId {
     }
 }
 
-/// The name of a test within its binary. Any text is one.
+/// Names a test within its binary. Any text is a name.
 #[derive(PartialEq, Eq, PartialOrd, Ord, Drop, Debug)]
 pub struct TestCaseName {
     text: Text,
@@ -104,7 +104,7 @@ impl TryClone for TestCaseName {
     }
 }
 
-/// The name of a setup script. Any text is one.
+/// Names a setup script. Any text is a name.
 #[derive(PartialEq, Eq, Drop)]
 pub struct ScriptId {
     text: Text,
@@ -152,7 +152,7 @@ impl TryClone for ScriptId {
     }
 }
 
-/// The number of a run. Contracts see its sixteen bytes.
+/// Holds the number of a run. Contracts see its sixteen bytes.
 #[derive(Clone, Copy, PartialEq, Eq, Drop)]
 pub struct ReportUuid {
     uuid: Uuid,
@@ -182,7 +182,7 @@ impl ReportUuid {
     }
 }
 
-/// Hyphenated, in lower case.
+/// Writes the number hyphenated, in lower case.
 impl fmt::Display for ReportUuid {
     ghost use Rattle.std.specs.Prelude.{Some};
     ghost use Rattle.uuid.specs.Text.{lower, hyphenated_text};

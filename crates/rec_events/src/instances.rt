@@ -4,16 +4,16 @@ ghost use Rattle.std.specs.Prelude.{◌≡◌};
 use crate::{NonZeroCount, RustBinaryId, TestCaseName, TestGroup, TryClone};
 use std::alloc::{AllocError, Global};
 
-/// A test, by its binary and its name there. Tests stand in the order of their binaries, and those
-/// of one binary in the order of their names.
+/// Names a test by its binary and its name there. Tests stand in the order of their binaries, and
+/// those of one binary in the order of their names.
 #[derive(PartialEq, Eq, PartialOrd, Ord, Debug, Drop)]
 pub struct OwnedTestInstanceId {
     pub binary_id: RustBinaryId,
     pub test_name: TestCaseName,
 }
 
-/// Where a test runs: its slot among all tests, and its slot within its group, if the group has
-/// slots.
+/// Says where a test runs: its slot among all tests, and its slot within its group, if the group
+/// has slots.
 #[derive(PartialEq, Eq, Drop)]
 pub struct TestSlotAssignment {
     pub global_slot: u64,
@@ -21,14 +21,14 @@ pub struct TestSlotAssignment {
     pub test_group: TestGroup,
 }
 
-/// Which attempt of how many.
+/// Says which attempt it is, of how many.
 #[derive(Clone, Copy, PartialEq, Eq, Drop)]
 pub struct RetryData {
     pub attempt: u32,
     pub total_attempts: u32,
 }
 
-/// Which run of a stress run, and of how many where that is known.
+/// Says which run of a stress run it is, and of how many where that is known.
 #[derive(Clone, Copy, PartialEq, Eq, Drop)]
 pub struct StressIndexSummary {
     pub current: u32,

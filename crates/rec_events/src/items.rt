@@ -8,7 +8,7 @@ use crate::TryClone;
 use std::alloc::{AllocError, Global};
 use std::marker::Model;
 
-/// A list of items. Contracts see the items in order.
+/// Holds a list of items. Contracts see the items in order.
 #[derive(Drop, Debug)]
 pub struct Items<T> {
     inner: Vec<T>,

@@ -6,8 +6,8 @@ use crate::{
     TestList, TestOutputDisplay, TestSlotAssignment, TestsNotSeenSummary, Text,
 };
 
-/// What happened, while the run is going on. `running` is how many tests run after the event, and
-/// `setup_scripts_running` how many setup scripts.
+/// Says what happened, while the run is going on. `running` is how many tests run after the event,
+/// and `setup_scripts_running` how many setup scripts.
 #[derive(Drop)]
 pub enum TestEventKind<'a> {
     /// The run began.
@@ -151,7 +151,7 @@ pub enum TestEventKind<'a> {
     RunBeginKill,
 }
 
-/// An event of a run, as it happens: when, how long after the run's start, and what it is.
+/// Holds an event of a run, as it happens: when, how long after the run's start, and what it is.
 #[derive(Drop)]
 pub struct TestEvent<'a> {
     pub timestamp: Stamp,

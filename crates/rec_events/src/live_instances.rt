@@ -5,7 +5,8 @@ use crate::{OwnedTestInstanceId, RustBinaryId, TestCaseName, TryClone};
 use std::alloc::{AllocError, Global};
 use std::marker::Model;
 
-/// A test, by its binary and its name there. Contracts see it as the test itself.
+/// Names a test by its binary and its name there, both borrowed. Contracts see it as the test
+/// itself.
 #[derive(Drop)]
 pub struct TestInstanceId<'a> {
     pub binary_id: &'a RustBinaryId,
@@ -22,6 +23,10 @@ impl<'a> Model for TestInstanceId<'a> {
 
 impl TestInstanceId<'_> {
     /// Copies the test, so that it needs no other value.
+    ///
+    /// # Errors
+    ///
+    /// `AllocError` means that there was not enough memory.
     pub fn to_owned(&self, alloc: Global) -> Result<OwnedTestInstanceId, AllocError>
         ensures { IfOk result (λ t. t ≡ self.now) }
     {

@@ -4,14 +4,14 @@ ghost use Rattle.rec_events.specs.LiveStress.{stress_index_summary, condition_su
 
 use crate::{Duration, NonZeroCount, StressConditionSummary, StressIndexSummary};
 
-/// Which run of a stress run, and of how many where that is known.
+/// Says which run of a stress run it is, and of how many where that is known.
 #[derive(Clone, Copy, PartialEq, Eq, Drop)]
 pub struct StressIndex {
     pub current: u32,
     pub total: Option<NonZeroCount>,
 }
 
-/// How many runs a stress run has.
+/// Says how many runs a stress run has.
 #[derive(Clone, Copy, PartialEq, Eq, Drop)]
 pub enum StressCount {
     Count { count: NonZeroCount },
@@ -19,7 +19,7 @@ pub enum StressCount {
     Infinite,
 }
 
-/// What ends a stress run.
+/// Says what ends a stress run.
 #[derive(Clone, Copy, PartialEq, Eq, Drop)]
 pub enum StressCondition {
     Count(StressCount),

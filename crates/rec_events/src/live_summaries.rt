@@ -13,6 +13,10 @@ impl TestEventSummary<LiveSpec> {
     /// Gives the event as it is to be recorded; `None` exactly for what only informs.
     ///
     /// A cancel without a reason is recorded with the reason `Signal`.
+    ///
+    /// # Errors
+    ///
+    /// `AllocError` means that there was not enough memory.
     pub fn from_test_event(
         alloc: Global,
         event: &TestEvent<'_>,

@@ -8,7 +8,7 @@ use crate::{Items, TryClone};
 use std::alloc::{AllocError, Global};
 use std::marker::Model;
 
-/// A list of at least one item. Contracts see the items in order.
+/// Holds a list of at least one item. Contracts see the items in order.
 #[derive(Drop)]
 pub struct NonEmpty<T> {
     inner: Vec<T>,

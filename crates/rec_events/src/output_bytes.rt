@@ -8,7 +8,7 @@ use crate::TryClone;
 use std::alloc::{AllocError, Global};
 use std::marker::Model;
 
-/// An output of a process. Contracts see its bytes.
+/// Holds an output of a process. Contracts see its bytes.
 #[derive(Drop)]
 pub struct ChildSingleOutput {
     bytes: Vec<u8>,

@@ -5,7 +5,7 @@ ghost use Rattle.rec_events.specs.declared.output_names.OutputFileName.{OutputFi
 
 use std::alloc::{AllocError, Global};
 
-/// Which output it is.
+/// Says which output it is.
 #[derive(Clone, Copy, PartialEq, Eq, Drop)]
 pub enum OutputKind {
     Stdout,
@@ -42,7 +42,7 @@ impl OutputKind {
     }
 }
 
-/// The name of a stored output: sixteen hexadecimal digits in lower case, and its kind.
+/// Names a stored output by sixteen hexadecimal digits in lower case, and its kind.
 #[derive(Clone, Copy, PartialEq, Eq, Drop)]
 pub struct OutputFileName {
     number: u64,
@@ -67,6 +67,10 @@ impl OutputFileName {
     }
 
     /// Returns the name as it is written.
+    ///
+    /// # Errors
+    ///
+    /// `AllocError` means that there was not enough memory.
     pub fn text(&self, alloc: Global) -> Result<String, AllocError>
         ensures value { IfOk result (λ text. string_bytes text ≡ file_name_text self.now) }
         ensures in_range { self.now.number < 2 ^ 64 }
@@ -77,7 +81,7 @@ impl OutputFileName {
     }
 }
 
-/// How many digits a number has.
+/// Says how many digits a number has.
 const DIGITS: usize = 16;
 
 /// Returns the name that these bytes are.

@@ -4,16 +4,16 @@ ghost use Rattle.std.specs.Prelude.{◌≡◌, IfOk};
 use crate::{ChildSingleOutput, ExecutionResultDescription, Items, OutputFileName, Text, TryClone};
 use std::alloc::{AllocError, Global};
 
-/// In which form an event has its outputs.
+/// Says in which form an event has its outputs.
 pub trait OutputSpec {
-    /// What a process wrote.
+    /// Holds what a process wrote.
     type ChildOutput: Drop;
 }
 
-/// Outputs as they are captured.
+/// Says that outputs are as they are captured.
 pub struct LiveSpec;
 
-/// Outputs as they are recorded, by the names of their files.
+/// Says that outputs are as they are recorded, by the names of their files.
 pub struct RecordingSpec;
 
 impl OutputSpec for LiveSpec {
@@ -24,7 +24,7 @@ impl OutputSpec for RecordingSpec {
     type ChildOutput = ZipStoreOutputDescription;
 }
 
-/// What a process wrote. An output that was not captured is None.
+/// Holds what a process wrote. An output that was not captured is None.
 #[derive(PartialEq, Eq, Drop)]
 pub enum ChildOutputDescription {
     Split {
@@ -38,7 +38,7 @@ pub enum ChildOutputDescription {
     NotLoaded,
 }
 
-/// An output in a store.
+/// Says where an output is in a store.
 #[derive(Clone, Copy, PartialEq, Eq, Drop)]
 pub enum ZipStoreOutput {
     /// No bytes; no file holds it.
@@ -53,7 +53,7 @@ pub enum ZipStoreOutput {
     },
 }
 
-/// What a process wrote, by the names of its files.
+/// Names the files that hold what a process wrote. An output that was not captured is None.
 #[derive(Clone, Copy, PartialEq, Eq, Drop)]
 pub enum ZipStoreOutputDescription {
     Split {
@@ -65,7 +65,7 @@ pub enum ZipStoreOutputDescription {
     },
 }
 
-/// What came of starting a process.
+/// Says what came of starting a process.
 #[derive(Drop)]
 #[derive_where(PartialEq; S::ChildOutput)]
 pub enum ChildExecutionOutputDescription<S: OutputSpec> {

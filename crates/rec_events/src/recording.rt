@@ -4,14 +4,14 @@ ghost use Rattle.std.specs.Prelude.{◌≡◌, []};
 use crate::{Items, TestCaseName, TextMap, TryClone};
 use std::alloc::{AllocError, Global};
 
-/// What a run does with its tests.
+/// Says what a run does with its tests.
 #[derive(Clone, Copy, PartialEq, Eq, Drop)]
 pub enum NextestRunMode {
     Test,
     Benchmark,
 }
 
-/// The tests of each binary, by the binary's name.
+/// Holds the tests of each binary, by the binary's name.
 #[derive(Drop)]
 pub struct TestListSummary {
     pub suites: TextMap<Items<TestCaseName>>,
@@ -25,7 +25,7 @@ impl TryClone for TestListSummary {
     }
 }
 
-/// What a replay has to know of how the run was made.
+/// Says what a replay has to know of how the run was made.
 #[derive(Clone, Copy, PartialEq, Eq, Drop)]
 pub struct RecordOpts {
     pub run_mode: NextestRunMode,

@@ -5,7 +5,7 @@ ghost use Rattle.rec_events.specs.Results.{succeeded, flaky_text};
 use crate::{Text, TryClone};
 use std::alloc::{AllocError, Global};
 
-/// What a test counts as that failed at first and passed at last.
+/// Says what a test counts as that failed at first and passed at last.
 #[derive(Clone, Copy, PartialEq, Eq, Drop)]
 pub enum FlakyResult {
     Pass,
@@ -15,6 +15,10 @@ pub enum FlakyResult {
 impl FlakyResult {
     /// Says that a test passed on this attempt and still counts as failed; `None` where it counts
     /// as passed.
+    ///
+    /// # Errors
+    ///
+    /// `AllocError` means that there was not enough memory.
     pub fn fail_message(
         &self,
         alloc: Global,
@@ -32,21 +36,21 @@ impl FlakyResult {
     }
 }
 
-/// What a test counts as that passed and left an output open.
+/// Says what a test counts as that passed and left an output open.
 #[derive(Clone, Copy, PartialEq, Eq, Drop)]
 pub enum LeakTimeoutResult {
     Pass,
     Fail,
 }
 
-/// What a test counts as that was stopped for its time.
+/// Says what a test counts as that was stopped for its time.
 #[derive(Clone, Copy, PartialEq, Eq, Drop)]
 pub enum SlowTimeoutResult {
     Pass,
     Fail,
 }
 
-/// How a process failed.
+/// Says how a process failed.
 #[derive(PartialEq, Eq, Drop)]
 pub enum FailureDescription {
     ExitCode { code: i32 },
@@ -54,7 +58,7 @@ pub enum FailureDescription {
     Abort { signal: i32, name: Option<Text> },
 }
 
-/// How an attempt ended.
+/// Says how an attempt ended.
 #[derive(PartialEq, Eq, Drop)]
 pub enum ExecutionResultDescription {
     Pass,
@@ -89,14 +93,14 @@ impl ExecutionResultDescription {
     }
 }
 
-/// What is said of an error, shortly and at length.
+/// Says what an error is, shortly and at length.
 #[derive(PartialEq, Eq, Drop)]
 pub struct ErrorSummary {
     pub short_message: Text,
     pub description: Text,
 }
 
-/// The piece of an output that shows an error, and at which byte it begins there.
+/// Holds the piece of an output that shows an error, and at which byte it begins there.
 #[derive(PartialEq, Eq, Drop)]
 pub struct OutputErrorSlice {
     pub slice: Text,

@@ -5,7 +5,7 @@ ghost use Rattle.rec_events.specs.Summaries.{stress_summary};
 use crate::{Items, OwnedTestInstanceId, RunStats, StressIndexSummary, TryClone};
 use std::alloc::{AllocError, Global};
 
-/// How a run ended, over all its tests.
+/// Says how a run ended, over all its tests.
 #[derive(Clone, Copy, PartialEq, Eq, Drop)]
 pub enum FinalRunStats {
     Success,
@@ -14,7 +14,7 @@ pub enum FinalRunStats {
     Cancelled,
 }
 
-/// How a stress run ended, over all its runs.
+/// Says how a stress run ended, over all its runs.
 #[derive(Clone, Copy, PartialEq, Eq, Drop)]
 pub enum StressFinalRunStats {
     Success,
@@ -23,7 +23,7 @@ pub enum StressFinalRunStats {
     Cancelled,
 }
 
-/// The counts of a stress run.
+/// Holds the counts of a stress run.
 #[derive(Clone, Copy, PartialEq, Eq, Drop)]
 pub struct StressRunStats {
     /// The last of its runs.
@@ -51,14 +51,14 @@ impl StressRunStats {
     }
 }
 
-/// The counts of a run that ended.
+/// Holds the counts of a run that ended.
 #[derive(Clone, Copy, PartialEq, Eq, Drop)]
 pub enum RunFinishedStats {
     Single(RunStats),
     Stress(StressRunStats),
 }
 
-/// Tests that a run didn't come to.
+/// Names tests that a run didn't come to.
 #[derive(PartialEq, Eq, Drop)]
 pub struct TestsNotSeenSummary {
     /// Some of them.

@@ -6,7 +6,7 @@ use crate::{
 };
 use std::alloc::{AllocError, Global};
 
-/// One run of a setup script.
+/// Holds one run of a setup script.
 #[derive(Drop)]
 #[derive_where(PartialEq; S::ChildOutput)]
 pub struct SetupScriptExecuteStatus<S: OutputSpec> {

@@ -5,7 +5,7 @@ ghost use Rattle.rec_events.specs.Selections.{no_named_targets, no_package_selec
 use crate::{Items, Text, TryClone};
 use std::alloc::{AllocError, Global};
 
-/// Targets of one kind: those named, or all.
+/// Selects targets of one kind: those named, or all.
 #[derive(PartialEq, Eq, Debug, Drop)]
 pub struct NamedTargets {
     pub names: Items<Text>,
@@ -33,7 +33,7 @@ impl TryClone for NamedTargets {
     }
 }
 
-/// Which packages are built.
+/// Says which packages are built.
 #[derive(PartialEq, Eq, Debug, Drop)]
 pub struct PackageSelection {
     pub specs: Items<Text>,
@@ -64,7 +64,7 @@ impl TryClone for PackageSelection {
     }
 }
 
-/// Which targets of the packages are built.
+/// Says which targets of the packages are built.
 #[derive(PartialEq, Eq, Debug, Drop)]
 pub struct TargetSelection {
     pub lib: bool,
@@ -104,7 +104,7 @@ impl TryClone for TargetSelection {
     }
 }
 
-/// Which features of the packages are built.
+/// Says which features of the packages are built.
 #[derive(PartialEq, Eq, Debug, Drop)]
 pub struct FeatureSelection {
     pub features: Items<Text>,
@@ -135,7 +135,7 @@ impl TryClone for FeatureSelection {
     }
 }
 
-/// Everything that says what is built.
+/// Holds everything that says what is built.
 #[derive(PartialEq, Eq, Debug, Drop)]
 pub struct BuildScope {
     pub packages: PackageSelection,

@@ -2,7 +2,7 @@
 ghost use Rattle.std.specs.Prelude.{◌≡◌};
 ghost use Rattle.rec_events.specs.Skipping.{reports};
 
-/// Why a test doesn't run.
+/// Says why a test doesn't run.
 #[derive(Clone, Copy, PartialEq, Eq, Drop)]
 pub enum MismatchReason {
     /// It is no benchmark, and benchmarks are run.
@@ -21,7 +21,7 @@ pub enum MismatchReason {
     DefaultFilter,
 }
 
-/// Which skipped tests a JUnit report names.
+/// Says which skipped tests a JUnit report names.
 #[derive(Clone, Copy, PartialEq, Eq, Drop)]
 pub enum ReportSkipPolicy {
     None,

@@ -5,7 +5,7 @@ ghost use Rattle.rec_events.specs.Summaries.{failed_or_cancelled, has_failed_scr
 
 use crate::{CancelReason, FinalRunStats};
 
-/// How many tests and setup scripts ran, and how they ended.
+/// Counts the tests and setup scripts that ran, and says how they ended.
 #[derive(Clone, Copy, PartialEq, Eq, Drop)]
 pub struct RunStats {
     pub initial_run_count: usize,
@@ -91,7 +91,7 @@ impl RunStats {
         }
     }
 
-    // Whether a setup script failed, could not be started, or was stopped for its time.
+    /// Returns whether a setup script failed, could not be started, or was stopped for its time.
     fn has_failed_script(&self) -> bool
         ensures { result ≡ has_failed_script self.now }
     {
@@ -100,14 +100,14 @@ impl RunStats {
             || self.setup_scripts_timed_out > 0
     }
 
-    // Whether a test failed, could not be started, or failed for its time.
+    /// Returns whether a test failed, could not be started, or failed for its time.
     fn has_failed_test(&self) -> bool
         ensures { result ≡ has_failed_test self.now }
     {
         self.failed > 0 || self.exec_failed > 0 || self.failed_timed_out > 0
     }
 
-    // How a run ended in which something failed.
+    /// Returns how a run ended in which something failed.
     fn failed_or_cancelled(&self) -> FinalRunStats
         ensures { result ≡ failed_or_cancelled self.now.cancel_reason }
     {

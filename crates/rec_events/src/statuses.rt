@@ -9,7 +9,7 @@ use crate::{
 };
 use std::alloc::{AllocError, Global};
 
-/// One attempt of a test.
+/// Holds one attempt of a test.
 #[derive(Drop)]
 #[derive_where(PartialEq; S::ChildOutput)]
 pub struct ExecuteStatus<S: OutputSpec> {
@@ -24,7 +24,7 @@ pub struct ExecuteStatus<S: OutputSpec> {
     pub output_error_slice: Option<OutputErrorSlice>,
 }
 
-/// All attempts of a test, in order. There is at least one.
+/// Holds all attempts of a test, in order. There is at least one.
 #[derive(Drop)]
 #[derive_where(PartialEq; S::ChildOutput)]
 pub struct ExecutionStatuses<S: OutputSpec> {
@@ -32,7 +32,7 @@ pub struct ExecutionStatuses<S: OutputSpec> {
     pub flaky_result: FlakyResult,
 }
 
-/// How the attempts of a test are described.
+/// Describes the attempts of a test.
 #[derive(Drop)]
 pub enum ExecutionDescription<'a, S: OutputSpec> {
     /// One attempt, which succeeded.

@@ -1,7 +1,7 @@
 //! How long a stress run goes on, and how far it got.
 use crate::Duration;
 
-/// What ends a stress run.
+/// Says what ends a stress run.
 #[derive(Clone, Copy, PartialEq, Eq, Drop)]
 pub enum StressConditionSummary {
     /// So many runs; without a count it goes on until it is stopped.
@@ -10,8 +10,8 @@ pub enum StressConditionSummary {
     Duration { duration: Duration },
 }
 
-/// How far a stress run got. `elapsed` is the time since it began, and `completed` the number of
-/// its runs that ended.
+/// Says how far a stress run got. `elapsed` is the time since it began, and `completed` the number
+/// of its runs that ended.
 #[derive(Clone, Copy, PartialEq, Eq, Drop)]
 pub enum StressProgress {
     /// Of so many runs; without a total it goes on until it is stopped.

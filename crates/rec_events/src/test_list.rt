@@ -4,7 +4,7 @@ ghost use Rattle.std.specs.Prelude.{◌≡◌};
 use crate::{NextestRunMode, TestListSummary};
 use std::marker::Model;
 
-/// The tests of a run, and what the run does with them.
+/// Holds the tests of a run, and what the run does with them.
 #[derive(Drop)]
 pub struct TestList<'a> {
     mode: NextestRunMode,

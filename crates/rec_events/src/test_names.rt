@@ -10,7 +10,7 @@ use std::alloc::{AllocError, Global};
 use std::collections::BTreeSet;
 use std::marker::Model;
 
-/// A set of test names. Contracts see them in the order of their bytes, each once.
+/// Holds a set of test names. Contracts see them in the order of their bytes, each once.
 #[derive(Drop, Debug)]
 pub struct TestNames {
     inner: BTreeSet<String>,
@@ -26,7 +26,7 @@ impl Model for TestNames {
 }
 
 impl TestNames {
-    /// Makes an empty list: no names.
+    /// Makes an empty set: no names.
     pub fn empty(alloc: Global) -> TestNames
         ensures { result ≡ [] }
     {
@@ -35,7 +35,11 @@ impl TestNames {
         }
     }
 
-    /// Puts `name` at its place. A name that is there stays alone; without memory the set stays.
+    /// Puts `name` at its place. A name that is there stays alone.
+    ///
+    /// # Errors
+    ///
+    /// `AllocError` means that there was not enough memory. The set is as it was.
     pub fn insert(&mut self, name: TestCaseName) -> Result<(), AllocError>
         ensures put { OnOk result (self.new ≡ with_name self.old name) }
         ensures unchanged { OnErr result (self.new ≡ self.old) }

@@ -11,7 +11,7 @@ use std::alloc::{AllocError, Global};
 use std::cmp::Ordering;
 use std::marker::Model;
 
-/// A text. Contracts see its bytes, which are UTF-8.
+/// Holds a text. Contracts see its bytes, which are UTF-8.
 #[derive(Drop, Debug)]
 pub struct Text {
     inner: String,
@@ -32,6 +32,10 @@ impl Text {
     }
 
     /// Makes a copy of `text`.
+    ///
+    /// # Errors
+    ///
+    /// `AllocError` means that there was not enough memory.
     pub fn from_str(alloc: Global, text: &str) -> Result<Text, AllocError>
         ensures value { IfOk result (λ t. t ≡ text.now) }
         ensures utf8 { IfOk result (λ t. IsTrue (is_utf8 t)) }
@@ -79,7 +83,7 @@ impl Eq for Text {
     ghost laws = { Prim.search (comparing, rules) };
 }
 
-/// By bytes.
+/// Orders texts by their bytes.
 impl PartialOrd for Text {
     ghost partial_cmp = { λ x y. Some (slice_cmp nat_cmp x y) };
 
@@ -90,7 +94,7 @@ impl PartialOrd for Text {
     }
 }
 
-/// By bytes.
+/// Orders texts by their bytes.
 impl Ord for Text {
     ghost cmp = { slice_cmp nat_cmp };
 

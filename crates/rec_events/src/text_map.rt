@@ -12,7 +12,7 @@ use std::alloc::{AllocError, Global};
 use std::collections::BTreeMap;
 use std::marker::Model;
 
-/// A map from texts to values. Contracts see its pairs in the order of their keys' bytes.
+/// Holds a map from texts to values. Contracts see its pairs in the order of their keys' bytes.
 #[derive(Drop)]
 pub struct TextMap<V> {
     inner: BTreeMap<String, V>,
@@ -35,7 +35,7 @@ impl<V> TextMap<V> {
         TextMap { inner }
     }
 
-    /// Makes an empty list: no pairs.
+    /// Makes an empty map: no pairs.
     pub fn empty(alloc: Global) -> TextMap<V>
         ensures { result ≡ [] }
     {
@@ -44,7 +44,11 @@ impl<V> TextMap<V> {
         }
     }
 
-    /// Puts `value` at `key`, in the place of what was there. Without memory the map stays.
+    /// Puts `value` at `key`, in the place of what was there.
+    ///
+    /// # Errors
+    ///
+    /// `AllocError` means that there was not enough memory. The map is as it was.
     pub fn insert(&mut self, key: Text, value: V) -> Result<(), AllocError>
     where
         V: Drop,

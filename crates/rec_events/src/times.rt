@@ -5,7 +5,7 @@ ghost use Rattle.rec_events.specs.Times.{micros};
 
 use std::marker::Model;
 
-/// A span of time: whole seconds, and nanoseconds below 1000000000.
+/// Holds a span of time: whole seconds, and nanoseconds below 1000000000.
 #[derive(Clone, Copy, PartialEq, Eq, Drop)]
 pub struct Duration {
     pub secs: u64,
@@ -46,8 +46,8 @@ impl Duration {
     }
 }
 
-/// An instant: seconds and nanoseconds (below 1000000000) since the beginning of 1970 in UTC, and
-/// the offset of its clock's zone in seconds.
+/// Holds an instant: seconds and nanoseconds (below 1000000000) since the beginning of 1970 in UTC,
+/// and the offset of its clock's zone in seconds.
 #[derive(Clone, Copy, PartialEq, Eq, Drop)]
 pub struct Stamp {
     pub secs: i64,

@@ -3,9 +3,13 @@ ghost use Rattle.std.specs.Prelude.{◌≡◌, IfOk};
 
 use std::alloc::{AllocError, Global};
 
-/// A value of which an equal copy can be made, where there is memory.
+/// Copies a value into an equal one, where there is memory.
 pub trait TryClone: Sized {
     /// Returns a copy that is equal to `self`.
+    ///
+    /// # Errors
+    ///
+    /// `AllocError` means that there was not enough memory.
     fn try_clone(&self, alloc: Global) -> Result<Self, AllocError>
         ensures copy { IfOk result (λ t. t ≡ self.now) };
 }

@@ -12,7 +12,7 @@ use std::fmt;
 use std::marker::Model;
 use thiserror::Error;
 
-/// Why no version is read from a text.
+/// Says why no version is read from a text.
 #[derive(Clone, Copy, PartialEq, Eq, Debug, Drop, Error)]
 pub enum VersionError {
     /// The text is no version for `semver`.
@@ -23,7 +23,7 @@ pub enum VersionError {
     OutOfMemory,
 }
 
-/// A `semver` version. Contracts see its parts: three numbers, the pre-release and the build
+/// Holds a `semver` version. Contracts see its parts: three numbers, the pre-release and the build
 /// metadata. Each is made from its text, so its text reads as it.
 #[derive(Drop)]
 pub struct Version {
@@ -43,7 +43,12 @@ impl Model for Version {
 }
 
 impl Version {
-    /// Makes the version that `text` is. `NotAVersion` comes only where `semver` reads none.
+    /// Makes the version that `text` is.
+    ///
+    /// # Errors
+    ///
+    /// `NotAVersion` comes only where `semver` reads no version, and `OutOfMemory` where there was
+    /// not enough memory to say.
     pub fn parse(alloc: Global, text: &str) -> Result<Version, VersionError>
         ensures ok { IfOk result (λ v. version_parts text.now ≡ Ok v) }
         ensures refused { result ≡ Err NotAVersion → IsErr (version_parts text.now) }
@@ -58,6 +63,10 @@ impl Version {
     }
 
     /// Returns the text that reads as the version.
+    ///
+    /// # Errors
+    ///
+    /// `AllocError` means that there was not enough memory.
     pub fn to_text(&self, alloc: Global) -> Result<Text, AllocError>
         ensures value { IfOk result (λ t. t ≡ parts_text self.now) }
         ensures reads { IfOk result (λ t. version_parts t ≡ Ok self.now) }
