@@ -22,7 +22,7 @@ use std::alloc::Global;
 ///
 /// # Errors
 ///
-/// The error is the first cause in the order of the variants of [`RecordExportError`]:
+/// The error is the first cause in this order:
 ///
 /// - `SourceFault` comes where the source failed, and `SessionTooLarge` where it gave one byte more than
 ///   `session_limit` and had not failed.
@@ -75,6 +75,7 @@ pub fn record_and_export<S: Source, N: OutputNamer, B: Sink, T: Sink>(
     export(alloc, settings, namer, source, bundle, trace)
 }
 
+/// Records and exports, in a call of its own, so that `complete` can rest on these two clauses.
 fn export<S: Source, N: OutputNamer, B: Sink, T: Sink>(
     alloc: Global,
     settings: &Settings,

@@ -13,7 +13,7 @@ use crate::words::WordsError;
 use rec_container::{Sink, SinkFailed};
 use std::alloc::AllocError;
 
-/// A fault that has a line.
+/// Gives a fault its line.
 pub trait FaultLine {
     ghost line_of: { Self → List ℕ };
 

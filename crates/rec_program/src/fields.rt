@@ -12,7 +12,7 @@ use rec_events::{OwnedTestInstanceId, RustBinaryId, TestCaseName};
 use rec_format::Release;
 use rec_trace::SpanKey;
 
-/// A field of which nothing is written.
+/// Holds nothing: a field of which nothing is written.
 pub const NOTHING: Field<'static> = Field {
     label: "",
     value: FieldValue::Text(""),

@@ -11,7 +11,7 @@ use itoa::Buffer;
 use rec_container::{Sink, SinkFailed, write_all};
 use rec_format::Release;
 
-/// The value of a field.
+/// Holds the value of a field.
 #[derive(Clone, Copy)]
 pub enum FieldValue<'a> {
     /// A text, written as it is.
@@ -24,7 +24,7 @@ pub enum FieldValue<'a> {
     Release(Release),
 }
 
-/// A field of a fault's line.
+/// Holds a field of a fault's line.
 #[derive(Clone, Copy)]
 pub struct Field<'a> {
     /// What stands before the value: a space, and the field's name with `=` where it has one.
@@ -33,10 +33,11 @@ pub struct Field<'a> {
     pub value: FieldValue<'a>,
 }
 
-/// The fields of a line, and after them fields of which nothing is written. No line has more than seven.
+/// Holds the fields of a line, and after them fields of which nothing is written. No line has more than
+/// seven.
 pub type Fields<'a> = [Field<'a>; 7];
 
-/// A fault's line without its LF: the name of the fault, and its fields.
+/// Holds a fault's line without its LF: the name of the fault, and its fields.
 #[derive(Clone, Copy)]
 pub struct FaultText<'a> {
     /// The name.

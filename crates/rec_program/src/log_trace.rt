@@ -9,7 +9,8 @@ use rec_trace::{
 use std::alloc::Global;
 
 /// Writes the trace of the events of a log, recorded by this version of the runner. A log without a refusal
-/// has a trace, unless memory runs out.
+/// has a trace, unless memory runs out. It is a call of its own, so that its clause, which speaks of the lines
+/// of a log, can rest on those of [`convert_to_chrome_trace`].
 ///
 /// # Errors
 ///

@@ -130,6 +130,7 @@ pub fn run_program<S: Source, B: Sink, T: Sink, G: Sink>(
     run(alloc, words, source, bundle, out, diag)
 }
 
+/// Does what the words ask for, in a call of its own, so that what else [`run_program`] ensures can rest on it.
 fn run<S: Source, B: Sink, T: Sink, G: Sink>(
     alloc: Global,
     words: &[String],

@@ -43,6 +43,7 @@ pub fn versions() -> &'static str
     VERSION
 }
 
+/// Names the version of the program, and those of the formats that it writes.
 const VERSION: &str = "\
 rezovamy 0.1.0
 portable recording format 1.1

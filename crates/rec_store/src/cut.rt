@@ -6,7 +6,7 @@ ghost use Rattle.rec_store.specs.declared.cut.CutOutput.TheVariants.{Borrowed};
 use itoa::Buffer;
 use std::alloc::{AllocError, Global};
 
-/// An output as it is stored: the whole of it, or what is left after a cut.
+/// Holds an output as it is stored: the whole of it, or what is left after a cut.
 #[derive(Debug, Drop)]
 pub enum CutOutput<'a> {
     /// The output itself, which is within the limit.

@@ -6,7 +6,7 @@ use rec_events::Text;
 use std::alloc::{AllocError, AllocFailed};
 use thiserror::Error;
 
-/// Why a recorder did not take what it was given.
+/// Says why a recorder did not take what it was given.
 #[derive(Debug, Drop, Error)]
 pub enum RunStoreError {
     /// A sink failed in an earlier call of this recorder, which writes nothing since then.

@@ -19,7 +19,7 @@ use rec_events::{
 };
 use std::alloc::Global;
 
-/// The rules by which outputs are stored.
+/// Holds the rules by which outputs are stored.
 ///
 /// An output is cut to a limit, and stored under the number of what is kept of it and its kind. One
 /// without bytes is not stored, and equal outputs of one kind are stored once.

@@ -62,7 +62,7 @@ pub struct RunRecorder<'n, S: Sink, L: Sink, N: OutputNamer> {
     max_output_size: u64,
 }
 
-/// How a recording ended, and its sinks.
+/// Says how a recording ended, and holds its sinks.
 #[derive(Drop)]
 pub struct RecorderEnd<S, L> {
     /// The sizes of log and store, or why the store has no end.

@@ -4,7 +4,7 @@ ghost use Rattle.std.specs.Option.{SomeIff};
 
 pub use rec_format::ComponentSizes;
 
-/// How large the log and the store of a recorded run are.
+/// Says how large the log and the store of a recorded run are.
 #[derive(Clone, Copy, Debug, Default)]
 pub struct StoreSizes {
     /// The event log. Its entries are the events.

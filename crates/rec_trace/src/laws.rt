@@ -14,19 +14,20 @@ ghost use Rattle.rec_trace.specs.declared.spans.Span as spans;
 
 use rec_events::OutputSpec;
 
-/// The past at a position of a history is in a pause exactly where the last event before it that is a
-/// pause or a continuation is a pause.
+/// States that the past at a position of a history is in a pause exactly where the last event before it that is
+/// a pause or a continuation is a pause.
 pub fn pauses()
     ensures { (history : List TraceInput) (i : ℕ) → i ≤ length history → (IsInPause history i ↔ (is_paused (past_at history i) ≡ true)) }
 {}
 
-/// A span is open after the past at a position exactly where some start of it before the position has no stop of
-/// its key between.
+/// States that a span is open after the past at a position exactly where some start of it before the position
+/// has no stop of its key between.
 pub fn open_at()
     ensures { (history : List TraceInput) (i : ℕ) (s : spans.Span) → i ≤ length history → (IsOpen history i s ↔ Has (open_spans (past_at history i)) s) }
 {}
 
-/// The marks of an event are the begins and the ends of the slices of all spans there, at its instant.
+/// States that the marks of an event are the begins and the ends of the slices of all spans there, at its
+/// instant.
 pub fn slices()
     ensures begins { (history : List TraceInput) (i : ℕ) (input : TraceInput) → slice_get history i ≡ Some input → (s : spans.Span) (t : ℤ)
         → Has (event_marks (past_at history i) input) (mark phases.Begin t s) ↔ ((t ≡ input.at) × SliceBegins history s i) }
@@ -34,19 +35,21 @@ pub fn slices()
         → Has (event_marks (past_at history i) input) (mark phases.End t s) ↔ ((t ≡ input.at) × SliceEnds history s i) }
 {}
 
-/// The marks of a history of events that has a trace are a timeline.
+/// States that the marks of a history of events that has a trace are a timeline.
 pub fn timeline<S: OutputSpec>()
     ensures { (group : group_by.ChromeTraceGroupBy) (events : List (TestEventSummary S S.ChildOutput)) → let history = kinds.history group events in
         history_refusal history ≡ None → IsTimeline history }
 {}
 
-/// Each prefix of a history that has a trace has one too, and its marks are the first of those of the whole.
+/// States that each prefix of a history that has a trace has one too, and that its marks are the first of those
+/// of the whole.
 pub fn prefixes()
     ensures accepted { (history more : List TraceInput) → history_refusal (history ++ more) ≡ None → history_refusal history ≡ None }
     ensures marks { (history more : List TraceInput) → trace_marks (history ++ more) ≡ trace_marks history ++ marks_after (after [] history) more }
 {}
 
-/// The outputs of events are not drawn: events have the same history whatever becomes of their outputs.
+/// States that the outputs of events are not drawn: events have the same history whatever becomes of their
+/// outputs.
 pub fn outputs_are_not_drawn<S: OutputSpec, T: OutputSpec>()
     ensures { (group : group_by.ChromeTraceGroupBy) (becomes : S.ChildOutput → T.ChildOutput) (events : List (TestEventSummary S S.ChildOutput))
         → kinds.history group (map (event_with {T = T} becomes) events) ≡ kinds.history group events }
