@@ -122,7 +122,7 @@ pub fn event_from_value<S: OutputForm>(
     event_from(alloc, value)
 }
 
-// Reads an event.
+// Reads an event, in a call of its own, so that `known` of `event_from_value` can rest on its clause.
 #[tactic(auto, unfolding(crate::specs::EventForms::event_form))]
 fn event_from<S: OutputForm>(
     alloc: Global,
