@@ -37,7 +37,7 @@ pub(crate) fn extract(
     write_entry(limit, name, entries.get(file_name), out, check_limit)
 }
 
-// The entries of bytes that are known to be a container.
+/// Lends the entries of bytes that are known to be a container.
 fn parse_again<'a>(
     alloc: Global,
     bytes: &'a [u8],
@@ -51,7 +51,7 @@ fn parse_again<'a>(
     }
 }
 
-// Writes what was found of an entry.
+/// Writes what was found of an entry.
 fn write_entry(
     limit: u64,
     name: Text,
@@ -75,7 +75,7 @@ fn write_entry(
     })
 }
 
-// The size, where the limit is to be checked and is passed.
+/// Returns the size, where the limit is to be checked and is passed.
 fn exceeded(limit: u64, size: u64, check_limit: bool) -> Option<u64>
     ensures { result ≡ exceeded_limit check_limit limit size }
 {

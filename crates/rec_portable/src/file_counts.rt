@@ -32,14 +32,14 @@ impl FileCounts {
     }
 }
 
-// Whether an entry of this name is a file.
+/// Returns whether an entry of this name is a file.
 fn is_file_name(name: &str) -> bool
     ensures { result ≡ is_file name.now }
 {
     !(name.ends_with('/') || name.ends_with('\\'))
 }
 
-// Whether it is one with a zip extension.
+/// Returns whether it is one with a zip extension.
 fn is_zip_file_name(name: &str) -> bool
     ensures { result ≡ (is_file name.now && is_zip_path name.now) }
 {

@@ -42,7 +42,7 @@ pub(crate) fn read_manifest(
     read_content(alloc, content)
 }
 
-// Reads the manifest for which bytes stand.
+/// Reads the manifest for which bytes stand.
 fn read_content(
     alloc: Global,
     content: &[u8],
@@ -56,7 +56,7 @@ fn read_content(
     }
 }
 
-// Answers a manifest whose versions are read.
+/// Answers a manifest whose versions are read.
 fn with_versions_checked(
     manifest: PortableManifest,
 ) -> Result<PortableManifest, PortableRecordingReadError>
@@ -73,14 +73,14 @@ fn with_versions_checked(
     Ok(manifest)
 }
 
-// Returns the version of a bundle. Where it is needed twice, it is asked for twice.
+/// Returns the version of a bundle. Where it is needed twice, it is asked for twice.
 fn format_version(manifest: &PortableManifest) -> PortableRecordingFormatVersion
     ensures { result ≡ manifest.now.format_version }
 {
     manifest.format_version
 }
 
-// Judges the version of a bundle.
+/// Judges the version of a bundle.
 fn check_format_version(manifest: &PortableManifest) -> Result<(), PortableRecordingReadError>
     ensures { result ≡ format_checked manifest.now.format_version }
 {
@@ -95,7 +95,7 @@ fn check_format_version(manifest: &PortableManifest) -> Result<(), PortableRecor
         )
 }
 
-// Judges the version of the store in a bundle.
+/// Judges the version of the store in a bundle.
 fn check_store_version(manifest: &PortableManifest) -> Result<(), PortableRecordingReadError>
     ensures { result ≡ store_checked (version_in manifest.now.run) }
 {

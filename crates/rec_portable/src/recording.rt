@@ -27,7 +27,7 @@ use std::marker::Model;
 pub struct PortableRecording {
     path: String,
     bytes: Vec<u8>,
-    // the most bytes of an entry that is read
+    /// The most bytes of an entry that is read.
     limit: u64,
     parts: BundleParts,
 }
@@ -134,8 +134,8 @@ impl PortableRecording {
         part_of(&self.bytes, self.parts.store)
     }
 
-    /// Opens the store, whatever its length. The entries that its reader lends are windows of the
-    /// bundle's bytes.
+    /// Opens the store, whatever its length. The reader's entries are windows of the bundle's bytes, which
+    /// its calls copy.
     ///
     /// # Errors
     ///
@@ -188,7 +188,7 @@ impl RunFilesExist for PortableRecording {
     }
 }
 
-// Lends the part of the bytes in a window, where there is one.
+/// Lends the part of the bytes in a window, where there is one.
 fn part_of(bytes: &[u8], window: Option<Window>) -> Option<&[u8]>
     requires { IfSome window (λ w. w.at + w.len ≤ length bytes.now) }
     ensures { option_map (λ b. b.now) result ≡ option_map (bytes_in bytes.now) window }
