@@ -11,6 +11,19 @@ use std::marker::{Model, PhantomData};
 /// Goes over the lines of a log, in order: one item for each line that isn't blank, as `read_line`
 /// reads it. After a line that gives no event it goes on with the next one. After `OutOfMemory` it
 /// ends.
+///
+/// # Examples
+///
+/// The events of a log, whose first line has the number 1:
+///
+/// ```
+/// for event in LineIter::<RecordingSpec>::new(alloc, log, 1) {
+///     match event {
+///         Ok(event) => println!(rt; "after {} s", event.elapsed.secs)?,
+///         Err(error) => println!(rt; "{error}")?,
+///     }
+/// }
+/// ```
 #[derive(Drop)]
 pub struct LineIter<'a, S: OutputForm> {
     alloc: Global,

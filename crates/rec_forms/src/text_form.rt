@@ -18,6 +18,16 @@ use std::alloc::{AllocError, Global};
 /// - `NotAValue` exactly where `bytes` are no UTF-8, are not the text of a JSON value, or are that of a
 ///   value which stands for no item.
 /// - `OutOfMemory` if memory runs out.
+///
+/// # Examples
+///
+/// An item is read, and written again as `{"not-seen":[],"total-not-seen":7}`:
+///
+/// ```
+/// let text = r#"{"total-not-seen":7,"not-seen":[]}"#;
+/// let summary: TestsNotSeenSummary = read_text(alloc, text.as_bytes())?;
+/// let written = write_text(alloc, &summary)?;
+/// ```
 pub fn read_text<T: Form>(alloc: Global, bytes: &[u8]) -> Result<T, FromValueError>
     ensures read { Gives result (bytes_form T.form_of bytes.now) }
     ensures known { IfOk result T.well_formed }

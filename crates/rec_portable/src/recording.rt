@@ -62,6 +62,23 @@ impl PortableRecording {
     /// - `UnsupportedStoreFormatVersion` where the version of its store isn't read.
     ///
     /// `OutOfMemory` may come at any time.
+    ///
+    /// # Examples
+    ///
+    /// The events in the log of a bundle:
+    ///
+    /// ```
+    /// let path = String::from_str(alloc, "run.zip")?;
+    /// let mut source = SliceSource::new(bundle);
+    /// let recording = PortableRecording::open(alloc, path, &mut source, 1_000_000, 1_000_000)?;
+    /// let log = recording.read_run_log(alloc)?;
+    /// for event in log.events(alloc) {
+    ///     match event {
+    ///         Ok(event) => println!(rt; "after {} s", event.elapsed.secs)?,
+    ///         Err(error) => println!(rt; "{error}")?,
+    ///     }
+    /// }
+    /// ```
     pub fn open<S: Source>(
         alloc: Global,
         path: String,

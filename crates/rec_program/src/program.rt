@@ -34,6 +34,20 @@ use std::alloc::Global;
 ///
 /// The words don't hold the program's name. With a status other than 0 the cause is one line on
 /// `diag`, which needs no memory. A fault of `diag` cuts the line, and changes no status.
+///
+/// # Examples
+///
+/// The manifest of a bundle, printed into memory:
+///
+/// ```
+/// let mut words = Vec::new(alloc);
+/// words.push(String::from_str(alloc, "info")?)?;
+/// let mut source = SliceSource::new(bytes);
+/// let mut bundle = GrowingSink::new(alloc);
+/// let mut out = GrowingSink::new(alloc);
+/// let mut diag = GrowingSink::new(alloc);
+/// let status = run_program(alloc, &words, &mut source, &mut bundle, &mut out, &mut diag);
+/// ```
 pub fn run_program<S: Source, B: Sink, T: Sink, G: Sink>(
     alloc: Global,
     words: &[String],
