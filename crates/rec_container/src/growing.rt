@@ -7,7 +7,7 @@ use crate::streams::{Sink, SinkFailed};
 use std::alloc::{AllocError, Global};
 use std::marker::Model;
 
-/// Keeps what it takes in memory: each piece whole, and memory for it. A write fails only for want
+/// Keeps what it takes in memory that grows. A write takes the whole piece, and fails only for want
 /// of memory.
 #[derive(Drop)]
 pub struct GrowingSink {

@@ -206,8 +206,8 @@ impl<K: Sink> ContainerWriter<K> {
     /// # Errors
     ///
     /// The result that comes with the sink is `Failed` exactly where the sink failed at an earlier
-    /// call; it is then as it was. It is `SinkFault` where the sink fails now. It took a proper
-    /// prefix of what was to be written. No other error comes.
+    /// call; it is then as it was. It is `SinkFault` where the sink fails now, with a proper prefix
+    /// taken of what was to be written. No other error comes.
     pub fn finish(self) -> ContainerEnd<K>
         ensures ok { IfOk result.result (λ sizes. (self.failed ≡ false) × HasSizesOf self.entries sizes
             × Appends (K.taken self.sink) (K.taken result.sink) (ending self.entries)) }
