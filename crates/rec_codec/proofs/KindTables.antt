@@ -4,10 +4,10 @@ use Rattle.std.proofs.lemmas.Slice.Eq.{bytes_eq-Decides}
 use Rattle.std.specs.Str.{bytes_eq}
 use Rattle.serde_json.specs.Data.{Data, Members}
 use Rattle.rec_events.specs.declared.events.CoreEventKind.{CoreEventKind}
-use Rattle.rec_events.specs.declared.events.TestEventKindSummary.{TestEventKindSummary}
 use Rattle.rec_events.specs.declared.events.TestEventKindSummary.TheVariants.{Core}
-use Rattle.rec_forms.specs.declared.errors.FromValueError.{FromValueError}
+use Rattle.rec_events.specs.declared.events.TestEventKindSummary.{TestEventKindSummary}
 use Rattle.rec_forms.specs.declared.errors.FromValueError.TheVariants.{NotAValue, OutOfMemory}
+use Rattle.rec_forms.specs.declared.errors.FromValueError.{FromValueError}
 use Rattle.rec_forms.specs.Gives.{Refuses}
 use Rattle.rec_forms.specs.Shape.{◌>>=◌, named}
 use Rattle.rec_codec.specs.CoreKindForms.{core_kinds, kind_in}

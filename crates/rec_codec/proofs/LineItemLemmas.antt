@@ -2,11 +2,11 @@
 use Rattle.std.proofs.Common.{◌≡◌, ◌≤◌, length, Bool, true, false, List, [], ◌∷◌, Option, Some, None, Result, Ok, Err, refl, sym, subst, arith}
 use Rattle.std.specs.Prelude.{MatchBool}
 use Rattle.serde_json.specs.Data.{Data}
+use Rattle.rec_codec.specs.declared.line_events.LineError.TheVariants.{ReadRunLog, ParseEvent, OutOfMemory}
+use Rattle.rec_codec.specs.declared.line_events.LineError.{LineError}
 use Rattle.rec_codec.specs.LineEvents.{blank, AnswersEvent, Answers}
 use Rattle.rec_codec.specs.LineItems.{left_after, GivesItem, GivesNext}
 use Rattle.rec_codec.specs.Lines.{NumberedLine, text_of}
-use Rattle.rec_codec.specs.declared.line_events.LineError.{LineError}
-use Rattle.rec_codec.specs.declared.line_events.LineError.TheVariants.{ReadRunLog, ParseEvent, OutOfMemory}
 
 pub length-left_after : {T : Type 0} (r : Result T LineError) (rest : List NumberedLine) → length (left_after r rest) ≤ length rest
 length-left_after (Ok x) rest = omega arith

@@ -1,13 +1,13 @@
 -- The first line of a text, and lines as texts.
 use Rattle.std.proofs.Common.{◌≡◌, ℕ, ◌+◌, ◌-◌, ◌<◌, ◌≤◌, ◌==◌, List, [], ◌∷◌, ◌++◌, length, take, drop, get_or, Some, None, Bool, true, false, nat_lt, if◌then◌else◌, ap, subst, ◌∙◌, refl, arith}
-use Rattle.std.specs.Str.{is_utf8, trim, IsUtf8}
-use Rattle.std.specs.List.{position, position_or_len, before_first, after_first, onto_first, All}
 use Rattle.std.proofs.lemmas.Bool.Decides.{nat_tests}
 use Rattle.std.proofs.lemmas.Grind.{common_steps}
-use Rattle.std.proofs.lemmas.List.{take_all}
 use Rattle.std.proofs.lemmas.List.Elements.{All-head, All-tail}
 use Rattle.std.proofs.lemmas.List.Sums.{fails_before_first, passes_at_first, split_at_first}
+use Rattle.std.proofs.lemmas.List.{take_all}
 use Rattle.std.proofs.lemmas.Str.{is_utf8-from_IsUtf8, IsUtf8-from_is_utf8}
+use Rattle.std.specs.List.{position, position_or_len, before_first, after_first, onto_first, All}
+use Rattle.std.specs.Str.{is_utf8, trim, IsUtf8}
 use Rattle.rec_codec.specs.Lines.{lines, text_of}
 
 -- a line that is UTF-8 is a text

@@ -5,13 +5,13 @@ use Rattle.std.specs.Iterator.{Drains, Yields, YieldsThen}
 use Rattle.std.specs.List.{cons_option}
 use Rattle.serde_json.specs.Data.{Data}
 use Rattle.rec_forms.specs.TextForm.{text_form}
+use Rattle.rec_codec.specs.declared.line_events.LineError.TheVariants.{ReadRunLog, ParseEvent, OutOfMemory}
+use Rattle.rec_codec.specs.declared.line_events.LineError.{LineError}
 use Rattle.rec_codec.specs.Event.{RecordedEvent, line_event, log_events, recorded_event_of, with_event}
 use Rattle.rec_codec.specs.LineEvents.{blank, AnswersEvent}
 use Rattle.rec_codec.specs.LineItems.{left_after, GivesItem, GivesNext}
-use Rattle.rec_codec.specs.Lines.{NumberedLine, is_blank, numbered, text_of}
-use Rattle.rec_codec.specs.declared.line_events.LineError.{LineError}
-use Rattle.rec_codec.specs.declared.line_events.LineError.TheVariants.{ReadRunLog, ParseEvent, OutOfMemory}
 use Rattle.rec_codec.specs.LineReading.{GivesUpTo, before_fault, events_before_fault, first_fault, first_line_fault, item_or_fault, line_items, log_items, text_item}
+use Rattle.rec_codec.specs.Lines.{NumberedLine, is_blank, numbered, text_of}
 
 -- ---- items up to a fault
 

@@ -1,9 +1,9 @@
 -- A log reads back.
 use Rattle.std.proofs.Common.{◌≡◌, false, List, [], ◌∷◌, ◌++◌, length, Some, refl, sym, ap, subst, ◌∙◌, arith, append_assoc, option_and_then}
-use Rattle.std.specs.List.{AllByRecursion}
-use Rattle.std.specs.Str.{trim, IsUtf8}
 use Rattle.std.proofs.lemmas.Bool.{ne_eqb}
 use Rattle.std.proofs.lemmas.Str.{IsUtf8-from_is_utf8}
+use Rattle.std.specs.List.{AllByRecursion}
+use Rattle.std.specs.Str.{trim, IsUtf8}
 use Rattle.serde_json.specs.Data.{Members, object}
 use Rattle.serde_json.specs.Written.{compact_text}
 use Rattle.rec_events.specs.declared.outputs.RecordingSpec.{RecordingSpec}
@@ -11,13 +11,13 @@ use Rattle.rec_forms.proofs.ReadBack.{IsWritable-read_back}
 use Rattle.rec_forms.specs.OutputLaws.{stored_outputs_back, stored_outputs_writable}
 use Rattle.rec_forms.specs.Outputs.{IsStoredOutputs, stored_outputs_value, stored_outputs_form}
 use Rattle.rec_forms.specs.Writable.{IsWritable}
-use Rattle.rec_codec.specs.EventFormLaws.{event_back, event_writable}
-use Rattle.rec_codec.specs.EventForms.{event_value, event_form, IsEvent}
-use Rattle.rec_codec.specs.Lines.{lines, text_of, is_blank}
-use Rattle.rec_codec.specs.Event.{RecordedEvent, event_text, log_text, recorded_event_of, line_event, with_event, log_events, IsLogged}
 use Rattle.rec_codec.proofs.CompactText.{IsPiece-from_is_piece, compact_text_piece, members_text_end}
 use Rattle.rec_codec.proofs.LineLemmas.{IsPiece, lines_at, text_of-utf8}
 use Rattle.rec_codec.proofs.Trims.{trim_braces}
+use Rattle.rec_codec.specs.Event.{RecordedEvent, event_text, log_text, recorded_event_of, line_event, with_event, log_events, IsLogged}
+use Rattle.rec_codec.specs.EventFormLaws.{event_back, event_writable}
+use Rattle.rec_codec.specs.EventForms.{event_value, event_form, IsEvent}
+use Rattle.rec_codec.specs.Lines.{lines, text_of, is_blank}
 
 -- ---- the text of an object
 

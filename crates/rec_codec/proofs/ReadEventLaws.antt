@@ -3,32 +3,32 @@ use Rattle.std.proofs.Common.{◌≡◌, ℕ, Bool, true, true≢false, List, []
 use Rattle.std.specs.List.{AllByRecursion}
 use Rattle.serde_json.specs.Data.{Data}
 use Rattle.serde_json.specs.Read.{read}
-use Rattle.rec_events.specs.declared.events.OutputEventKind.{OutputEventKind}
 use Rattle.rec_events.specs.declared.events.OutputEventKind.TheVariants.{SetupScriptFinished, TestAttemptFailedWillRetry, TestFinished}
-use Rattle.rec_events.specs.declared.events.TestEventKindSummary.{TestEventKindSummary}
+use Rattle.rec_events.specs.declared.events.OutputEventKind.{OutputEventKind}
 use Rattle.rec_events.specs.declared.events.TestEventKindSummary.TheVariants.{Core, Output}
-use Rattle.rec_events.specs.declared.outputs.ChildExecutionOutputDescription.{ChildExecutionOutputDescription}
+use Rattle.rec_events.specs.declared.events.TestEventKindSummary.{TestEventKindSummary}
 use Rattle.rec_events.specs.declared.outputs.ChildExecutionOutputDescription.TheVariants as description
+use Rattle.rec_events.specs.declared.outputs.ChildExecutionOutputDescription.{ChildExecutionOutputDescription}
 use Rattle.rec_events.specs.declared.outputs.LiveSpec.{LiveSpec}
 use Rattle.rec_events.specs.declared.outputs.RecordingSpec.{RecordingSpec}
 use Rattle.rec_events.specs.declared.statuses.ExecuteStatus.{ExecuteStatus}
-use Rattle.rec_forms.specs.Gives.{Gives}
 use Rattle.rec_forms.specs.declared.errors.FromValueError.{FromValueError}
+use Rattle.rec_forms.specs.Gives.{Gives}
 use Rattle.rec_forms.specs.GivesWellFormed.{Holds, GivesWellFormed}
-use Rattle.rec_forms.specs.WellFormedLaws.{anything, and_then_holds}
 use Rattle.rec_forms.specs.OutputLaws.{stored_outputs_well_formed}
 use Rattle.rec_forms.specs.Outputs.{stored_outputs_form, IsStoredOutputs}
 use Rattle.rec_forms.specs.TextForm.{text_form}
+use Rattle.rec_forms.specs.WellFormedLaws.{anything, and_then_holds}
+use Rattle.rec_codec.specs.declared.errors.ToValueError.TheVariants.{NotLoaded, OutOfMemory}
+use Rattle.rec_codec.specs.declared.errors.ToValueError.{ToValueError}
 use Rattle.rec_codec.specs.Event.{LiveEvent, RecordedEvent, live_event_of, recorded_event_of}
-use Rattle.rec_codec.specs.EventForms.{kind_loaded, event_form, IsKind, IsEvent}
 use Rattle.rec_codec.specs.EventFormLaws.{event_well_formed}
+use Rattle.rec_codec.specs.EventForms.{kind_loaded, event_form, IsKind, IsEvent}
 use Rattle.rec_codec.specs.Live.{is_loaded, live_form, IsLive}
 use Rattle.rec_codec.specs.LiveLaws.{live_well_formed, live_loaded}
 use Rattle.rec_codec.specs.OutputKinds.{output_loaded, IsOutput}
 use Rattle.rec_codec.specs.Status.{description_loaded, IsDescription, status_loaded, IsStatus}
 use Rattle.rec_codec.specs.Writes.{every, FailsUnloaded}
-use Rattle.rec_codec.specs.declared.errors.ToValueError.{ToValueError}
-use Rattle.rec_codec.specs.declared.errors.ToValueError.TheVariants.{NotLoaded, OutOfMemory}
 
 -- ---- what is read
 

@@ -1,12 +1,12 @@
 -- What begins and ends with a byte that is no white space is what trimming leaves of it.
 use Rattle.std.proofs.Common.{◌≡◌, ℕ, ◌+◌, ◌<◌, Bool, true, false, ◌&&◌, cond, ◌==◌, List, [], ◌∷◌, ◌++◌, length, get_or, refl, sym, ap, subst, ◌∙◌, arith, length-append}
 use lib.Utf8.{low_scalar}
-use Rattle.std.specs.Char.{is_whitespace}
-use Rattle.std.specs.Str.{IsUtf8, chars, trim, trim_start, trim_end, skip_leading_whitespace, drop_trailing_whitespace, encode_utf8_all}
-use Rattle.std.proofs.Math.Seq.{take-append_seam}
 use Rattle.std.proofs.lemmas.Bool.{ne_eqb}
 use Rattle.std.proofs.lemmas.List.{get_or-append-add}
 use Rattle.std.proofs.lemmas.Str.{IsUtf8-encode, IsUtf8-take, IsCharBoundary-before_ascii, chars-append, chars-nil, chars_past_char, encodes-chars, encode_ascii}
+use Rattle.std.proofs.Math.Seq.{take-append_seam}
+use Rattle.std.specs.Char.{is_whitespace}
+use Rattle.std.specs.Str.{IsUtf8, chars, trim, trim_start, trim_end, skip_leading_whitespace, drop_trailing_whitespace, encode_utf8_all}
 
 chars-cons_ascii : (b : ℕ) (bytes : List ℕ) → b < 128 → IsUtf8 (b ∷ bytes) → chars (b ∷ bytes) ≡ b ∷ chars bytes
 chars-cons_ascii b bytes small u = chars_past_char (b ∷ bytes) bytes b u (ap (λ l. l ++ bytes) (sym (encode_ascii b small)))

@@ -2,9 +2,9 @@
 use Rattle.std.specs.Prelude.{ℕ, ◌^◌, ◌<◌, IfSome, List, [], ◌∷◌, ◌++◌, Option, Some, codes}
 use Rattle.serde_json.specs.Data.{Members}
 use Rattle.serde_json.specs.Find.{as_bool}
-use Rattle.rec_events.specs.Names.{IsText, AreTexts}
-use Rattle.rec_events.specs.declared.events.CoreEventKind.{CoreEventKind}
 use Rattle.rec_events.specs.declared.events.CoreEventKind.TheVariants.{RunStarted, StressSubRunStarted, SetupScriptStarted, SetupScriptSlow, TestStarted, TestSlow, TestRetryStarted, TestSkipped, RunBeginCancel, RunPaused, RunContinued, StressSubRunFinished, RunFinished}
+use Rattle.rec_events.specs.declared.events.CoreEventKind.{CoreEventKind}
+use Rattle.rec_events.specs.Names.{IsText, AreTexts}
 use Rattle.rec_forms.specs.Ids.{uuid_form}
 use Rattle.rec_forms.specs.Instances.{test_instance_form, slot_assignment_form, retry_data_form, stress_index_form, IsStressIndex}
 use Rattle.rec_forms.specs.Lists.{list_form}

@@ -1,48 +1,48 @@
 -- The kinds of events that hold no outputs read back, and are writable.
-use Rattle.std.specs.Prelude.{◌≡◌, ℕ, ◌+◌, true, refl, List, Option, Some, IfSome, option_map, codes}
 use Rattle.std.proofs.Common.{arith}
+use Rattle.std.specs.Prelude.{◌≡◌, ℕ, ◌+◌, true, refl, List, Option, Some, IfSome, option_map, codes}
 use Rattle.serde_json.specs.Data.{Data, string, Members}
-use Rattle.rec_events.specs.Names.{IsText, AreTexts}
-use Rattle.rec_events.specs.declared.instances.StressIndexSummary.{StressIndexSummary}
-use Rattle.rec_events.specs.Times.{Span, Moment}
-use Rattle.rec_events.specs.declared.events.CoreEventKind.{CoreEventKind}
+use Rattle.serde_json.specs.Find.{as_bool}
+use Rattle.rec_events.specs.declared.events.CoreEventKind.TheVariants.{RunFinished}
 use Rattle.rec_events.specs.declared.events.CoreEventKind.TheVariants.{RunStarted, StressSubRunStarted, SetupScriptStarted, SetupScriptSlow, TestStarted, TestSlow}
 use Rattle.rec_events.specs.declared.events.CoreEventKind.TheVariants.{TestRetryStarted, TestSkipped, RunBeginCancel, RunPaused, RunContinued, StressSubRunFinished}
-use Rattle.rec_events.specs.declared.events.CoreEventKind.TheVariants.{RunFinished}
+use Rattle.rec_events.specs.declared.events.CoreEventKind.{CoreEventKind}
 use Rattle.rec_events.specs.declared.events.TestEventKindSummary.TheVariants.{Core}
+use Rattle.rec_events.specs.declared.instances.StressIndexSummary.{StressIndexSummary}
+use Rattle.rec_events.specs.Names.{IsText, AreTexts}
+use Rattle.rec_events.specs.Times.{Span, Moment}
+use Rattle.rec_forms.specs.GivesWellFormed.{Holds}
 use Rattle.rec_forms.specs.IdLaws.{uuid_back, uuid_writable, uuid_well_formed}
-use Rattle.rec_forms.specs.Instances.{stress_index_value, stress_index_form, IsStressIndex, retry_data_form, slot_assignment_form, test_instance_form}
-use Rattle.rec_forms.specs.InstanceLaws.{test_instance_back, test_instance_writable, slot_assignment_back, slot_assignment_writable, retry_data_back, retry_data_writable}
+use Rattle.rec_forms.specs.Ids.{uuid_form}
 use Rattle.rec_forms.specs.InstanceLaws.{stress_index_back, stress_index_writable, retry_data_well_formed, slot_assignment_well_formed, stress_index_well_formed}
+use Rattle.rec_forms.specs.InstanceLaws.{test_instance_back, test_instance_writable, slot_assignment_back, slot_assignment_writable, retry_data_back, retry_data_writable}
 use Rattle.rec_forms.specs.InstanceLaws.{test_instance_well_formed}
+use Rattle.rec_forms.specs.Instances.{stress_index_value, stress_index_form, IsStressIndex, retry_data_form, slot_assignment_form, test_instance_form}
 use Rattle.rec_forms.specs.ListLaws.{list_back, maybe_back}
+use Rattle.rec_forms.specs.Lists.{list_value, list_form}
 use Rattle.rec_forms.specs.Members.{get_member-members_of}
 use Rattle.rec_forms.specs.NumberLaws.{u64_back, text_back, text_well_formed, u64_well_formed}
+use Rattle.rec_forms.specs.Numbers.{u64_form}
+use Rattle.rec_forms.specs.Reporting.{cancel_reason_form}
 use Rattle.rec_forms.specs.ReportingLaws.{cancel_reason_back, cancel_reason_writable}
-use Rattle.rec_forms.specs.RunEnds.{tests_not_seen_value, tests_not_seen_form, IsTestsNotSeen, run_finished_stats_form}
 use Rattle.rec_forms.specs.RunEndLaws.{run_finished_stats_back, run_finished_stats_writable, tests_not_seen_back, tests_not_seen_writable, run_finished_stats_well_formed, tests_not_seen_well_formed}
+use Rattle.rec_forms.specs.RunEnds.{tests_not_seen_value, tests_not_seen_form, IsTestsNotSeen, run_finished_stats_form}
 use Rattle.rec_forms.specs.Shape.{Field, text_of}
+use Rattle.rec_forms.specs.Skipping.{mismatch_reason_form, skip_policy_form}
 use Rattle.rec_forms.specs.SkippingLaws.{mismatch_reason_back, mismatch_reason_writable, skip_policy_back, skip_policy_writable}
+use Rattle.rec_forms.specs.Stats.{run_stats_form}
 use Rattle.rec_forms.specs.StatsLaws.{run_stats_back, run_stats_writable, run_stats_well_formed}
 use Rattle.rec_forms.specs.Stress.{stress_condition_value, stress_condition_form, IsStressCondition, stress_progress_form}
 use Rattle.rec_forms.specs.StressLaws.{stress_condition_back, stress_condition_writable, stress_progress_back, stress_progress_writable, stress_condition_well_formed, stress_progress_well_formed}
 use Rattle.rec_forms.specs.TimeLaws.{stamp_back, stamp_writable, duration_back, duration_writable, duration_well_formed, stamp_well_formed}
 use Rattle.rec_forms.specs.Times.{IsStamp, IsDuration, duration_form, stamp_form}
-use Rattle.rec_forms.specs.Writable.{IsWritable, IfWritten, EachWritten, keys_are_ascii, weaker, natural_writable, string_writable, word_writable, boolean_writable, list_writable, optional_writable}
-use Rattle.rec_codec.specs.CoreKinds.{core_fields, IsCore}
-use Rattle.rec_codec.specs.CoreKindForms.{place_form, IsPlace, command_form, IsCommand, run_started_form, stress_sub_run_started_form, setup_script_started_form}
-use Rattle.rec_codec.specs.CoreKindForms.{setup_script_slow_form, test_started_form, test_slow_form, test_retry_started_form, test_skipped_form, run_begin_cancel_form}
-use Rattle.rec_codec.specs.CoreKindForms.{run_paused_form, run_continued_form, stress_sub_run_finished_form, run_finished_form}
-use Rattle.rec_codec.specs.EventForms.{kind_named, kind_form, event_value, event_form}
-use Rattle.rec_forms.specs.GivesWellFormed.{Holds}
 use Rattle.rec_forms.specs.WellFormedLaws.{any_well_formed, then_holds, required_then, maybe_then, list_well_formed}
-use Rattle.rec_forms.specs.Ids.{uuid_form}
-use Rattle.rec_forms.specs.Lists.{list_value, list_form}
-use Rattle.rec_forms.specs.Numbers.{u64_form}
-use Rattle.rec_forms.specs.Reporting.{cancel_reason_form}
-use Rattle.rec_forms.specs.Skipping.{mismatch_reason_form, skip_policy_form}
-use Rattle.rec_forms.specs.Stats.{run_stats_form}
-use Rattle.serde_json.specs.Find.{as_bool}
+use Rattle.rec_forms.specs.Writable.{IsWritable, IfWritten, EachWritten, keys_are_ascii, weaker, natural_writable, string_writable, word_writable, boolean_writable, list_writable, optional_writable}
+use Rattle.rec_codec.specs.CoreKindForms.{place_form, IsPlace, command_form, IsCommand, run_started_form, stress_sub_run_started_form, setup_script_started_form}
+use Rattle.rec_codec.specs.CoreKindForms.{run_paused_form, run_continued_form, stress_sub_run_finished_form, run_finished_form}
+use Rattle.rec_codec.specs.CoreKindForms.{setup_script_slow_form, test_started_form, test_slow_form, test_retry_started_form, test_skipped_form, run_begin_cancel_form}
+use Rattle.rec_codec.specs.CoreKinds.{core_fields, IsCore}
+use Rattle.rec_codec.specs.EventForms.{kind_named, kind_form, event_value, event_form}
 
 -- ---- read back
 

@@ -1,10 +1,10 @@
 -- The kinds of events that hold no outputs: their names and members, and what holds of their fields.
 use Rattle.std.specs.Prelude.{ℕ, ◌^◌, ◌<◌, IfSome, List, [], ◌∷◌, ◌++◌, Option, codes}
 use Rattle.serde_json.specs.Data.{string, boolean}
-use Rattle.rec_events.specs.Names.{IsText, AreTexts}
-use Rattle.rec_events.specs.declared.events.CoreEventKind.{CoreEventKind}
 use Rattle.rec_events.specs.declared.events.CoreEventKind.TheVariants.{RunStarted, StressSubRunStarted, SetupScriptStarted, SetupScriptSlow, TestStarted, TestSlow, TestRetryStarted, TestSkipped, RunBeginCancel, RunPaused, RunContinued, StressSubRunFinished, RunFinished}
+use Rattle.rec_events.specs.declared.events.CoreEventKind.{CoreEventKind}
 use Rattle.rec_events.specs.declared.instances.StressIndexSummary.{StressIndexSummary}
+use Rattle.rec_events.specs.Names.{IsText, AreTexts}
 use Rattle.rec_forms.specs.Ids.{uuid_value, IsUuid}
 use Rattle.rec_forms.specs.Instances.{test_instance_value, IsTestInstance, slot_assignment_value, IsSlotAssignment, retry_data_value, IsRetryData, stress_index_value, IsStressIndex}
 use Rattle.rec_forms.specs.Lists.{list_value}

@@ -1,32 +1,32 @@
 -- Events read back where their outputs do, and are writable where these are.
-use Rattle.std.specs.Prelude.{◌≡◌, ℕ, suc, ◌+◌, Option, Some, List, codes}
 use Rattle.std.proofs.Common.{arith}
+use Rattle.std.specs.List.{AllByRecursion}
+use Rattle.std.specs.Prelude.{◌≡◌, ℕ, suc, ◌+◌, Option, Some, List, codes}
 use Rattle.serde_json.specs.Data.{Data, Members}
-use Rattle.rec_events.specs.Times.{Span, Moment}
-use Rattle.rec_events.specs.declared.events.TestEventKindSummary.{TestEventKindSummary}
-use Rattle.rec_events.specs.declared.events.TestEventKindSummary.TheVariants.{Core, Output}
-use Rattle.rec_events.specs.declared.events.TestEventSummary.{TestEventSummary}
-use Rattle.rec_forms.specs.TimeLaws.{stamp_writable, duration_writable, duration_well_formed, stamp_well_formed}
-use Rattle.rec_forms.specs.Times.{IsStamp, IsDuration, duration_form, stamp_form}
-use Rattle.rec_forms.specs.Writable.{IsWritable, weaker, struct_writable}
-use Rattle.rec_codec.specs.CoreKindLaws.{FieldsWritten, core_back, core_written, run_started_well_formed, stress_sub_run_started_well_formed}
-use Rattle.rec_codec.specs.CoreKindLaws.{setup_script_started_well_formed, setup_script_slow_well_formed, test_started_well_formed, test_slow_well_formed}
-use Rattle.rec_codec.specs.CoreKindLaws.{test_retry_started_well_formed, test_skipped_well_formed, run_begin_cancel_well_formed, run_paused_well_formed}
-use Rattle.rec_codec.specs.CoreKindLaws.{run_continued_well_formed, stress_sub_run_finished_well_formed, run_finished_well_formed}
-use Rattle.rec_codec.specs.EventForms.{kind_fields, IsKind, event_value, event_form, IsEvent, kinds, kind_named, kind_form}
-use Rattle.rec_codec.specs.OutputKindLaws.{output_back, output_written, script_finished_well_formed, attempt_failed_well_formed, test_finished_well_formed}
-use Rattle.rec_forms.specs.GivesWellFormed.{Holds, GivesWellFormed}
-use Rattle.rec_forms.specs.WellFormedLaws.{any_well_formed, named_holds, object_then, required_then, then_holds}
-use Rattle.rec_codec.specs.CoreKindForms.{run_started_form, stress_sub_run_started_form, setup_script_started_form, setup_script_slow_form, test_started_form}
-use Rattle.rec_codec.specs.CoreKindForms.{test_slow_form, test_retry_started_form, test_skipped_form, run_begin_cancel_form, run_paused_form, run_continued_form}
-use Rattle.rec_codec.specs.CoreKindForms.{stress_sub_run_finished_form, run_finished_form}
-use Rattle.rec_codec.specs.OutputKinds.{IsOutput, script_finished_form, attempt_failed_form, test_finished_form}
-use Rattle.rec_codec.specs.CoreKinds.{IsCore}
-use Rattle.rec_forms.specs.Shape.{◌>>=◌, named}
+use Rattle.serde_json.specs.Find.{as_str}
 use Rattle.rec_events.specs.declared.events.CoreEventKind.{CoreEventKind}
 use Rattle.rec_events.specs.declared.events.OutputEventKind.{OutputEventKind}
-use Rattle.serde_json.specs.Find.{as_str}
-use Rattle.std.specs.List.{AllByRecursion}
+use Rattle.rec_events.specs.declared.events.TestEventKindSummary.TheVariants.{Core, Output}
+use Rattle.rec_events.specs.declared.events.TestEventKindSummary.{TestEventKindSummary}
+use Rattle.rec_events.specs.declared.events.TestEventSummary.{TestEventSummary}
+use Rattle.rec_events.specs.Times.{Span, Moment}
+use Rattle.rec_forms.specs.GivesWellFormed.{Holds, GivesWellFormed}
+use Rattle.rec_forms.specs.Shape.{◌>>=◌, named}
+use Rattle.rec_forms.specs.TimeLaws.{stamp_writable, duration_writable, duration_well_formed, stamp_well_formed}
+use Rattle.rec_forms.specs.Times.{IsStamp, IsDuration, duration_form, stamp_form}
+use Rattle.rec_forms.specs.WellFormedLaws.{any_well_formed, named_holds, object_then, required_then, then_holds}
+use Rattle.rec_forms.specs.Writable.{IsWritable, weaker, struct_writable}
+use Rattle.rec_codec.specs.CoreKindForms.{run_started_form, stress_sub_run_started_form, setup_script_started_form, setup_script_slow_form, test_started_form}
+use Rattle.rec_codec.specs.CoreKindForms.{stress_sub_run_finished_form, run_finished_form}
+use Rattle.rec_codec.specs.CoreKindForms.{test_slow_form, test_retry_started_form, test_skipped_form, run_begin_cancel_form, run_paused_form, run_continued_form}
+use Rattle.rec_codec.specs.CoreKindLaws.{FieldsWritten, core_back, core_written, run_started_well_formed, stress_sub_run_started_well_formed}
+use Rattle.rec_codec.specs.CoreKindLaws.{run_continued_well_formed, stress_sub_run_finished_well_formed, run_finished_well_formed}
+use Rattle.rec_codec.specs.CoreKindLaws.{setup_script_started_well_formed, setup_script_slow_well_formed, test_started_well_formed, test_slow_well_formed}
+use Rattle.rec_codec.specs.CoreKindLaws.{test_retry_started_well_formed, test_skipped_well_formed, run_begin_cancel_well_formed, run_paused_well_formed}
+use Rattle.rec_codec.specs.CoreKinds.{IsCore}
+use Rattle.rec_codec.specs.EventForms.{kind_fields, IsKind, event_value, event_form, IsEvent, kinds, kind_named, kind_form}
+use Rattle.rec_codec.specs.OutputKindLaws.{output_back, output_written, script_finished_well_formed, attempt_failed_well_formed, test_finished_well_formed}
+use Rattle.rec_codec.specs.OutputKinds.{IsOutput, script_finished_form, attempt_failed_form, test_finished_form}
 
 module _ {S O : Type 0} (P : O → Type 0) (output_value : O → Data) (output_form : Data → Option O) (back : (o : O) → P o → output_form (output_value o) ≡ Some o) where
   kind_back : (t : Moment) (e : Span) (k : TestEventKindSummary S O) → IsStamp t → IsDuration e → IsKind P k

@@ -3,13 +3,13 @@ use Rattle.std.specs.Prelude.{ℕ, Bool, true, List, ◌∷◌, Option, Some, co
 use Rattle.serde_json.specs.Data.{Data, Members}
 use Rattle.serde_json.specs.Find.{as_object, as_str}
 use Rattle.rec_events.specs.declared.events.CoreEventKind.{CoreEventKind}
-use Rattle.rec_events.specs.declared.events.TestEventKindSummary.{TestEventKindSummary}
 use Rattle.rec_events.specs.declared.events.TestEventKindSummary.TheVariants.{Core, Output}
+use Rattle.rec_events.specs.declared.events.TestEventKindSummary.{TestEventKindSummary}
 use Rattle.rec_events.specs.declared.events.TestEventSummary.{TestEventSummary}
 use Rattle.rec_forms.specs.Shape.{◌>>=◌, Field, field, struct, required, named}
 use Rattle.rec_forms.specs.Times.{stamp_value, stamp_form, IsStamp, duration_value, duration_form, IsDuration}
-use Rattle.rec_codec.specs.CoreKinds.{core_fields, IsCore}
 use Rattle.rec_codec.specs.CoreKindForms.{core_kinds}
+use Rattle.rec_codec.specs.CoreKinds.{core_fields, IsCore}
 use Rattle.rec_codec.specs.OutputKinds.{output_fields, output_loaded, IsOutput, script_finished_form, attempt_failed_form, test_finished_form}
 
 -- ---- values

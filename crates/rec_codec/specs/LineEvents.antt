@@ -2,9 +2,9 @@
 use Rattle.std.specs.Prelude.{◌≡◌, ℕ, List, Option, Some, None, Result, Ok, Err, Bool, true, false, IsSome, option_and_then}
 use Rattle.serde_json.specs.Data.{Data}
 use Rattle.rec_forms.specs.TextForm.{text_form}
-use Rattle.rec_codec.specs.Lines.{is_blank}
-use Rattle.rec_codec.specs.declared.line_events.LineError.{LineError}
 use Rattle.rec_codec.specs.declared.line_events.LineError.TheVariants.{ReadRunLog, ParseEvent, OutOfMemory}
+use Rattle.rec_codec.specs.declared.line_events.LineError.{LineError}
+use Rattle.rec_codec.specs.Lines.{is_blank}
 
 -- a text of which nothing is left
 abbrev pub blank : Option (List ℕ) → Bool

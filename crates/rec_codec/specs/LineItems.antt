@@ -1,10 +1,10 @@
 -- What the lines of a log give, one after the other.
 use Rattle.std.specs.Prelude.{◌≡◌, List, [], ◌∷◌, Option, Some, None, Result, Ok, Err, MatchBool}
 use Rattle.serde_json.specs.Data.{Data}
+use Rattle.rec_codec.specs.declared.line_events.LineError.TheVariants.{ReadRunLog, ParseEvent, OutOfMemory}
+use Rattle.rec_codec.specs.declared.line_events.LineError.{LineError}
 use Rattle.rec_codec.specs.LineEvents.{blank, AnswersEvent}
 use Rattle.rec_codec.specs.Lines.{NumberedLine, text_of}
-use Rattle.rec_codec.specs.declared.line_events.LineError.{LineError}
-use Rattle.rec_codec.specs.declared.line_events.LineError.TheVariants.{ReadRunLog, ParseEvent, OutOfMemory}
 
 -- what is left after a fault: nothing where memory was short, all others else
 abbrev pub left_after_fault : LineError → List NumberedLine → List NumberedLine

@@ -3,11 +3,11 @@ use Rattle.std.specs.Prelude.{◌≡◌, ℕ, List, [], ◌∷◌, filter_map, O
 use Rattle.serde_json.specs.Data.{Data}
 use Rattle.rec_forms.specs.Outputs.{stored_outputs_form}
 use Rattle.rec_forms.specs.TextForm.{text_form}
+use Rattle.rec_codec.specs.declared.line_events.LineError.TheVariants.{ReadRunLog, ParseEvent}
+use Rattle.rec_codec.specs.declared.line_events.LineError.{LineError}
 use Rattle.rec_codec.specs.Event.{RecordedEvent}
 use Rattle.rec_codec.specs.EventForms.{event_form}
 use Rattle.rec_codec.specs.Lines.{NumberedLine, text_of, is_blank}
-use Rattle.rec_codec.specs.declared.line_events.LineError.{LineError}
-use Rattle.rec_codec.specs.declared.line_events.LineError.TheVariants.{ReadRunLog, ParseEvent}
 
 -- ---- items
 

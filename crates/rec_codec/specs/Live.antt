@@ -3,8 +3,8 @@ use Rattle.std.specs.Prelude.{IfSome, Bool, true, false, [], ◌∷◌, Option, 
 use Rattle.hex.specs.Hex.{IsBytes}
 use Rattle.serde_json.specs.Data.{Data, string}
 use Rattle.serde_json.specs.Find.{as_object}
-use Rattle.rec_events.specs.declared.outputs.ChildOutputDescription.{ChildOutputDescription}
 use Rattle.rec_events.specs.declared.outputs.ChildOutputDescription.TheVariants.{Split, Combined, NotLoaded}
+use Rattle.rec_events.specs.declared.outputs.ChildOutputDescription.{ChildOutputDescription}
 use Rattle.rec_forms.specs.Outputs.{output_bytes_value, output_bytes_form}
 use Rattle.rec_forms.specs.Shape.{◌>>=◌, optional, struct, maybe, tagged, variant}
 

@@ -1,17 +1,17 @@
 -- Outputs as they are captured read back, and are writable.
+use Rattle.std.proofs.Common.{arith}
 use Rattle.std.specs.Prelude.{◌≡◌, [], Some, codes, refl, true, ◌∷◌}
 use Rattle.hex.specs.Hex.{IsBytes}
-use Rattle.std.proofs.Common.{arith}
-use Rattle.rec_events.specs.declared.outputs.ChildOutputDescription.{ChildOutputDescription}
 use Rattle.rec_events.specs.declared.outputs.ChildOutputDescription.TheVariants.{Split, Combined, NotLoaded}
+use Rattle.rec_events.specs.declared.outputs.ChildOutputDescription.{ChildOutputDescription}
+use Rattle.rec_forms.specs.GivesWellFormed.{GivesWellFormed}
 use Rattle.rec_forms.specs.ListLaws.{maybe_back}
 use Rattle.rec_forms.specs.Members.{get_member-members_of}
-use Rattle.rec_forms.specs.Outputs.{output_bytes_value, output_bytes_form}
 use Rattle.rec_forms.specs.OutputLaws.{output_bytes_back, output_bytes_writable, output_bytes_well_formed}
+use Rattle.rec_forms.specs.Outputs.{output_bytes_value, output_bytes_form}
+use Rattle.rec_forms.specs.WellFormedLaws.{map_holds, object_then, maybe_then, variant_well_formed}
 use Rattle.rec_forms.specs.Writable.{IsWritable, weaker, struct_writable, tagged_writable, optional_writable}
 use Rattle.rec_codec.specs.Live.{live_value, live_form, live_split_form, IsLive, is_loaded, live_combined_form}
-use Rattle.rec_forms.specs.GivesWellFormed.{GivesWellFormed}
-use Rattle.rec_forms.specs.WellFormedLaws.{map_holds, object_then, maybe_then, variant_well_formed}
 
 pub live_back : (o : ChildOutputDescription) → IsLive o → live_form (live_value o) ≡ Some o
 unfolding live_form live_split_form

@@ -1,37 +1,37 @@
 -- The kinds of events that hold outputs read back where these do, and are writable where these are.
-use Rattle.std.specs.Prelude.{◌≡◌, ℕ, ◌+◌, refl, Option, Some, codes}
 use Rattle.std.proofs.Common.{arith}
+use Rattle.std.specs.Prelude.{◌≡◌, ℕ, ◌+◌, refl, Option, Some, codes}
 use Rattle.serde_json.specs.Data.{Data, string, Members}
+use Rattle.serde_json.specs.Find.{as_bool}
+use Rattle.rec_events.specs.declared.events.OutputEventKind.TheVariants.{SetupScriptFinished, TestAttemptFailedWillRetry, TestFinished}
+use Rattle.rec_events.specs.declared.events.OutputEventKind.{OutputEventKind}
+use Rattle.rec_events.specs.declared.events.TestEventKindSummary.TheVariants.{Output}
 use Rattle.rec_events.specs.Names.{IsText}
 use Rattle.rec_events.specs.Times.{Span, Moment}
-use Rattle.rec_events.specs.declared.events.OutputEventKind.{OutputEventKind}
-use Rattle.rec_events.specs.declared.events.OutputEventKind.TheVariants.{SetupScriptFinished, TestAttemptFailedWillRetry, TestFinished}
-use Rattle.rec_events.specs.declared.events.TestEventKindSummary.TheVariants.{Output}
-use Rattle.rec_forms.specs.Instances.{stress_index_value, stress_index_form, IsStressIndex, test_instance_form}
+use Rattle.rec_forms.specs.GivesWellFormed.{Holds, GivesWellFormed}
 use Rattle.rec_forms.specs.InstanceLaws.{test_instance_back, test_instance_writable, stress_index_back, stress_index_writable, stress_index_well_formed, test_instance_well_formed}
+use Rattle.rec_forms.specs.Instances.{stress_index_value, stress_index_form, IsStressIndex, test_instance_form}
 use Rattle.rec_forms.specs.ListLaws.{list_back, maybe_back}
 use Rattle.rec_forms.specs.Members.{get_member-members_of}
 use Rattle.rec_forms.specs.NumberLaws.{u64_back, text_back, u64_well_formed}
+use Rattle.rec_forms.specs.Numbers.{u64_form}
+use Rattle.rec_forms.specs.Reporting.{output_display_form}
 use Rattle.rec_forms.specs.ReportingLaws.{output_display_back, output_display_writable, flaky_fail_status_back, flaky_fail_status_writable}
 use Rattle.rec_forms.specs.Shape.{text_of}
+use Rattle.rec_forms.specs.Stats.{run_stats_form}
 use Rattle.rec_forms.specs.StatsLaws.{run_stats_back, run_stats_writable, run_stats_well_formed}
 use Rattle.rec_forms.specs.TimeLaws.{stamp_back, duration_back, duration_writable, duration_well_formed}
 use Rattle.rec_forms.specs.Times.{IsStamp, IsDuration, duration_form}
+use Rattle.rec_forms.specs.WellFormedLaws.{any_well_formed, anything, then_holds, required_then, maybe_then}
 use Rattle.rec_forms.specs.Writable.{IsWritable, weaker, natural_writable, string_writable, word_writable, boolean_writable}
 use Rattle.rec_codec.specs.CoreKindForms.{place_form, command_form}
 use Rattle.rec_codec.specs.CoreKindLaws.{FieldsWritten, stress_index_written, texts_written, place_well_formed, command_well_formed}
 use Rattle.rec_codec.specs.EventForms.{kind_named, kind_form, event_value, event_form}
 use Rattle.rec_codec.specs.OutputKinds.{reporting_form, output_fields, script_finished_form, attempt_failed_form, test_finished_form, IsOutput}
-use Rattle.rec_codec.specs.ScriptStatusLaws.{script_status_back, script_status_writable, script_status_well_formed}
-use Rattle.rec_codec.specs.StatusLaws.{status_well_formed, status_back, status_writable, statuses_back, statuses_writable, statuses_well_formed}
-use Rattle.rec_forms.specs.GivesWellFormed.{Holds, GivesWellFormed}
-use Rattle.rec_forms.specs.WellFormedLaws.{any_well_formed, anything, then_holds, required_then, maybe_then}
 use Rattle.rec_codec.specs.ScriptStatus.{script_status_form}
+use Rattle.rec_codec.specs.ScriptStatusLaws.{script_status_back, script_status_writable, script_status_well_formed}
 use Rattle.rec_codec.specs.Status.{statuses_form, status_form}
-use Rattle.rec_forms.specs.Numbers.{u64_form}
-use Rattle.rec_forms.specs.Reporting.{output_display_form}
-use Rattle.rec_forms.specs.Stats.{run_stats_form}
-use Rattle.serde_json.specs.Find.{as_bool}
+use Rattle.rec_codec.specs.StatusLaws.{status_well_formed, status_back, status_writable, statuses_back, statuses_writable, statuses_well_formed}
 
 -- ---- read back
 

@@ -2,20 +2,20 @@
 use Rattle.std.specs.Prelude.{ℕ, ◌^◌, ◌<◌, IfSome, Bool, List, [], ◌∷◌, ◌++◌, Option, Some, codes}
 use Rattle.serde_json.specs.Data.{Data, Members, boolean}
 use Rattle.serde_json.specs.Find.{as_bool}
-use Rattle.rec_events.specs.Names.{IsText, AreTexts}
-use Rattle.rec_events.specs.declared.events.OutputEventKind.{OutputEventKind}
 use Rattle.rec_events.specs.declared.events.OutputEventKind.TheVariants.{SetupScriptFinished, TestAttemptFailedWillRetry, TestFinished}
+use Rattle.rec_events.specs.declared.events.OutputEventKind.{OutputEventKind}
+use Rattle.rec_events.specs.Names.{IsText, AreTexts}
 use Rattle.rec_forms.specs.Instances.{test_instance_value, test_instance_form, IsTestInstance, stress_index_value, stress_index_form, IsStressIndex}
 use Rattle.rec_forms.specs.Numbers.{u64_form}
 use Rattle.rec_forms.specs.Reporting.{output_display_value, output_display_form, flaky_fail_status_value, flaky_fail_status_form}
 use Rattle.rec_forms.specs.Shape.{◌>>=◌, Field, natural, field, optional, required, maybe}
 use Rattle.rec_forms.specs.Stats.{run_stats_value, run_stats_form, IsRunStats}
 use Rattle.rec_forms.specs.Times.{duration_value, duration_form, IsDuration}
-use Rattle.rec_codec.specs.CoreKinds.{kind_field, place_fields, command_fields}
 use Rattle.rec_codec.specs.CoreKindForms.{place_form, command_form}
+use Rattle.rec_codec.specs.CoreKinds.{kind_field, place_fields, command_fields}
+use Rattle.rec_codec.specs.declared.output_kinds.Reporting.{Reporting}
 use Rattle.rec_codec.specs.ScriptStatus.{script_status_value, script_status_form, script_status_loaded, IsScriptStatus}
 use Rattle.rec_codec.specs.Status.{status_value, status_form, status_loaded, IsStatus, statuses_value, statuses_form, statuses_loaded, AreStatuses}
-use Rattle.rec_codec.specs.declared.output_kinds.Reporting.{Reporting}
 
 -- the name of each kind
 abbrev pub output_name : {S O : Type 0} → OutputEventKind S O → List ℕ

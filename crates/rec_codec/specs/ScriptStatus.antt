@@ -2,8 +2,8 @@
 use Rattle.std.specs.Prelude.{IfSome, Bool, [], ◌∷◌, Option, Some, codes}
 use Rattle.serde_json.specs.Data.{Data, string, boolean}
 use Rattle.serde_json.specs.Find.{as_object, as_bool}
-use Rattle.rec_events.specs.Names.{IsText}
 use Rattle.rec_events.specs.declared.script_statuses.SetupScriptExecuteStatus.{SetupScriptExecuteStatus}
+use Rattle.rec_events.specs.Names.{IsText}
 use Rattle.rec_forms.specs.ErrorTexts.{error_summary_value, error_summary_form, IsErrorSummary}
 use Rattle.rec_forms.specs.Maps.{map_value, map_form, IsMap}
 use Rattle.rec_forms.specs.Results.{execution_result_value, execution_result_form, IsExecutionResult}

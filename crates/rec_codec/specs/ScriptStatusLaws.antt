@@ -1,28 +1,28 @@
 -- The runs of setup scripts read back where their outputs do, and are writable where these are.
-use Rattle.std.specs.Prelude.{◌≡◌, ℕ, suc, ◌+◌, refl, Option, Some, codes}
 use Rattle.std.proofs.Common.{arith}
+use Rattle.std.specs.Prelude.{◌≡◌, ℕ, suc, ◌+◌, refl, Option, Some, codes}
 use Rattle.serde_json.specs.Data.{Data, string}
-use Rattle.rec_events.specs.Names.{IsText}
+use Rattle.serde_json.specs.Find.{as_bool}
 use Rattle.rec_events.specs.declared.script_statuses.SetupScriptExecuteStatus.{SetupScriptExecuteStatus}
-use Rattle.rec_forms.specs.ErrorTexts.{error_summary_value, error_summary_form, IsErrorSummary}
+use Rattle.rec_events.specs.Names.{IsText}
 use Rattle.rec_forms.specs.ErrorTextLaws.{error_summary_back, error_summary_writable, error_summary_well_formed}
+use Rattle.rec_forms.specs.ErrorTexts.{error_summary_value, error_summary_form, IsErrorSummary}
+use Rattle.rec_forms.specs.GivesWellFormed.{GivesWellFormed}
 use Rattle.rec_forms.specs.ListLaws.{maybe_back}
 use Rattle.rec_forms.specs.MapLaws.{map_back, map_writable, map_well_formed}
 use Rattle.rec_forms.specs.Maps.{map_value, map_form, IsMap}
 use Rattle.rec_forms.specs.Members.{get_member-members_of}
 use Rattle.rec_forms.specs.NumberLaws.{text_back, text_well_formed}
 use Rattle.rec_forms.specs.ResultLaws.{execution_result_back, execution_result_writable, execution_result_well_formed}
+use Rattle.rec_forms.specs.Results.{execution_result_form}
 use Rattle.rec_forms.specs.Shape.{text_of}
 use Rattle.rec_forms.specs.TimeLaws.{stamp_back, stamp_writable, duration_back, duration_writable, duration_well_formed, stamp_well_formed}
+use Rattle.rec_forms.specs.Times.{duration_form, stamp_form}
+use Rattle.rec_forms.specs.WellFormedLaws.{any_well_formed, object_then, required_then, maybe_then}
 use Rattle.rec_forms.specs.Writable.{IsWritable, weaker, struct_writable, string_writable, boolean_writable, optional_writable}
 use Rattle.rec_codec.specs.ScriptStatus.{script_status_value, script_status_form, IsScriptStatus}
-use Rattle.rec_codec.specs.StatusLaws.{description_back, description_writable, description_well_formed}
-use Rattle.rec_forms.specs.GivesWellFormed.{GivesWellFormed}
-use Rattle.rec_forms.specs.WellFormedLaws.{any_well_formed, object_then, required_then, maybe_then}
 use Rattle.rec_codec.specs.Status.{description_form}
-use Rattle.rec_forms.specs.Results.{execution_result_form}
-use Rattle.rec_forms.specs.Times.{duration_form, stamp_form}
-use Rattle.serde_json.specs.Find.{as_bool}
+use Rattle.rec_codec.specs.StatusLaws.{description_back, description_writable, description_well_formed}
 
 module _ {S O : Type 0} (P : O → Type 0) (output_value : O → Data) (output_form : Data → Option O) (back : (o : O) → P o → output_form (output_value o) ≡ Some o) where
   pub script_status_back : (s : SetupScriptExecuteStatus S O) → IsScriptStatus P s → script_status_form output_form (script_status_value output_value s) ≡ Some s

@@ -1,21 +1,21 @@
 -- The values and forms of attempts, over those of an output.
-use Rattle.std.specs.Prelude.{◌<◌, length, IfSome, Bool, true, List, [], ◌∷◌, ◌++◌, Option, Some, option_map, codes}
 use Rattle.std.specs.List.{AllByRecursion}
+use Rattle.std.specs.Prelude.{◌<◌, length, IfSome, Bool, true, List, [], ◌∷◌, ◌++◌, Option, Some, option_map, codes}
 use Rattle.serde_json.specs.Data.{Data, Members, string, boolean}
 use Rattle.serde_json.specs.Find.{as_object, as_bool}
-use Rattle.rec_events.specs.Names.{IsText, AreTexts}
-use Rattle.rec_events.specs.declared.outputs.ChildExecutionOutputDescription.{ChildExecutionOutputDescription}
 use Rattle.rec_events.specs.declared.outputs.ChildExecutionOutputDescription.TheVariants.{Output, StartError}
+use Rattle.rec_events.specs.declared.outputs.ChildExecutionOutputDescription.{ChildExecutionOutputDescription}
 use Rattle.rec_events.specs.declared.statuses.ExecuteStatus.{ExecuteStatus}
 use Rattle.rec_events.specs.declared.statuses.ExecutionStatuses.{ExecutionStatuses}
+use Rattle.rec_events.specs.Names.{IsText, AreTexts}
 use Rattle.rec_forms.specs.ErrorTexts.{error_summary_value, error_summary_form, IsErrorSummary, error_slice_value, error_slice_form, IsErrorSlice}
 use Rattle.rec_forms.specs.Instances.{retry_data_value, retry_data_form, IsRetryData}
 use Rattle.rec_forms.specs.Lists.{list_value, list_form, some_form}
 use Rattle.rec_forms.specs.Results.{flaky_result_value, flaky_result_form, execution_result_value, execution_result_form, IsExecutionResult}
 use Rattle.rec_forms.specs.Shape.{◌>>=◌, Field, field, optional, struct, required, maybe, text_of, tagged, variant}
 use Rattle.rec_forms.specs.Times.{stamp_value, stamp_form, IsStamp, duration_value, duration_form, IsDuration}
-use Rattle.rec_codec.specs.Writes.{every}
 use Rattle.rec_codec.specs.declared.status.Course.{Course}
+use Rattle.rec_codec.specs.Writes.{every}
 
 -- ---- when an attempt ran
 

@@ -1,32 +1,32 @@
 -- Attempts read back where their outputs do, and are writable where these are.
-use Rattle.std.specs.Prelude.{◌≡◌, ℕ, suc, ◌+◌, ◌<◌, length, nat_lt, true, refl, Option, Some, codes, List, [], ◌∷◌}
 use Rattle.std.proofs.Common.{arith}
 use Rattle.std.proofs.lemmas.Bool.Decides.{nat_tests}
+use Rattle.std.specs.List.{AllByRecursion}
+use Rattle.std.specs.Prelude.{◌≡◌, ℕ, suc, ◌+◌, ◌<◌, length, nat_lt, true, refl, Option, Some, codes, List, [], ◌∷◌}
 use Rattle.serde_json.specs.Data.{Data, string, Members}
-use Rattle.rec_events.specs.Names.{IsText, AreTexts}
-use Rattle.rec_events.specs.declared.outputs.ChildExecutionOutputDescription.{ChildExecutionOutputDescription}
+use Rattle.serde_json.specs.Find.{as_bool}
 use Rattle.rec_events.specs.declared.outputs.ChildExecutionOutputDescription.TheVariants.{Output, StartError}
+use Rattle.rec_events.specs.declared.outputs.ChildExecutionOutputDescription.{ChildExecutionOutputDescription}
 use Rattle.rec_events.specs.declared.statuses.ExecuteStatus.{ExecuteStatus}
 use Rattle.rec_events.specs.declared.statuses.ExecutionStatuses.{ExecutionStatuses}
-use Rattle.rec_forms.specs.ErrorTexts.{error_summary_value, error_summary_form, IsErrorSummary, error_slice_value, error_slice_form, IsErrorSlice}
+use Rattle.rec_events.specs.Names.{IsText, AreTexts}
 use Rattle.rec_forms.specs.ErrorTextLaws.{error_summary_back, error_summary_writable, error_slice_back, error_slice_writable, error_slice_well_formed, error_summary_well_formed}
+use Rattle.rec_forms.specs.ErrorTexts.{error_summary_value, error_summary_form, IsErrorSummary, error_slice_value, error_slice_form, IsErrorSlice}
+use Rattle.rec_forms.specs.GivesWellFormed.{Holds, GivesWellFormed}
 use Rattle.rec_forms.specs.InstanceLaws.{retry_data_back, retry_data_writable, retry_data_well_formed}
-use Rattle.rec_forms.specs.Lists.{list_value, list_form, some_form}
+use Rattle.rec_forms.specs.Instances.{retry_data_form}
 use Rattle.rec_forms.specs.ListLaws.{list_back, maybe_back}
+use Rattle.rec_forms.specs.Lists.{list_value, list_form, some_form}
 use Rattle.rec_forms.specs.Members.{get_member-members_of}
 use Rattle.rec_forms.specs.NumberLaws.{text_back, below_limit, text_well_formed}
-use Rattle.rec_forms.specs.Results.{execution_result_value, execution_result_form, IsExecutionResult, flaky_result_form}
 use Rattle.rec_forms.specs.ResultLaws.{flaky_result_back, flaky_result_writable, execution_result_back, execution_result_writable, execution_result_well_formed}
+use Rattle.rec_forms.specs.Results.{execution_result_value, execution_result_form, IsExecutionResult, flaky_result_form}
 use Rattle.rec_forms.specs.Shape.{text_of, only}
 use Rattle.rec_forms.specs.TimeLaws.{stamp_back, stamp_writable, duration_back, duration_writable, duration_well_formed, stamp_well_formed}
+use Rattle.rec_forms.specs.Times.{duration_form, stamp_form}
+use Rattle.rec_forms.specs.WellFormedLaws.{any_well_formed, and_then_holds, map_holds, only_holds, object_then, required_then, maybe_then, then_holds, variant_well_formed, list_well_formed}
 use Rattle.rec_forms.specs.Writable.{IsWritable, weaker, struct_writable, tagged_writable, string_writable, boolean_writable, list_writable, optional_writable}
 use Rattle.rec_codec.specs.Status.{description_value, description_form, output_case_form, IsDescription, course_form, status_value, status_form, IsStatus, statuses_value, attempts_form, statuses_form, AreStatuses, IsCourse, start_error_form}
-use Rattle.rec_forms.specs.GivesWellFormed.{Holds, GivesWellFormed}
-use Rattle.rec_forms.specs.WellFormedLaws.{any_well_formed, and_then_holds, map_holds, only_holds, object_then, required_then, maybe_then, then_holds, variant_well_formed, list_well_formed}
-use Rattle.rec_forms.specs.Instances.{retry_data_form}
-use Rattle.rec_forms.specs.Times.{duration_form, stamp_form}
-use Rattle.serde_json.specs.Find.{as_bool}
-use Rattle.std.specs.List.{AllByRecursion}
 
 not_empty : (n : ℕ) → 0 < n → nat_lt 0 n ≡ true
 not_empty n h = grind (arith, nat_tests)

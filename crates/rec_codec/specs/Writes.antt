@@ -1,10 +1,10 @@
 -- What a writer answers beside what its definition gives.
 use Rattle.std.specs.Prelude.{◌≡◌, Bool, true, false, ◌&&◌, List, [], ◌∷◌, ⊤, Result, Ok, Err}
 use Rattle.serde_json.specs.Data.{Data}
-use Rattle.serde_json.specs.View.{view}
 use Rattle.serde_json.specs.declared.value.Value.{Value}
-use Rattle.rec_codec.specs.declared.errors.ToValueError.{ToValueError}
+use Rattle.serde_json.specs.View.{view}
 use Rattle.rec_codec.specs.declared.errors.ToValueError.TheVariants.{NotLoaded, OutOfMemory}
+use Rattle.rec_codec.specs.declared.errors.ToValueError.{ToValueError}
 
 -- a fault comes where an output is not loaded; want of memory is free
 abbrev pub FailsUnloaded : ToValueError → Bool → Type 0

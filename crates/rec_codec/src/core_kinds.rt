@@ -35,7 +35,7 @@ pub fn put_kind_name(alloc: Global, object: &mut Object, name: &str) -> Result<(
     serde_json::put(object, alloc, "kind", name)
 }
 
-// The name of a kind.
+/// The name of a kind.
 fn core_name(kind: &CoreEventKind) -> &'static str
     ensures { result.now ≡ core_name kind.now }
 {
@@ -112,7 +112,7 @@ pub fn core_from(
     }
 }
 
-// The kinds of setup scripts, and after them those of tests.
+/// The kinds of setup scripts, and after them those of tests.
 #[tactic(auto, unfolding(crate::specs::CoreKindForms::kind_in))]
 fn script_or_test_from(
     alloc: Global,
@@ -128,7 +128,7 @@ fn script_or_test_from(
     }
 }
 
-// The kinds of tests.
+/// The kinds of tests.
 #[tactic(auto, unfolding(crate::specs::CoreKindForms::kind_in))]
 fn test_from(alloc: Global, object: &Object, name: &str) -> Result<CoreEventKind, FromValueError>
     ensures { Gives result (kind_in test_kinds name.now (members_view object.now.entries)) }

@@ -3,8 +3,8 @@ ghost use Rattle.std.specs.Prelude.{◌≡◌, OnOk, IfOk, Some, true};
 ghost use Rattle.serde_json.specs.View.{view, members_view};
 ghost use Rattle.rec_forms.specs.Gives.{Gives};
 ghost use Rattle.rec_forms.specs.Shape.{with_members};
-ghost use Rattle.rec_codec.specs.Writes.{Writes, PutsLoaded};
 ghost use Rattle.rec_codec.specs.EventForms.{kind_fields, kind_named, kind_form, kind_loaded, IsKind, event_value, event_form, IsEvent};
+ghost use Rattle.rec_codec.specs.Writes.{Writes, PutsLoaded};
 
 use crate::core_kinds::{core_from, held_core, put_core};
 use crate::held::HeldOutput;
@@ -17,7 +17,7 @@ use rec_forms::{FromValueError, Held, Object, member, put_field, required_field}
 use serde_json::{Map, Value};
 use std::alloc::Global;
 
-// Writes a kind and its members.
+/// Writes a kind and its members.
 fn put_kind<S: OutputForm>(
     alloc: Global,
     object: &mut Object,
@@ -34,7 +34,7 @@ fn put_kind<S: OutputForm>(
     }
 }
 
-// Makes the value of an event.
+/// Makes the value of an event.
 #[tactic(auto, unfolding(rec_forms::specs::Shape::members_of))]
 fn value_from<S: OutputForm>(
     alloc: Global,
@@ -70,7 +70,7 @@ pub fn event_to_value<S: OutputForm>(
     Ok(value)
 }
 
-// Reads the members of the kind of this name.
+/// Reads the members of the kind of this name.
 #[tactic(auto, unfolding(crate::specs::EventForms::kind_named))]
 fn kind_named<S: OutputForm>(
     alloc: Global,
@@ -91,7 +91,7 @@ fn kind_named<S: OutputForm>(
     }
 }
 
-// Reads a kind by its name.
+/// Reads a kind by its name.
 #[tactic(auto, unfolding(crate::specs::EventForms::kind_form))]
 fn kind_from<S: OutputForm>(
     alloc: Global,
@@ -122,7 +122,7 @@ pub fn event_from_value<S: OutputForm>(
     event_from(alloc, value)
 }
 
-// Reads an event, in a call of its own, so that `known` of `event_from_value` can rest on its clause.
+/// Reads an event, in a call of its own, so that `known` of `event_from_value` can rest on its clause.
 #[tactic(auto, unfolding(crate::specs::EventForms::event_form))]
 fn event_from<S: OutputForm>(
     alloc: Global,
@@ -140,7 +140,7 @@ fn event_from<S: OutputForm>(
     })
 }
 
-// States that a kind is well-formed where its outputs are loaded.
+/// States that a kind is well-formed where its outputs are loaded.
 fn held_kind<S: HeldOutput>(kind: &TestEventKindSummary<S>)
     ensures { kind_loaded S.loaded kind.now ≡ true → IsKind S.output_well_formed kind.now }
 {

@@ -1,6 +1,6 @@
 //! What a program holds is well-formed where its outputs are loaded.
-ghost use Rattle.std.specs.Prelude.{◌≡◌, true};
 ghost use Rattle.std.specs.List.{AllByRecursion};
+ghost use Rattle.std.specs.Prelude.{◌≡◌, true};
 ghost use Rattle.rec_codec.specs.Writes.{every};
 
 use crate::{LoadedForm, OutputForm};

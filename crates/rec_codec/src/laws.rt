@@ -1,19 +1,19 @@
 //! Laws of events. The functions do nothing: their contracts are what they are for.
-ghost use Rattle.std.specs.Prelude.{◌≡◌, ◌↔◌, ◌++◌, List, map, ℕ, None, Some, Ok, Err, true};
 ghost use Rattle.std.specs.Iterator.{Drains, Yields, YieldsThen};
 ghost use Rattle.std.specs.List.{AllByRecursion};
+ghost use Rattle.std.specs.Prelude.{◌≡◌, ◌↔◌, ◌++◌, List, map, ℕ, None, Some, Ok, Err, true};
 ghost use Rattle.serde_json.specs.Data.{Data};
 ghost use Rattle.rec_events.specs.declared.events.TestEventSummary.{TestEventSummary};
 ghost use Rattle.rec_forms.specs.GivesWellFormed.{GivesWellFormed};
 ghost use Rattle.rec_forms.specs.Outputs.{IsStoredOutputs, stored_outputs_form, stored_outputs_value};
+ghost use Rattle.rec_codec.specs.declared.line_events.LineError.TheVariants.{OutOfMemory};
+ghost use Rattle.rec_codec.specs.declared.line_events.LineError.{LineError};
 ghost use Rattle.rec_codec.specs.Event.{IsLogged, LiveEvent, RecordedEvent, live_event_of, recorded_event_of, log_events, log_text};
 ghost use Rattle.rec_codec.specs.EventForms.{event_form, event_value, kind_loaded, IsEvent};
 ghost use Rattle.rec_codec.specs.LineItems.{GivesNext};
 ghost use Rattle.rec_codec.specs.LineReading.{GivesUpTo, before_fault, events_before_fault, first_line_fault, line_items};
 ghost use Rattle.rec_codec.specs.Lines.{NumberedLine, lines, numbered};
 ghost use Rattle.rec_codec.specs.Live.{is_loaded, live_form, live_value, IsLive};
-ghost use Rattle.rec_codec.specs.declared.line_events.LineError.{LineError};
-ghost use Rattle.rec_codec.specs.declared.line_events.LineError.TheVariants.{OutOfMemory};
 
 use crate::OutputForm;
 use crate::event::held_event;

@@ -3,8 +3,8 @@ ghost use Rattle.std.specs.Prelude.{Some};
 ghost use Rattle.rec_forms.specs.Gives.{Gives};
 ghost use Rattle.rec_forms.specs.TextForm.{text_form};
 ghost use Rattle.rec_codec.specs.EventForms.{event_form};
-ghost use Rattle.rec_codec.specs.Lines.{text_of};
 ghost use Rattle.rec_codec.specs.LineEvents.{Answers, AnswersEvent};
+ghost use Rattle.rec_codec.specs.Lines.{text_of};
 
 use crate::{Line, OutputForm, event_from_value};
 use rec_events::TestEventSummary;
@@ -32,7 +32,7 @@ pub enum LineError {
     OutOfMemory,
 }
 
-// Reads the event of a text.
+/// Reads the event of a text.
 fn event_from_text<S: OutputForm>(
     alloc: Global,
     text: &str,
@@ -67,7 +67,7 @@ pub fn read_line<S: OutputForm>(
     Some(event_of_line(alloc, text, line.number))
 }
 
-// Reads the event of a text that isn't blank. Where there is none, the fault has the line's number.
+/// Reads the event of a text that isn't blank. Where there is none, the fault has the line's number.
 fn event_of_line<S: OutputForm>(
     alloc: Global,
     text: &str,

@@ -1,7 +1,7 @@
 //! The events of a log, one after the other.
 ghost use Rattle.std.specs.Prelude.{◌≡◌, ◌+◌, ◌<◌, ◌^◌, length};
-ghost use Rattle.rec_codec.specs.Lines.{lines, numbered};
 ghost use Rattle.rec_codec.specs.LineItems.{left_after};
+ghost use Rattle.rec_codec.specs.Lines.{lines, numbered};
 
 use crate::{LineError, Lines, OutputForm, read_line};
 use rec_events::TestEventSummary;
@@ -54,7 +54,7 @@ impl<'a, S: OutputForm> LineIter<'a, S> {
         }
     }
 
-    // Ends the iterator after an item that says that there was not enough memory.
+    /// Ends the iterator after an item that says that there was not enough memory.
     fn end_where_out_of_memory(&mut self, item: &Result<TestEventSummary<S>, LineError>)
         ensures { self.new ≡ left_after item.now self.old }
     {

@@ -1,6 +1,6 @@
 //! A text by its lines, without copying.
-ghost use Rattle.std.specs.Prelude.{◌≡◌, ◌==◌, ◌+◌, ◌≤◌, ◌<◌, ◌^◌, ◌∷◌, length, position};
 ghost use Rattle.std.specs.Option.{option_map};
+ghost use Rattle.std.specs.Prelude.{◌≡◌, ◌==◌, ◌+◌, ◌≤◌, ◌<◌, ◌^◌, ◌∷◌, length, position};
 ghost use Rattle.rec_codec.specs.Lines.{lines, numbered, text_of};
 
 use std::marker::Model;
@@ -62,14 +62,14 @@ impl<'a> Lines<'a> {
     }
 }
 
-// Returns where the first line ends, if it ends at LF.
+/// Returns where the first line ends, if it ends at LF.
 fn line_end(bytes: &[u8]) -> Option<usize>
     ensures { result ≡ position (λ b. b == 10) bytes.now }
 {
     bytes.iter().position(|b| *b == b'\n')
 }
 
-// Splits what isn't empty into its first line and what stands after it.
+/// Splits what isn't empty into its first line and what stands after it.
 fn split_line(bytes: &[u8]) -> (&[u8], &[u8])
     requires { 0 < length bytes.now }
     ensures lines { lines bytes.now ≡ result.0.now ∷ lines result.1.now }

@@ -10,7 +10,7 @@ use rec_forms::{Form, FromValueError, only_member, optional_field, put_optional,
 use serde_json::{Map, Value};
 use std::alloc::Global;
 
-// The outputs of a process whose streams were captured apart.
+/// The outputs of a process whose streams were captured apart.
 #[tactic(auto, unfolding(crate::specs::Live::live_split_form))]
 fn split_from(alloc: Global, value: &Value) -> Result<ChildOutputDescription, FromValueError>
     ensures { Gives result (live_split_form (view value.now)) }

@@ -11,7 +11,7 @@ use rec_events::{
     OutputEventKind, TestEventKindSummary, TestEventSummary,
 };
 
-// Returns whether an output is there.
+/// Returns whether an output is there.
 fn has_output(output: &ChildOutputDescription) -> bool
     ensures { result ≡ is_loaded output.now }
 {
@@ -21,7 +21,7 @@ fn has_output(output: &ChildOutputDescription) -> bool
     }
 }
 
-// The same of a process, which has no output where it was not started.
+/// The same of a process, which has no output where it was not started.
 fn execution_has_output(output: &ChildExecutionOutputDescription<LiveSpec>) -> bool
     ensures { result ≡ description_loaded is_loaded output.now }
 {
@@ -31,14 +31,14 @@ fn execution_has_output(output: &ChildExecutionOutputDescription<LiveSpec>) -> b
     }
 }
 
-// The same of an attempt.
+/// The same of an attempt.
 fn attempt_has_output(attempt: &ExecuteStatus<LiveSpec>) -> bool
     ensures { result ≡ status_loaded is_loaded attempt.now }
 {
     execution_has_output(&attempt.output)
 }
 
-// The same of all attempts of a test.
+/// The same of all attempts of a test.
 fn all_have_output(attempts: &[ExecuteStatus<LiveSpec>]) -> bool
     ensures { result ≡ every (status_loaded is_loaded) attempts.now }
 {
@@ -50,7 +50,7 @@ fn all_have_output(attempts: &[ExecuteStatus<LiveSpec>]) -> bool
     true
 }
 
-// The same of a kind of event.
+/// The same of a kind of event.
 fn kind_has_outputs(kind: &OutputEventKind<LiveSpec>) -> bool
     ensures { result ≡ output_loaded is_loaded kind.now }
 {

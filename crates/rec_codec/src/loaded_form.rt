@@ -1,12 +1,12 @@
 //! The forms of items that hold outputs, and so aren't written where one isn't loaded.
-ghost use Rattle.std.specs.Prelude.{◌≡◌, ℕ, Bool, Option, Some, OnOk, map};
 ghost use Rattle.std.specs.List.{AllByRecursion};
+ghost use Rattle.std.specs.Prelude.{◌≡◌, ℕ, Bool, Option, Some, OnOk, map};
 ghost use Rattle.serde_json.specs.Data.{Data};
 ghost use Rattle.serde_json.specs.View.{view, members_view};
 ghost use Rattle.rec_forms.specs.Gives.{Gives};
 ghost use Rattle.rec_forms.specs.GivesWellFormed.{GivesWellFormed};
-ghost use Rattle.rec_forms.specs.Shape.{with_member, required};
 ghost use Rattle.rec_forms.specs.Lists.{list_value, list_form, some_form};
+ghost use Rattle.rec_forms.specs.Shape.{with_member, required};
 ghost use Rattle.rec_forms.specs.Writable.{IsWritable};
 ghost use Rattle.rec_codec.specs.Writes.{Writes, PutsLoaded, every};
 

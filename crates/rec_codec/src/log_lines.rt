@@ -2,15 +2,15 @@
 ghost use Rattle.std.specs.Prelude.{◌≡◌, IfOk, OnOk};
 ghost use Rattle.serde_json.specs.View.{view};
 ghost use Rattle.rec_forms.specs.Outputs.{IsStoredOutputs, stored_outputs_value};
-ghost use Rattle.rec_codec.specs.EventForms.{event_value, IsEvent};
 ghost use Rattle.rec_codec.specs.Event.{event_line, IsLogged};
+ghost use Rattle.rec_codec.specs.EventForms.{event_value, IsEvent};
 
 use crate::{ToValueError, event_to_value};
 use rec_events::{RecordingSpec, TestEventSummary};
 use serde_json::Value;
 use std::alloc::{AllocError, Global};
 
-// Makes the value of an event. The names of files are always loaded, so only memory can be short.
+/// Makes the value of an event. The names of files are always loaded, so only memory can be short.
 fn recorded_value(
     alloc: Global,
     event: &TestEventSummary<RecordingSpec>,

@@ -62,8 +62,8 @@ pub trait OutputForm: OutputSpec {
 
 impl OutputForm for RecordingSpec {
     ghost use Rattle.std.specs.Prelude.{true};
-    ghost use Rattle.rec_forms.specs.Outputs.{stored_outputs_value, stored_outputs_form, IsStoredOutputs};
     ghost use Rattle.rec_forms.specs.OutputLaws.{stored_outputs_back, stored_outputs_writable, stored_outputs_well_formed};
+    ghost use Rattle.rec_forms.specs.Outputs.{stored_outputs_value, stored_outputs_form, IsStoredOutputs};
 
     ghost output_well_formed = { IsStoredOutputs };
 

@@ -3,8 +3,8 @@ ghost use Rattle.std.specs.Prelude.{◌≡◌, OnOk, true, codes};
 ghost use Rattle.serde_json.specs.View.{members_view};
 ghost use Rattle.rec_forms.specs.Gives.{Gives};
 ghost use Rattle.rec_forms.specs.Shape.{with_members};
-ghost use Rattle.rec_codec.specs.Writes.{PutsLoaded};
 ghost use Rattle.rec_codec.specs.OutputKinds.{output_name, reporting_fields, reporting_form, output_members, output_fields, output_loaded, IsOutput, script_finished_form, attempt_failed_form, test_finished_form};
+ghost use Rattle.rec_codec.specs.Writes.{PutsLoaded};
 
 use crate::core_kinds::put_kind_name;
 use crate::held::{HeldLoaded, HeldOutput};
@@ -18,7 +18,7 @@ use rec_forms::{
 };
 use std::alloc::{AllocError, Global};
 
-// How a finished test is reported.
+/// How a finished test is reported.
 #[derive(Drop)]
 struct Reporting {
     success_output: TestOutputDisplay,
@@ -77,7 +77,7 @@ impl Reporting {
     }
 }
 
-// The name of a kind.
+/// The name of a kind.
 fn output_name<S: OutputForm>(kind: &OutputEventKind<S>) -> &'static str
     ensures { result.now ≡ output_name kind.now }
 {
@@ -88,7 +88,7 @@ fn output_name<S: OutputForm>(kind: &OutputEventKind<S>) -> &'static str
     }
 }
 
-// Writes the members of a setup script's end.
+/// Writes the members of a setup script's end.
 fn put_script_finished<S: OutputForm>(
     alloc: Global,
     object: &mut Object,
@@ -120,7 +120,7 @@ fn put_script_finished<S: OutputForm>(
     Ok(())
 }
 
-// Writes the members of a failed attempt.
+/// Writes the members of a failed attempt.
 fn put_attempt_failed<S: OutputForm>(
     alloc: Global,
     object: &mut Object,
@@ -157,7 +157,7 @@ fn put_attempt_failed<S: OutputForm>(
     Ok(())
 }
 
-// Writes the members of a finished test.
+/// Writes the members of a finished test.
 fn put_test_finished<S: OutputForm>(
     alloc: Global,
     object: &mut Object,
@@ -316,7 +316,7 @@ pub fn test_finished_from<S: OutputForm>(
     })
 }
 
-// States that a setup script's end is well-formed where its outputs are loaded.
+/// States that a setup script's end is well-formed where its outputs are loaded.
 fn held_script_finished<S: HeldOutput>(kind: &OutputEventKind<S>)
     requires named { output_name kind.now ≡ codes "setup-script-finished" }
     ensures { output_loaded S.loaded kind.now ≡ true → IsOutput S.output_well_formed kind.now }
@@ -343,7 +343,7 @@ fn held_script_finished<S: HeldOutput>(kind: &OutputEventKind<S>)
     run_status.held_loaded();
 }
 
-// States that a failed attempt is well-formed where its outputs are loaded.
+/// States that a failed attempt is well-formed where its outputs are loaded.
 fn held_attempt_failed<S: HeldOutput>(kind: &OutputEventKind<S>)
     requires named { output_name kind.now ≡ codes "test-attempt-failed-will-retry" }
     ensures { output_loaded S.loaded kind.now ≡ true → IsOutput S.output_well_formed kind.now }
@@ -366,7 +366,7 @@ fn held_attempt_failed<S: HeldOutput>(kind: &OutputEventKind<S>)
     running.held();
 }
 
-// States that a finished test is well-formed where its outputs are loaded.
+/// States that a finished test is well-formed where its outputs are loaded.
 fn held_test_finished<S: HeldOutput>(kind: &OutputEventKind<S>)
     requires named { output_name kind.now ≡ codes "test-finished" }
     ensures { output_loaded S.loaded kind.now ≡ true → IsOutput S.output_well_formed kind.now }

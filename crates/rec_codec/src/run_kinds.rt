@@ -3,8 +3,8 @@ ghost use Rattle.std.specs.Prelude.{◌≡◌, OnOk, codes};
 ghost use Rattle.serde_json.specs.View.{members_view};
 ghost use Rattle.rec_forms.specs.Gives.{Gives};
 ghost use Rattle.rec_forms.specs.Shape.{with_members};
-ghost use Rattle.rec_codec.specs.CoreKinds.{core_name, core_members, running_fields, IsCore};
 ghost use Rattle.rec_codec.specs.CoreKindForms.{run_started_form, stress_sub_run_started_form, run_begin_cancel_form, run_paused_form, run_continued_form, stress_sub_run_finished_form, run_finished_form};
+ghost use Rattle.rec_codec.specs.CoreKinds.{core_name, core_members, running_fields, IsCore};
 
 use rec_events::CoreEventKind;
 use rec_forms::{

@@ -1,12 +1,12 @@
 //! The kinds of events of setup scripts that hold no outputs.
 ghost use Rattle.std.specs.Prelude.{◌≡◌, ◌<◌, ◌^◌, OnOk, IfSome, codes};
 ghost use Rattle.serde_json.specs.View.{members_view};
-ghost use Rattle.rec_forms.specs.Gives.{Gives};
-ghost use Rattle.rec_forms.specs.Shape.{with_members};
 ghost use Rattle.rec_events.specs.Names.{IsText, AreTexts};
+ghost use Rattle.rec_forms.specs.Gives.{Gives};
 ghost use Rattle.rec_forms.specs.Instances.{IsStressIndex};
-ghost use Rattle.rec_codec.specs.CoreKinds.{core_name, place_fields, command_fields, core_members, IsCore};
+ghost use Rattle.rec_forms.specs.Shape.{with_members};
 ghost use Rattle.rec_codec.specs.CoreKindForms.{place_form, command_form, setup_script_started_form, setup_script_slow_form};
+ghost use Rattle.rec_codec.specs.CoreKinds.{core_name, place_fields, command_fields, core_members, IsCore};
 
 use rec_events::{CoreEventKind, Items, ScriptId, StressIndexSummary, Text};
 use rec_forms::{

@@ -1,11 +1,11 @@
 //! The attempts of a test, with their outputs.
 ghost use Rattle.std.specs.Prelude.{◌≡◌, OnOk};
 ghost use Rattle.serde_json.specs.View.{view, members_view};
+ghost use Rattle.rec_events.specs.declared.outputs.ChildExecutionOutputDescription.TheVariants.{Output};
 ghost use Rattle.rec_forms.specs.Gives.{Gives};
 ghost use Rattle.rec_forms.specs.Shape.{with_members, required};
-ghost use Rattle.rec_events.specs.declared.outputs.ChildExecutionOutputDescription.TheVariants.{Output};
-ghost use Rattle.rec_codec.specs.Writes.{Writes};
 ghost use Rattle.rec_codec.specs.Status.{description_value, IsDescription, output_case_form, course_fields, course_form, IsCourse, attempts_form};
+ghost use Rattle.rec_codec.specs.Writes.{Writes};
 
 use crate::held::{HeldLoaded, HeldOutput, each_held};
 use crate::loaded_form::{LoadedForm, each_to_value, put_loaded, required_loaded, some_from_value};
@@ -21,7 +21,7 @@ use rec_forms::{
 use serde_json::{Map, Value};
 use std::alloc::{AllocError, Global};
 
-// The value of the outputs of a process that was started.
+/// The value of the outputs of a process that was started.
 #[tactic(auto, unfolding(rec_forms::specs::Shape::members_of))]
 fn output_value<S: OutputForm>(
     alloc: Global,
@@ -40,7 +40,7 @@ fn output_value<S: OutputForm>(
     Ok(tagged(alloc, "output", Value::from(object))?)
 }
 
-// Reads an output that has to be there.
+/// Reads an output that has to be there.
 fn required_output<S: OutputForm>(
     alloc: Global,
     object: &Object,
@@ -54,7 +54,7 @@ fn required_output<S: OutputForm>(
     }
 }
 
-// The outputs of a process that was started.
+/// The outputs of a process that was started.
 #[tactic(auto, unfolding(crate::specs::Status::output_case_form))]
 fn output_from<S: OutputForm>(
     alloc: Global,
@@ -142,7 +142,7 @@ impl<S: HeldOutput> HeldLoaded for ChildExecutionOutputDescription<S> {
     }
 }
 
-// When an attempt ran.
+/// When an attempt ran.
 #[derive(Drop)]
 struct Course {
     start_time: Stamp,
@@ -271,7 +271,7 @@ impl<S: HeldOutput> HeldLoaded for ExecuteStatus<S> {
     }
 }
 
-// Reads the attempts, of which there is at least one.
+/// Reads the attempts, of which there is at least one.
 #[tactic(auto, unfolding(crate::specs::Status::attempts_form))]
 fn attempts_from<S: OutputForm>(
     alloc: Global,

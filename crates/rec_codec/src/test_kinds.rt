@@ -3,8 +3,8 @@ ghost use Rattle.std.specs.Prelude.{◌≡◌, OnOk, codes};
 ghost use Rattle.serde_json.specs.View.{members_view};
 ghost use Rattle.rec_forms.specs.Gives.{Gives};
 ghost use Rattle.rec_forms.specs.Shape.{with_members};
-ghost use Rattle.rec_codec.specs.CoreKinds.{core_name, core_members, IsCore};
 ghost use Rattle.rec_codec.specs.CoreKindForms.{test_started_form, test_slow_form, test_retry_started_form, test_skipped_form};
+ghost use Rattle.rec_codec.specs.CoreKinds.{core_name, core_members, IsCore};
 
 use rec_events::CoreEventKind;
 use rec_forms::{

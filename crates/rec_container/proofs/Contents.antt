@@ -1,9 +1,9 @@
 -- The content under a name, as entries are added.
 use Rattle.std.proofs.Common.{◌≡◌, ℕ, Bool, true, false, cond, List, [], ◌∷◌, ◌++◌, Option, Some, None, refl, ap, ◌∙◌}
-use Rattle.std.specs.Str.{bytes_eq}
 use Rattle.std.proofs.lemmas.Slice.Eq.{bytes_eq-Decides}
+use Rattle.std.specs.Str.{bytes_eq}
 use Rattle.rec_container.specs.Container.{Entry, content_of}
-use Rattle.rec_container.specs.Writing.{named}
+use Rattle.rec_container.specs.Writing.{entry_named}
 
 kept : (b : Bool) (content found : List ℕ) (old new : Option (List ℕ)) → (old ≡ Some found → new ≡ Some found) → cond b (Some content) old ≡ Some found → cond b (Some content) new ≡ Some found
 kept true content found old new next h = h
@@ -24,6 +24,6 @@ content_of-missing [] fs name h = refl
 content_of-missing (e ∷ es) fs name h = skipped (bytes_eq name e.name) e.content _ _ (content_of fs name) (content_of-missing es fs name) h
 
 -- as it does with the entry of this name
-pub content_of-push : (es : List Entry) (name content : List ℕ) → content_of es name ≡ None → content_of (es ++ named name content ∷ []) name ≡ Some content
+pub content_of-push : (es : List Entry) (name content : List ℕ) → content_of es name ≡ None → content_of (es ++ entry_named name content ∷ []) name ≡ Some content
 content_of-push es name content h =
-    content_of-missing es (named name content ∷ []) name h ∙ ap (λ b. cond b (Some content) None) ((bytes_eq-Decides name name).1 refl)
+    content_of-missing es (entry_named name content ∷ []) name h ∙ ap (λ b. cond b (Some content) None) ((bytes_eq-Decides name name).1 refl)

@@ -1,12 +1,12 @@
 -- What is left of contents that are written one after the other.
 use Rattle.std.proofs.Common.{◌≡◌, ℕ, ◌+◌, ◌<◌, ◌≤◌, List, [], ◌∷◌, ◌++◌, length, get_or, drop, map, sym, ap, ◌∙◌, subst, length-append, append_assoc}
+use Rattle.std.proofs.lemmas.List.{drop_more, drop_all}
 use Rattle.std.specs.Int.{w64, to_be_bytes}
 use Rattle.std.specs.List.{AllByRecursion, flat_map}
-use Rattle.std.proofs.lemmas.List.{drop_more, drop_all}
-use Rattle.rec_container.specs.Container.{Entry, entry, entry_head}
-use Rattle.rec_container.specs.NamedContents.{container_of, entry_of, tagged_name}
-use Rattle.rec_container.specs.declared.named_contents.NamedContent.{NamedContent}
 use Rattle.rec_container.proofs.Lengths.{length-entry}
+use Rattle.rec_container.specs.Container.{Entry, entry, entry_head}
+use Rattle.rec_container.specs.declared.named_contents.NamedContent.{NamedContent}
+use Rattle.rec_container.specs.NamedContents.{container_of, entry_of, tagged_name}
 
 -- what stands past the end
 abbrev pub nothing : NamedContent

@@ -1,21 +1,21 @@
 -- Files in a map by their paths.
 use Rattle.std.proofs.Common.{◌≡◌, ℕ, Bool, true, false, cond, List, [], ◌∷◌, ◌++◌, Option, Some, None, Ok, Err, Vec, String, string_bytes, refl, ap, sym, subst, ◌∙◌, ◌||◌, ◌&&◌, is_some, IsTrue, ◌↔◌, ◌⊎◌, inl, inr, take, drop, length, append-nil, take-append-drop, take_at, drop_at, nat_eq, arith}
-use Rattle.std.specs.List.{list_any}
+use Rattle.std.proofs.lemmas.Bool.Decides.{nat_tests}
+use Rattle.std.proofs.lemmas.Map.Text.{btree_map_updates_text, is_eq-slice_cmp}
+use Rattle.std.proofs.lemmas.Slice.Eq.{bytes_eq-Decides}
 use Rattle.std.specs.BTreeMap.{BTreeMap, UpdatesBy, get_by_text, is_at}
 use Rattle.std.specs.Cmp.Lexicographic.{slice_cmp}
+use Rattle.std.specs.declared.alloc.Global.{Global}
+use Rattle.std.specs.List.{list_any}
 use Rattle.std.specs.Map.{lookup, keys_of}
 use Rattle.std.specs.Option.{option_map}
 use Rattle.std.specs.Ordering.{nat_cmp}
 use Rattle.std.specs.Str.{bytes_eq}
 use Rattle.std.specs.String.{string_cmp}
-use Rattle.std.specs.declared.alloc.Global.{Global}
-use Rattle.std.proofs.lemmas.Map.Text.{btree_map_updates_text, is_eq-slice_cmp}
-use Rattle.std.proofs.lemmas.Slice.Eq.{bytes_eq-Decides}
+use Rattle.rec_container.proofs.NameIndex.{apart}
+use Rattle.rec_container.specs.declared.disk.DiskError.TheVariants.{Missing, OutOfMemory}
 use Rattle.rec_container.specs.Disks.{Files, AreSame, with_file, Refuses, RenamesFile, IsThere}
 use Rattle.rec_container.specs.MemoryDisks.{files_of, file_at, HasFile, Extends, lies_at, begins_below}
-use Rattle.std.proofs.lemmas.Bool.Decides.{nat_tests}
-use Rattle.rec_container.specs.declared.disk.DiskError.TheVariants.{Missing, OutOfMemory}
-use Rattle.rec_container.proofs.NameIndex.{apart}
 
 abbrev shown : Option (Vec ℕ Global) → Option (List ℕ)
 shown o = option_map (λ (v : Vec ℕ Global). v.items) o

@@ -1,18 +1,18 @@
 -- The fields of a container: each is read where it is spelled, and only there.
 use Rattle.std.proofs.Common.{◌≡◌, ℕ, suc, ◌+◌, ◌^◌, ◌<◌, ◌≤◌, Bool, true, false, cond, ltb, nat_eq, List, [], ◌∷◌, ◌++◌, length, take, drop, Option, Some, None, Ok, Err, refl, sym, ap, subst, ◌∙◌, append_assoc, arith, is_some}
+use Rattle.std.proofs.lemmas.Bool.Decides.{nat_tests}
+use Rattle.std.proofs.lemmas.Bool.{ltb-false, le-ltb}
+use Rattle.std.proofs.lemmas.List.{take_at, drop_at, length-append, length-take}
+use Rattle.std.proofs.lemmas.Str.{IsUtf8-from_is_utf8, is_utf8-from_IsUtf8}
 use Rattle.std.specs.Int.{w16, w64, to_be_bytes}
 use Rattle.std.specs.Str.{is_utf8}
-use Rattle.std.proofs.lemmas.Str.{IsUtf8-from_is_utf8, is_utf8-from_IsUtf8}
-use Rattle.std.proofs.lemmas.Bool.{ltb-false, le-ltb}
-use Rattle.std.proofs.lemmas.Bool.Decides.{nat_tests}
-use Rattle.std.proofs.lemmas.List.{take_at, drop_at, length-append, length-take}
-use Rattle.rec_container.specs.declared.errors.ContainerError.{ContainerError}
-use Rattle.rec_container.specs.declared.errors.ContainerError.TheVariants.{Truncated, BadName, BadTag, DuplicateName}
-use Rattle.rec_container.specs.Container.{Entry, IsName, entry, entry_head, content_of, IsEntry}
-use Rattle.rec_container.specs.Reading.{◌>>=◌, name_from, name_at, content_from, content_at, with_name, entry_from, entry_at, some_entry, end_at, step_at, number_at}
+use Rattle.rec_container.proofs.Integers.{two_bytes, eight_bytes, number_at-spelled, number_at-ok, text_after}
 use Rattle.rec_container.proofs.Octets.{AreOctets, AreOctets-after}
 use Rattle.rec_container.proofs.Results.{then_ok, unless_ok, if_ok, Ok-injective}
-use Rattle.rec_container.proofs.Integers.{two_bytes, eight_bytes, number_at-spelled, number_at-ok, text_after}
+use Rattle.rec_container.specs.Container.{Entry, IsName, entry, entry_head, content_of, IsEntry}
+use Rattle.rec_container.specs.declared.errors.ContainerError.TheVariants.{Truncated, BadName, BadTag, DuplicateName}
+use Rattle.rec_container.specs.declared.errors.ContainerError.{ContainerError}
+use Rattle.rec_container.specs.Reading.{◌>>=◌, name_from, name_at, content_from, content_at, with_name, entry_from, entry_at, some_entry, end_at, step_at, number_at}
 
 -- what is after the tag of an entry
 abbrev pub entry_fields : Entry → List ℕ

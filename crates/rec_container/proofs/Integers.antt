@@ -1,14 +1,14 @@
 -- Whole numbers of two and of eight bytes, the greatest byte first.
 use Rattle.std.proofs.Common.{◌≡◌, ℕ, ◌^◌, ◌<◌, ◌≤◌, ltb, false, List, ◌++◌, length, take, drop, Ok, refl, sym, ap, subst, ◌∙◌, append_assoc, arith}
-use Rattle.std.specs.Int.{Width, w16, w64, byte_len, from_be_bytes, to_be_bytes}
 use Rattle.std.proofs.lemmas.Bool.{ltb-false, le-ltb}
 use Rattle.std.proofs.lemmas.List.{take_at, drop_at, take-append-drop, length-append, length-take}
 use Rattle.std.proofs.lemmas.Nat.{be_bytes_2, be_bytes_8, from_be_bytes-to_be_bytes_2, from_be_bytes-to_be_bytes_8}
-use Rattle.rec_container.specs.declared.errors.ContainerError.{ContainerError}
-use Rattle.rec_container.specs.declared.errors.ContainerError.TheVariants.{Truncated}
-use Rattle.rec_container.specs.Reading.{number_at}
+use Rattle.std.specs.Int.{Width, w16, w64, byte_len, from_be_bytes, to_be_bytes}
 use Rattle.rec_container.proofs.Octets.{AreOctets, AreOctets-take}
 use Rattle.rec_container.proofs.Results.{unless_ok, Ok-injective}
+use Rattle.rec_container.specs.declared.errors.ContainerError.TheVariants.{Truncated}
+use Rattle.rec_container.specs.declared.errors.ContainerError.{ContainerError}
+use Rattle.rec_container.specs.Reading.{number_at}
 
 -- numbers below a limit and strings of so many bytes are each other's spelling
 pub record Spells (w : Width) (limit : ℕ) : Type 0 where

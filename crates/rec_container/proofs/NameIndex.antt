@@ -1,17 +1,17 @@
 -- The index of entries by their names, as entries are added.
 use Rattle.std.proofs.Common.{◌≡◌, ℕ, Bool, true, false, cond, List, [], ◌∷◌, ◌++◌, Option, Some, None, Bor, refl, ap, sym, subst, ◌∙◌}
+use Rattle.std.proofs.lemmas.List.{map-append}
+use Rattle.std.proofs.lemmas.Map.Text.{btree_map_updates_str}
+use Rattle.std.proofs.lemmas.Slice.Eq.{bytes_eq-Decides}
 use Rattle.std.specs.BTreeMap.{BTreeMap, UpdatesBy, get_by}
 use Rattle.std.specs.Cmp.Lexicographic.{slice_cmp}
 use Rattle.std.specs.Option.{option_map}
 use Rattle.std.specs.Ordering.{nat_cmp}
 use Rattle.std.specs.Str.{bytes_eq}
-use Rattle.std.proofs.lemmas.List.{map-append}
-use Rattle.std.proofs.lemmas.Map.Text.{btree_map_updates_str}
-use Rattle.std.proofs.lemmas.Slice.Eq.{bytes_eq-Decides}
-use Rattle.rec_container.specs.Container.{Entry, content_of}
-use Rattle.rec_container.specs.Placed.{HasContents, placed_entry, placed_entries}
-use Rattle.rec_container.specs.declared.indexed.PlacedEntry.{PlacedEntry}
 use Rattle.rec_container.proofs.Contents.{content_of-push}
+use Rattle.rec_container.specs.Container.{Entry, content_of}
+use Rattle.rec_container.specs.declared.indexed.PlacedEntry.{PlacedEntry}
+use Rattle.rec_container.specs.Placed.{HasContents, placed_entry, placed_entries}
 
 not_both : (b : Bool) → b ≡ true → b ≡ false → ⊥
 not_both b holds fails = cc

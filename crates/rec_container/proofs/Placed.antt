@@ -2,10 +2,10 @@
 use Rattle.std.proofs.Common.{zero, suc, ◌+◌, [], ◌∷◌, ◌≡◌, ℕ, List, length, map, Some, ap, sym, subst, ◌∙◌, slice_get}
 use Rattle.std.proofs.lemmas.Option.{slice_get-map}
 use Rattle.std.specs.Option.{option_map}
-use Rattle.rec_container.specs.Container.{Entry, StandsWithin, IsPrefix, place_from}
-use Rattle.rec_container.specs.Placed.{placed_entry, placed_entries, PlacedFrom, ArePlaced}
-use Rattle.rec_container.specs.declared.indexed.PlacedEntry.{PlacedEntry}
 use Rattle.rec_container.proofs.Spelling.{content_stands}
+use Rattle.rec_container.specs.Container.{Entry, StandsWithin, IsPrefix, place_from}
+use Rattle.rec_container.specs.declared.indexed.PlacedEntry.{PlacedEntry}
+use Rattle.rec_container.specs.Placed.{placed_entry, placed_entries, PlacedFrom, ArePlaced}
 
 -- a part of the entry at an index
 pub slice_get-placed_entries : (f : Entry → List ℕ) (hs : List PlacedEntry) (i : ℕ) (h : PlacedEntry) → slice_get hs i ≡ Some h → slice_get (map f (placed_entries hs)) i ≡ Some (f (placed_entry h))

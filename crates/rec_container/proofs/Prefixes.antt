@@ -1,19 +1,19 @@
 -- The prefix of a container that was read.
 use Rattle.std.proofs.Common.{◌≡◌, ℕ, ◌+◌, List, [], ◌∷◌, ◌++◌, length, take, drop, Some, None, Ok, Err, sym, ap, subst, ◌∙◌, append_assoc, append-nil, arith, length-append, take-append-drop, inr, true, Bool}
-use Rattle.std.specs.List.{flat_map}
-use Rattle.std.specs.Str.{bytes_eq}
-use Rattle.std.proofs.lemmas.Slice.Eq.{bytes_eq-Decides}
 use Rattle.std.proofs.lemmas.Grind.{flat_map-append}
 use Rattle.std.proofs.lemmas.List.{map-append}
-use Rattle.rec_container.specs.declared.errors.ContainerError.{ContainerError}
-use Rattle.rec_container.specs.Container.{Entry, entry, magic, AreFrom, IsPrefix, place_after, IsContainer}
-use Rattle.rec_container.specs.Reading.{step_at, IsFault, has_magic}
-use Rattle.rec_container.specs.Placed.{placed_entry, placed_entries, PlacedFrom}
-use Rattle.rec_container.specs.declared.indexed.PlacedEntry.{PlacedEntry}
-use Rattle.rec_container.proofs.Lengths.{length-entry, length-magic}
-use Rattle.rec_container.proofs.Spelling.{AreFrom-push}
-use Rattle.rec_container.proofs.Octets.{AreOctets, AreOctets-drop, AreOctets-after}
+use Rattle.std.proofs.lemmas.Slice.Eq.{bytes_eq-Decides}
+use Rattle.std.specs.List.{flat_map}
+use Rattle.std.specs.Str.{bytes_eq}
 use Rattle.rec_container.proofs.Grammar.{step_at-some, step_at-none}
+use Rattle.rec_container.proofs.Lengths.{length-entry, length-magic}
+use Rattle.rec_container.proofs.Octets.{AreOctets, AreOctets-drop, AreOctets-after}
+use Rattle.rec_container.proofs.Spelling.{AreFrom-push}
+use Rattle.rec_container.specs.Container.{Entry, entry, magic, AreFrom, IsPrefix, place_after, IsContainer}
+use Rattle.rec_container.specs.declared.errors.ContainerError.{ContainerError}
+use Rattle.rec_container.specs.declared.indexed.PlacedEntry.{PlacedEntry}
+use Rattle.rec_container.specs.Placed.{placed_entry, placed_entries, PlacedFrom}
+use Rattle.rec_container.specs.Reading.{step_at, IsFault, has_magic}
 
 -- one more entry after those that are placed
 PlacedFrom-push : (p : ℕ) (hs : List PlacedEntry) (h : PlacedEntry) → PlacedFrom p hs → h.place ≡ p + length (flat_map entry (placed_entries hs)) + 11 + length h.name.now → PlacedFrom p (hs ++ h ∷ [])

@@ -1,13 +1,13 @@
 -- Entries, one after the other.
 use Rattle.std.proofs.Common.{zero, suc, ◌≡◌, ℕ, ◌+◌, List, [], ◌∷◌, ◌++◌, length, take, map, slice_get, ◌≤◌, None, Some, refl, sym, ap, subst, ◌∙◌, append_assoc, append-nil, arith, length-append}
-use Rattle.std.specs.List.{flat_map}
-use Rattle.std.specs.Io.KnownBytes.{Appends}
-use Rattle.std.specs.declared.option.Option.{Option}
 use Rattle.std.proofs.KnownBytes.{Appends-trans}
 use Rattle.std.proofs.lemmas.Grind.{flat_map-append}
 use Rattle.std.proofs.lemmas.List.{take_at, drop_at}
-use Rattle.rec_container.specs.Container.{Entry, entry, entry_head, magic, spell, prefix, addition, ending, content_of, IsEntry, AreFrom, IsContainer, StandsAt, StandsWithin, place_from}
+use Rattle.std.specs.declared.option.Option.{Option}
+use Rattle.std.specs.Io.KnownBytes.{Appends}
+use Rattle.std.specs.List.{flat_map}
 use Rattle.rec_container.proofs.Lengths.{length-entry, length-entry_head, length-magic}
+use Rattle.rec_container.specs.Container.{Entry, entry, entry_head, magic, spell, prefix, addition, ending, content_of, IsEntry, AreFrom, IsContainer, StandsAt, StandsWithin, place_from}
 
 -- one more entry
 pub AreFrom-push : (seen es : List Entry) (e : Entry) → AreFrom seen es → IsEntry e → content_of (seen ++ es) e.name ≡ None → AreFrom seen (es ++ e ∷ [])

@@ -1,13 +1,13 @@
 -- Bytes are read in one way.
 use Rattle.std.proofs.Common.{◌≡◌, ℕ, List, [], ◌∷◌, ◌++◌, length, None, Result, Ok, Err, refl, sym, ap, subst, ◌∙◌, append_assoc, append-nil, ◌⊎◌, inl, inr, true, take, IfOk, IfErr, MatchResult, Bool, false, Option}
-use Rattle.std.specs.List.{flat_map}
-use Rattle.std.proofs.lemmas.Slice.Eq.{bytes_eq-Decides}
 use Rattle.std.proofs.lemmas.List.{append_cancel_left, take_at}
-use Rattle.rec_container.specs.declared.errors.ContainerError.{ContainerError}
-use Rattle.rec_container.specs.declared.errors.ContainerError.TheVariants.{OutOfMemory}
-use Rattle.rec_container.specs.Container.{Entry, entry, magic, content_of, IsEntry, AreFrom, place_after, IsContainer, IsPrefix, ParsedContainer}
-use Rattle.rec_container.specs.Reading.{step_at, IsFault, has_magic}
+use Rattle.std.proofs.lemmas.Slice.Eq.{bytes_eq-Decides}
+use Rattle.std.specs.List.{flat_map}
 use Rattle.rec_container.proofs.Grammar.{step_at-spelled, step_at-same, entry-tagged, entry_fields}
+use Rattle.rec_container.specs.Container.{Entry, entry, magic, content_of, IsEntry, AreFrom, place_after, IsContainer, IsPrefix, ParsedContainer}
+use Rattle.rec_container.specs.declared.errors.ContainerError.TheVariants.{OutOfMemory}
+use Rattle.rec_container.specs.declared.errors.ContainerError.{ContainerError}
+use Rattle.rec_container.specs.Reading.{step_at, IsFault, has_magic}
 
 -- the bytes do not begin with one more entry
 abbrev pub IsStuck : List Entry → List ℕ → Type 0

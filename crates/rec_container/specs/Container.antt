@@ -1,6 +1,6 @@
 -- The container: bytes that spell a list of entries.
-use Rattle.std.specs.Prelude.{zero, suc, ◌≡◌, ℕ, ◌+◌, ◌<◌, ◌≤◌, ◌^◌, List, [], ◌∷◌, ◌++◌, length, take, drop, flat_map, IsUtf8, Option, Some, None, if◌then◌else◌, codes, sum_by}
 use Rattle.std.specs.Int.{w16, w64, to_be_bytes}
+use Rattle.std.specs.Prelude.{zero, suc, ◌≡◌, ℕ, ◌+◌, ◌<◌, ◌≤◌, ◌^◌, List, [], ◌∷◌, ◌++◌, length, take, drop, flat_map, IsUtf8, Option, Some, None, if◌then◌else◌, codes, sum_by}
 use Rattle.std.specs.Str.{bytes_eq}
 
 -- an entry: its name and its content

@@ -2,8 +2,8 @@
 use Rattle.std.specs.Prelude.{◌≡◌, ℕ, ◌<◌, ◌≤◌, List, [], ◌∷◌, ◌++◌, length, take, drop, Bool, Option, Some, None, is_some, IsTrue, ◌↔◌, ◌⊎◌, if◌then◌else◌, Result, Ok, Err, IfErr}
 use Rattle.std.specs.Str.{bytes_eq}
 use Rattle.rec_container.specs.Causes.{Rose, next_count}
-use Rattle.rec_container.specs.declared.disk.DiskError.{DiskError}
 use Rattle.rec_container.specs.declared.disk.DiskError.TheVariants.{Missing, DiskFailed, OutOfMemory}
+use Rattle.rec_container.specs.declared.disk.DiskError.{DiskError}
 
 -- what stands at each path
 abbrev pub Files : Type 0

@@ -1,12 +1,12 @@
 -- What a disk in memory is, as contracts see it.
-use Rattle.std.specs.Prelude.{◌≡◌, ℕ, List, [], ◌∷◌, ◌++◌, length, take, drop, Bool, true, ◌&&◌, ◌==◌, map, Contains, Option, Some, None, Result, Ok, Err, Vec, String, string_bytes}
-use Rattle.std.specs.Map.{lookup}
-use Rattle.std.specs.Str.{bytes_eq}
 use Rattle.std.specs.declared.alloc.Global.{Global}
+use Rattle.std.specs.Map.{lookup}
+use Rattle.std.specs.Prelude.{◌≡◌, ℕ, List, [], ◌∷◌, ◌++◌, length, take, drop, Bool, true, ◌&&◌, ◌==◌, map, Contains, Option, Some, None, Result, Ok, Err, Vec, String, string_bytes}
+use Rattle.std.specs.Str.{bytes_eq}
 use Rattle.rec_container.specs.Causes.{next_count}
-use Rattle.rec_container.specs.Disks.{Files, AreSame, with_file, CountsFailure}
-use Rattle.rec_container.specs.declared.disk.DiskError.{DiskError}
 use Rattle.rec_container.specs.declared.disk.DiskError.TheVariants.{Missing, DiskFailed, OutOfMemory}
+use Rattle.rec_container.specs.declared.disk.DiskError.{DiskError}
+use Rattle.rec_container.specs.Disks.{Files, AreSame, with_file, CountsFailure}
 
 -- the files by their paths, the count of faults, the calls made so far, and the calls that fail
 pub record MemoryDiskState : Type 0 where

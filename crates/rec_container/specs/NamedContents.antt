@@ -1,6 +1,6 @@
 -- Names with contents, from which a container is written.
-use Rattle.std.specs.Prelude.{ℕ, List, ◌∷◌, ◌++◌, length, map}
 use Rattle.std.specs.Int.{w16, to_be_bytes}
+use Rattle.std.specs.Prelude.{ℕ, List, ◌∷◌, ◌++◌, length, map}
 use Rattle.rec_container.specs.Container.{Entry, spell}
 use Rattle.rec_container.specs.declared.named_contents.NamedContent.{NamedContent}
 

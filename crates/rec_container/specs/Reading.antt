@@ -1,10 +1,10 @@
 -- What a container's bytes are read as: what stands at a place, or what is wrong there.
-use Rattle.std.specs.Prelude.{◌≡◌, ℕ, ◌+◌, List, [], ◌∷◌, length, take, drop, Bool, ◌==◌, nat_lt, if◌then◌else◌, Option, Some, None, Result, Ok, Err, is_some, ◌⊎◌, false}
 use Rattle.std.specs.Int.{Width, w16, w64, byte_len, from_be_bytes}
+use Rattle.std.specs.Prelude.{◌≡◌, ℕ, ◌+◌, List, [], ◌∷◌, length, take, drop, Bool, ◌==◌, nat_lt, if◌then◌else◌, Option, Some, None, Result, Ok, Err, is_some, ◌⊎◌, false}
 use Rattle.std.specs.Str.{is_utf8, bytes_eq}
 use Rattle.rec_container.specs.Container.{Entry, magic, content_of, IsPrefix, place_after}
-use Rattle.rec_container.specs.declared.errors.ContainerError.{ContainerError}
 use Rattle.rec_container.specs.declared.errors.ContainerError.TheVariants.{BadMagic, Truncated, BadTag, BadName, DuplicateName, TrailingBytes}
+use Rattle.rec_container.specs.declared.errors.ContainerError.{ContainerError}
 
 -- the first step, and then the next one on what it gave
 infixl 10 ◌>>=◌

@@ -1,9 +1,9 @@
 -- What reading to the end does to a source.
-use Rattle.std.specs.Prelude.{◌≡◌, ℕ, ◌+◌, ◌≤◌, List, length, Option}
 use Rattle.std.specs.Io.KnownBytes.{Consumes, IsAtEnd}
+use Rattle.std.specs.Prelude.{◌≡◌, ℕ, ◌+◌, ◌≤◌, List, length, Option}
 use Rattle.rec_container.specs.Causes.{Rose}
-use Rattle.rec_container.specs.declared.within.ReadError.{ReadError}
 use Rattle.rec_container.specs.declared.within.ReadError.TheVariants.{SourceFault, TooLarge, OutOfMemory}
+use Rattle.rec_container.specs.declared.within.ReadError.{ReadError}
 
 module _ {S : Type 0} (left : S → Option (List ℕ)) (faults : S → ℕ) where
   -- the source was read to its end without a fault, and gave these bytes, within the limit

@@ -1,8 +1,8 @@
 //! Real readers, writers and files. Their bytes are unknown, since no contract can say what such a
 //! thing holds. Each error counts as a fault, and so does a write that takes nothing of a piece.
-ghost use Rattle.std.specs.Prelude.{◌≡◌, ◌≤◌, ◌<◌, length, take, IfOk, IfSome, OnOk, None};
-ghost use Rattle.std.specs.Io.{ReadsAtMost};
 ghost use Rattle.std.specs.Io.KnownBytes.{Appends, ReadConsumes, WriteAppends};
+ghost use Rattle.std.specs.Io.{ReadsAtMost};
+ghost use Rattle.std.specs.Prelude.{◌≡◌, ◌≤◌, ◌<◌, length, take, IfOk, IfSome, OnOk, None};
 ghost use Rattle.rec_container.specs.Causes.{Counts, HasCause};
 
 use crate::streams::{Sink, SinkFailed, Source, SourceFailed};

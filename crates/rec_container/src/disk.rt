@@ -1,9 +1,9 @@
 //! Where files are kept.
-ghost use Rattle.std.specs.Prelude.{◌≡◌, ◌<◌, ◌≤◌, ℕ, length, IfOk, IfErr};
-ghost use Rattle.std.specs.Io.{ReadsAtMost};
 ghost use Rattle.std.specs.declared.option.Option.{Option};
-ghost use Rattle.rec_container.specs.Disks.{Files, HasDiskCause, Exists, IsLength, ReadsAt, Creates, AppendsTo, Renames, NotMissing};
+ghost use Rattle.std.specs.Io.{ReadsAtMost};
+ghost use Rattle.std.specs.Prelude.{◌≡◌, ◌<◌, ◌≤◌, ℕ, length, IfOk, IfErr};
 ghost use Rattle.rec_container.specs.declared.disk.DiskError.TheVariants.{OutOfMemory};
+ghost use Rattle.rec_container.specs.Disks.{Files, HasDiskCause, Exists, IsLength, ReadsAt, Creates, AppendsTo, Renames, NotMissing};
 
 use std::alloc::{AllocError, AllocFailed};
 use thiserror::Error;

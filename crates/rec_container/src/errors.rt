@@ -1,7 +1,7 @@
 //! Why an entry or a container is refused, and how large a written container is.
 ghost use Rattle.std.specs.Prelude.{◌≡◌};
-ghost use Rattle.rec_container.specs.declared.errors.ContainerWriteError.TheVariants.{OutOfMemory};
 ghost use Rattle.rec_container.specs.declared.errors.ContainerError.TheVariants as faults;
+ghost use Rattle.rec_container.specs.declared.errors.ContainerWriteError.TheVariants.{OutOfMemory};
 
 use std::alloc::{AllocError, AllocFailed};
 use thiserror::Error;

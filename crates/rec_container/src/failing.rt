@@ -2,9 +2,9 @@
 //!
 //! Calls of `read` or `write` are numbered from 1. The number stays at u64's greatest once it is
 //! there.
-ghost use Rattle.std.specs.Prelude.{◌≡◌, ◌<◌, ◌≤◌, ◌+◌, ◌-◌, ◌^◌, ◌++◌, ◌⊎◌, [], length, min, Contains, IfOk, OnOk, OnErr, Some};
-ghost use Rattle.std.specs.Io.{ReadsAtMost};
 ghost use Rattle.std.specs.Io.KnownBytes.{ReadConsumes, WriteAppends};
+ghost use Rattle.std.specs.Io.{ReadsAtMost};
+ghost use Rattle.std.specs.Prelude.{◌≡◌, ◌<◌, ◌≤◌, ◌+◌, ◌-◌, ◌^◌, ◌++◌, ◌⊎◌, [], length, min, Contains, IfOk, OnOk, OnErr, Some};
 ghost use Rattle.rec_container.specs.Causes.{Counts, HasCause, next_count};
 ghost use Rattle.rec_container.specs.Memory.{piece_len};
 

@@ -1,7 +1,7 @@
 //! Files in memory, by their paths.
-ghost use Rattle.std.specs.Prelude.{◌≡◌, [], None, Some, IfErr, OnOk, OnErr};
 ghost use Rattle.std.specs.List.{list_any};
 ghost use Rattle.std.specs.Option.{option_map};
+ghost use Rattle.std.specs.Prelude.{◌≡◌, [], None, Some, IfErr, OnOk, OnErr};
 ghost use Rattle.rec_container.specs.Disks.{RenamesFile};
 ghost use Rattle.rec_container.specs.MemoryDisks.{file_at, lies_at, Extends, HasFile, IsRefusal};
 

@@ -1,6 +1,6 @@
 //! A sink in memory that grows.
-ghost use Rattle.std.specs.Prelude.{◌≡◌, ◌<◌, ◌≤◌, [], length, IfOk, Some};
 ghost use Rattle.std.specs.Io.KnownBytes.{WriteAppends};
+ghost use Rattle.std.specs.Prelude.{◌≡◌, ◌<◌, ◌≤◌, [], length, IfOk, Some};
 ghost use Rattle.rec_container.specs.Causes.{Counts, HasCause};
 
 use crate::streams::{Sink, SinkFailed};

@@ -1,6 +1,6 @@
 //! The entries of a container, found by their names.
-ghost use Rattle.std.specs.Prelude.{◌≡◌, ◌<◌, [], ◌∷◌, ◌++◌, length, slice_get, is_some, None, Some, OnOk, OnErr};
 ghost use Rattle.std.specs.Option.{option_map};
+ghost use Rattle.std.specs.Prelude.{◌≡◌, ◌<◌, [], ◌∷◌, ◌++◌, length, slice_get, is_some, None, Some, OnOk, OnErr};
 ghost use Rattle.rec_container.specs.Container.{content_of};
 ghost use Rattle.rec_container.specs.Placed.{placed_entries};
 
@@ -26,8 +26,8 @@ pub(crate) struct IndexedEntries<'a> {
 
 impl<'a> Model for IndexedEntries<'a> {
     ghost use Rattle.std.specs.Prelude.{List};
-    ghost use Rattle.rec_container.specs.Placed.{HasContents};
     ghost use Rattle.rec_container.specs.declared.indexed.PlacedEntry.{PlacedEntry};
+    ghost use Rattle.rec_container.specs.Placed.{HasContents};
 
     ghost Value = { List PlacedEntry };
 

@@ -1,8 +1,8 @@
 //! Laws of the container's grammar. The functions do nothing: their contracts are what they are for.
 ghost use Rattle.std.specs.Prelude.{◌≡◌, ◌<◌, ◌≤◌, [], ◌∷◌, ◌++◌, length, map, slice_get, List, ℕ, Some};
 ghost use Rattle.rec_container.specs.Container.{Entry, addition, content_bytes, ending, prefix, spell, AreFrom, IsContainer, StandsWithin, place_from};
-ghost use Rattle.rec_container.specs.Reading.{IsFault};
 ghost use Rattle.rec_container.specs.declared.errors.ContainerError.{ContainerError};
+ghost use Rattle.rec_container.specs.Reading.{IsFault};
 
 /// States that bytes spell at most one list of entries.
 pub fn one_reading()

@@ -1,7 +1,7 @@
 //! Sources and sinks in memory.
-ghost use Rattle.std.specs.Prelude.{◌≡◌, ◌<◌, ◌≤◌, ◌+◌, ◌++◌, [], List, ℕ, length, min, take, replicate, IfOk, OnOk, OnErr, Ok, None, Some};
-ghost use Rattle.std.specs.Io.{ReadsAtMost};
 ghost use Rattle.std.specs.Io.KnownBytes.{ReadConsumes, WriteAppends};
+ghost use Rattle.std.specs.Io.{ReadsAtMost};
+ghost use Rattle.std.specs.Prelude.{◌≡◌, ◌<◌, ◌≤◌, ◌+◌, ◌++◌, [], List, ℕ, length, min, take, replicate, IfOk, OnOk, OnErr, Ok, None, Some};
 ghost use Rattle.rec_container.specs.Causes.{Counts, HasCause};
 
 use crate::streams::{Sink, SinkFailed, Source, SourceFailed};

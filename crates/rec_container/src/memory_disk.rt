@@ -1,12 +1,12 @@
 //! A disk in memory that fails at the calls that it is given.
 //!
 //! Calls of [`Disk`] are numbered from 1. The number stays at u64's greatest once it is there.
-ghost use Rattle.std.specs.Prelude.{◌≡◌, ◌<◌, ◌≤◌, [], length, IfOk, IfErr, Ok, OnOk, OnErr, Some};
-ghost use Rattle.std.specs.Option.{option_map};
 ghost use Rattle.std.specs.Io.{ReadsAtMost};
+ghost use Rattle.std.specs.Option.{option_map};
+ghost use Rattle.std.specs.Prelude.{◌≡◌, ◌<◌, ◌≤◌, [], length, IfOk, IfErr, Ok, OnOk, OnErr, Some};
+ghost use Rattle.rec_container.specs.declared.disk.DiskError.TheVariants.{DiskFailed};
 ghost use Rattle.rec_container.specs.Disks.{ExistsIn, HasLength, ReadsBytes, CreatesIn, AppendsBytes, RenamesFile, HasDiskCause, NotMissing};
 ghost use Rattle.rec_container.specs.MemoryDisks.{file_at, HasFile, IsCall};
-ghost use Rattle.rec_container.specs.declared.disk.DiskError.TheVariants.{DiskFailed};
 
 use crate::disk::{Disk, DiskError};
 use crate::file_map::FileMap;

@@ -1,10 +1,10 @@
 //! The reader of containers.
-ghost use Rattle.std.specs.Prelude.{◌≡◌, ◌<◌, [], length, MatchResult, IfOk, IfErr, IsTrue, ◌↔◌, ◌⊎◌, slice_get, map, List, ℕ, Some};
 ghost use Rattle.std.specs.Option.{option_map};
+ghost use Rattle.std.specs.Prelude.{◌≡◌, ◌<◌, [], length, MatchResult, IfOk, IfErr, IsTrue, ◌↔◌, ◌⊎◌, slice_get, map, List, ℕ, Some};
 ghost use Rattle.rec_container.specs.Container.{Entry, content_of, place_from, IsContainer, StandsWithin};
-ghost use Rattle.rec_container.specs.Reading.{IsFault};
 ghost use Rattle.rec_container.specs.declared.errors.ContainerError.TheVariants.{OutOfMemory};
 ghost use Rattle.rec_container.specs.Placed.{placed_entries};
+ghost use Rattle.rec_container.specs.Reading.{IsFault};
 
 use crate::errors::ContainerError;
 use crate::indexed::IndexedEntries;

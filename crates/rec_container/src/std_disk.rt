@@ -1,6 +1,6 @@
 //! The files of the machine as a disk. Contracts cannot say what they hold.
-ghost use Rattle.std.specs.Prelude.{◌≡◌, ◌<◌, ◌≤◌, length, IfOk, IfErr, IfSome, Ok, None, Some};
 ghost use Rattle.std.specs.Io.{ReadsAtMost};
+ghost use Rattle.std.specs.Prelude.{◌≡◌, ◌<◌, ◌≤◌, length, IfOk, IfErr, IfSome, Ok, None, Some};
 ghost use Rattle.rec_container.specs.Disks.{CountsFailure, HasDiskCause, NotMissing};
 
 use crate::adapters::write_flushed;

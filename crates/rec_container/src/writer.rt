@@ -1,12 +1,12 @@
 //! The writer of containers.
-ghost use Rattle.std.specs.Prelude.{List, ℕ, ◌≡◌, ◌↔◌, IsTrue, map, slice_get, ◌<◌, [], ◌∷◌, ◌++◌, if◌then◌else◌, false, true, IfSome, IfOk, IfErr, OnOk, OnErr, None, Some, length, ◌+◌, ◌^◌, ◌≤◌};
-ghost use Rattle.std.specs.Option.{SomeIff};
-ghost use Rattle.std.specs.Io.KnownBytes.{Appends};
 ghost use Rattle.std.specs.declared.option.Option.{Option};
+ghost use Rattle.std.specs.Io.KnownBytes.{Appends};
+ghost use Rattle.std.specs.Option.{SomeIff};
+ghost use Rattle.std.specs.Prelude.{List, ℕ, ◌≡◌, ◌↔◌, IsTrue, map, slice_get, ◌<◌, [], ◌∷◌, ◌++◌, if◌then◌else◌, false, true, IfSome, IfOk, IfErr, OnOk, OnErr, None, Some, length, ◌+◌, ◌^◌, ◌≤◌};
 ghost use Rattle.rec_container.specs.Causes.{HasCause, Rose};
-ghost use Rattle.rec_container.specs.Taking.{TookPart};
 ghost use Rattle.rec_container.specs.Container.{entry_head, addition, ending, magic, content_of, prefix, spell, AreFrom};
-ghost use Rattle.rec_container.specs.Writing.{named, refusal, Accepts, Adds, Refuses, RefusesLate, HasSizesOf, Unfinished, entries_of};
+ghost use Rattle.rec_container.specs.Taking.{TookPart};
+ghost use Rattle.rec_container.specs.Writing.{entry_named, refusal, Accepts, Adds, Refuses, RefusesLate, HasSizesOf, Unfinished, entries_of};
 
 use crate::errors::{ContainerSizes, ContainerWriteError};
 use crate::streams::{Sink, SinkFailed, write_all};
@@ -179,10 +179,10 @@ impl<K: Sink> ContainerWriter<K> {
         requires some { 0 < length name.now }
         requires length { length name.now < 65536 }
         requires absent { content_of self.old.entries name.now ≡ None }
-        requires size { compressed ≡ length (spell (self.old.entries ++ named name.now bytes.now ∷ [])) }
-        ensures entries { OnOk result (self.new.entries ≡ self.old.entries ++ named name.now bytes.now ∷ []) }
+        requires size { compressed ≡ length (spell (self.old.entries ++ entry_named name.now bytes.now ∷ [])) }
+        ensures entries { OnOk result (self.new.entries ≡ self.old.entries ++ entry_named name.now bytes.now ∷ []) }
         ensures sound { OnOk result (self.new.failed ≡ false) }
-        ensures taken { OnOk result (Appends (K.taken self.old.sink) (K.taken self.new.sink) (addition self.old.entries (named name.now bytes.now))) }
+        ensures taken { OnOk result (Appends (K.taken self.old.sink) (K.taken self.new.sink) (addition self.old.entries (entry_named name.now bytes.now))) }
         ensures late { IfErr result (RefusesLate K.taken K.faults self.old self.new name.now bytes.now) }
         ensures later { K.faults self.old.sink ≤ K.faults self.new.sink }
         ensures spelled { AreFrom [] self.new.entries }

@@ -1,10 +1,10 @@
 -- How the attempts of a test are described.
 use Rattle.std.specs.Prelude.{◌≡◌, ◌<◌, ◌++◌, List, [], ◌∷◌, length, true, false}
-use Rattle.rec_events.specs.Results.{succeeded}
 use Rattle.rec_events.specs.declared.statuses.ExecuteStatus.{ExecuteStatus}
-use Rattle.rec_events.specs.declared.statuses.ExecutionStatuses.{ExecutionStatuses}
-use Rattle.rec_events.specs.declared.statuses.ExecutionDescription.{ExecutionDescription}
 use Rattle.rec_events.specs.declared.statuses.ExecutionDescription.TheVariants.{Success, Flaky, Failure}
+use Rattle.rec_events.specs.declared.statuses.ExecutionDescription.{ExecutionDescription}
+use Rattle.rec_events.specs.declared.statuses.ExecutionStatuses.{ExecutionStatuses}
+use Rattle.rec_events.specs.Results.{succeeded}
 
 module _ {S O : Type 0} where
   abbrev pub Describes : ExecutionStatuses S O → ExecutionDescription S O → Type 0

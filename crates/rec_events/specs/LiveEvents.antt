@@ -1,16 +1,16 @@
 -- What a live event is recorded as.
-use Rattle.std.specs.Prelude.{ℕ, List, [], codes, Option, Some, None, option_map, unwrap_or}
 use Rattle.std.specs.Option.{option_or}
-use Rattle.rec_events.specs.declared.events.CoreEventKind.{CoreEventKind}
+use Rattle.std.specs.Prelude.{ℕ, List, [], codes, Option, Some, None, option_map, unwrap_or}
 use Rattle.rec_events.specs.declared.events.CoreEventKind.TheVariants as core
-use Rattle.rec_events.specs.declared.events.OutputEventKind.{OutputEventKind}
+use Rattle.rec_events.specs.declared.events.CoreEventKind.{CoreEventKind}
 use Rattle.rec_events.specs.declared.events.OutputEventKind.TheVariants as ended
-use Rattle.rec_events.specs.declared.events.TestEventKindSummary.{TestEventKindSummary}
+use Rattle.rec_events.specs.declared.events.OutputEventKind.{OutputEventKind}
 use Rattle.rec_events.specs.declared.events.TestEventKindSummary.TheVariants.{Core, Output}
+use Rattle.rec_events.specs.declared.events.TestEventKindSummary.{TestEventKindSummary}
 use Rattle.rec_events.specs.declared.events.TestEventSummary.{TestEventSummary}
 use Rattle.rec_events.specs.declared.live_events.TestEvent.{TestEvent}
-use Rattle.rec_events.specs.declared.live_events.TestEventKind.{TestEventKind}
 use Rattle.rec_events.specs.declared.live_events.TestEventKind.TheVariants.{RunStarted, StressSubRunStarted, SetupScriptStarted, SetupScriptSlow, SetupScriptFinished, TestStarted, TestSlow, TestAttemptFailedWillRetry, TestRetryStarted, TestFinished, TestSkipped, RunBeginCancel, RunPaused, RunContinued, StressSubRunFinished, RunFinished, InfoStarted, InfoResponse, InfoFinished, InputEnter, RunBeginKill}
+use Rattle.rec_events.specs.declared.live_events.TestEventKind.{TestEventKind}
 use Rattle.rec_events.specs.declared.outputs.ChildOutputDescription.{ChildOutputDescription}
 use Rattle.rec_events.specs.declared.outputs.LiveSpec.{LiveSpec}
 use Rattle.rec_events.specs.declared.reporting.CancelReason.TheVariants.{Signal}

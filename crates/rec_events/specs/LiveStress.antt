@@ -1,12 +1,12 @@
 -- How events that are recorded name the runs of a stress run.
 use Rattle.std.specs.Prelude.{Option, Some, None, option_map}
-use Rattle.rec_events.specs.declared.live_stress.StressIndex.{StressIndex}
-use Rattle.rec_events.specs.declared.live_stress.StressCondition.{StressCondition}
-use Rattle.rec_events.specs.declared.live_stress.StressCondition.TheVariants as condition
-use Rattle.rec_events.specs.declared.live_stress.StressCount.TheVariants as count
 use Rattle.rec_events.specs.declared.instances.StressIndexSummary.{StressIndexSummary}
-use Rattle.rec_events.specs.declared.stress.StressConditionSummary.{StressConditionSummary}
+use Rattle.rec_events.specs.declared.live_stress.StressCondition.TheVariants as condition
+use Rattle.rec_events.specs.declared.live_stress.StressCondition.{StressCondition}
+use Rattle.rec_events.specs.declared.live_stress.StressCount.TheVariants as count
+use Rattle.rec_events.specs.declared.live_stress.StressIndex.{StressIndex}
 use Rattle.rec_events.specs.declared.stress.StressConditionSummary.TheVariants as recorded
+use Rattle.rec_events.specs.declared.stress.StressConditionSummary.{StressConditionSummary}
 
 abbrev pub stress_index_summary : StressIndex → StressIndexSummary
 stress_index_summary i = record { current = i.current; total = i.total }

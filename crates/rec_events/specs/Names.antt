@@ -1,12 +1,12 @@
 -- Texts by their bytes, in the order of their bytes.
-use Rattle.std.specs.Prelude.{ℕ, List, map, IsTrue, String, string_bytes}
+use Rattle.std.specs.BTreeSet.{insert_key}
+use Rattle.std.specs.Cmp.Lexicographic.{slice_cmp}
 use Rattle.std.specs.declared.alloc.Global.{Global}
-use Rattle.std.specs.Str.{is_utf8}
+use Rattle.std.specs.List.Sorted.{IsStrictlySortedBy}
 use Rattle.std.specs.List.{AllByRecursion}
 use Rattle.std.specs.Ordering.{nat_cmp}
-use Rattle.std.specs.Cmp.Lexicographic.{slice_cmp}
-use Rattle.std.specs.List.Sorted.{IsStrictlySortedBy}
-use Rattle.std.specs.BTreeSet.{insert_key}
+use Rattle.std.specs.Prelude.{ℕ, List, map, IsTrue, String, string_bytes}
+use Rattle.std.specs.Str.{is_utf8}
 
 -- each text is below those after it, so none comes twice
 abbrev pub Rise : List (List ℕ) → Type 0

@@ -1,17 +1,17 @@
 -- The name of an output and how it is written.
-use Rattle.std.specs.Prelude.{◌≡◌, ◌<◌, ◌^◌, ℕ, suc, Bool, if◌then◌else◌, codes, option_and_then, option_map, zero, List, [], length, take, drop, Option, Some, None, Result, Ok, Err, refl, true, false}
-use Rattle.std.specs.Int.{w64, to_be_bytes, from_be_bytes}
-use Rattle.std.specs.Str.{bytes_eq}
 use Rattle.std.proofs.Common.{sym, ap, ◌∙◌, arith}
-use Rattle.std.proofs.lemmas.Slice.Eq.{bytes_eq-Decides}
 use Rattle.std.proofs.lemmas.List.{take_at, drop_at, take-append-drop}
 use Rattle.std.proofs.lemmas.Nat.{be_bytes_8, from_be_bytes-to_be_bytes_8}
-use Rattle.hex.specs.Hex.{encode_lower, decode_sized, IsBytes, lower_digits}
-use Rattle.hex.specs.declared.error.FromHexError.{FromHexError}
+use Rattle.std.proofs.lemmas.Slice.Eq.{bytes_eq-Decides}
+use Rattle.std.specs.Int.{w64, to_be_bytes, from_be_bytes}
+use Rattle.std.specs.Prelude.{◌≡◌, ◌<◌, ◌^◌, ℕ, suc, Bool, if◌then◌else◌, codes, option_and_then, option_map, zero, List, [], length, take, drop, Option, Some, None, Result, Ok, Err, refl, true, false}
+use Rattle.std.specs.Str.{bytes_eq}
 use Rattle.hex.proofs.HexLemmas.{length-encode_with, decode_sized-encode_lower, decode_sized-ok, decode_sized-twice, decode_of-ok}
-use Rattle.rec_events.specs.declared.output_names.OutputKind.{OutputKind}
-use Rattle.rec_events.specs.declared.output_names.OutputKind.TheVariants.{Stdout, Stderr, Combined}
+use Rattle.hex.specs.declared.error.FromHexError.{FromHexError}
+use Rattle.hex.specs.Hex.{encode_lower, decode_sized, IsBytes, lower_digits}
 use Rattle.rec_events.specs.declared.output_names.OutputFileName.{OutputFileName}
+use Rattle.rec_events.specs.declared.output_names.OutputKind.TheVariants.{Stdout, Stderr, Combined}
+use Rattle.rec_events.specs.declared.output_names.OutputKind.{OutputKind}
 use Rattle.rec_events.specs.OutputNames.{kind_suffix, kind_of, file_name_text, file_name_of, number_if_written, number_of, with_number}
 
 -- the bytes of a number are bytes

@@ -1,12 +1,12 @@
 -- The names under which outputs are stored.
-use Rattle.std.specs.Prelude.{ℕ, List, ◌++◌, take, drop, Option, Some, None, Result, Ok, Err, option_and_then, if◌then◌else◌, codes}
 use Rattle.std.specs.Int.{w64, to_be_bytes, from_be_bytes}
+use Rattle.std.specs.Prelude.{ℕ, List, ◌++◌, take, drop, Option, Some, None, Result, Ok, Err, option_and_then, if◌then◌else◌, codes}
 use Rattle.std.specs.Str.{bytes_eq}
-use Rattle.hex.specs.Hex.{encode_lower, decode_sized}
 use Rattle.hex.specs.declared.error.FromHexError.{FromHexError}
-use Rattle.rec_events.specs.declared.output_names.OutputKind.{OutputKind}
-use Rattle.rec_events.specs.declared.output_names.OutputKind.TheVariants.{Stdout, Stderr, Combined}
+use Rattle.hex.specs.Hex.{encode_lower, decode_sized}
 use Rattle.rec_events.specs.declared.output_names.OutputFileName.{OutputFileName}
+use Rattle.rec_events.specs.declared.output_names.OutputKind.TheVariants.{Stdout, Stderr, Combined}
+use Rattle.rec_events.specs.declared.output_names.OutputKind.{OutputKind}
 
 abbrev pub kind_suffix : OutputKind → List ℕ
 kind_suffix Stdout = codes "-stdout"

@@ -1,8 +1,8 @@
 -- A map from texts as the list of its pairs, in the order of their keys.
-use Rattle.std.specs.Prelude.{ℕ, List, [], ◌∷◌, map, String, string_bytes}
+use Rattle.std.specs.Cmp.Lexicographic.{slice_cmp}
 use Rattle.std.specs.declared.alloc.Global.{Global}
 use Rattle.std.specs.Ordering.{nat_cmp, match_ordering}
-use Rattle.std.specs.Cmp.Lexicographic.{slice_cmp}
+use Rattle.std.specs.Prelude.{ℕ, List, [], ◌∷◌, map, String, string_bytes}
 use Rattle.rec_events.specs.Names.{Rise}
 
 abbrev pub pairs : {V : Type 0} → List (String Global × V) → List (List ℕ × V)

@@ -1,12 +1,12 @@
 -- Which results count as a success, and what is said of a flaky one.
-use Rattle.std.specs.Prelude.{ℕ, List, ◌++◌, codes, Option, Some, None, Bool, true, false}
 use Rattle.std.specs.Fmt.{decimal}
-use Rattle.rec_events.specs.declared.results.FlakyResult.{FlakyResult}
+use Rattle.std.specs.Prelude.{ℕ, List, ◌++◌, codes, Option, Some, None, Bool, true, false}
+use Rattle.rec_events.specs.declared.results.ExecutionResultDescription.TheVariants.{Pass, Leak, Fail, ExecFail, Timeout}
+use Rattle.rec_events.specs.declared.results.ExecutionResultDescription.{ExecutionResultDescription}
 use Rattle.rec_events.specs.declared.results.FlakyResult.TheVariants as flaky
+use Rattle.rec_events.specs.declared.results.FlakyResult.{FlakyResult}
 use Rattle.rec_events.specs.declared.results.LeakTimeoutResult.TheVariants as leak
 use Rattle.rec_events.specs.declared.results.SlowTimeoutResult.TheVariants as slow
-use Rattle.rec_events.specs.declared.results.ExecutionResultDescription.{ExecutionResultDescription}
-use Rattle.rec_events.specs.declared.results.ExecutionResultDescription.TheVariants.{Pass, Leak, Fail, ExecFail, Timeout}
 
 abbrev pub succeeded : ExecutionResultDescription → Bool
 succeeded Pass = true

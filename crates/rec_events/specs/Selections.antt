@@ -1,9 +1,9 @@
 -- The selections that say nothing.
 use Rattle.std.specs.Prelude.{false, []}
+use Rattle.rec_events.specs.declared.selections.FeatureSelection.{FeatureSelection}
 use Rattle.rec_events.specs.declared.selections.NamedTargets.{NamedTargets}
 use Rattle.rec_events.specs.declared.selections.PackageSelection.{PackageSelection}
 use Rattle.rec_events.specs.declared.selections.TargetSelection.{TargetSelection}
-use Rattle.rec_events.specs.declared.selections.FeatureSelection.{FeatureSelection}
 
 abbrev pub no_named_targets : NamedTargets
 no_named_targets = record { names = []; all = false }

@@ -1,9 +1,9 @@
 -- Which skipped tests a report names.
 use Rattle.std.specs.Prelude.{Bool, true, false}
-use Rattle.rec_events.specs.declared.skipping.MismatchReason.{MismatchReason}
 use Rattle.rec_events.specs.declared.skipping.MismatchReason.TheVariants as reason
-use Rattle.rec_events.specs.declared.skipping.ReportSkipPolicy.{ReportSkipPolicy}
+use Rattle.rec_events.specs.declared.skipping.MismatchReason.{MismatchReason}
 use Rattle.rec_events.specs.declared.skipping.ReportSkipPolicy.TheVariants as policy
+use Rattle.rec_events.specs.declared.skipping.ReportSkipPolicy.{ReportSkipPolicy}
 
 abbrev pub is_ignored : MismatchReason → Bool
 is_ignored reason.NotBenchmark = false

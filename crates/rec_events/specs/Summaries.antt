@@ -1,11 +1,11 @@
 -- How a run ended, by its counts.
 use Rattle.std.specs.Prelude.{◌==◌, nat_lt, ◌||◌, Bool, Option, Some, None, if◌then◌else◌}
-use Rattle.rec_events.specs.declared.reporting.CancelReason.{CancelReason}
 use Rattle.rec_events.specs.declared.reporting.CancelReason.TheVariants.{SetupScriptFailure, TestFailure, ReportError, GlobalTimeout, TestFailureImmediate, Signal, Interrupt, SecondSignal}
-use Rattle.rec_events.specs.declared.run_ends.FinalRunStats.{FinalRunStats}
+use Rattle.rec_events.specs.declared.reporting.CancelReason.{CancelReason}
 use Rattle.rec_events.specs.declared.run_ends.FinalRunStats.TheVariants as run
-use Rattle.rec_events.specs.declared.run_ends.StressFinalRunStats.{StressFinalRunStats}
+use Rattle.rec_events.specs.declared.run_ends.FinalRunStats.{FinalRunStats}
 use Rattle.rec_events.specs.declared.run_ends.StressFinalRunStats.TheVariants as stress
+use Rattle.rec_events.specs.declared.run_ends.StressFinalRunStats.{StressFinalRunStats}
 use Rattle.rec_events.specs.declared.run_ends.StressRunStats.{StressRunStats}
 use Rattle.rec_events.specs.declared.stats.RunStats.{RunStats}
 

@@ -1,8 +1,8 @@
 //! Test groups.
 ghost use Rattle.std.specs.Prelude.{◌≡◌, ◌≢◌, ◌↔◌, IsSome, IfSome, IsTrue, string_bytes, codes};
 ghost use Rattle.std.specs.Str.{is_utf8};
-ghost use Rattle.rec_events.specs.Groups.{group_text};
 ghost use Rattle.rec_events.specs.declared.groups.TestGroup.TheVariants.{Custom};
+ghost use Rattle.rec_events.specs.Groups.{group_text};
 
 use crate::{Text, TryClone};
 use std::alloc::{AllocError, Global};

@@ -1,8 +1,8 @@
 //! A list that is not empty.
-ghost use Rattle.std.specs.Prelude.{◌≡◌, ◌++◌, ◌<◌, List, [], ◌∷◌, length, nat_lt, if◌then◌else◌, IfOk, Some, None};
+ghost use Rattle.std.proofs.Common.{rules};
 ghost use Rattle.std.specs.Cmp.Lexicographic.{pointwise};
 ghost use Rattle.std.specs.Cmp.Rules.{comparing};
-ghost use Rattle.std.proofs.Common.{rules};
+ghost use Rattle.std.specs.Prelude.{◌≡◌, ◌++◌, ◌<◌, List, [], ◌∷◌, length, nat_lt, if◌then◌else◌, IfOk, Some, None};
 
 use crate::{Items, TryClone};
 use std::alloc::{AllocError, Global};

@@ -1,8 +1,8 @@
 //! A set of test names, seen as the names in order.
-ghost use Rattle.std.specs.Prelude.{◌≡◌, ◌==◌, ℕ, List, [], OnOk, OnErr};
+ghost use Rattle.std.proofs.Common.{rules};
 ghost use Rattle.std.specs.Cmp.Lexicographic.{pointwise};
 ghost use Rattle.std.specs.Cmp.Rules.{comparing};
-ghost use Rattle.std.proofs.Common.{rules};
+ghost use Rattle.std.specs.Prelude.{◌≡◌, ◌==◌, ℕ, List, [], OnOk, OnErr};
 ghost use Rattle.rec_events.specs.Names.{texts, with_name, Rise, AreTexts};
 
 use crate::{TestCaseName, TryClone};

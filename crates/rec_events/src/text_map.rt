@@ -1,11 +1,11 @@
 //! A map from texts, seen as its pairs.
-ghost use Rattle.std.specs.Prelude.{◌≡◌, ◌==◌, ◌&&◌, ℕ, List, [], OnOk, OnErr};
-ghost use Rattle.std.specs.Cmp.{on_per, and_per};
+ghost use Rattle.std.proofs.Common.{rules};
 ghost use Rattle.std.specs.Cmp.Lexicographic.{pointwise, lists_per};
 ghost use Rattle.std.specs.Cmp.Rules.{comparing};
-ghost use Rattle.std.proofs.Common.{rules};
-ghost use Rattle.rec_events.specs.Pairs.{pairs, put_pair, keys, KeysRise};
+ghost use Rattle.std.specs.Cmp.{on_per, and_per};
+ghost use Rattle.std.specs.Prelude.{◌≡◌, ◌==◌, ◌&&◌, ℕ, List, [], OnOk, OnErr};
 ghost use Rattle.rec_events.specs.Names.{AreTexts};
+ghost use Rattle.rec_events.specs.Pairs.{pairs, put_pair, keys, KeysRise};
 
 use crate::{Text, TryClone};
 use std::alloc::{AllocError, Global};

@@ -1,6 +1,6 @@
 //! Instants and spans of time.
-ghost use Rattle.std.specs.Prelude.{◌≡◌, ◌<◌, ◌==◌, ◌&&◌, ◌↔◌, IsSome, IfSome, FitsSigned};
 ghost use Rattle.std.specs.Int.{w64};
+ghost use Rattle.std.specs.Prelude.{◌≡◌, ◌<◌, ◌==◌, ◌&&◌, ◌↔◌, IsSome, IfSome, FitsSigned};
 ghost use Rattle.rec_events.specs.Times.{micros};
 
 use std::marker::Model;

@@ -1,10 +1,10 @@
 //! Versions.
 ghost use Rattle.std.specs.Prelude.{◌≡◌, Ok, Err, IfOk, IsErr, IsTrue};
 ghost use Rattle.std.specs.Str.{is_utf8};
-ghost use Rattle.semver.specs.Parse.{version_parts};
 ghost use Rattle.semver.specs.Identifiers.{parts_of, parts_text};
-ghost use Rattle.rec_events.specs.Versions.{IsVersion};
+ghost use Rattle.semver.specs.Parse.{version_parts};
 ghost use Rattle.rec_events.specs.declared.version.VersionError.TheVariants.{NotAVersion};
+ghost use Rattle.rec_events.specs.Versions.{IsVersion};
 
 use crate::{Text, TryClone};
 use std::alloc::{AllocError, Global};
@@ -31,8 +31,8 @@ pub struct Version {
 }
 
 impl Model for Version {
-    ghost use Rattle.semver.specs.Parse.{Parts};
     ghost use Rattle.semver.specs.Identifiers.{parts_of};
+    ghost use Rattle.semver.specs.Parse.{Parts};
     ghost use Rattle.rec_events.specs.Versions.{IsVersion};
 
     ghost Value = { Parts };
@@ -89,7 +89,12 @@ impl Version {
 impl TryClone for Version {
     fn try_clone(&self, alloc: Global) -> Result<Version, AllocError> {
         let text = self.to_text(alloc)?;
-        Version::parse(alloc, text.as_str()).map_err(|_| AllocError)
+        match Version::parse(alloc, text.as_str()) {
+            Ok(version) => Ok(version),
+            Err(VersionError::OutOfMemory) => Err(AllocError),
+            // the text of a version reads as it
+            Err(VersionError::NotAVersion) => unreachable!(),
+        }
     }
 }
 

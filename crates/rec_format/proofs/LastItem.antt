@@ -1,8 +1,8 @@
 -- The last item of a chain of iterators.
 use Rattle.std.proofs.Common.{◌≡◌, List, [], ◌∷◌, map, Option, Some, None, option_map, refl, ap, ◌∙◌}
+use Rattle.std.proofs.lemmas.Iterator.{YieldsList, items_from_drains}
 use Rattle.std.specs.Iterator.{Drains}
 use Rattle.std.specs.List.{last_or}
-use Rattle.std.proofs.lemmas.Iterator.{YieldsList, items_from_drains}
 
 option_map-last_or : {A B : Type 0} (v : A → B) (found : Option A) (xs : List A) → option_map v (last_or found xs) ≡ last_or (option_map v found) (map v xs)
 option_map-last_or v found [] = refl

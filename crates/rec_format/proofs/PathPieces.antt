@@ -1,13 +1,13 @@
 -- The pieces of a path, taken off one after another.
 use Rattle.std.proofs.Common.{◌≡◌, ℕ, List, [], ◌∷◌, length, Option, Some, None, Bool, true, false, Bor, refl, arith, lit<}
-use Rattle.std.specs.Option.{MatchOption}
-use Rattle.std.specs.List.{slice_split, position_or_len}
 use Rattle.std.proofs.lemmas.List.Splits.{slice_split_first}
 use Rattle.std.proofs.lemmas.Str.Pattern.{IsSplitOnceResult, split_once_first}
+use Rattle.std.specs.List.{slice_split, position_or_len}
+use Rattle.std.specs.Option.{MatchOption}
 use Rattle.std.specs.Prelude.{codes, not, if◌then◌else◌}
 use Rattle.std.specs.Str.{bytes_eq}
-use Rattle.rec_format.specs.declared.paths.OutputDict.{OutputDict}
 use Rattle.rec_format.specs.declared.paths.OutputDict.TheVariants as dict
+use Rattle.rec_format.specs.declared.paths.OutputDict.{OutputDict}
 use Rattle.rec_format.specs.Paths.{pieces, dict_of_pieces}
 
 whole_step : (p : ℕ → Bool) (x : ℕ) (xs : List ℕ) (b : Bool) → p x ≡ b → position_or_len p (x ∷ xs) ≡ length (x ∷ xs)

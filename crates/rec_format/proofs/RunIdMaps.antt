@@ -1,7 +1,7 @@
 -- Run ids in a map by their texts, and the shortest prefix that stands for one.
 use Rattle.std.proofs.Common.{◌≡◌, ◌≢◌, ◌⊎◌, ◌↔◌, inl, inr, ℕ, zero, suc, ◌+◌, ◌<◌, ◌≤◌, List, [], ◌∷◌, ◌++◌, length, take, drop, max, map, slice_index_or, Bool, true, false, cond, nat_lt, Option, Some, None, is_some, IsSome, Ordering, Less, Equal, Greater, String, Global, string_bytes, string_cmp, refl, sym, ap, ◌∙◌, subst, arith, true≢false}
-use Rattle.std.proofs.lemmas.Bool.{cases_lt}
 use Rattle.std.proofs.lemmas.Bool.Decides.{nat_tests}
+use Rattle.std.proofs.lemmas.Bool.{cases_lt}
 use Rattle.std.proofs.lemmas.List.{take-append-drop}
 use Rattle.std.proofs.lemmas.Map.Text.{is_eq-slice_cmp}
 use Rattle.std.proofs.lemmas.Slice.Eq.{bytes_eq-Decides}
@@ -11,12 +11,12 @@ use Rattle.std.specs.List.{Contains}
 use Rattle.std.specs.Map.{lookup}
 use Rattle.std.specs.Ordering.{nat_cmp, match_ordering, is_lt, is_gt, is_eq, ordering_reverse}
 use Rattle.std.specs.Str.{bytes_eq, IsAscii}
-use Rattle.uuid.specs.Text.{parsed, lower, nibble, digit_place, is_hyphen_place}
 use Rattle.uuid.proofs.TextLemmas.{by_index_length, by_index_ascii, hex_digit_ascii, nibble_small}
-use Rattle.rec_format.specs.declared.run_ids.ShortestRunIdPrefix.{ShortestRunIdPrefix}
-use Rattle.rec_format.specs.RunIds.{id_text, BeginsWith, IsUnique, IsShortest}
-use Rattle.rec_format.specs.RunIdEntries.{IsTextOf, AreTexts, ids_in, common, IsMostShared, IsBelow, IsAbove}
+use Rattle.uuid.specs.Text.{parsed, lower, nibble, digit_place, is_hyphen_place}
 use Rattle.rec_format.proofs.SharedTexts.{shared, shared_below, shared_above, shared_short, shared_prefix, shared_take, apart, same}
+use Rattle.rec_format.specs.declared.run_ids.ShortestRunIdPrefix.{ShortestRunIdPrefix}
+use Rattle.rec_format.specs.RunIdEntries.{IsTextOf, AreTexts, ids_in, common, IsMostShared, IsBelow, IsAbove}
+use Rattle.rec_format.specs.RunIds.{id_text, BeginsWith, IsUnique, IsShortest}
 
 abbrev Entries : Type 0
 Entries = List (String Global × List ℕ)

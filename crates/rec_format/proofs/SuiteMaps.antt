@@ -1,17 +1,17 @@
 -- A map of test suites beside the suites that it stands for.
 use Rattle.std.proofs.Common.{◌≡◌, ℕ, List, [], ◌∷◌, map, refl, sym, ◌∙◌, ap, String, Global, string_bytes, string_cmp, Ordering, Less, Equal, Greater}
-use Rattle.std.specs.Ordering.{nat_cmp, match_ordering}
-use Rattle.std.specs.List.Sorted.{IsStrictlySortedBy}
-use Rattle.std.specs.Cmp.Lexicographic.{slice_cmp}
-use Rattle.std.specs.BTreeMap.{insert_entry, is_at}
-use Rattle.std.specs.Map.{lookup}
 use Rattle.std.proofs.lemmas.Map.Text.{is_eq-slice_cmp}
 use Rattle.std.proofs.lemmas.Slice.Eq.{bytes_eq-Decides}
-use Rattle.rec_format.specs.declared.suites.RerunTestSuiteInfo.{RerunTestSuiteInfo}
+use Rattle.std.specs.BTreeMap.{insert_entry, is_at}
+use Rattle.std.specs.Cmp.Lexicographic.{slice_cmp}
+use Rattle.std.specs.List.Sorted.{IsStrictlySortedBy}
+use Rattle.std.specs.Map.{lookup}
+use Rattle.std.specs.Ordering.{nat_cmp, match_ordering}
 use Rattle.rec_events.specs.Names.{texts}
 use Rattle.rec_events.specs.PairLaws.{Rise-texts}
-use Rattle.rec_format.specs.Suites.{put_suite, suite_of, SuitesRise}
+use Rattle.rec_format.specs.declared.suites.RerunTestSuiteInfo.{RerunTestSuiteInfo}
 use Rattle.rec_format.specs.SuiteEntries.{suites_in, AreNamed}
+use Rattle.rec_format.specs.Suites.{put_suite, suite_of, SuitesRise}
 
 -- the suite at an id is that of the entry at it
 pub lookup-suites : (id : List ℕ) (es : List (String Global × RerunTestSuiteInfo)) → AreNamed es

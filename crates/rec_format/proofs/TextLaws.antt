@@ -1,6 +1,6 @@
 -- The texts of what is recorded of a run are read as what they were written of.
-use Rattle.std.specs.Prelude.{◌≡◌, ℕ, ◌≤◌, Option, Some, None, IfSome}
 use Rattle.std.proofs.Common.{arith, subst}
+use Rattle.std.specs.Prelude.{◌≡◌, ℕ, ◌≤◌, Option, Some, None, IfSome}
 use Rattle.serde_json.specs.Data.{Data}
 use Rattle.serde_json.specs.Read.{max_depth}
 use Rattle.serde_json.specs.Written.{compact_text}
@@ -16,16 +16,16 @@ use Rattle.rec_format.specs.declared.manifest.PortableManifest.{PortableManifest
 use Rattle.rec_format.specs.declared.rerun.RerunInfo.{RerunInfo}
 use Rattle.rec_format.specs.declared.scope.RecordedBuildScope.{RecordedBuildScope}
 use Rattle.rec_format.specs.declared.sizes.RecordedSizes.{RecordedSizes}
-use Rattle.rec_format.specs.HeadForms.{head_form, IsHead}
 use Rattle.rec_format.specs.HeadFormLaws.{head_well_formed}
+use Rattle.rec_format.specs.HeadForms.{head_form, IsHead}
 use Rattle.rec_format.specs.HeadTexts.{AreTextsRead}
-use Rattle.rec_format.specs.RerunForms.{rerun_info_value, rerun_info_form, IsRerunInfo}
 use Rattle.rec_format.specs.RerunFormLaws.{rerun_info_back, rerun_info_writable}
-use Rattle.rec_format.specs.RunForms.{manifest_value, manifest_form, IsManifest}
+use Rattle.rec_format.specs.RerunForms.{rerun_info_value, rerun_info_form, IsRerunInfo}
 use Rattle.rec_format.specs.RunFormLaws.{manifest_back, manifest_writable}
+use Rattle.rec_format.specs.RunForms.{manifest_value, manifest_form, IsManifest}
 use Rattle.rec_format.specs.Runs.{recorded_info, manifest_of}
-use Rattle.rec_format.specs.ScopeForms.{recorded_scope_value, recorded_scope_form, IsRecordedScope}
 use Rattle.rec_format.specs.ScopeFormLaws.{recorded_scope_back, recorded_scope_writable}
+use Rattle.rec_format.specs.ScopeForms.{recorded_scope_value, recorded_scope_form, IsRecordedScope}
 use Rattle.rec_format.specs.SizeForms.{AreSizes}
 use Rattle.rec_format.specs.StatusFormLaws.{of-format}
 

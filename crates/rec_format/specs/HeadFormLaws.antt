@@ -1,33 +1,33 @@
 -- A head reads back, and is writable.
-use Rattle.std.specs.Prelude.{◌≡◌, ◌++◌, Some, refl, codes}
 use Rattle.std.proofs.Common.{arith}
+use Rattle.std.specs.Prelude.{◌≡◌, ◌++◌, Some, refl, codes}
 use Rattle.serde_json.specs.Data.{string, Members}
 use Rattle.rec_events.specs.Names.{IsText}
-use Rattle.rec_forms.specs.Members.{get_member-members_of}
+use Rattle.rec_forms.specs.GivesWellFormed.{Holds, GivesWellFormed}
 use Rattle.rec_forms.specs.IdLaws.{uuid_back, uuid_writable, version_back}
 use Rattle.rec_forms.specs.Ids.{uuid_value, uuid_form, IsUuid}
 use Rattle.rec_forms.specs.ListLaws.{each_back, maybe_back}
 use Rattle.rec_forms.specs.MapLaws.{map_back}
+use Rattle.rec_forms.specs.Members.{get_member-members_of}
 use Rattle.rec_forms.specs.NumberLaws.{text_back, text_well_formed}
+use Rattle.rec_forms.specs.Recording.{record_opts_form, test_list_form}
 use Rattle.rec_forms.specs.RecordingLaws.{test_list_back, test_list_writable, record_opts_back, record_opts_writable, test_list_well_formed}
 use Rattle.rec_forms.specs.Shape.{text_of}
 use Rattle.rec_forms.specs.TimeLaws.{stamp_back, duration_back, duration_writable}
 use Rattle.rec_forms.specs.Times.{duration_value, duration_form, IsDuration}
-use Rattle.rec_forms.specs.Writable.{IsWritable, EachWritten, weaker, struct_writable, string_writable, optional_writable}
-use Rattle.rec_format.specs.declared.head.SessionHead.{SessionHead}
-use Rattle.rec_format.specs.declared.forms.head.Contents.{Contents}
-use Rattle.rec_format.specs.PartForms.{identity_fields, identity_form, invocation_fields, invocation_form}
-use Rattle.rec_format.specs.HeadForms.{head_value, head_form, head_identity, head_invocation, head_contents, contents_fields, contents_form, IsHead, AreContents}
-use Rattle.rec_format.specs.RerunForms.{rerun_info_value, rerun_info_form, IsRerunInfo}
-use Rattle.rec_format.specs.RerunFormLaws.{rerun_info_back, rerun_info_writable, rerun_info_well_formed}
-use Rattle.rec_format.specs.ScopeFormLaws.{recorded_scope_back, recorded_scope_writable, recorded_scope_well_formed}
-use Rattle.rec_format.specs.StatusFormLaws.{status_back, status_writable, status_well_formed}
-use Rattle.rec_forms.specs.GivesWellFormed.{Holds, GivesWellFormed}
 use Rattle.rec_forms.specs.WellFormedLaws.{any_well_formed, then_holds, object_then, required_then, maybe_then}
+use Rattle.rec_forms.specs.Writable.{IsWritable, EachWritten, weaker, struct_writable, string_writable, optional_writable}
+use Rattle.rec_format.specs.declared.forms.head.Contents.{Contents}
+use Rattle.rec_format.specs.declared.head.SessionHead.{SessionHead}
+use Rattle.rec_format.specs.HeadForms.{head_value, head_form, head_identity, head_invocation, head_contents, contents_fields, contents_form, IsHead, AreContents}
 use Rattle.rec_format.specs.PartFormLaws.{appended, identity_written, invocation_written, identity_well_formed, invocation_well_formed}
-use Rattle.rec_format.specs.StatusForms.{status_form}
+use Rattle.rec_format.specs.PartForms.{identity_fields, identity_form, invocation_fields, invocation_form}
+use Rattle.rec_format.specs.RerunFormLaws.{rerun_info_back, rerun_info_writable, rerun_info_well_formed}
+use Rattle.rec_format.specs.RerunForms.{rerun_info_value, rerun_info_form, IsRerunInfo}
+use Rattle.rec_format.specs.ScopeFormLaws.{recorded_scope_back, recorded_scope_writable, recorded_scope_well_formed}
 use Rattle.rec_format.specs.ScopeForms.{recorded_scope_form}
-use Rattle.rec_forms.specs.Recording.{record_opts_form, test_list_form}
+use Rattle.rec_format.specs.StatusFormLaws.{status_back, status_writable, status_well_formed}
+use Rattle.rec_format.specs.StatusForms.{status_form}
 
 pub head_back : (h : SessionHead) → IsHead h → head_form (head_value h) ≡ Some h
 unfolding head_form identity_form invocation_form contents_form

@@ -5,9 +5,9 @@ use Rattle.serde_json.specs.Find.{as_object}
 use Rattle.rec_events.specs.Names.{IsText}
 use Rattle.rec_forms.specs.Recording.{test_list_value, test_list_form, IsTestList, record_opts_value, record_opts_form}
 use Rattle.rec_forms.specs.Shape.{◌>>=◌, Field, field, optional, struct, required, maybe, text_of}
+use Rattle.rec_format.specs.declared.forms.head.Contents.{Contents}
 use Rattle.rec_format.specs.declared.forms.parts.Identity.{Identity}
 use Rattle.rec_format.specs.declared.forms.parts.Invocation.{Invocation}
-use Rattle.rec_format.specs.declared.forms.head.Contents.{Contents}
 use Rattle.rec_format.specs.declared.head.SessionHead.{SessionHead}
 use Rattle.rec_format.specs.PartForms.{identity_fields, identity_form, IsIdentity, invocation_fields, invocation_form, IsInvocation}
 use Rattle.rec_format.specs.RerunForms.{rerun_info_value, rerun_info_form, IsRerunInfo}

@@ -1,13 +1,13 @@
 -- What is printed of versions that don't fit.
-use Rattle.std.specs.Prelude.{ℕ, List, [], ◌∷◌, ◌++◌, codes}
 use Rattle.std.specs.Fmt.{decimal}
-use Rattle.rec_format.specs.declared.incompatibility.StoreVersionIncompatibility.{StoreVersionIncompatibility}
-use Rattle.rec_format.specs.declared.incompatibility.StoreVersionIncompatibility.TheVariants as store
-use Rattle.rec_format.specs.declared.incompatibility.PortableRecordingVersionIncompatibility.{PortableRecordingVersionIncompatibility}
+use Rattle.std.specs.Prelude.{ℕ, List, [], ◌∷◌, ◌++◌, codes}
 use Rattle.rec_format.specs.declared.incompatibility.PortableRecordingVersionIncompatibility.TheVariants as portable
-use Rattle.rec_format.specs.declared.incompatibility.TooOldRecordingGuidance.{TooOldRecordingGuidance}
-use Rattle.rec_format.specs.declared.incompatibility.TooOldRecordingGuidance.TheVariants.{UseOlderNextest, Discard, Unknown}
+use Rattle.rec_format.specs.declared.incompatibility.PortableRecordingVersionIncompatibility.{PortableRecordingVersionIncompatibility}
 use Rattle.rec_format.specs.declared.incompatibility.Release.{Release}
+use Rattle.rec_format.specs.declared.incompatibility.StoreVersionIncompatibility.TheVariants as store
+use Rattle.rec_format.specs.declared.incompatibility.StoreVersionIncompatibility.{StoreVersionIncompatibility}
+use Rattle.rec_format.specs.declared.incompatibility.TooOldRecordingGuidance.TheVariants.{UseOlderNextest, Discard, Unknown}
+use Rattle.rec_format.specs.declared.incompatibility.TooOldRecordingGuidance.{TooOldRecordingGuidance}
 
 abbrev pub release_text : Release → List ℕ
 release_text r = decimal r.major ++ 46 ∷ decimal r.minor ++ 46 ∷ decimal r.patch

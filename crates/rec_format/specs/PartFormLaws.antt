@@ -1,13 +1,11 @@
 -- The fields that a head and a run share are writable, and well-formed where they are read.
-use Rattle.std.specs.Prelude.{ℕ, ◌≤◌, List, [], ◌∷◌, ◌++◌, codes}
 use Rattle.std.proofs.Common.{arith}
-use Rattle.rec_forms.specs.GivesWellFormed.{Holds}
-use Rattle.rec_forms.specs.WellFormedLaws.{required_then, maybe_then, defaulted_then, list_well_formed}
-use Rattle.rec_format.specs.declared.forms.parts.Identity.{Identity}
-use Rattle.rec_format.specs.declared.forms.parts.Invocation.{Invocation}
-use Rattle.rec_format.specs.PartForms.{identity_fields, identity_form, IsIdentity, invocation_fields, invocation_form, IsInvocation}
-use Rattle.rec_forms.specs.IdLaws.{uuid_writable, uuid_well_formed, version_writable, version_well_formed}
+use Rattle.std.specs.List.Sorted.{IsStrictlySortedBy}
+use Rattle.std.specs.Prelude.{ℕ, ◌≤◌, List, [], ◌∷◌, ◌++◌, codes}
+use Rattle.serde_json.specs.Data.{string, Members}
 use Rattle.rec_events.specs.Names.{IsText}
+use Rattle.rec_forms.specs.GivesWellFormed.{Holds}
+use Rattle.rec_forms.specs.IdLaws.{uuid_writable, uuid_well_formed, version_writable, version_well_formed}
 use Rattle.rec_forms.specs.Ids.{uuid_value, uuid_form, version_form}
 use Rattle.rec_forms.specs.Lists.{list_form}
 use Rattle.rec_forms.specs.MapLaws.{map_writable, map_well_formed}
@@ -16,9 +14,11 @@ use Rattle.rec_forms.specs.NumberLaws.{text_well_formed}
 use Rattle.rec_forms.specs.Shape.{Field, text_of}
 use Rattle.rec_forms.specs.TimeLaws.{duration_writable, duration_well_formed, stamp_writable, stamp_well_formed}
 use Rattle.rec_forms.specs.Times.{duration_value, duration_form, stamp_form}
+use Rattle.rec_forms.specs.WellFormedLaws.{required_then, maybe_then, defaulted_then, list_well_formed}
 use Rattle.rec_forms.specs.Writable.{EachWritten, weaker, string_writable, list_writable, optional_writable}
-use Rattle.serde_json.specs.Data.{string, Members}
-use Rattle.std.specs.List.Sorted.{IsStrictlySortedBy}
+use Rattle.rec_format.specs.declared.forms.parts.Identity.{Identity}
+use Rattle.rec_format.specs.declared.forms.parts.Invocation.{Invocation}
+use Rattle.rec_format.specs.PartForms.{identity_fields, identity_form, IsIdentity, invocation_fields, invocation_form, IsInvocation}
 
 -- a map without pairs
 no_pairs : IsMap IsText []

@@ -1,11 +1,11 @@
 -- The pieces of a path, and what the last of them says.
-use Rattle.std.specs.Prelude.{ℕ, ◌-◌, ◌==◌, nat_eq, nat_lt, Bool, false, not, ◌&&◌, ◌||◌, if◌then◌else◌, List, [], ◌∷◌, length, drop, map, filter, Option, None, codes}
 use Rattle.std.specs.Char.{to_ascii_lowercase}
 use Rattle.std.specs.List.{slice_split, last_or, ends_with}
 use Rattle.std.specs.Option.{option_map_or}
+use Rattle.std.specs.Prelude.{ℕ, ◌-◌, ◌==◌, nat_eq, nat_lt, Bool, false, not, ◌&&◌, ◌||◌, if◌then◌else◌, List, [], ◌∷◌, length, drop, map, filter, Option, None, codes}
 use Rattle.std.specs.Str.{bytes_eq}
-use Rattle.rec_format.specs.declared.paths.OutputDict.{OutputDict}
 use Rattle.rec_format.specs.declared.paths.OutputDict.TheVariants as dict
+use Rattle.rec_format.specs.declared.paths.OutputDict.{OutputDict}
 
 -- the pieces between the slashes
 abbrev pub pieces : List ℕ → List (List ℕ)

@@ -1,19 +1,19 @@
 -- What a rerun is a rerun of reads back, and is writable.
-use Rattle.std.specs.Prelude.{◌≡◌, Some, refl, codes}
 use Rattle.std.proofs.Common.{arith}
-use Rattle.rec_forms.specs.Members.{get_member-members_of}
-use Rattle.rec_forms.specs.IdLaws.{uuid_back, uuid_writable, uuid_well_formed}
-use Rattle.rec_forms.specs.Writable.{IsWritable, weaker, struct_writable}
-use Rattle.rec_format.specs.declared.rerun.RerunRootInfo.{RerunRootInfo}
-use Rattle.rec_format.specs.declared.rerun.RerunInfo.{RerunInfo}
-use Rattle.rec_format.specs.ScopeFormLaws.{recorded_scope_back, recorded_scope_writable, recorded_scope_well_formed}
-use Rattle.rec_format.specs.SuiteFormLaws.{suites_back, suites_writable, suites_well_formed}
-use Rattle.rec_format.specs.RerunForms.{rerun_root_value, rerun_root_form, IsRerunRoot, rerun_info_value, rerun_info_form, IsRerunInfo}
+use Rattle.std.specs.Prelude.{◌≡◌, Some, refl, codes}
 use Rattle.rec_forms.specs.GivesWellFormed.{GivesWellFormed}
-use Rattle.rec_forms.specs.WellFormedLaws.{object_then, required_then}
-use Rattle.rec_format.specs.ScopeForms.{recorded_scope_form}
-use Rattle.rec_format.specs.SuiteForms.{suites_form}
+use Rattle.rec_forms.specs.IdLaws.{uuid_back, uuid_writable, uuid_well_formed}
 use Rattle.rec_forms.specs.Ids.{uuid_form}
+use Rattle.rec_forms.specs.Members.{get_member-members_of}
+use Rattle.rec_forms.specs.WellFormedLaws.{object_then, required_then}
+use Rattle.rec_forms.specs.Writable.{IsWritable, weaker, struct_writable}
+use Rattle.rec_format.specs.declared.rerun.RerunInfo.{RerunInfo}
+use Rattle.rec_format.specs.declared.rerun.RerunRootInfo.{RerunRootInfo}
+use Rattle.rec_format.specs.RerunForms.{rerun_root_value, rerun_root_form, IsRerunRoot, rerun_info_value, rerun_info_form, IsRerunInfo}
+use Rattle.rec_format.specs.ScopeFormLaws.{recorded_scope_back, recorded_scope_writable, recorded_scope_well_formed}
+use Rattle.rec_format.specs.ScopeForms.{recorded_scope_form}
+use Rattle.rec_format.specs.SuiteFormLaws.{suites_back, suites_writable, suites_well_formed}
+use Rattle.rec_format.specs.SuiteForms.{suites_form}
 
 pub rerun_root_back : (r : RerunRootInfo) → IsRerunRoot r → rerun_root_form (rerun_root_value r) ≡ Some r
 unfolding rerun_root_form

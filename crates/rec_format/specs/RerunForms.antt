@@ -4,8 +4,8 @@ use Rattle.serde_json.specs.Data.{Data}
 use Rattle.serde_json.specs.Find.{as_object}
 use Rattle.rec_forms.specs.Ids.{uuid_value, uuid_form, IsUuid}
 use Rattle.rec_forms.specs.Shape.{◌>>=◌, field, struct, required}
-use Rattle.rec_format.specs.declared.rerun.RerunRootInfo.{RerunRootInfo}
 use Rattle.rec_format.specs.declared.rerun.RerunInfo.{RerunInfo}
+use Rattle.rec_format.specs.declared.rerun.RerunRootInfo.{RerunRootInfo}
 use Rattle.rec_format.specs.ScopeForms.{recorded_scope_value, recorded_scope_form, IsRecordedScope}
 use Rattle.rec_format.specs.SuiteForms.{suites_value, suites_form, AreSuites}
 

@@ -1,32 +1,32 @@
 -- A run's metadata and a manifest read back, and are writable.
-use Rattle.std.specs.Prelude.{◌≡◌, ◌++◌, Some, refl, codes}
 use Rattle.std.proofs.Common.{arith}
+use Rattle.std.specs.Prelude.{◌≡◌, ◌++◌, Some, refl, codes}
 use Rattle.serde_json.specs.Data.{string}
 use Rattle.rec_events.specs.Names.{IsText}
-use Rattle.rec_forms.specs.Members.{get_member-members_of}
+use Rattle.rec_forms.specs.GivesWellFormed.{GivesWellFormed}
 use Rattle.rec_forms.specs.IdLaws.{uuid_back, uuid_writable, version_back}
 use Rattle.rec_forms.specs.Ids.{uuid_value, uuid_form, IsUuid}
 use Rattle.rec_forms.specs.ListLaws.{each_back, maybe_back}
 use Rattle.rec_forms.specs.MapLaws.{map_back}
+use Rattle.rec_forms.specs.Members.{get_member-members_of}
 use Rattle.rec_forms.specs.NumberLaws.{text_back, u32_back, u32_writable, u32_well_formed}
+use Rattle.rec_forms.specs.Numbers.{u32_form}
 use Rattle.rec_forms.specs.Shape.{text_of}
 use Rattle.rec_forms.specs.TimeLaws.{stamp_back, duration_back, duration_writable}
 use Rattle.rec_forms.specs.Times.{duration_value, duration_form, IsDuration}
+use Rattle.rec_forms.specs.WellFormedLaws.{then_holds, object_then, required_then, defaulted_then}
 use Rattle.rec_forms.specs.Writable.{IsWritable, EachWritten, weaker, struct_writable}
-use Rattle.rec_format.specs.declared.run.RecordedRun.{RecordedRun}
 use Rattle.rec_format.specs.declared.manifest.PortableManifest.{PortableManifest}
+use Rattle.rec_format.specs.declared.run.RecordedRun.{RecordedRun}
+use Rattle.rec_format.specs.PartFormLaws.{appended, identity_written, invocation_written, identity_well_formed, invocation_well_formed}
 use Rattle.rec_format.specs.PartForms.{identity_fields, identity_form, invocation_fields, invocation_form}
 use Rattle.rec_format.specs.RunForms.{run_value, run_form, run_identity, run_invocation, store_fields, IsRun, manifest_value, manifest_form, IsManifest}
 use Rattle.rec_format.specs.SizeFormLaws.{sizes_format_back, sizes_format_writable, sizes_format_well_formed}
-use Rattle.rec_format.specs.StatusFormLaws.{status_format_back, status_format_writable, status_format_well_formed}
-use Rattle.rec_format.specs.VersionFormLaws.{portable_version_back, portable_version_writable, portable_version_well_formed}
-use Rattle.rec_forms.specs.GivesWellFormed.{GivesWellFormed}
-use Rattle.rec_forms.specs.WellFormedLaws.{then_holds, object_then, required_then, defaulted_then}
-use Rattle.rec_format.specs.PartFormLaws.{appended, identity_written, invocation_written, identity_well_formed, invocation_well_formed}
 use Rattle.rec_format.specs.SizeForms.{sizes_format_form}
+use Rattle.rec_format.specs.StatusFormLaws.{status_format_back, status_format_writable, status_format_well_formed}
 use Rattle.rec_format.specs.StatusForms.{status_format_form}
+use Rattle.rec_format.specs.VersionFormLaws.{portable_version_back, portable_version_writable, portable_version_well_formed}
 use Rattle.rec_format.specs.VersionForms.{portable_version_form}
-use Rattle.rec_forms.specs.Numbers.{u32_form}
 
 pub run_back : (r : RecordedRun) → IsRun r → run_form (run_value r) ≡ Some r
 unfolding run_form identity_form invocation_form

@@ -6,8 +6,8 @@ use Rattle.rec_forms.specs.Numbers.{u32_form}
 use Rattle.rec_forms.specs.Shape.{◌>>=◌, Field, natural, field, struct, required, defaulted}
 use Rattle.rec_format.specs.declared.forms.parts.Identity.{Identity}
 use Rattle.rec_format.specs.declared.forms.parts.Invocation.{Invocation}
-use Rattle.rec_format.specs.declared.run.RecordedRun.{RecordedRun}
 use Rattle.rec_format.specs.declared.manifest.PortableManifest.{PortableManifest}
+use Rattle.rec_format.specs.declared.run.RecordedRun.{RecordedRun}
 use Rattle.rec_format.specs.PartForms.{identity_fields, identity_form, IsIdentity, invocation_fields, invocation_form, IsInvocation}
 use Rattle.rec_format.specs.SizeForms.{sizes_format_value, sizes_format_form, IsSizesFormat}
 use Rattle.rec_format.specs.StatusForms.{status_format_value, status_format_form, IsStatusFormat}

@@ -1,9 +1,9 @@
 -- Run ids in a map by their texts.
-use Rattle.std.specs.Prelude.{◌≡◌, ◌⊎◌, ℕ, ◌≤◌, List, map, Some, IsSome, nat_eq, String, string_bytes}
 use Rattle.std.proofs.Common.{Less}
-use Rattle.std.specs.declared.alloc.Global.{Global}
 use Rattle.std.specs.BTreeMap.{BTreeMap, get}
+use Rattle.std.specs.declared.alloc.Global.{Global}
 use Rattle.std.specs.List.{AllByRecursion, common_prefix_len}
+use Rattle.std.specs.Prelude.{◌≡◌, ◌⊎◌, ℕ, ◌≤◌, List, map, Some, IsSome, nat_eq, String, string_bytes}
 use Rattle.std.specs.String.{string_cmp}
 use Rattle.uuid.specs.Text.{parsed}
 use Rattle.rec_format.specs.RunIds.{id_text}

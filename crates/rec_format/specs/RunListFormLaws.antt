@@ -1,19 +1,19 @@
 -- A run list reads back, and is writable.
-use Rattle.std.specs.Prelude.{◌≡◌, [], Some, refl, codes}
 use Rattle.std.proofs.Common.{arith}
-use Rattle.rec_forms.specs.Members.{get_member-members_of}
+use Rattle.std.specs.Prelude.{◌≡◌, [], Some, refl, codes}
 use Rattle.rec_forms.specs.GivesWellFormed.{GivesWellFormed}
-use Rattle.rec_forms.specs.WellFormedLaws.{object_then, required_then, maybe_then, defaulted_then, list_well_formed}
 use Rattle.rec_forms.specs.ListLaws.{each_back, maybe_back}
 use Rattle.rec_forms.specs.Lists.{list_form}
+use Rattle.rec_forms.specs.Members.{get_member-members_of}
 use Rattle.rec_forms.specs.NumberLaws.{u32_back, u32_writable, u32_well_formed}
 use Rattle.rec_forms.specs.Numbers.{u32_form}
 use Rattle.rec_forms.specs.TimeLaws.{stamp_back, stamp_writable, stamp_well_formed}
 use Rattle.rec_forms.specs.Times.{stamp_value, stamp_form, IsStamp}
+use Rattle.rec_forms.specs.WellFormedLaws.{object_then, required_then, maybe_then, defaulted_then, list_well_formed}
 use Rattle.rec_forms.specs.Writable.{IsWritable, weaker, struct_writable, list_writable, optional_writable}
 use Rattle.rec_format.specs.declared.run_list.RecordedRunList.{RecordedRunList}
-use Rattle.rec_format.specs.RunForms.{run_value, run_form, IsRun}
 use Rattle.rec_format.specs.RunFormLaws.{run_back, run_writable, run_well_formed}
+use Rattle.rec_format.specs.RunForms.{run_value, run_form, IsRun}
 use Rattle.rec_format.specs.RunListForms.{run_list_value, run_list_form, IsRunList}
 
 pub run_list_back : (l : RecordedRunList) → IsRunList l → run_list_form (run_list_value l) ≡ Some l

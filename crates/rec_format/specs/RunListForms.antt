@@ -1,6 +1,6 @@
 -- The values and forms of a run list.
-use Rattle.std.specs.Prelude.{[], ◌∷◌, Option, Some, IfSome, codes}
 use Rattle.std.specs.List.{AllByRecursion}
+use Rattle.std.specs.Prelude.{[], ◌∷◌, Option, Some, IfSome, codes}
 use Rattle.serde_json.specs.Data.{Data}
 use Rattle.serde_json.specs.Find.{as_object}
 use Rattle.rec_forms.specs.Lists.{list_value, list_form}

@@ -1,7 +1,7 @@
 -- Which run lists are written back.
 use Rattle.std.specs.Prelude.{ℕ, if◌then◌else◌, nat_lt}
-use Rattle.rec_format.specs.declared.run_list.RunsJsonWritePermission.{RunsJsonWritePermission}
 use Rattle.rec_format.specs.declared.run_list.RunsJsonWritePermission.TheVariants.{Allowed, Denied}
+use Rattle.rec_format.specs.declared.run_list.RunsJsonWritePermission.{RunsJsonWritePermission}
 
 -- the version of the run lists that are written
 abbrev pub run_list_version : ℕ

@@ -1,8 +1,8 @@
 -- The metadata of a run as a head, a manifest and a program have it.
 use Rattle.rec_format.specs.declared.head.SessionHead.{SessionHead}
+use Rattle.rec_format.specs.declared.manifest.PortableManifest.{PortableManifest}
 use Rattle.rec_format.specs.declared.run.RecordedRun.{RecordedRun}
 use Rattle.rec_format.specs.declared.run.RecordedRunInfo.{RecordedRunInfo}
-use Rattle.rec_format.specs.declared.manifest.PortableManifest.{PortableManifest}
 use Rattle.rec_format.specs.declared.sizes.RecordedSizes.{RecordedSizes}
 use Rattle.rec_format.specs.declared.versions.StoreFormatVersion.{StoreFormatVersion}
 use Rattle.rec_format.specs.Sizes.{sizes_format, sizes_of}

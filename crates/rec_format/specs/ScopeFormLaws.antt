@@ -1,16 +1,16 @@
 -- What was built reads back, and is writable.
-use Rattle.std.specs.Prelude.{◌≡◌, Some, refl, codes}
 use Rattle.std.proofs.Common.{arith}
+use Rattle.std.specs.Prelude.{◌≡◌, Some, refl, codes}
+use Rattle.rec_forms.specs.GivesWellFormed.{GivesWellFormed}
 use Rattle.rec_forms.specs.Members.{get_member-members_of}
 use Rattle.rec_forms.specs.SelectionLaws.{build_scope_back, build_scope_writable, build_scope_well_formed}
+use Rattle.rec_forms.specs.Selections.{build_scope_form}
+use Rattle.rec_forms.specs.WellFormedLaws.{object_then, required_then, any_well_formed}
 use Rattle.rec_forms.specs.Writable.{IsWritable, weaker, struct_writable, word_writable}
-use Rattle.rec_format.specs.declared.scope.BuildKind.{BuildKind}
 use Rattle.rec_format.specs.declared.scope.BuildKind.TheVariants.{Cargo, Reused}
+use Rattle.rec_format.specs.declared.scope.BuildKind.{BuildKind}
 use Rattle.rec_format.specs.declared.scope.RecordedBuildScope.{RecordedBuildScope}
 use Rattle.rec_format.specs.ScopeForms.{build_kind_value, build_kind_form, recorded_scope_value, recorded_scope_form, IsRecordedScope}
-use Rattle.rec_forms.specs.GivesWellFormed.{GivesWellFormed}
-use Rattle.rec_forms.specs.WellFormedLaws.{object_then, required_then, any_well_formed}
-use Rattle.rec_forms.specs.Selections.{build_scope_form}
 
 pub build_kind_back : (k : BuildKind) → build_kind_form (build_kind_value k) ≡ Some k
 unfolding build_kind_form

@@ -4,8 +4,8 @@ use Rattle.serde_json.specs.Data.{Data, string}
 use Rattle.serde_json.specs.Find.{as_object, as_str}
 use Rattle.rec_forms.specs.Selections.{build_scope_value, build_scope_form, IsBuildScope}
 use Rattle.rec_forms.specs.Shape.{◌>>=◌, field, struct, required, named}
-use Rattle.rec_format.specs.declared.scope.BuildKind.{BuildKind}
 use Rattle.rec_format.specs.declared.scope.BuildKind.TheVariants.{Cargo, Reused}
+use Rattle.rec_format.specs.declared.scope.BuildKind.{BuildKind}
 use Rattle.rec_format.specs.declared.scope.RecordedBuildScope.{RecordedBuildScope}
 
 abbrev pub build_kind_name : BuildKind → List ℕ

@@ -1,18 +1,18 @@
 -- Sizes read back, and are writable.
+use Rattle.std.proofs.Common.{arith}
 use Rattle.std.specs.Prelude.{◌≡◌, Some, refl, codes}
+use Rattle.rec_forms.specs.GivesWellFormed.{GivesWellFormed}
 use Rattle.rec_forms.specs.Members.{get_member-members_of}
 use Rattle.rec_forms.specs.NumberLaws.{u64_back, u64_well_formed}
+use Rattle.rec_forms.specs.Numbers.{u64_form}
+use Rattle.rec_forms.specs.WellFormedLaws.{map_holds, object_then, required_then, defaulted_then}
 use Rattle.rec_forms.specs.Writable.{IsWritable, struct_writable, natural_writable}
 use Rattle.rec_format.specs.declared.sizes.ComponentSizes.{ComponentSizes}
 use Rattle.rec_format.specs.declared.sizes.ComponentSizesFormat.{ComponentSizesFormat}
 use Rattle.rec_format.specs.declared.sizes.RecordedSizes.{RecordedSizes}
 use Rattle.rec_format.specs.declared.sizes.RecordedSizesFormat.{RecordedSizesFormat}
-use Rattle.rec_format.specs.Sizes.{component_format, sizes_format, component_of, sizes_of}
 use Rattle.rec_format.specs.SizeForms.{component_format_value, component_format_form, IsComponentFormat, sizes_format_value, sizes_format_form, IsSizesFormat, component_value, component_form, IsComponent, sizes_value, sizes_form, AreSizes}
-use Rattle.rec_forms.specs.GivesWellFormed.{GivesWellFormed}
-use Rattle.rec_forms.specs.WellFormedLaws.{map_holds, object_then, required_then, defaulted_then}
-use Rattle.std.proofs.Common.{arith}
-use Rattle.rec_forms.specs.Numbers.{u64_form}
+use Rattle.rec_format.specs.Sizes.{component_format, sizes_format, component_of, sizes_of}
 
 pub component_format_back : (s : ComponentSizesFormat) → IsComponentFormat s → component_format_form (component_format_value s) ≡ Some s
 unfolding component_format_form

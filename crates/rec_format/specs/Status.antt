@@ -1,8 +1,8 @@
 -- A status and how it stands in JSON, field by field.
-use Rattle.rec_format.specs.declared.status.RecordedRunStatus.{RecordedRunStatus}
 use Rattle.rec_format.specs.declared.status.RecordedRunStatus.TheVariants as status
-use Rattle.rec_format.specs.declared.status.RecordedRunStatusFormat.{RecordedRunStatusFormat}
+use Rattle.rec_format.specs.declared.status.RecordedRunStatus.{RecordedRunStatus}
 use Rattle.rec_format.specs.declared.status.RecordedRunStatusFormat.TheVariants as format
+use Rattle.rec_format.specs.declared.status.RecordedRunStatusFormat.{RecordedRunStatusFormat}
 
 abbrev pub status_format : RecordedRunStatus → RecordedRunStatusFormat
 status_format status.Incomplete = format.Incomplete

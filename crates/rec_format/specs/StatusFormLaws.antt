@@ -1,28 +1,28 @@
 -- Statuses read back, and are writable.
-use Rattle.std.specs.Prelude.{◌≡◌, ℕ, List, Some, option_map, refl, None, Option, codes}
 use Rattle.std.proofs.Common.{ap, ◌∙◌}
-use Rattle.rec_events.specs.Names.{IsText}
-use Rattle.rec_forms.specs.Numbers.{count_form, IsCount, i32_form, u32_form, u64_form}
-use Rattle.rec_forms.specs.Shape.{natural, named}
-use Rattle.rec_forms.specs.Members.{get_member-members_of}
-use Rattle.rec_forms.specs.NumberLaws.{u32_back, u64_back, i32_back, count_back, u32_writable, i32_writable, count_writable, count_well_formed, i32_well_formed, u32_well_formed, u64_well_formed}
-use Rattle.rec_forms.specs.ListLaws.{maybe_back}
-use Rattle.rec_forms.specs.Writable.{IsWritable, struct_writable, natural_writable, string_writable, optional_writable}
-use Rattle.rec_forms.specs.TextLaws.{IsText-are_ascii}
-use Rattle.rec_format.specs.declared.status.CompletedRunStats.{CompletedRunStats}
-use Rattle.rec_format.specs.declared.status.StressCompletedRunStats.{StressCompletedRunStats}
-use Rattle.rec_format.specs.declared.status.RecordedRunStatus.{RecordedRunStatus}
-use Rattle.rec_format.specs.declared.status.RecordedRunStatus.TheVariants.{Incomplete, Completed, Cancelled, StressCompleted, StressCancelled, Unknown}
-use Rattle.rec_format.specs.declared.status.RecordedRunStatusFormat.{RecordedRunStatusFormat}
-use Rattle.rec_format.specs.declared.status.RecordedRunStatusFormat.TheVariants as format
-use Rattle.rec_format.specs.Status.{status_format, status_of}
-use Rattle.rec_format.specs.StatusForms.{bare_value, completed_value, completed_form, stress_value, stress_form, status_value, status_form, IsStatus, status_format_value, status_format_form, IsStatusFormat, AreCompleted, AreStress, statuses}
-use Rattle.rec_forms.specs.GivesWellFormed.{Holds, GivesWellFormed}
-use Rattle.rec_forms.specs.WellFormedLaws.{any_well_formed, map_holds, object_then, required_then, maybe_then, named_holds}
+use Rattle.std.specs.List.{AllByRecursion}
 use Rattle.std.specs.Option.{option_map_or}
+use Rattle.std.specs.Prelude.{◌≡◌, ℕ, List, Some, option_map, refl, None, Option, codes}
 use Rattle.serde_json.specs.Data.{Members}
 use Rattle.serde_json.specs.Find.{as_str}
-use Rattle.std.specs.List.{AllByRecursion}
+use Rattle.rec_events.specs.Names.{IsText}
+use Rattle.rec_forms.specs.GivesWellFormed.{Holds, GivesWellFormed}
+use Rattle.rec_forms.specs.ListLaws.{maybe_back}
+use Rattle.rec_forms.specs.Members.{get_member-members_of}
+use Rattle.rec_forms.specs.NumberLaws.{u32_back, u64_back, i32_back, count_back, u32_writable, i32_writable, count_writable, count_well_formed, i32_well_formed, u32_well_formed, u64_well_formed}
+use Rattle.rec_forms.specs.Numbers.{count_form, IsCount, i32_form, u32_form, u64_form}
+use Rattle.rec_forms.specs.Shape.{natural, named}
+use Rattle.rec_forms.specs.TextLaws.{IsText-are_ascii}
+use Rattle.rec_forms.specs.WellFormedLaws.{any_well_formed, map_holds, object_then, required_then, maybe_then, named_holds}
+use Rattle.rec_forms.specs.Writable.{IsWritable, struct_writable, natural_writable, string_writable, optional_writable}
+use Rattle.rec_format.specs.declared.status.CompletedRunStats.{CompletedRunStats}
+use Rattle.rec_format.specs.declared.status.RecordedRunStatus.TheVariants.{Incomplete, Completed, Cancelled, StressCompleted, StressCancelled, Unknown}
+use Rattle.rec_format.specs.declared.status.RecordedRunStatus.{RecordedRunStatus}
+use Rattle.rec_format.specs.declared.status.RecordedRunStatusFormat.TheVariants as format
+use Rattle.rec_format.specs.declared.status.RecordedRunStatusFormat.{RecordedRunStatusFormat}
+use Rattle.rec_format.specs.declared.status.StressCompletedRunStats.{StressCompletedRunStats}
+use Rattle.rec_format.specs.Status.{status_format, status_of}
+use Rattle.rec_format.specs.StatusForms.{bare_value, completed_value, completed_form, stress_value, stress_form, status_value, status_form, IsStatus, status_format_value, status_format_form, IsStatusFormat, AreCompleted, AreStress, statuses}
 
 pub status_back : (s : RecordedRunStatus) → IsStatus s → status_form (status_value s) ≡ Some s
 unfolding status_form completed_form stress_form

@@ -1,16 +1,16 @@
 -- The values and forms of statuses.
-use Rattle.std.specs.Prelude.{ℕ, ◌^◌, ◌<◌, FitsSigned, List, [], ◌∷◌, Option, Some, option_map, IfSome, codes}
 use Rattle.std.specs.Int.{w32}
 use Rattle.std.specs.Option.{option_map_or}
+use Rattle.std.specs.Prelude.{ℕ, ◌^◌, ◌<◌, FitsSigned, List, [], ◌∷◌, Option, Some, option_map, IfSome, codes}
 use Rattle.serde_json.specs.Data.{Data, string, Members}
 use Rattle.serde_json.specs.Find.{as_object, as_str}
 use Rattle.rec_forms.specs.Numbers.{u32_form, u64_form, i32_form, count_form, IsCount}
 use Rattle.rec_forms.specs.Shape.{◌>>=◌, natural, integer, field, optional, struct, required, maybe, named}
 use Rattle.rec_format.specs.declared.status.CompletedRunStats.{CompletedRunStats}
-use Rattle.rec_format.specs.declared.status.StressCompletedRunStats.{StressCompletedRunStats}
-use Rattle.rec_format.specs.declared.status.RecordedRunStatus.{RecordedRunStatus}
 use Rattle.rec_format.specs.declared.status.RecordedRunStatus.TheVariants.{Incomplete, Completed, Cancelled, StressCompleted, StressCancelled, Unknown}
+use Rattle.rec_format.specs.declared.status.RecordedRunStatus.{RecordedRunStatus}
 use Rattle.rec_format.specs.declared.status.RecordedRunStatusFormat.{RecordedRunStatusFormat}
+use Rattle.rec_format.specs.declared.status.StressCompletedRunStats.{StressCompletedRunStats}
 use Rattle.rec_format.specs.Status.{status_format, status_of}
 
 -- a status alone

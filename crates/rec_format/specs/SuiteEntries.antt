@@ -1,7 +1,7 @@
 -- Test suites in a map by the strings of their binary ids.
-use Rattle.std.specs.Prelude.{◌≡◌, List, map, String, string_bytes}
 use Rattle.std.specs.declared.alloc.Global.{Global}
 use Rattle.std.specs.List.{AllByRecursion}
+use Rattle.std.specs.Prelude.{◌≡◌, List, map, String, string_bytes}
 use Rattle.rec_format.specs.declared.suites.RerunTestSuiteInfo.{RerunTestSuiteInfo}
 
 abbrev pub suites_in : List (String Global × RerunTestSuiteInfo) → List RerunTestSuiteInfo

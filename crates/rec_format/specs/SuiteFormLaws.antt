@@ -1,29 +1,29 @@
 -- Test suites read back, and are writable.
-use Rattle.std.specs.Prelude.{◌≡◌, ℕ, List, [], ◌∷◌, ◌++◌, map, Some, None, false, refl, Option, codes, option_and_then}
 use Rattle.std.proofs.Common.{ap, sym, ◌∙◌, append_assoc, Less, Greater, is_some, Ordering, Equal}
-use Rattle.std.specs.List.{AllByRecursion}
-use Rattle.std.specs.List.Sorted.{IsStrictlySortedBy}
-use Rattle.std.specs.Ordering.{nat_cmp, ordering_reverse, is_eq, match_ordering}
-use Rattle.std.specs.Cmp.Lexicographic.{slice_cmp, nat_list_cmp_total}
-use Rattle.std.specs.Str.{bytes_eq}
 use Rattle.std.proofs.lemmas.Map.Text.{is_eq-slice_cmp}
-use Rattle.serde_json.specs.View.{items_of}
-use Rattle.rec_forms.specs.Members.{get_member-members_of}
-use Rattle.rec_forms.specs.NumberLaws.{text_back, text_well_formed}
-use Rattle.rec_forms.specs.NameLaws.{names_back, names_writable, names_well_formed}
-use Rattle.rec_forms.specs.RiseLaws.{match_holds, Rise-with_name}
-use Rattle.rec_forms.specs.Writable.{IsWritable, struct_writable, string_writable, list_writable}
-use Rattle.rec_format.specs.declared.suites.RerunTestSuiteInfo.{RerunTestSuiteInfo}
-use Rattle.rec_format.specs.Suites.{put_suite, suite_of, SuitesRise}
-use Rattle.rec_format.specs.SuiteForms.{suite_value, suite_form, IsSuite, suites_value, joined_by, suites_from, suites_form, AreSuites}
-use Rattle.rec_forms.specs.GivesWellFormed.{Holds, GivesWellFormed}
-use Rattle.rec_forms.specs.WellFormedLaws.{anything, and_then_holds, choice_holds, object_then, required_then}
 use Rattle.std.proofs.lemmas.Slice.Eq.{bytes_eq-Decides}
-use Rattle.rec_events.specs.Names.{with_name}
-use Rattle.rec_forms.specs.Names.{names_form}
-use Rattle.rec_forms.specs.Shape.{text_of}
+use Rattle.std.specs.Cmp.Lexicographic.{slice_cmp, nat_list_cmp_total}
+use Rattle.std.specs.List.Sorted.{IsStrictlySortedBy}
+use Rattle.std.specs.List.{AllByRecursion}
+use Rattle.std.specs.Ordering.{nat_cmp, ordering_reverse, is_eq, match_ordering}
+use Rattle.std.specs.Prelude.{◌≡◌, ℕ, List, [], ◌∷◌, ◌++◌, map, Some, None, false, refl, Option, codes, option_and_then}
+use Rattle.std.specs.Str.{bytes_eq}
 use Rattle.serde_json.specs.Data.{Items, no_items, item}
 use Rattle.serde_json.specs.Find.{as_array}
+use Rattle.serde_json.specs.View.{items_of}
+use Rattle.rec_events.specs.Names.{with_name}
+use Rattle.rec_forms.specs.GivesWellFormed.{Holds, GivesWellFormed}
+use Rattle.rec_forms.specs.Members.{get_member-members_of}
+use Rattle.rec_forms.specs.NameLaws.{names_back, names_writable, names_well_formed}
+use Rattle.rec_forms.specs.Names.{names_form}
+use Rattle.rec_forms.specs.NumberLaws.{text_back, text_well_formed}
+use Rattle.rec_forms.specs.RiseLaws.{match_holds, Rise-with_name}
+use Rattle.rec_forms.specs.Shape.{text_of}
+use Rattle.rec_forms.specs.WellFormedLaws.{anything, and_then_holds, choice_holds, object_then, required_then}
+use Rattle.rec_forms.specs.Writable.{IsWritable, struct_writable, string_writable, list_writable}
+use Rattle.rec_format.specs.declared.suites.RerunTestSuiteInfo.{RerunTestSuiteInfo}
+use Rattle.rec_format.specs.SuiteForms.{suite_value, suite_form, IsSuite, suites_value, joined_by, suites_from, suites_form, AreSuites}
+use Rattle.rec_format.specs.Suites.{put_suite, suite_of, SuitesRise}
 
 pub suite_back : (s : RerunTestSuiteInfo) → IsSuite s → suite_form (suite_value s) ≡ Some s
 unfolding suite_form

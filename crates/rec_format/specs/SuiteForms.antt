@@ -1,6 +1,6 @@
 -- The values and forms of test suites.
-use Rattle.std.specs.Prelude.{List, [], ◌∷◌, Option, Some, None, is_some, if◌then◌else◌, option_and_then, codes}
 use Rattle.std.specs.List.{AllByRecursion}
+use Rattle.std.specs.Prelude.{List, [], ◌∷◌, Option, Some, None, is_some, if◌then◌else◌, option_and_then, codes}
 use Rattle.serde_json.specs.Data.{Data, string, Items, no_items, item}
 use Rattle.serde_json.specs.Find.{as_object, as_array}
 use Rattle.rec_events.specs.Names.{IsText}

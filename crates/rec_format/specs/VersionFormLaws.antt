@@ -1,13 +1,13 @@
 -- Versions read back, and are writable.
 use Rattle.std.specs.Prelude.{◌≡◌, Some, refl, codes}
+use Rattle.rec_forms.specs.GivesWellFormed.{GivesWellFormed}
 use Rattle.rec_forms.specs.Members.{get_member-members_of}
 use Rattle.rec_forms.specs.NumberLaws.{u32_back, u32_writable, u32_well_formed}
+use Rattle.rec_forms.specs.Numbers.{u32_form}
+use Rattle.rec_forms.specs.WellFormedLaws.{object_then, required_then}
 use Rattle.rec_forms.specs.Writable.{IsWritable, struct_writable}
 use Rattle.rec_format.specs.declared.versions.PortableRecordingFormatVersion.{PortableRecordingFormatVersion}
 use Rattle.rec_format.specs.VersionForms.{portable_version_value, portable_version_form, IsPortableVersion}
-use Rattle.rec_forms.specs.GivesWellFormed.{GivesWellFormed}
-use Rattle.rec_forms.specs.WellFormedLaws.{object_then, required_then}
-use Rattle.rec_forms.specs.Numbers.{u32_form}
 
 pub portable_version_back : (v : PortableRecordingFormatVersion) → IsPortableVersion v → portable_version_form (portable_version_value v) ≡ Some v
 unfolding portable_version_form

@@ -1,18 +1,18 @@
 -- Versions of the formats: which is read by which, and which a text names.
-use Rattle.std.specs.Prelude.{ℕ, ◌^◌, Bool, not, ◌&&◌, if◌then◌else◌, nat_lt, nat_eq, List, ◌∷◌, ◌++◌, length, Option, Some, None, option_and_then, option_map, Result, Ok, Err}
 use Rattle.std.specs.Fmt.{decimal}
 use Rattle.std.specs.List.{position_or_len, before_first, after_first}
-use Rattle.std.specs.Str.{all_ascii_digits}
+use Rattle.std.specs.Prelude.{ℕ, ◌^◌, Bool, not, ◌&&◌, if◌then◌else◌, nat_lt, nat_eq, List, ◌∷◌, ◌++◌, length, Option, Some, None, option_and_then, option_map, Result, Ok, Err}
 use Rattle.std.specs.Str.Parse.{digits_value}
-use Rattle.rec_format.specs.declared.versions.StoreFormatVersion.{StoreFormatVersion}
-use Rattle.rec_format.specs.declared.versions.PortableRecordingFormatVersion.{PortableRecordingFormatVersion}
-use Rattle.rec_format.specs.declared.incompatibility.StoreVersionIncompatibility.{StoreVersionIncompatibility}
-use Rattle.rec_format.specs.declared.incompatibility.StoreVersionIncompatibility.TheVariants as store
-use Rattle.rec_format.specs.declared.incompatibility.PortableRecordingVersionIncompatibility.{PortableRecordingVersionIncompatibility}
+use Rattle.std.specs.Str.{all_ascii_digits}
 use Rattle.rec_format.specs.declared.incompatibility.PortableRecordingVersionIncompatibility.TheVariants as portable
-use Rattle.rec_format.specs.declared.incompatibility.TooOldRecordingGuidance.{TooOldRecordingGuidance}
-use Rattle.rec_format.specs.declared.incompatibility.TooOldRecordingGuidance.TheVariants.{Discard, Unknown}
+use Rattle.rec_format.specs.declared.incompatibility.PortableRecordingVersionIncompatibility.{PortableRecordingVersionIncompatibility}
 use Rattle.rec_format.specs.declared.incompatibility.Release.{Release}
+use Rattle.rec_format.specs.declared.incompatibility.StoreVersionIncompatibility.TheVariants as store
+use Rattle.rec_format.specs.declared.incompatibility.StoreVersionIncompatibility.{StoreVersionIncompatibility}
+use Rattle.rec_format.specs.declared.incompatibility.TooOldRecordingGuidance.TheVariants.{Discard, Unknown}
+use Rattle.rec_format.specs.declared.incompatibility.TooOldRecordingGuidance.{TooOldRecordingGuidance}
+use Rattle.rec_format.specs.declared.versions.PortableRecordingFormatVersion.{PortableRecordingFormatVersion}
+use Rattle.rec_format.specs.declared.versions.StoreFormatVersion.{StoreFormatVersion}
 
 -- a dot between the two numbers
 abbrev pub version_text : ℕ → ℕ → List ℕ

@@ -135,7 +135,7 @@ impl fmt::Display for PortableRecordingVersionIncompatibility {
     }
 }
 
-// The guidance as a line of its own, or nothing.
+/// The guidance as a line of its own, or nothing.
 #[derive(Copy, Clone)]
 struct GuidanceLine(TooOldRecordingGuidance);
 

@@ -1,21 +1,21 @@
 //! Laws of versions, heads and manifests. The functions do nothing: their contracts are what they are for.
-ghost use Rattle.std.specs.Prelude.{◌≡◌, ℕ, Some};
 ghost use Rattle.std.specs.Ordering.{nat_cmp};
+ghost use Rattle.std.specs.Prelude.{◌≡◌, ℕ, Some};
 ghost use Rattle.serde_json.specs.Data.{Data};
 ghost use Rattle.serde_json.specs.Written.{compact_text};
 ghost use Rattle.rec_forms.specs.TextForm.{bytes_form};
-ghost use Rattle.rec_format.specs.HeadForms.{head_form, IsHead};
-ghost use Rattle.rec_format.specs.RunForms.{manifest_form, manifest_value, IsManifest};
-ghost use Rattle.rec_format.specs.Runs.{manifest_of, recorded_info};
-ghost use Rattle.rec_format.specs.SizeForms.{AreSizes};
-ghost use Rattle.rec_format.specs.HeadTexts.{AreTextsRead};
-ghost use Rattle.rec_format.specs.declared.head.SessionHead.{SessionHead};
-ghost use Rattle.rec_format.specs.declared.sizes.RecordedSizes.{RecordedSizes};
-ghost use Rattle.rec_format.specs.contracts.versions.StoreFormatMajorVersionOrd.TheImpl as store_major;
-ghost use Rattle.rec_format.specs.contracts.versions.StoreFormatMinorVersionOrd.TheImpl as store_minor;
 ghost use Rattle.rec_format.specs.contracts.versions.PortableRecordingFormatMajorVersionOrd.TheImpl as portable_major;
 ghost use Rattle.rec_format.specs.contracts.versions.PortableRecordingFormatMinorVersionOrd.TheImpl as portable_minor;
 ghost use Rattle.rec_format.specs.contracts.versions.RunsJsonFormatVersionOrd.TheImpl as run_list;
+ghost use Rattle.rec_format.specs.contracts.versions.StoreFormatMajorVersionOrd.TheImpl as store_major;
+ghost use Rattle.rec_format.specs.contracts.versions.StoreFormatMinorVersionOrd.TheImpl as store_minor;
+ghost use Rattle.rec_format.specs.declared.head.SessionHead.{SessionHead};
+ghost use Rattle.rec_format.specs.declared.sizes.RecordedSizes.{RecordedSizes};
+ghost use Rattle.rec_format.specs.HeadForms.{head_form, IsHead};
+ghost use Rattle.rec_format.specs.HeadTexts.{AreTextsRead};
+ghost use Rattle.rec_format.specs.RunForms.{manifest_form, manifest_value, IsManifest};
+ghost use Rattle.rec_format.specs.Runs.{manifest_of, recorded_info};
+ghost use Rattle.rec_format.specs.SizeForms.{AreSizes};
 
 use crate::{PortableManifest, SessionHead};
 use rec_forms::Held;

@@ -82,7 +82,7 @@ pub fn has_zip_extension(path: &str) -> bool
     }
 }
 
-// The last piece of a path that names something.
+/// The last piece of a path that names something.
 fn last_name(path: &str) -> Option<&str>
     ensures { option_map (λ name. name.now) result ≡ last_name_of path.now }
 {
@@ -91,7 +91,7 @@ fn last_name(path: &str) -> Option<&str>
         .last()
 }
 
-// A last dot that isn't the first byte, and `zip` after it.
+/// A last dot that isn't the first byte, and `zip` after it.
 fn ends_in_zip(name: &[u8]) -> bool
     ensures { result ≡ is_zip_name name.now }
 {

@@ -1,8 +1,8 @@
 //! Run ids, and the prefixes that stand for them.
-ghost use Rattle.std.specs.Prelude.{◌≡◌, ◌↔◌, ℕ, List, IfOk, nat_eq};
 ghost use Rattle.std.specs.List.{Contains, common_prefix_len};
-ghost use Rattle.rec_format.specs.RunIds.{CutsShortest};
+ghost use Rattle.std.specs.Prelude.{◌≡◌, ◌↔◌, ℕ, List, IfOk, nat_eq};
 ghost use Rattle.rec_format.specs.RunIdEntries.{IsTextOf, IsMostShared, IsBelow, IsAbove};
+ghost use Rattle.rec_format.specs.RunIds.{CutsShortest};
 
 use rec_events::ReportUuid;
 use std::alloc::{AllocError, Global};
@@ -80,7 +80,7 @@ impl RunIdIndex {
     }
 }
 
-// The hyphenated text of an id, in lower case.
+/// The hyphenated text of an id, in lower case.
 fn text_of(alloc: Global, id: ReportUuid) -> Result<String, AllocError>
     ensures { IfOk result (IsTextOf id) }
 {
@@ -88,7 +88,7 @@ fn text_of(alloc: Global, id: ReportUuid) -> Result<String, AllocError>
     String::from_str(alloc, id.uuid().hyphenated().encode_lower(&mut buffer))
 }
 
-// How much a text shares with the keys below it, of which the nearest shares most.
+/// How much a text shares with the keys below it, of which the nearest shares most.
 fn shared_below(entries: &BTreeMap<String, ReportUuid>, text: &String) -> usize
     ensures { IsMostShared (IsBelow text.now) entries.now text.now result }
 {
@@ -98,7 +98,7 @@ fn shared_below(entries: &BTreeMap<String, ReportUuid>, text: &String) -> usize
     }
 }
 
-// The same of the keys above it.
+/// The same of the keys above it.
 fn shared_above(entries: &BTreeMap<String, ReportUuid>, text: &String) -> usize
     ensures { IsMostShared (IsAbove text.now) entries.now text.now result }
 {
@@ -111,7 +111,7 @@ fn shared_above(entries: &BTreeMap<String, ReportUuid>, text: &String) -> usize
     }
 }
 
-// How many bytes two texts have in common at their starts.
+/// How many bytes two texts have in common at their starts.
 fn common_len(a: &str, b: &str) -> usize
     ensures { result ≡ common_prefix_len nat_eq a.now b.now }
 {

@@ -1,6 +1,6 @@
 //! The test suites of a rerun, by their binaries.
-ghost use Rattle.std.specs.Prelude.{◌≡◌, ◌<◌, List, [], length, map, slice_get, Some, IfOk, OnOk, OnErr, option_map};
 ghost use Rattle.std.specs.Option.{option_copied};
+ghost use Rattle.std.specs.Prelude.{◌≡◌, ◌<◌, List, [], length, map, slice_get, Some, IfOk, OnOk, OnErr, option_map};
 ghost use Rattle.rec_format.specs.SuiteEntries.{suites_in};
 ghost use Rattle.rec_format.specs.Suites.{put_suite, suite_of, SuitesRise};
 
@@ -88,7 +88,7 @@ impl RerunSuites {
         self.inner.values().nth(i).unwrap()
     }
 
-    // The suites as they are kept.
+    /// The suites as they are kept.
     pub(crate) fn as_map(&self) -> &BTreeMap<String, RerunTestSuiteInfo>
         ensures suites { suites_in result.now.entries ≡ self.now }
         ensures rise { SuitesRise self.now }

@@ -42,8 +42,8 @@ impl StoreFormatMajorVersion {
 }
 
 impl fmt::Display for StoreFormatMajorVersion {
-    ghost use Rattle.std.specs.Prelude.{Some};
     ghost use Rattle.std.specs.Fmt.{decimal};
+    ghost use Rattle.std.specs.Prelude.{Some};
 
     ghost output = { λ v. Some (decimal v) };
 
@@ -96,8 +96,8 @@ impl StoreFormatMinorVersion {
 }
 
 impl fmt::Display for StoreFormatMinorVersion {
-    ghost use Rattle.std.specs.Prelude.{Some};
     ghost use Rattle.std.specs.Fmt.{decimal};
+    ghost use Rattle.std.specs.Prelude.{Some};
 
     ghost output = { λ v. Some (decimal v) };
 
@@ -140,8 +140,8 @@ impl PortableRecordingFormatMajorVersion {
 }
 
 impl fmt::Display for PortableRecordingFormatMajorVersion {
-    ghost use Rattle.std.specs.Prelude.{Some};
     ghost use Rattle.std.specs.Fmt.{decimal};
+    ghost use Rattle.std.specs.Prelude.{Some};
 
     ghost output = { λ v. Some (decimal v) };
 
@@ -194,8 +194,8 @@ impl PortableRecordingFormatMinorVersion {
 }
 
 impl fmt::Display for PortableRecordingFormatMinorVersion {
-    ghost use Rattle.std.specs.Prelude.{Some};
     ghost use Rattle.std.specs.Fmt.{decimal};
+    ghost use Rattle.std.specs.Prelude.{Some};
 
     ghost output = { λ v. Some (decimal v) };
 
@@ -378,8 +378,8 @@ impl RunsJsonFormatVersion {
 }
 
 impl fmt::Display for RunsJsonFormatVersion {
-    ghost use Rattle.std.specs.Prelude.{Some};
     ghost use Rattle.std.specs.Fmt.{decimal};
+    ghost use Rattle.std.specs.Prelude.{Some};
 
     ghost output = { λ v. Some (decimal v) };
 
@@ -430,7 +430,7 @@ pub fn store_format_version_for(text: Option<&str>) -> Option<StoreFormatVersion
     })
 }
 
-// A number of one or more decimal digits. Unlike `parse`, it refuses a sign.
+/// A number of one or more decimal digits. Unlike `parse`, it refuses a sign.
 fn version_number(text: &str) -> Option<u32>
     ensures { result ≡ number_of text.now }
 {

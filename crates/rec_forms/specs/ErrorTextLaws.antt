@@ -3,13 +3,13 @@ use Rattle.std.specs.Prelude.{◌≡◌, Some, refl, codes}
 use Rattle.rec_events.specs.declared.results.ErrorSummary.{ErrorSummary}
 use Rattle.rec_events.specs.declared.results.OutputErrorSlice.{OutputErrorSlice}
 use Rattle.rec_forms.specs.ErrorTexts.{error_summary_value, error_summary_form, IsErrorSummary, error_slice_value, error_slice_form, IsErrorSlice}
+use Rattle.rec_forms.specs.GivesWellFormed.{GivesWellFormed}
 use Rattle.rec_forms.specs.Members.{get_member-members_of}
 use Rattle.rec_forms.specs.NumberLaws.{u64_back, text_back, text_well_formed, u64_well_formed}
-use Rattle.rec_forms.specs.Writable.{IsWritable, struct_writable, string_writable, natural_writable}
-use Rattle.rec_forms.specs.GivesWellFormed.{GivesWellFormed}
-use Rattle.rec_forms.specs.WellFormedLaws.{object_then, required_then}
 use Rattle.rec_forms.specs.Numbers.{u64_form}
 use Rattle.rec_forms.specs.Shape.{text_of}
+use Rattle.rec_forms.specs.WellFormedLaws.{object_then, required_then}
+use Rattle.rec_forms.specs.Writable.{IsWritable, struct_writable, string_writable, natural_writable}
 
 pub error_summary_back : (s : ErrorSummary) → IsErrorSummary s → error_summary_form (error_summary_value s) ≡ Some s
 unfolding error_summary_form

@@ -2,9 +2,9 @@
 use Rattle.std.specs.Prelude.{◌^◌, ◌<◌, [], ◌∷◌, Option, Some, codes}
 use Rattle.serde_json.specs.Data.{Data, string}
 use Rattle.serde_json.specs.Find.{as_object}
-use Rattle.rec_events.specs.Names.{IsText}
 use Rattle.rec_events.specs.declared.results.ErrorSummary.{ErrorSummary}
 use Rattle.rec_events.specs.declared.results.OutputErrorSlice.{OutputErrorSlice}
+use Rattle.rec_events.specs.Names.{IsText}
 use Rattle.rec_forms.specs.Numbers.{u64_form}
 use Rattle.rec_forms.specs.Shape.{◌>>=◌, natural, field, struct, required, text_of}
 

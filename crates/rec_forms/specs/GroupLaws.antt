@@ -1,18 +1,18 @@
 -- A test group reads back, and is writable.
-use Rattle.std.specs.Prelude.{◌≡◌, ◌≢◌, ℕ, List, Some, Bool, true, false, refl, codes, IsTrue}
-use Rattle.std.specs.Str.{is_utf8, bytes_eq}
 use Rattle.std.proofs.Common.{true≢false, sym, ◌∙◌}
 use Rattle.std.proofs.lemmas.Slice.Eq.{bytes_eq-Decides}
-use Rattle.rec_events.specs.declared.groups.TestGroup.{TestGroup}
+use Rattle.std.specs.Prelude.{◌≡◌, ◌≢◌, ℕ, List, Some, Bool, true, false, refl, codes, IsTrue}
+use Rattle.std.specs.Str.{is_utf8, bytes_eq}
 use Rattle.rec_events.specs.declared.groups.TestGroup.TheVariants.{Global, Custom}
+use Rattle.rec_events.specs.declared.groups.TestGroup.{TestGroup}
+use Rattle.rec_events.specs.Names.{IsText}
+use Rattle.rec_forms.specs.GivesWellFormed.{GivesWellFormed}
 use Rattle.rec_forms.specs.Groups.{test_group_value, test_group_form, IsTestGroup, group_named}
 use Rattle.rec_forms.specs.NumberLaws.{text_back, text_well_formed}
-use Rattle.rec_forms.specs.TextLaws.{IsText-are_ascii}
-use Rattle.rec_forms.specs.Writable.{IsWritable, string_writable, word_writable}
-use Rattle.rec_forms.specs.GivesWellFormed.{GivesWellFormed}
-use Rattle.rec_forms.specs.WellFormedLaws.{choice_holds, map_holds}
-use Rattle.rec_events.specs.Names.{IsText}
 use Rattle.rec_forms.specs.Shape.{text_of}
+use Rattle.rec_forms.specs.TextLaws.{IsText-are_ascii}
+use Rattle.rec_forms.specs.WellFormedLaws.{choice_holds, map_holds}
+use Rattle.rec_forms.specs.Writable.{IsWritable, string_writable, word_writable}
 
 differs : (b : Bool) (s t : List ℕ) → (b ≡ true → s ≡ t) → s ≢ t → b ≡ false
 differs true s t same other = absurd (other (same refl))

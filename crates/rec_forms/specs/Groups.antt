@@ -2,10 +2,10 @@
 use Rattle.std.specs.Prelude.{◌≢◌, ℕ, List, Option, option_map, if◌then◌else◌, codes}
 use Rattle.std.specs.Str.{bytes_eq}
 use Rattle.serde_json.specs.Data.{Data, string}
+use Rattle.rec_events.specs.declared.groups.TestGroup.TheVariants.{Global, Custom}
+use Rattle.rec_events.specs.declared.groups.TestGroup.{TestGroup}
 use Rattle.rec_events.specs.Groups.{group_text}
 use Rattle.rec_events.specs.Names.{IsText}
-use Rattle.rec_events.specs.declared.groups.TestGroup.{TestGroup}
-use Rattle.rec_events.specs.declared.groups.TestGroup.TheVariants.{Global, Custom}
 use Rattle.rec_forms.specs.Shape.{text_of}
 
 abbrev pub test_group_value : TestGroup → Data

@@ -1,24 +1,24 @@
 -- Run numbers and versions read back.
-use Rattle.std.specs.Prelude.{◌≡◌, ℕ, zero, suc, ◌+◌, ◌*◌, ◌<◌, List, [], ◌∷◌, take, drop, slice_index, Bool, true, false, if◌then◌else◌, Option, Some, None, IfSome, refl, Err, Ok, Result, length, ◌&&◌, ◌==◌}
-use Rattle.semver.specs.Parse.{Parts, version_parts}
-use Rattle.rec_events.specs.Versions.{IsVersion}
-use Rattle.rec_forms.specs.Ids.{uuid_value, uuid_form, IsUuid, version_value, version_form}
-use Rattle.rec_forms.specs.TextLaws.{IsText-parts_text}
-use Rattle.rec_forms.specs.Writable.{IsWritable, string_writable}
-use Rattle.rec_forms.specs.GivesWellFormed.{Holds, GivesWellFormed}
-use Rattle.rec_forms.specs.WellFormedLaws.{anything, and_then_holds}
-use Rattle.rec_events.specs.VersionLaws.{IsVersion-read}
-use Rattle.semver.specs.declared.error.Error.{Error}
-use Rattle.serde_json.specs.Find.{as_str}
-use Rattle.std.specs.Result.{result_ok}
-use Rattle.std.specs.List.{list_all}
 use Rattle.std.proofs.Common.{arith, sym, subst, inl}
 use Rattle.std.proofs.lemmas.Bool.Decides.{nat_tests}
 use Rattle.std.proofs.lemmas.Str.{IsUtf8-from_ascii, is_utf8-from_IsUtf8}
+use Rattle.std.specs.List.{list_all}
+use Rattle.std.specs.Prelude.{◌≡◌, ℕ, zero, suc, ◌+◌, ◌*◌, ◌<◌, List, [], ◌∷◌, take, drop, slice_index, Bool, true, false, if◌then◌else◌, Option, Some, None, IfSome, refl, Err, Ok, Result, length, ◌&&◌, ◌==◌}
+use Rattle.std.specs.Result.{result_ok}
+use Rattle.semver.specs.declared.error.Error.{Error}
 use Rattle.semver.specs.Identifiers.{parts_text}
+use Rattle.semver.specs.Parse.{Parts, version_parts}
+use Rattle.serde_json.specs.Find.{as_str}
 use Rattle.uuid.proofs.RoundTrips.{parses_hyphenated}
 use Rattle.uuid.proofs.TextLemmas.{by_index_length, by_index_at, all_fit, hyphenated_ascii}
 use Rattle.uuid.specs.Text.{by_index, lower, hyphenated_text, value_of, is_hex_digit, byte_of_digits, parsed_braced, parsed_urn, digits_of, has_hyphens, parsed, parsed_hyphenated, parsed_simple}
+use Rattle.rec_events.specs.VersionLaws.{IsVersion-read}
+use Rattle.rec_events.specs.Versions.{IsVersion}
+use Rattle.rec_forms.specs.GivesWellFormed.{Holds, GivesWellFormed}
+use Rattle.rec_forms.specs.Ids.{uuid_value, uuid_form, IsUuid, version_value, version_form}
+use Rattle.rec_forms.specs.TextLaws.{IsText-parts_text}
+use Rattle.rec_forms.specs.WellFormedLaws.{anything, and_then_holds}
+use Rattle.rec_forms.specs.Writable.{IsWritable, string_writable}
 
 pub uuid_back : (u : List ℕ) → IsUuid u → uuid_form (uuid_value u) ≡ Some u
 unfolding uuid_form

@@ -1,12 +1,12 @@
 -- The values and forms of run numbers and versions.
+use Rattle.std.specs.List.{All}
 use Rattle.std.specs.Prelude.{◌≡◌, ◌<◌, ℕ, List, length, Option, option_and_then}
 use Rattle.std.specs.Result.{result_ok}
-use Rattle.std.specs.List.{All}
-use Rattle.uuid.specs.Text.{lower, hyphenated_text, parsed}
-use Rattle.semver.specs.Parse.{Parts, version_parts}
 use Rattle.semver.specs.Identifiers.{parts_text}
+use Rattle.semver.specs.Parse.{Parts, version_parts}
 use Rattle.serde_json.specs.Data.{Data, string}
 use Rattle.serde_json.specs.Find.{as_str}
+use Rattle.uuid.specs.Text.{lower, hyphenated_text, parsed}
 
 abbrev pub uuid_value : List ℕ → Data
 uuid_value u = string (hyphenated_text lower u)

@@ -1,20 +1,20 @@
 -- Which test ran, where, and which time, reads back and is writable.
 use Rattle.std.specs.Prelude.{◌≡◌, ◌<◌, ◌^◌, Some, refl, codes}
 use Rattle.rec_events.specs.declared.instances.OwnedTestInstanceId.{OwnedTestInstanceId}
-use Rattle.rec_events.specs.declared.instances.TestSlotAssignment.{TestSlotAssignment}
 use Rattle.rec_events.specs.declared.instances.RetryData.{RetryData}
 use Rattle.rec_events.specs.declared.instances.StressIndexSummary.{StressIndexSummary}
+use Rattle.rec_events.specs.declared.instances.TestSlotAssignment.{TestSlotAssignment}
+use Rattle.rec_forms.specs.GivesWellFormed.{GivesWellFormed}
 use Rattle.rec_forms.specs.GroupLaws.{test_group_back, test_group_writable, test_group_well_formed}
+use Rattle.rec_forms.specs.Groups.{test_group_form}
 use Rattle.rec_forms.specs.Instances.{test_instance_value, test_instance_form, IsTestInstance, slot_assignment_value, slot_assignment_form, IsSlotAssignment, retry_data_value, retry_data_form, IsRetryData, stress_index_value, stress_index_form, IsStressIndex}
+use Rattle.rec_forms.specs.ListLaws.{maybe_back}
 use Rattle.rec_forms.specs.Members.{get_member-members_of}
 use Rattle.rec_forms.specs.NumberLaws.{u32_back, u64_back, count_back, text_back, u32_writable, count_writable, count_well_formed, text_well_formed, u32_well_formed, u64_well_formed}
 use Rattle.rec_forms.specs.Numbers.{u64_form, count_form, IsCount, u32_form}
-use Rattle.rec_forms.specs.ListLaws.{maybe_back}
 use Rattle.rec_forms.specs.Shape.{natural, text_of}
-use Rattle.rec_forms.specs.Writable.{IsWritable, struct_writable, natural_writable, string_writable, optional_writable}
-use Rattle.rec_forms.specs.GivesWellFormed.{GivesWellFormed}
 use Rattle.rec_forms.specs.WellFormedLaws.{object_then, required_then, maybe_then}
-use Rattle.rec_forms.specs.Groups.{test_group_form}
+use Rattle.rec_forms.specs.Writable.{IsWritable, struct_writable, natural_writable, string_writable, optional_writable}
 
 pub test_instance_back : (t : OwnedTestInstanceId) → IsTestInstance t → test_instance_form (test_instance_value t) ≡ Some t
 unfolding test_instance_form

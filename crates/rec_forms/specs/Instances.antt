@@ -2,11 +2,11 @@
 use Rattle.std.specs.Prelude.{◌^◌, ◌<◌, [], ◌∷◌, Option, Some, IfSome, codes}
 use Rattle.serde_json.specs.Data.{Data, string}
 use Rattle.serde_json.specs.Find.{as_object}
-use Rattle.rec_events.specs.Names.{IsText}
 use Rattle.rec_events.specs.declared.instances.OwnedTestInstanceId.{OwnedTestInstanceId}
-use Rattle.rec_events.specs.declared.instances.TestSlotAssignment.{TestSlotAssignment}
 use Rattle.rec_events.specs.declared.instances.RetryData.{RetryData}
 use Rattle.rec_events.specs.declared.instances.StressIndexSummary.{StressIndexSummary}
+use Rattle.rec_events.specs.declared.instances.TestSlotAssignment.{TestSlotAssignment}
+use Rattle.rec_events.specs.Names.{IsText}
 use Rattle.rec_forms.specs.Groups.{test_group_value, test_group_form, IsTestGroup}
 use Rattle.rec_forms.specs.Numbers.{u32_form, u64_form, count_form, IsCount}
 use Rattle.rec_forms.specs.Shape.{◌>>=◌, natural, field, optional, struct, required, maybe, text_of}

@@ -1,10 +1,10 @@
 -- Lists and optional members read back.
-use Rattle.std.specs.Prelude.{◌≡◌, ◌≢◌, ℕ, List, [], ◌∷◌, map, Option, Some, None, option_map, IfSome, refl}
 use Rattle.std.specs.List.{AllByRecursion}
+use Rattle.std.specs.Prelude.{◌≡◌, ◌≢◌, ℕ, List, [], ◌∷◌, map, Option, Some, None, option_map, IfSome, refl}
 use Rattle.serde_json.specs.Data.{Data, null, boolean, number, string, array, object}
 use Rattle.serde_json.specs.View.{items_of}
-use Rattle.rec_forms.specs.Shape.{if_there, at_member}
 use Rattle.rec_forms.specs.Lists.{list_value, list_form, each}
+use Rattle.rec_forms.specs.Shape.{if_there, at_member}
 use Rattle.rec_forms.specs.Writable.{IsWritable}
 
 module _ {T : Type 0} (P : T → Type 0) (value : T → Data) (form : Data → Option T) (back : (x : T) → P x → form (value x) ≡ Some x) where

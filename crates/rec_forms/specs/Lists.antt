@@ -1,8 +1,8 @@
 -- Lists, and the values of their items.
 use Rattle.std.specs.Prelude.{List, [], ◌∷◌, map, length, Option, Some, option_map, option_and_then, nat_lt}
 use Rattle.serde_json.specs.Data.{Data, array, Items, no_items, item}
-use Rattle.serde_json.specs.View.{items_of}
 use Rattle.serde_json.specs.Find.{as_array}
+use Rattle.serde_json.specs.View.{items_of}
 use Rattle.rec_forms.specs.Shape.{only}
 
 abbrev pub list_value : {T : Type 0} → (T → Data) → List T → Data

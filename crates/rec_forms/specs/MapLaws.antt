@@ -1,22 +1,22 @@
 -- A map reads back, and is writable.
-use Rattle.std.specs.Prelude.{◌≡◌, ℕ, suc, List, [], ◌∷◌, ◌++◌, Option, Some, refl, None, option_and_then}
 use Rattle.std.proofs.Common.{append_assoc, ap, ◌∙◌, Ordering, Less, Equal, Greater}
-use Rattle.std.specs.List.{AllByRecursion}
-use Rattle.serde_json.specs.Data.{Data, Members, no_members, member, put}
-use Rattle.rec_events.specs.Names.{AreTexts, IsText, with_name}
-use Rattle.rec_events.specs.Pairs.{keys, KeysRise, put_pair}
-use Rattle.rec_events.specs.PairLaws.{above_before, KeysRise-tail, put_pair-last}
-use Rattle.rec_forms.specs.Shape.{with_members, members_of}
-use Rattle.rec_forms.specs.Maps.{map_fields, map_value, pairs_form, map_form, each_value, IsMap}
-use Rattle.rec_forms.specs.Writable.{IsWritable, EachWritten, field_keys, fields_writable}
-use Rattle.rec_forms.specs.GivesWellFormed.{Holds, GivesWellFormed}
-use Rattle.rec_forms.specs.WellFormedLaws.{anything, and_then_holds, choice_holds}
-use Rattle.std.specs.Ordering.{nat_cmp, match_ordering}
 use Rattle.std.specs.Cmp.Lexicographic.{slice_cmp}
-use Rattle.std.specs.Str.{is_utf8}
-use Rattle.serde_json.specs.Find.{as_object}
-use Rattle.rec_forms.specs.RiseLaws.{match_holds, AreTexts-with_name, Rise-with_name}
 use Rattle.std.specs.List.Sorted.{IsStrictlySortedBy}
+use Rattle.std.specs.List.{AllByRecursion}
+use Rattle.std.specs.Ordering.{nat_cmp, match_ordering}
+use Rattle.std.specs.Prelude.{◌≡◌, ℕ, suc, List, [], ◌∷◌, ◌++◌, Option, Some, refl, None, option_and_then}
+use Rattle.std.specs.Str.{is_utf8}
+use Rattle.serde_json.specs.Data.{Data, Members, no_members, member, put}
+use Rattle.serde_json.specs.Find.{as_object}
+use Rattle.rec_events.specs.Names.{AreTexts, IsText, with_name}
+use Rattle.rec_events.specs.PairLaws.{above_before, KeysRise-tail, put_pair-last}
+use Rattle.rec_events.specs.Pairs.{keys, KeysRise, put_pair}
+use Rattle.rec_forms.specs.GivesWellFormed.{Holds, GivesWellFormed}
+use Rattle.rec_forms.specs.Maps.{map_fields, map_value, pairs_form, map_form, each_value, IsMap}
+use Rattle.rec_forms.specs.RiseLaws.{match_holds, AreTexts-with_name, Rise-with_name}
+use Rattle.rec_forms.specs.Shape.{with_members, members_of}
+use Rattle.rec_forms.specs.WellFormedLaws.{anything, and_then_holds, choice_holds}
+use Rattle.rec_forms.specs.Writable.{IsWritable, EachWritten, field_keys, fields_writable}
 
 -- the members of the pairs, as they stand
 abbrev members_in : {V : Type 0} → (V → Data) → List (List ℕ × V) → Members

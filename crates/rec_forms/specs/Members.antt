@@ -1,9 +1,9 @@
 -- What is found in an object that was made of fields.
 use Rattle.std.proofs.Common.{◌≡◌, ℕ, List, [], ◌∷◌, Option, Some, None, Bool, true, false, true≢false, cond, bytes_eq, refl, sym, ◌∙◌, ap}
 use Rattle.std.proofs.lemmas.Slice.Eq.{bytes_eq-Decides}
+use Rattle.serde_json.proofs.Views.{get_member-put, get_member-put_other}
 use Rattle.serde_json.specs.Data.{Data, Members, no_members}
 use Rattle.serde_json.specs.Find.{get_member}
-use Rattle.serde_json.proofs.Views.{get_member-put, get_member-put_other}
 use Rattle.rec_forms.specs.Shape.{Field, with_member, with_members, members_of}
 
 -- the later one of two, where it is there

@@ -1,19 +1,19 @@
 -- A set of names reads back.
-use Rattle.std.specs.Prelude.{◌≡◌, ℕ, List, [], ◌∷◌, ◌++◌, Some, refl}
 use Rattle.std.proofs.Common.{append_assoc, ap, ◌∙◌}
+use Rattle.std.specs.List.Sorted.{IsStrictlySortedBy}
+use Rattle.std.specs.Prelude.{◌≡◌, ℕ, List, [], ◌∷◌, ◌++◌, Some, refl}
 use Rattle.serde_json.specs.Data.{string}
 use Rattle.rec_events.specs.Names.{IsText, Rise, AreTexts, with_name}
 use Rattle.rec_events.specs.PairLaws.{with_name-last}
-use Rattle.rec_forms.specs.RiseLaws.{AreTexts-with_name, Rise-with_name}
-use Rattle.rec_forms.specs.Shape.{text_of}
+use Rattle.rec_forms.specs.GivesWellFormed.{GivesWellFormed}
+use Rattle.rec_forms.specs.ListLaws.{list_back}
+use Rattle.rec_forms.specs.Lists.{list_form}
 use Rattle.rec_forms.specs.Names.{names_value, merged, names_form, AreNames}
 use Rattle.rec_forms.specs.NumberLaws.{text_back, text_well_formed}
-use Rattle.rec_forms.specs.ListLaws.{list_back}
-use Rattle.rec_forms.specs.Writable.{IsWritable, string_writable, list_writable}
-use Rattle.rec_forms.specs.GivesWellFormed.{GivesWellFormed}
+use Rattle.rec_forms.specs.RiseLaws.{AreTexts-with_name, Rise-with_name}
+use Rattle.rec_forms.specs.Shape.{text_of}
 use Rattle.rec_forms.specs.WellFormedLaws.{map_holds, list_well_formed}
-use Rattle.std.specs.List.Sorted.{IsStrictlySortedBy}
-use Rattle.rec_forms.specs.Lists.{list_form}
+use Rattle.rec_forms.specs.Writable.{IsWritable, string_writable, list_writable}
 
 append_none : (ks : List (List ℕ)) → ks ++ [] ≡ ks
 append_none [] = refl

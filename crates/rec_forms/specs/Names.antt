@@ -2,8 +2,8 @@
 use Rattle.std.specs.Prelude.{ℕ, List, [], ◌∷◌, Option, option_map}
 use Rattle.serde_json.specs.Data.{Data, string}
 use Rattle.rec_events.specs.Names.{AreTexts, Rise, with_name}
-use Rattle.rec_forms.specs.Shape.{text_of}
 use Rattle.rec_forms.specs.Lists.{list_value, list_form}
+use Rattle.rec_forms.specs.Shape.{text_of}
 
 abbrev pub names_value : List (List ℕ) → Data
 names_value = list_value string

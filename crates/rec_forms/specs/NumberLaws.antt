@@ -1,18 +1,18 @@
 -- Numbers and texts read back.
-use Rattle.std.specs.Prelude.{◌≡◌, ℕ, ◌<◌, ◌^◌, nat_lt, ℤ, pos, negsuc, true, List, Some, option_and_then, FitsSigned}
-use Rattle.std.specs.Int.{w32, w64}
 use Rattle.std.proofs.Common.{arith}
 use Rattle.std.proofs.lemmas.Bool.Decides.{nat_tests}
 use Rattle.std.proofs.lemmas.Int.{ints}
-use Rattle.serde_json.specs.Data.{string}
-use Rattle.rec_events.specs.Names.{IsText}
-use Rattle.rec_forms.specs.Shape.{only, natural, natural_below, integer, fits, integer_within, text_of}
-use Rattle.rec_forms.specs.Numbers.{u32_form, u64_form, i32_form, i64_form, count_form, IsCount}
-use Rattle.serde_json.specs.Find.{as_number, as_str, as_u64, as_i64}
+use Rattle.std.specs.Int.{w32, w64}
+use Rattle.std.specs.Prelude.{◌≡◌, ℕ, ◌<◌, ◌^◌, nat_lt, ℤ, pos, negsuc, true, List, Some, option_and_then, FitsSigned}
 use Rattle.std.specs.Str.{is_utf8}
-use Rattle.rec_forms.specs.Writable.{IsWritable, natural_writable, integer_writable}
+use Rattle.serde_json.specs.Data.{string}
+use Rattle.serde_json.specs.Find.{as_number, as_str, as_u64, as_i64}
+use Rattle.rec_events.specs.Names.{IsText}
 use Rattle.rec_forms.specs.GivesWellFormed.{GivesWellFormed}
+use Rattle.rec_forms.specs.Numbers.{u32_form, u64_form, i32_form, i64_form, count_form, IsCount}
+use Rattle.rec_forms.specs.Shape.{only, natural, natural_below, integer, fits, integer_within, text_of}
 use Rattle.rec_forms.specs.WellFormedLaws.{anything, and_then_holds, only_holds}
+use Rattle.rec_forms.specs.Writable.{IsWritable, natural_writable, integer_writable}
 
 below_back : (limit n : ℕ) → n < limit → natural_below limit (natural n) ≡ Some n
 below_back limit n h = grind (arith, nat_tests)

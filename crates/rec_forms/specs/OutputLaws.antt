@@ -1,26 +1,26 @@
 -- Outputs read back, and are writable.
-use Rattle.std.specs.Prelude.{◌≡◌, ℕ, List, Some, refl, codes, Err, Ok, Result, [], ◌∷◌}
-use Rattle.hex.proofs.HexLemmas.{decode_of-encode_lower, decode_of-ok}
-use Rattle.hex.specs.Hex.{encode_lower, IsBytes, decode_of}
 use Rattle.std.proofs.Common.{arith}
-use Rattle.rec_events.specs.declared.outputs.ZipStoreOutput.{ZipStoreOutput}
+use Rattle.std.specs.Prelude.{◌≡◌, ℕ, List, Some, refl, codes, Err, Ok, Result, [], ◌∷◌}
+use Rattle.std.specs.Result.{result_ok}
+use Rattle.hex.proofs.HexLemmas.{decode_of-encode_lower, decode_of-ok}
+use Rattle.hex.specs.declared.error.FromHexError.{FromHexError}
+use Rattle.hex.specs.Hex.{encode_lower, IsBytes, decode_of}
+use Rattle.serde_json.specs.Find.{as_str}
 use Rattle.rec_events.specs.declared.outputs.ZipStoreOutput.TheVariants as output
-use Rattle.rec_events.specs.declared.outputs.ZipStoreOutputDescription.{ZipStoreOutputDescription}
+use Rattle.rec_events.specs.declared.outputs.ZipStoreOutput.{ZipStoreOutput}
 use Rattle.rec_events.specs.declared.outputs.ZipStoreOutputDescription.TheVariants as outputs
+use Rattle.rec_events.specs.declared.outputs.ZipStoreOutputDescription.{ZipStoreOutputDescription}
+use Rattle.rec_forms.specs.GivesWellFormed.{Holds, GivesWellFormed}
 use Rattle.rec_forms.specs.ListLaws.{maybe_back}
 use Rattle.rec_forms.specs.Members.{get_member-members_of}
 use Rattle.rec_forms.specs.NumberLaws.{u64_back, u64_well_formed}
-use Rattle.rec_forms.specs.OutputNameLaws.{file_name_back, file_name_writable, file_name_well_formed}
-use Rattle.rec_forms.specs.Outputs.{output_bytes_value, output_bytes_form, stored_output_value, stored_output_form, truncated_form, IsStoredOutput, stored_outputs_value, stored_outputs_form, split_form, IsStoredOutputs, combined_form, full_form}
-use Rattle.rec_forms.specs.Writable.{IsWritable, struct_writable, tagged_writable, natural_writable, string_writable, word_writable, optional_writable, weaker}
-use Rattle.rec_forms.specs.TextLaws.{IsText-encode_lower}
-use Rattle.rec_forms.specs.GivesWellFormed.{Holds, GivesWellFormed}
-use Rattle.rec_forms.specs.WellFormedLaws.{anything, and_then_holds, map_holds, object_then, required_then, maybe_then, variant_well_formed}
-use Rattle.hex.specs.declared.error.FromHexError.{FromHexError}
 use Rattle.rec_forms.specs.Numbers.{u64_form}
+use Rattle.rec_forms.specs.OutputNameLaws.{file_name_back, file_name_writable, file_name_well_formed}
 use Rattle.rec_forms.specs.OutputNames.{file_name_form}
-use Rattle.serde_json.specs.Find.{as_str}
-use Rattle.std.specs.Result.{result_ok}
+use Rattle.rec_forms.specs.Outputs.{output_bytes_value, output_bytes_form, stored_output_value, stored_output_form, truncated_form, IsStoredOutput, stored_outputs_value, stored_outputs_form, split_form, IsStoredOutputs, combined_form, full_form}
+use Rattle.rec_forms.specs.TextLaws.{IsText-encode_lower}
+use Rattle.rec_forms.specs.WellFormedLaws.{anything, and_then_holds, map_holds, object_then, required_then, maybe_then, variant_well_formed}
+use Rattle.rec_forms.specs.Writable.{IsWritable, struct_writable, tagged_writable, natural_writable, string_writable, word_writable, optional_writable, weaker}
 
 pub output_bytes_back : (bytes : List ℕ) → IsBytes bytes → output_bytes_form (output_bytes_value bytes) ≡ Some bytes
 unfolding output_bytes_form

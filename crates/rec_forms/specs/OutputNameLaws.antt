@@ -1,23 +1,23 @@
 -- A kind of outputs and the name of an output's file read back, and are writable.
-use Rattle.std.specs.Prelude.{◌≡◌, ℕ, ◌<◌, ◌^◌, List, take, drop, Some, Result, Ok, Err, refl}
-use Rattle.rec_events.specs.Names.{IsText}
-use Rattle.rec_events.specs.OutputNames.{kind_of, kind_suffix, file_name_text, number_if_written, number_of, with_number, file_name_of}
-use Rattle.rec_events.specs.OutputNameLaws.{file_name_back as name_back}
-use Rattle.rec_events.specs.declared.output_names.OutputFileName.{OutputFileName}
-use Rattle.rec_events.specs.declared.output_names.OutputKind.{OutputKind}
-use Rattle.rec_events.specs.declared.output_names.OutputKind.TheVariants.{Stdout, Stderr, Combined}
-use Rattle.rec_forms.specs.OutputNames.{output_kind_name, output_kind_value, output_kind_form, file_name_value, file_name_form, IsFileName}
-use Rattle.rec_forms.specs.Writable.{IsWritable, string_writable, word_writable}
-use Rattle.rec_forms.specs.TextLaws.{IsText-are_ascii, IsText-append, IsText-encode_lower}
-use Rattle.rec_forms.specs.GivesWellFormed.{Holds, GivesWellFormed}
-use Rattle.rec_forms.specs.WellFormedLaws.{anything, and_then_holds, only_holds}
 use Rattle.std.proofs.Common.{arith, sym, ◌∙◌}
-use Rattle.serde_json.specs.Find.{as_str}
-use Rattle.hex.proofs.HexLemmas.{decode_of-ok, decode_sized-ok, decode_sized-twice}
-use Rattle.hex.specs.Hex.{IsBytes, decode_sized, encode_lower}
-use Rattle.hex.specs.declared.error.FromHexError.{FromHexError}
 use Rattle.std.specs.Int.{from_be_bytes, to_be_bytes, w64}
+use Rattle.std.specs.Prelude.{◌≡◌, ℕ, ◌<◌, ◌^◌, List, take, drop, Some, Result, Ok, Err, refl}
 use Rattle.std.specs.Str.{bytes_eq}
+use Rattle.hex.proofs.HexLemmas.{decode_of-ok, decode_sized-ok, decode_sized-twice}
+use Rattle.hex.specs.declared.error.FromHexError.{FromHexError}
+use Rattle.hex.specs.Hex.{IsBytes, decode_sized, encode_lower}
+use Rattle.serde_json.specs.Find.{as_str}
+use Rattle.rec_events.specs.declared.output_names.OutputFileName.{OutputFileName}
+use Rattle.rec_events.specs.declared.output_names.OutputKind.TheVariants.{Stdout, Stderr, Combined}
+use Rattle.rec_events.specs.declared.output_names.OutputKind.{OutputKind}
+use Rattle.rec_events.specs.Names.{IsText}
+use Rattle.rec_events.specs.OutputNameLaws.{file_name_back as name_back}
+use Rattle.rec_events.specs.OutputNames.{kind_of, kind_suffix, file_name_text, number_if_written, number_of, with_number, file_name_of}
+use Rattle.rec_forms.specs.GivesWellFormed.{Holds, GivesWellFormed}
+use Rattle.rec_forms.specs.OutputNames.{output_kind_name, output_kind_value, output_kind_form, file_name_value, file_name_form, IsFileName}
+use Rattle.rec_forms.specs.TextLaws.{IsText-are_ascii, IsText-append, IsText-encode_lower}
+use Rattle.rec_forms.specs.WellFormedLaws.{anything, and_then_holds, only_holds}
+use Rattle.rec_forms.specs.Writable.{IsWritable, string_writable, word_writable}
 
 pub output_kind_back : (x : OutputKind) → output_kind_form (output_kind_value x) ≡ Some x
 unfolding output_kind_form

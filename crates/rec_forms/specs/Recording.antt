@@ -2,14 +2,14 @@
 use Rattle.std.specs.Prelude.{ℕ, List, [], ◌∷◌, Option, Some, option_and_then, codes}
 use Rattle.serde_json.specs.Data.{Data, string}
 use Rattle.serde_json.specs.Find.{as_object, as_str}
-use Rattle.rec_events.specs.Names.{AreTexts}
-use Rattle.rec_events.specs.declared.recording.NextestRunMode.{NextestRunMode}
 use Rattle.rec_events.specs.declared.recording.NextestRunMode.TheVariants.{Test, Benchmark}
-use Rattle.rec_events.specs.declared.recording.TestListSummary.{TestListSummary}
+use Rattle.rec_events.specs.declared.recording.NextestRunMode.{NextestRunMode}
 use Rattle.rec_events.specs.declared.recording.RecordOpts.{RecordOpts}
-use Rattle.rec_forms.specs.Shape.{◌>>=◌, field, struct, required, named, text_of}
+use Rattle.rec_events.specs.declared.recording.TestListSummary.{TestListSummary}
+use Rattle.rec_events.specs.Names.{AreTexts}
 use Rattle.rec_forms.specs.Lists.{list_value, list_form}
 use Rattle.rec_forms.specs.Maps.{map_value, map_form, IsMap}
+use Rattle.rec_forms.specs.Shape.{◌>>=◌, field, struct, required, named, text_of}
 
 abbrev pub run_mode_name : NextestRunMode → List ℕ
 run_mode_name Test = codes "test"

@@ -1,22 +1,22 @@
 -- What a recording says of the whole run reads back, and is writable.
 use Rattle.std.specs.Prelude.{◌≡◌, Some, refl, codes}
 use Rattle.serde_json.specs.Data.{string}
-use Rattle.rec_events.specs.Names.{IsText, AreTexts}
-use Rattle.rec_events.specs.declared.recording.NextestRunMode.{NextestRunMode}
 use Rattle.rec_events.specs.declared.recording.NextestRunMode.TheVariants.{Test, Benchmark}
-use Rattle.rec_events.specs.declared.recording.TestListSummary.{TestListSummary}
+use Rattle.rec_events.specs.declared.recording.NextestRunMode.{NextestRunMode}
 use Rattle.rec_events.specs.declared.recording.RecordOpts.{RecordOpts}
-use Rattle.rec_forms.specs.Shape.{text_of}
+use Rattle.rec_events.specs.declared.recording.TestListSummary.{TestListSummary}
+use Rattle.rec_events.specs.Names.{IsText, AreTexts}
+use Rattle.rec_forms.specs.GivesWellFormed.{GivesWellFormed}
+use Rattle.rec_forms.specs.ListLaws.{list_back}
 use Rattle.rec_forms.specs.Lists.{list_value, list_form}
-use Rattle.rec_forms.specs.Recording.{run_mode_value, run_mode_form, record_opts_value, record_opts_form, test_list_value, test_list_form, IsTestList}
+use Rattle.rec_forms.specs.MapLaws.{map_back, map_writable, map_well_formed}
+use Rattle.rec_forms.specs.Maps.{map_form}
 use Rattle.rec_forms.specs.Members.{get_member-members_of}
 use Rattle.rec_forms.specs.NumberLaws.{text_back, text_well_formed}
-use Rattle.rec_forms.specs.ListLaws.{list_back}
-use Rattle.rec_forms.specs.MapLaws.{map_back, map_writable, map_well_formed}
-use Rattle.rec_forms.specs.Writable.{IsWritable, struct_writable, string_writable, word_writable, list_writable}
-use Rattle.rec_forms.specs.GivesWellFormed.{GivesWellFormed}
+use Rattle.rec_forms.specs.Recording.{run_mode_value, run_mode_form, record_opts_value, record_opts_form, test_list_value, test_list_form, IsTestList}
+use Rattle.rec_forms.specs.Shape.{text_of}
 use Rattle.rec_forms.specs.WellFormedLaws.{object_then, required_then, list_well_formed}
-use Rattle.rec_forms.specs.Maps.{map_form}
+use Rattle.rec_forms.specs.Writable.{IsWritable, struct_writable, string_writable, word_writable, list_writable}
 
 pub run_mode_back : (m : NextestRunMode) → run_mode_form (run_mode_value m) ≡ Some m
 unfolding run_mode_form

@@ -1,11 +1,11 @@
 -- How outcomes are shown and reported reads back, and is writable.
 use Rattle.std.specs.Prelude.{◌≡◌, Some, refl}
-use Rattle.rec_events.specs.declared.reporting.TestOutputDisplay.{TestOutputDisplay}
-use Rattle.rec_events.specs.declared.reporting.TestOutputDisplay.TheVariants.{Immediate, Final, ImmediateFinal, Never}
-use Rattle.rec_events.specs.declared.reporting.JunitFlakyFailStatus.{JunitFlakyFailStatus}
-use Rattle.rec_events.specs.declared.reporting.JunitFlakyFailStatus.TheVariants.{Failure, Success}
-use Rattle.rec_events.specs.declared.reporting.CancelReason.{CancelReason}
 use Rattle.rec_events.specs.declared.reporting.CancelReason.TheVariants.{SetupScriptFailure, TestFailure, ReportError, GlobalTimeout, TestFailureImmediate, Signal, Interrupt, SecondSignal}
+use Rattle.rec_events.specs.declared.reporting.CancelReason.{CancelReason}
+use Rattle.rec_events.specs.declared.reporting.JunitFlakyFailStatus.TheVariants.{Failure, Success}
+use Rattle.rec_events.specs.declared.reporting.JunitFlakyFailStatus.{JunitFlakyFailStatus}
+use Rattle.rec_events.specs.declared.reporting.TestOutputDisplay.TheVariants.{Immediate, Final, ImmediateFinal, Never}
+use Rattle.rec_events.specs.declared.reporting.TestOutputDisplay.{TestOutputDisplay}
 use Rattle.rec_forms.specs.Reporting.{output_display_name, output_display_value, output_display_form, flaky_fail_status_name, flaky_fail_status_value, flaky_fail_status_form, cancel_reason_name, cancel_reason_value, cancel_reason_form}
 use Rattle.rec_forms.specs.Writable.{IsWritable, word_writable}
 

@@ -1,28 +1,28 @@
 -- How tests, scripts and attempts ended reads back, and is writable.
-use Rattle.std.specs.Prelude.{◌≡◌, Some, codes, refl, [], ◌∷◌}
 use Rattle.std.proofs.Common.{arith}
+use Rattle.std.specs.Prelude.{◌≡◌, Some, codes, refl, [], ◌∷◌}
 use Rattle.serde_json.specs.Data.{string}
-use Rattle.rec_events.specs.Names.{IsText}
-use Rattle.rec_events.specs.declared.results.FlakyResult.{FlakyResult}
-use Rattle.rec_events.specs.declared.results.FlakyResult.TheVariants as flaky
-use Rattle.rec_events.specs.declared.results.LeakTimeoutResult.{LeakTimeoutResult}
-use Rattle.rec_events.specs.declared.results.LeakTimeoutResult.TheVariants as leak
-use Rattle.rec_events.specs.declared.results.SlowTimeoutResult.{SlowTimeoutResult}
-use Rattle.rec_events.specs.declared.results.SlowTimeoutResult.TheVariants as slow
-use Rattle.rec_events.specs.declared.results.FailureDescription.{FailureDescription}
-use Rattle.rec_events.specs.declared.results.FailureDescription.TheVariants as failure
-use Rattle.rec_events.specs.declared.results.ExecutionResultDescription.{ExecutionResultDescription}
+use Rattle.serde_json.specs.Find.{as_bool}
 use Rattle.rec_events.specs.declared.results.ExecutionResultDescription.TheVariants as result
-use Rattle.rec_forms.specs.Shape.{text_of}
-use Rattle.rec_forms.specs.Results.{flaky_result_name, flaky_result_value, flaky_result_form, leak_result_name, leak_result_value, leak_result_form, slow_result_name, slow_result_value, slow_result_form, failure_value, failure_form, abort_form, IsFailure, execution_result_value, execution_result_form, fail_form, IsExecutionResult, exit_code_form, leak_form, timeout_form}
+use Rattle.rec_events.specs.declared.results.ExecutionResultDescription.{ExecutionResultDescription}
+use Rattle.rec_events.specs.declared.results.FailureDescription.TheVariants as failure
+use Rattle.rec_events.specs.declared.results.FailureDescription.{FailureDescription}
+use Rattle.rec_events.specs.declared.results.FlakyResult.TheVariants as flaky
+use Rattle.rec_events.specs.declared.results.FlakyResult.{FlakyResult}
+use Rattle.rec_events.specs.declared.results.LeakTimeoutResult.TheVariants as leak
+use Rattle.rec_events.specs.declared.results.LeakTimeoutResult.{LeakTimeoutResult}
+use Rattle.rec_events.specs.declared.results.SlowTimeoutResult.TheVariants as slow
+use Rattle.rec_events.specs.declared.results.SlowTimeoutResult.{SlowTimeoutResult}
+use Rattle.rec_events.specs.Names.{IsText}
+use Rattle.rec_forms.specs.GivesWellFormed.{GivesWellFormed}
+use Rattle.rec_forms.specs.ListLaws.{maybe_back}
 use Rattle.rec_forms.specs.Members.{get_member-members_of}
 use Rattle.rec_forms.specs.NumberLaws.{i32_back, text_back, i32_writable, i32_well_formed, text_well_formed}
-use Rattle.rec_forms.specs.ListLaws.{maybe_back}
-use Rattle.rec_forms.specs.Writable.{IsWritable, struct_writable, tagged_writable, optional_writable, string_writable, word_writable, boolean_writable, weaker}
-use Rattle.rec_forms.specs.GivesWellFormed.{GivesWellFormed}
-use Rattle.rec_forms.specs.WellFormedLaws.{anything, any_well_formed, map_holds, object_then, required_then, maybe_then, variant_well_formed}
 use Rattle.rec_forms.specs.Numbers.{i32_form}
-use Rattle.serde_json.specs.Find.{as_bool}
+use Rattle.rec_forms.specs.Results.{flaky_result_name, flaky_result_value, flaky_result_form, leak_result_name, leak_result_value, leak_result_form, slow_result_name, slow_result_value, slow_result_form, failure_value, failure_form, abort_form, IsFailure, execution_result_value, execution_result_form, fail_form, IsExecutionResult, exit_code_form, leak_form, timeout_form}
+use Rattle.rec_forms.specs.Shape.{text_of}
+use Rattle.rec_forms.specs.WellFormedLaws.{anything, any_well_formed, map_holds, object_then, required_then, maybe_then, variant_well_formed}
+use Rattle.rec_forms.specs.Writable.{IsWritable, struct_writable, tagged_writable, optional_writable, string_writable, word_writable, boolean_writable, weaker}
 
 pub flaky_result_back : (x : FlakyResult) → flaky_result_form (flaky_result_value x) ≡ Some x
 unfolding flaky_result_form

@@ -1,19 +1,19 @@
 -- The values and forms of how tests, scripts and attempts ended.
-use Rattle.std.specs.Prelude.{ℕ, List, [], ◌∷◌, Option, Some, FitsSigned, IfSome, option_map, option_and_then, codes}
 use Rattle.std.specs.Int.{w32}
+use Rattle.std.specs.Prelude.{ℕ, List, [], ◌∷◌, Option, Some, FitsSigned, IfSome, option_map, option_and_then, codes}
 use Rattle.serde_json.specs.Data.{Data, string, boolean}
 use Rattle.serde_json.specs.Find.{as_object, as_str, as_bool}
-use Rattle.rec_events.specs.Names.{IsText}
-use Rattle.rec_events.specs.declared.results.FlakyResult.{FlakyResult}
-use Rattle.rec_events.specs.declared.results.FlakyResult.TheVariants as flaky
-use Rattle.rec_events.specs.declared.results.LeakTimeoutResult.{LeakTimeoutResult}
-use Rattle.rec_events.specs.declared.results.LeakTimeoutResult.TheVariants as leak
-use Rattle.rec_events.specs.declared.results.SlowTimeoutResult.{SlowTimeoutResult}
-use Rattle.rec_events.specs.declared.results.SlowTimeoutResult.TheVariants as slow
-use Rattle.rec_events.specs.declared.results.FailureDescription.{FailureDescription}
-use Rattle.rec_events.specs.declared.results.FailureDescription.TheVariants as failure
-use Rattle.rec_events.specs.declared.results.ExecutionResultDescription.{ExecutionResultDescription}
 use Rattle.rec_events.specs.declared.results.ExecutionResultDescription.TheVariants as result
+use Rattle.rec_events.specs.declared.results.ExecutionResultDescription.{ExecutionResultDescription}
+use Rattle.rec_events.specs.declared.results.FailureDescription.TheVariants as failure
+use Rattle.rec_events.specs.declared.results.FailureDescription.{FailureDescription}
+use Rattle.rec_events.specs.declared.results.FlakyResult.TheVariants as flaky
+use Rattle.rec_events.specs.declared.results.FlakyResult.{FlakyResult}
+use Rattle.rec_events.specs.declared.results.LeakTimeoutResult.TheVariants as leak
+use Rattle.rec_events.specs.declared.results.LeakTimeoutResult.{LeakTimeoutResult}
+use Rattle.rec_events.specs.declared.results.SlowTimeoutResult.TheVariants as slow
+use Rattle.rec_events.specs.declared.results.SlowTimeoutResult.{SlowTimeoutResult}
+use Rattle.rec_events.specs.Names.{IsText}
 use Rattle.rec_forms.specs.Numbers.{i32_form}
 use Rattle.rec_forms.specs.Shape.{◌>>=◌, integer, field, optional, struct, required, maybe, text_of, named, tagged, variant}
 

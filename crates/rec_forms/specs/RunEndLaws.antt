@@ -1,27 +1,27 @@
 -- How a run ended reads back, and is writable.
-use Rattle.std.specs.Prelude.{◌≡◌, Some, refl, codes, [], ◌∷◌}
 use Rattle.std.proofs.Common.{arith}
-use Rattle.rec_events.specs.declared.run_ends.FinalRunStats.{FinalRunStats}
+use Rattle.std.specs.Prelude.{◌≡◌, Some, refl, codes, [], ◌∷◌}
 use Rattle.rec_events.specs.declared.run_ends.FinalRunStats.TheVariants.{Success, NoTestsRun, Failed, Cancelled}
-use Rattle.rec_events.specs.declared.run_ends.StressFinalRunStats.{StressFinalRunStats}
-use Rattle.rec_events.specs.declared.run_ends.StressFinalRunStats.TheVariants as stress
-use Rattle.rec_events.specs.declared.run_ends.StressRunStats.{StressRunStats}
-use Rattle.rec_events.specs.declared.run_ends.RunFinishedStats.{RunFinishedStats}
+use Rattle.rec_events.specs.declared.run_ends.FinalRunStats.{FinalRunStats}
 use Rattle.rec_events.specs.declared.run_ends.RunFinishedStats.TheVariants.{Single, Stress}
+use Rattle.rec_events.specs.declared.run_ends.RunFinishedStats.{RunFinishedStats}
+use Rattle.rec_events.specs.declared.run_ends.StressFinalRunStats.TheVariants as stress
+use Rattle.rec_events.specs.declared.run_ends.StressFinalRunStats.{StressFinalRunStats}
+use Rattle.rec_events.specs.declared.run_ends.StressRunStats.{StressRunStats}
 use Rattle.rec_events.specs.declared.run_ends.TestsNotSeenSummary.{TestsNotSeenSummary}
+use Rattle.rec_forms.specs.GivesWellFormed.{GivesWellFormed}
 use Rattle.rec_forms.specs.InstanceLaws.{stress_index_back, stress_index_writable, test_instance_back, test_instance_writable, stress_index_well_formed, test_instance_well_formed}
 use Rattle.rec_forms.specs.Instances.{test_instance_value, test_instance_form, IsTestInstance, stress_index_form}
 use Rattle.rec_forms.specs.ListLaws.{list_back}
+use Rattle.rec_forms.specs.Lists.{list_form}
 use Rattle.rec_forms.specs.Members.{get_member-members_of}
 use Rattle.rec_forms.specs.NumberLaws.{u32_back, u64_back, u32_writable, u32_well_formed, u64_well_formed}
-use Rattle.rec_forms.specs.RunEnds.{stress_final_stats_name, stress_final_stats_value, stress_final_stats_form, final_stats_name, final_stats_value, final_stats_form, stress_run_stats_value, stress_run_stats_form, IsStressRunStats, run_finished_stats_value, run_finished_stats_form, IsRunFinishedStats, tests_not_seen_value, tests_not_seen_form, IsTestsNotSeen, single_stats_form, stress_stats_form}
-use Rattle.rec_forms.specs.StatsLaws.{run_stats_back, run_stats_writable, run_stats_well_formed}
-use Rattle.rec_forms.specs.Writable.{IsWritable, weaker, struct_writable, tagged_writable, list_writable, natural_writable, word_writable}
-use Rattle.rec_forms.specs.GivesWellFormed.{GivesWellFormed}
-use Rattle.rec_forms.specs.WellFormedLaws.{any_well_formed, map_holds, object_then, required_then, list_well_formed, variant_well_formed}
-use Rattle.rec_forms.specs.Lists.{list_form}
 use Rattle.rec_forms.specs.Numbers.{u32_form, u64_form}
+use Rattle.rec_forms.specs.RunEnds.{stress_final_stats_name, stress_final_stats_value, stress_final_stats_form, final_stats_name, final_stats_value, final_stats_form, stress_run_stats_value, stress_run_stats_form, IsStressRunStats, run_finished_stats_value, run_finished_stats_form, IsRunFinishedStats, tests_not_seen_value, tests_not_seen_form, IsTestsNotSeen, single_stats_form, stress_stats_form}
 use Rattle.rec_forms.specs.Stats.{run_stats_form}
+use Rattle.rec_forms.specs.StatsLaws.{run_stats_back, run_stats_writable, run_stats_well_formed}
+use Rattle.rec_forms.specs.WellFormedLaws.{any_well_formed, map_holds, object_then, required_then, list_well_formed, variant_well_formed}
+use Rattle.rec_forms.specs.Writable.{IsWritable, weaker, struct_writable, tagged_writable, list_writable, natural_writable, word_writable}
 
 pub final_stats_back : (x : FinalRunStats) → final_stats_form (final_stats_value x) ≡ Some x
 unfolding final_stats_form

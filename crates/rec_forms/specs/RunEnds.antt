@@ -1,15 +1,15 @@
 -- The values and forms of how a run ended.
-use Rattle.std.specs.Prelude.{ℕ, ◌^◌, ◌<◌, List, [], ◌∷◌, Option, Some, option_map, option_and_then, codes}
 use Rattle.std.specs.List.{AllByRecursion}
+use Rattle.std.specs.Prelude.{ℕ, ◌^◌, ◌<◌, List, [], ◌∷◌, Option, Some, option_map, option_and_then, codes}
 use Rattle.serde_json.specs.Data.{Data, string}
 use Rattle.serde_json.specs.Find.{as_object, as_str}
-use Rattle.rec_events.specs.declared.run_ends.FinalRunStats.{FinalRunStats}
 use Rattle.rec_events.specs.declared.run_ends.FinalRunStats.TheVariants.{Success, NoTestsRun, Failed, Cancelled}
-use Rattle.rec_events.specs.declared.run_ends.StressFinalRunStats.{StressFinalRunStats}
-use Rattle.rec_events.specs.declared.run_ends.StressFinalRunStats.TheVariants as stress
-use Rattle.rec_events.specs.declared.run_ends.StressRunStats.{StressRunStats}
-use Rattle.rec_events.specs.declared.run_ends.RunFinishedStats.{RunFinishedStats}
+use Rattle.rec_events.specs.declared.run_ends.FinalRunStats.{FinalRunStats}
 use Rattle.rec_events.specs.declared.run_ends.RunFinishedStats.TheVariants.{Single, Stress}
+use Rattle.rec_events.specs.declared.run_ends.RunFinishedStats.{RunFinishedStats}
+use Rattle.rec_events.specs.declared.run_ends.StressFinalRunStats.TheVariants as stress
+use Rattle.rec_events.specs.declared.run_ends.StressFinalRunStats.{StressFinalRunStats}
+use Rattle.rec_events.specs.declared.run_ends.StressRunStats.{StressRunStats}
 use Rattle.rec_events.specs.declared.run_ends.TestsNotSeenSummary.{TestsNotSeenSummary}
 use Rattle.rec_forms.specs.Instances.{stress_index_value, stress_index_form, IsStressIndex, test_instance_value, test_instance_form, IsTestInstance}
 use Rattle.rec_forms.specs.Lists.{list_value, list_form}

@@ -1,24 +1,24 @@
 -- What is built reads back, and is writable.
-use Rattle.std.specs.Prelude.{◌≡◌, ℕ, List, Some, [], codes, false, refl}
 use Rattle.std.proofs.Common.{arith}
+use Rattle.std.specs.Prelude.{◌≡◌, ℕ, List, Some, [], codes, false, refl}
 use Rattle.serde_json.specs.Data.{string}
-use Rattle.rec_events.specs.Names.{IsText, AreTexts}
+use Rattle.serde_json.specs.Find.{as_bool}
+use Rattle.rec_events.specs.declared.selections.BuildScope.{BuildScope}
+use Rattle.rec_events.specs.declared.selections.FeatureSelection.{FeatureSelection}
 use Rattle.rec_events.specs.declared.selections.NamedTargets.{NamedTargets}
 use Rattle.rec_events.specs.declared.selections.PackageSelection.{PackageSelection}
 use Rattle.rec_events.specs.declared.selections.TargetSelection.{TargetSelection}
-use Rattle.rec_events.specs.declared.selections.FeatureSelection.{FeatureSelection}
-use Rattle.rec_events.specs.declared.selections.BuildScope.{BuildScope}
-use Rattle.rec_forms.specs.Shape.{text_of}
+use Rattle.rec_events.specs.Names.{IsText, AreTexts}
+use Rattle.rec_events.specs.Selections.{no_feature_selection, no_named_targets, no_package_selection, no_target_selection}
+use Rattle.rec_forms.specs.GivesWellFormed.{GivesWellFormed}
+use Rattle.rec_forms.specs.ListLaws.{each_back}
 use Rattle.rec_forms.specs.Lists.{list_value, list_form}
-use Rattle.rec_forms.specs.Selections.{named_targets_value, named_targets_form, IsNamedTargets, package_selection_value, package_selection_form, IsPackageSelection, target_selection_value, target_selection_form, IsTargetSelection, feature_selection_value, feature_selection_form, IsFeatureSelection, build_scope_value, build_scope_form, IsBuildScope}
 use Rattle.rec_forms.specs.Members.{get_member-members_of}
 use Rattle.rec_forms.specs.NumberLaws.{text_back, text_well_formed}
-use Rattle.rec_forms.specs.ListLaws.{each_back}
-use Rattle.rec_forms.specs.Writable.{IsWritable, weaker, struct_writable, string_writable, boolean_writable, list_writable}
-use Rattle.rec_forms.specs.GivesWellFormed.{GivesWellFormed}
+use Rattle.rec_forms.specs.Selections.{named_targets_value, named_targets_form, IsNamedTargets, package_selection_value, package_selection_form, IsPackageSelection, target_selection_value, target_selection_form, IsTargetSelection, feature_selection_value, feature_selection_form, IsFeatureSelection, build_scope_value, build_scope_form, IsBuildScope}
+use Rattle.rec_forms.specs.Shape.{text_of}
 use Rattle.rec_forms.specs.WellFormedLaws.{any_well_formed, object_then, defaulted_then, list_well_formed}
-use Rattle.rec_events.specs.Selections.{no_feature_selection, no_named_targets, no_package_selection, no_target_selection}
-use Rattle.serde_json.specs.Find.{as_bool}
+use Rattle.rec_forms.specs.Writable.{IsWritable, weaker, struct_writable, string_writable, boolean_writable, list_writable}
 
 pub named_targets_back : (t : NamedTargets) → IsNamedTargets t → named_targets_form (named_targets_value t) ≡ Some t
 unfolding named_targets_form

@@ -2,15 +2,15 @@
 use Rattle.std.specs.Prelude.{false, [], ◌∷◌, Option, Some, codes}
 use Rattle.serde_json.specs.Data.{Data, string, boolean}
 use Rattle.serde_json.specs.Find.{as_object, as_bool}
-use Rattle.rec_events.specs.Names.{AreTexts}
-use Rattle.rec_events.specs.Selections.{no_named_targets, no_package_selection, no_target_selection, no_feature_selection}
+use Rattle.rec_events.specs.declared.selections.BuildScope.{BuildScope}
+use Rattle.rec_events.specs.declared.selections.FeatureSelection.{FeatureSelection}
 use Rattle.rec_events.specs.declared.selections.NamedTargets.{NamedTargets}
 use Rattle.rec_events.specs.declared.selections.PackageSelection.{PackageSelection}
 use Rattle.rec_events.specs.declared.selections.TargetSelection.{TargetSelection}
-use Rattle.rec_events.specs.declared.selections.FeatureSelection.{FeatureSelection}
-use Rattle.rec_events.specs.declared.selections.BuildScope.{BuildScope}
-use Rattle.rec_forms.specs.Shape.{◌>>=◌, field, struct, defaulted, text_of}
+use Rattle.rec_events.specs.Names.{AreTexts}
+use Rattle.rec_events.specs.Selections.{no_named_targets, no_package_selection, no_target_selection, no_feature_selection}
 use Rattle.rec_forms.specs.Lists.{list_value, list_form}
+use Rattle.rec_forms.specs.Shape.{◌>>=◌, field, struct, defaulted, text_of}
 
 -- NamedTargets
 abbrev pub named_targets_value : NamedTargets → Data

@@ -2,10 +2,10 @@
 use Rattle.std.specs.Prelude.{ℕ, List, [], ◌∷◌, Option, option_and_then, codes}
 use Rattle.serde_json.specs.Data.{Data, string}
 use Rattle.serde_json.specs.Find.{as_str}
-use Rattle.rec_events.specs.declared.skipping.MismatchReason.{MismatchReason}
 use Rattle.rec_events.specs.declared.skipping.MismatchReason.TheVariants as reason
-use Rattle.rec_events.specs.declared.skipping.ReportSkipPolicy.{ReportSkipPolicy}
+use Rattle.rec_events.specs.declared.skipping.MismatchReason.{MismatchReason}
 use Rattle.rec_events.specs.declared.skipping.ReportSkipPolicy.TheVariants as policy
+use Rattle.rec_events.specs.declared.skipping.ReportSkipPolicy.{ReportSkipPolicy}
 use Rattle.rec_forms.specs.Shape.{named}
 
 -- MismatchReason

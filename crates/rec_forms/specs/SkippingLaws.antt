@@ -1,9 +1,9 @@
 -- Why tests are skipped, and which of these a report names, reads back and is writable.
 use Rattle.std.specs.Prelude.{◌≡◌, Some, refl}
-use Rattle.rec_events.specs.declared.skipping.MismatchReason.{MismatchReason}
 use Rattle.rec_events.specs.declared.skipping.MismatchReason.TheVariants as reason
-use Rattle.rec_events.specs.declared.skipping.ReportSkipPolicy.{ReportSkipPolicy}
+use Rattle.rec_events.specs.declared.skipping.MismatchReason.{MismatchReason}
 use Rattle.rec_events.specs.declared.skipping.ReportSkipPolicy.TheVariants as policy
+use Rattle.rec_events.specs.declared.skipping.ReportSkipPolicy.{ReportSkipPolicy}
 use Rattle.rec_forms.specs.Skipping.{mismatch_reason_name, mismatch_reason_value, mismatch_reason_form, skip_policy_name, skip_policy_value, skip_policy_form}
 use Rattle.rec_forms.specs.Writable.{IsWritable, word_writable}
 

@@ -3,9 +3,9 @@ use Rattle.std.specs.Prelude.{◌^◌, ◌<◌, List, [], ◌∷◌, ◌++◌, O
 use Rattle.serde_json.specs.Data.{Data, Members}
 use Rattle.serde_json.specs.Find.{as_object}
 use Rattle.rec_events.specs.declared.stats.RunStats.{RunStats}
-use Rattle.rec_forms.specs.declared.stats.Setup.{Setup}
-use Rattle.rec_forms.specs.declared.stats.Passes.{Passes}
 use Rattle.rec_forms.specs.declared.stats.Failures.{Failures}
+use Rattle.rec_forms.specs.declared.stats.Passes.{Passes}
+use Rattle.rec_forms.specs.declared.stats.Setup.{Setup}
 use Rattle.rec_forms.specs.Numbers.{u64_form}
 use Rattle.rec_forms.specs.Reporting.{cancel_reason_value, cancel_reason_form}
 use Rattle.rec_forms.specs.Shape.{◌>>=◌, Field, natural, field, optional, struct, required, maybe}

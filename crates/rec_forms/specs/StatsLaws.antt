@@ -1,21 +1,21 @@
 -- The counts of a run read back, and are writable.
 use Rattle.std.specs.Prelude.{◌≡◌, List, [], ◌∷◌, ◌++◌, Option, Some, None, option_map, refl, codes, ◌<◌, ◌^◌}
+use Rattle.serde_json.specs.Data.{Members}
 use Rattle.rec_events.specs.declared.reporting.CancelReason.{CancelReason}
 use Rattle.rec_events.specs.declared.stats.RunStats.{RunStats}
-use Rattle.rec_forms.specs.Shape.{Field, if_there, at_member}
-use Rattle.rec_forms.specs.Reporting.{cancel_reason_value, cancel_reason_form}
-use Rattle.rec_forms.specs.ReportingLaws.{cancel_reason_back, cancel_reason_writable}
-use Rattle.rec_forms.specs.Stats.{run_stats_value, run_stats_form, setup_fields, setup_form, passes_fields, passes_form, failures_fields, failures_form, reason_fields, AreSetup, ArePasses, AreFailures, IsRunStats}
-use Rattle.rec_forms.specs.Members.{get_member-members_of}
-use Rattle.rec_forms.specs.NumberLaws.{u64_back, u64_well_formed}
-use Rattle.rec_forms.specs.Writable.{IsWritable, IfWritten, EachWritten, struct_writable, natural_writable}
-use Rattle.rec_forms.specs.GivesWellFormed.{Holds, GivesWellFormed}
-use Rattle.rec_forms.specs.WellFormedLaws.{object_then, required_then, maybe_then, then_holds, any_well_formed}
-use Rattle.rec_forms.specs.Numbers.{u64_form}
 use Rattle.rec_forms.specs.declared.stats.Failures.{Failures}
 use Rattle.rec_forms.specs.declared.stats.Passes.{Passes}
 use Rattle.rec_forms.specs.declared.stats.Setup.{Setup}
-use Rattle.serde_json.specs.Data.{Members}
+use Rattle.rec_forms.specs.GivesWellFormed.{Holds, GivesWellFormed}
+use Rattle.rec_forms.specs.Members.{get_member-members_of}
+use Rattle.rec_forms.specs.NumberLaws.{u64_back, u64_well_formed}
+use Rattle.rec_forms.specs.Numbers.{u64_form}
+use Rattle.rec_forms.specs.Reporting.{cancel_reason_value, cancel_reason_form}
+use Rattle.rec_forms.specs.ReportingLaws.{cancel_reason_back, cancel_reason_writable}
+use Rattle.rec_forms.specs.Shape.{Field, if_there, at_member}
+use Rattle.rec_forms.specs.Stats.{run_stats_value, run_stats_form, setup_fields, setup_form, passes_fields, passes_form, failures_fields, failures_form, reason_fields, AreSetup, ArePasses, AreFailures, IsRunStats}
+use Rattle.rec_forms.specs.WellFormedLaws.{object_then, required_then, maybe_then, then_holds, any_well_formed}
+use Rattle.rec_forms.specs.Writable.{IsWritable, IfWritten, EachWritten, struct_writable, natural_writable}
 
 maybe_reason_back : (o : Option CancelReason) → at_member (if_there cancel_reason_form) (option_map cancel_reason_value o) ≡ Some o
 maybe_reason_back None = refl

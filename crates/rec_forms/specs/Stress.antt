@@ -2,10 +2,10 @@
 use Rattle.std.specs.Prelude.{ℕ, ◌^◌, ◌<◌, [], ◌∷◌, Option, Some, None, option_map, IfSome, codes}
 use Rattle.serde_json.specs.Data.{Data, null}
 use Rattle.serde_json.specs.Find.{as_object}
-use Rattle.rec_events.specs.declared.stress.StressConditionSummary.{StressConditionSummary}
 use Rattle.rec_events.specs.declared.stress.StressConditionSummary.TheVariants.{Count, Duration}
-use Rattle.rec_events.specs.declared.stress.StressProgress.{StressProgress}
+use Rattle.rec_events.specs.declared.stress.StressConditionSummary.{StressConditionSummary}
 use Rattle.rec_events.specs.declared.stress.StressProgress.TheVariants as progress
+use Rattle.rec_events.specs.declared.stress.StressProgress.{StressProgress}
 use Rattle.rec_forms.specs.Numbers.{u32_form}
 use Rattle.rec_forms.specs.Shape.{◌>>=◌, natural, field, optional, struct, required, maybe, tagged, variant, if_there}
 use Rattle.rec_forms.specs.Times.{duration_value, duration_form, IsDuration}

@@ -1,23 +1,23 @@
 -- What ends a stress run, and how far it got, reads back and is writable.
-use Rattle.std.specs.Prelude.{◌≡◌, ◌<◌, ◌^◌, Some, None, refl, codes, [], ◌∷◌}
 use Rattle.std.proofs.Common.{arith}
+use Rattle.std.specs.Prelude.{◌≡◌, ◌<◌, ◌^◌, Some, None, refl, codes, [], ◌∷◌}
 use Rattle.serde_json.specs.Data.{null}
-use Rattle.rec_events.specs.declared.stress.StressConditionSummary.{StressConditionSummary}
 use Rattle.rec_events.specs.declared.stress.StressConditionSummary.TheVariants.{Count, Duration}
-use Rattle.rec_events.specs.declared.stress.StressProgress.{StressProgress}
+use Rattle.rec_events.specs.declared.stress.StressConditionSummary.{StressConditionSummary}
 use Rattle.rec_events.specs.declared.stress.StressProgress.TheVariants as progress
+use Rattle.rec_events.specs.declared.stress.StressProgress.{StressProgress}
+use Rattle.rec_forms.specs.GivesWellFormed.{GivesWellFormed}
 use Rattle.rec_forms.specs.ListLaws.{maybe_back}
 use Rattle.rec_forms.specs.Members.{get_member-members_of}
 use Rattle.rec_forms.specs.NumberLaws.{u32_back, u32_writable, u32_well_formed}
 use Rattle.rec_forms.specs.Numbers.{u32_form}
 use Rattle.rec_forms.specs.Shape.{natural, if_there}
 use Rattle.rec_forms.specs.Stress.{stress_condition_value, stress_condition_form, IsStressCondition, stress_progress_value, stress_progress_form, count_progress_form, time_progress_form, IsStressProgress, stress_count_form, stress_duration_form}
-use Rattle.rec_forms.specs.TimeLaws.{duration_back, duration_writable, duration_well_formed}
 use Rattle.rec_forms.specs.TextLaws.{IsText-are_ascii}
-use Rattle.rec_forms.specs.Writable.{IsWritable, tagged_canonical, optional_writable, struct_writable, tagged_writable}
-use Rattle.rec_forms.specs.GivesWellFormed.{GivesWellFormed}
-use Rattle.rec_forms.specs.WellFormedLaws.{map_holds, if_there_well_formed, object_then, required_then, maybe_then, variant_well_formed}
+use Rattle.rec_forms.specs.TimeLaws.{duration_back, duration_writable, duration_well_formed}
 use Rattle.rec_forms.specs.Times.{duration_form}
+use Rattle.rec_forms.specs.WellFormedLaws.{map_holds, if_there_well_formed, object_then, required_then, maybe_then, variant_well_formed}
+use Rattle.rec_forms.specs.Writable.{IsWritable, tagged_canonical, optional_writable, struct_writable, tagged_writable}
 
 pub stress_condition_back : (c : StressConditionSummary) → IsStressCondition c → stress_condition_form (stress_condition_value c) ≡ Some c
 unfolding stress_condition_form

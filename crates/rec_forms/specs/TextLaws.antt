@@ -1,19 +1,19 @@
 -- Texts of digits, letters and marks are UTF-8.
-use Rattle.std.specs.Prelude.{◌≡◌, ◌==◌, ◌&&◌, ◌||◌, ◌/◌, ◌%◌, ◌<◌, ℕ, zero, suc, nat_lt, Bool, true, false, if◌then◌else◌, List, [], ◌∷◌, ◌++◌, length, slice_index, Ok, refl}
+use Rattle.std.proofs.Common.{arith, sym, ◌∙◌, lt-ltb, ltb-true, subst}
+use Rattle.std.proofs.lemmas.Bool.Decides.{nat_tests}
+use Rattle.std.proofs.lemmas.Bool.{and_parts}
+use Rattle.std.proofs.lemmas.Str.{IsUtf8-append, IsUtf8-from_is_utf8, is_utf8-from_IsUtf8}
 use Rattle.std.specs.Fmt.{decimal, digits, digits_onto, digit_glyph}
 use Rattle.std.specs.List.{list_all}
-use Rattle.std.proofs.Common.{arith, sym, ◌∙◌, lt-ltb, ltb-true, subst}
-use Rattle.std.proofs.lemmas.Bool.{and_parts}
-use Rattle.std.proofs.lemmas.Bool.Decides.{nat_tests}
-use Rattle.std.proofs.lemmas.Str.{IsUtf8-append, IsUtf8-from_is_utf8, is_utf8-from_IsUtf8}
+use Rattle.std.specs.Prelude.{◌≡◌, ◌==◌, ◌&&◌, ◌||◌, ◌/◌, ◌%◌, ◌<◌, ℕ, zero, suc, nat_lt, Bool, true, false, if◌then◌else◌, List, [], ◌∷◌, ◌++◌, length, slice_index, Ok, refl}
 use Rattle.hex.specs.Hex.{encode_with, encode_lower, lower_digits}
 use Rattle.json.proofs.Printed.Utf8.{are_ascii, IsUtf8-are_ascii}
+use Rattle.semver.proofs.Grammar.{version_parts-sound}
 use Rattle.semver.specs.Grammar.{is_identifier_byte, is_build_identifier, is_pre_identifier, is_pre_release, is_build}
 use Rattle.semver.specs.Identifiers.{marked, parts_text}
 use Rattle.semver.specs.Order.{parts}
 use Rattle.semver.specs.OrderLaws.{join_dots, join-parts}
 use Rattle.semver.specs.Parse.{Parts}
-use Rattle.semver.proofs.Grammar.{version_parts-sound}
 use Rattle.rec_events.specs.Names.{IsText}
 use Rattle.rec_events.specs.Versions.{IsVersion}
 

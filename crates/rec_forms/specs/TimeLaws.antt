@@ -1,15 +1,15 @@
 -- Instants and spans of time read back, and are writable.
-use Rattle.std.specs.Prelude.{◌≡◌, ℕ, ◌<◌, true, refl, nat_lt, Some, codes}
 use Rattle.std.proofs.Common.{arith}
 use Rattle.std.proofs.lemmas.Bool.Decides.{nat_tests}
+use Rattle.std.specs.Prelude.{◌≡◌, ℕ, ◌<◌, true, refl, nat_lt, Some, codes}
 use Rattle.rec_events.specs.Times.{Span, Moment}
-use Rattle.rec_forms.specs.Times.{stamp_value, stamp_form, IsStamp, duration_value, duration_form, IsDuration}
-use Rattle.rec_forms.specs.Numbers.{u32_form, u64_form, i32_form, i64_form}
+use Rattle.rec_forms.specs.GivesWellFormed.{GivesWellFormed}
 use Rattle.rec_forms.specs.Members.{get_member-members_of}
 use Rattle.rec_forms.specs.NumberLaws.{u32_back, u64_back, i32_back, i64_back, i32_writable, below_limit, u32_well_formed, u64_well_formed, i32_well_formed, i64_well_formed}
-use Rattle.rec_forms.specs.Writable.{IsWritable, struct_writable, natural_writable, integer_writable}
-use Rattle.rec_forms.specs.GivesWellFormed.{GivesWellFormed}
+use Rattle.rec_forms.specs.Numbers.{u32_form, u64_form, i32_form, i64_form}
+use Rattle.rec_forms.specs.Times.{stamp_value, stamp_form, IsStamp, duration_value, duration_form, IsDuration}
 use Rattle.rec_forms.specs.WellFormedLaws.{object_then, required_then, only_holds}
+use Rattle.rec_forms.specs.Writable.{IsWritable, struct_writable, natural_writable, integer_writable}
 
 below : (n : ℕ) → n < 1000000000 → nat_lt n 1000000000 ≡ true
 below n h = grind (arith, nat_tests)

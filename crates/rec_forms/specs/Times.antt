@@ -1,6 +1,6 @@
 -- The values and forms of instants and spans of time.
-use Rattle.std.specs.Prelude.{◌^◌, ◌<◌, FitsSigned, [], ◌∷◌, Option, codes, nat_lt}
 use Rattle.std.specs.Int.{w32, w64}
+use Rattle.std.specs.Prelude.{◌^◌, ◌<◌, FitsSigned, [], ◌∷◌, Option, codes, nat_lt}
 use Rattle.serde_json.specs.Data.{Data}
 use Rattle.serde_json.specs.Find.{as_object}
 use Rattle.rec_events.specs.Times.{Span, Moment}

@@ -1,22 +1,22 @@
 -- What is said of each value that is written: it is no null, its text gives it back, it has no float, and nests only so deep.
-use Rattle.std.specs.Prelude.{◌≡◌, ◌≢◌, ◌<◌, ◌^◌, ◌&&◌, ℕ, suc, ◌≤◌, ℤ, pos, negsuc, FitsSigned, List, [], ◌∷◌, map, Bool, false, Option, Some, None, IfSome, option_map, ⊤, refl}
-use Rattle.std.specs.Int.{w64}
-use Rattle.std.specs.Ordering.{nat_cmp, match_ordering}
-use Rattle.std.specs.Cmp.Lexicographic.{slice_cmp}
-use Rattle.std.specs.List.{AllByRecursion}
-use Rattle.std.specs.List.Sorted.{IsStrictlySortedBy}
 use Rattle.std.proofs.Common.{Ordering, Less, Equal, Greater, arith, true, ◌∙◌}
 use Rattle.std.proofs.lemmas.Bool.{and_parts, or_parts}
 use Rattle.std.proofs.lemmas.Int.{ints}
+use Rattle.std.specs.Cmp.Lexicographic.{slice_cmp}
+use Rattle.std.specs.Int.{w64}
+use Rattle.std.specs.List.Sorted.{IsStrictlySortedBy}
+use Rattle.std.specs.List.{AllByRecursion}
+use Rattle.std.specs.Ordering.{nat_cmp, match_ordering}
+use Rattle.std.specs.Prelude.{◌≡◌, ◌≢◌, ◌<◌, ◌^◌, ◌&&◌, ℕ, suc, ◌≤◌, ℤ, pos, negsuc, FitsSigned, List, [], ◌∷◌, map, Bool, false, Option, Some, None, IfSome, option_map, ⊤, refl}
 use Rattle.json.proofs.Printed.Utf8.{are_ascii}
 use Rattle.serde_json.specs.Data.{Data, null, boolean, string, object, Members, no_members, member, put, depth, items_depth, members_depth}
-use Rattle.serde_json.specs.Written.{has_float, items_have_float, members_have_float}
 use Rattle.serde_json.specs.View.{items_of}
+use Rattle.serde_json.specs.Written.{has_float, items_have_float, members_have_float}
 use Rattle.rec_events.specs.Names.{IsText, AreTexts, Rise, with_name}
 use Rattle.rec_forms.specs.Canonical.{member_keys, IsCanonical, AreCanonical, ValuesAreCanonical}
+use Rattle.rec_forms.specs.Lists.{list_value}
 use Rattle.rec_forms.specs.RiseLaws.{match_holds, AreTexts-with_name, Rise-with_name}
 use Rattle.rec_forms.specs.Shape.{Field, natural, integer, with_member, with_members, members_of, struct, tagged}
-use Rattle.rec_forms.specs.Lists.{list_value}
 use Rattle.rec_forms.specs.TextLaws.{IsText-are_ascii}
 
 pub record IsWritable (levels : ℕ) (d : Data) : Type 0 where

@@ -5,8 +5,8 @@ use serde_json::Value;
 use std::alloc::{AllocError, Global};
 
 impl Form for TestGroup {
-    ghost use Rattle.rec_forms.specs.Groups.{test_group_value, test_group_form, IsTestGroup};
     ghost use Rattle.rec_forms.specs.GroupLaws.{test_group_back, test_group_writable, test_group_well_formed};
+    ghost use Rattle.rec_forms.specs.Groups.{test_group_value, test_group_form, IsTestGroup};
 
     ghost well_formed = { IsTestGroup };
 

@@ -11,8 +11,8 @@ use uuid::Uuid;
 impl Form for RustBinaryId {
     ghost use Rattle.serde_json.specs.Data.{string};
     ghost use Rattle.rec_events.specs.Names.{IsText};
-    ghost use Rattle.rec_forms.specs.Shape.{text_of};
     ghost use Rattle.rec_forms.specs.NumberLaws.{text_back, text_well_formed};
+    ghost use Rattle.rec_forms.specs.Shape.{text_of};
     ghost use Rattle.rec_forms.specs.Writable.{string_writable};
 
     ghost well_formed = { IsText };
@@ -48,8 +48,8 @@ impl Held for RustBinaryId {
 impl Form for TestCaseName {
     ghost use Rattle.serde_json.specs.Data.{string};
     ghost use Rattle.rec_events.specs.Names.{IsText};
-    ghost use Rattle.rec_forms.specs.Shape.{text_of};
     ghost use Rattle.rec_forms.specs.NumberLaws.{text_back, text_well_formed};
+    ghost use Rattle.rec_forms.specs.Shape.{text_of};
     ghost use Rattle.rec_forms.specs.Writable.{string_writable};
 
     ghost well_formed = { IsText };
@@ -85,8 +85,8 @@ impl Held for TestCaseName {
 impl Form for ScriptId {
     ghost use Rattle.serde_json.specs.Data.{string};
     ghost use Rattle.rec_events.specs.Names.{IsText};
-    ghost use Rattle.rec_forms.specs.Shape.{text_of};
     ghost use Rattle.rec_forms.specs.NumberLaws.{text_back, text_well_formed};
+    ghost use Rattle.rec_forms.specs.Shape.{text_of};
     ghost use Rattle.rec_forms.specs.Writable.{string_writable};
 
     ghost well_formed = { IsText };
@@ -119,7 +119,7 @@ impl Held for ScriptId {
     }
 }
 
-// Reads the uuid that a text is, in any of its forms.
+/// Reads the uuid that a text is, in any of its forms.
 fn read_uuid(text: &str) -> Option<Uuid>
     ensures { result ≡ parsed text.now }
 {
@@ -132,8 +132,8 @@ fn read_uuid(text: &str) -> Option<Uuid>
 impl Form for ReportUuid {
     ghost use Rattle.std.specs.Prelude.{List, ℕ};
     ghost use Rattle.uuid.specs.Text.{lower, hyphenated_text};
-    ghost use Rattle.rec_forms.specs.Ids.{uuid_value, uuid_form, IsUuid};
     ghost use Rattle.rec_forms.specs.IdLaws.{uuid_back, uuid_well_formed, uuid_writable};
+    ghost use Rattle.rec_forms.specs.Ids.{uuid_value, uuid_form, IsUuid};
 
     ghost well_formed = { IsUuid };
 
@@ -175,8 +175,8 @@ impl Held for ReportUuid {
 impl Form for Version {
     ghost use Rattle.semver.specs.Identifiers.{parts_text};
     ghost use Rattle.rec_events.specs.Versions.{IsVersion};
-    ghost use Rattle.rec_forms.specs.Ids.{version_value, version_form};
     ghost use Rattle.rec_forms.specs.IdLaws.{version_back, version_well_formed, version_writable};
+    ghost use Rattle.rec_forms.specs.Ids.{version_value, version_form};
 
     ghost well_formed = { IsVersion };
 

@@ -6,8 +6,8 @@ use serde_json::{Map, Value};
 use std::alloc::{AllocError, Global};
 
 impl Form for OwnedTestInstanceId {
-    ghost use Rattle.rec_forms.specs.Instances.{test_instance_value, test_instance_form, IsTestInstance};
     ghost use Rattle.rec_forms.specs.InstanceLaws.{test_instance_back, test_instance_writable, test_instance_well_formed};
+    ghost use Rattle.rec_forms.specs.Instances.{test_instance_value, test_instance_form, IsTestInstance};
 
     ghost well_formed = { IsTestInstance };
 
@@ -51,8 +51,8 @@ impl Held for OwnedTestInstanceId {
 }
 
 impl Form for TestSlotAssignment {
-    ghost use Rattle.rec_forms.specs.Instances.{slot_assignment_value, slot_assignment_form, IsSlotAssignment};
     ghost use Rattle.rec_forms.specs.InstanceLaws.{slot_assignment_back, slot_assignment_writable, slot_assignment_well_formed};
+    ghost use Rattle.rec_forms.specs.Instances.{slot_assignment_value, slot_assignment_form, IsSlotAssignment};
 
     ghost well_formed = { IsSlotAssignment };
 
@@ -99,8 +99,8 @@ impl Held for TestSlotAssignment {
 }
 
 impl Form for RetryData {
-    ghost use Rattle.rec_forms.specs.Instances.{retry_data_value, retry_data_form, IsRetryData};
     ghost use Rattle.rec_forms.specs.InstanceLaws.{retry_data_back, retry_data_writable, retry_data_well_formed};
+    ghost use Rattle.rec_forms.specs.Instances.{retry_data_value, retry_data_form, IsRetryData};
 
     ghost well_formed = { IsRetryData };
 
@@ -144,8 +144,8 @@ impl Held for RetryData {
 }
 
 impl Form for StressIndexSummary {
-    ghost use Rattle.rec_forms.specs.Instances.{stress_index_value, stress_index_form, IsStressIndex};
     ghost use Rattle.rec_forms.specs.InstanceLaws.{stress_index_back, stress_index_writable, stress_index_well_formed};
+    ghost use Rattle.rec_forms.specs.Instances.{stress_index_value, stress_index_form, IsStressIndex};
 
     ghost well_formed = { IsStressIndex };
 

@@ -1,6 +1,6 @@
 //! Lists.
-ghost use Rattle.std.specs.Prelude.{◌≡◌, Some, map};
 ghost use Rattle.std.specs.List.{AllByRecursion};
+ghost use Rattle.std.specs.Prelude.{◌≡◌, Some, map};
 ghost use Rattle.rec_forms.specs.Lists.{list_value, list_form};
 
 use crate::{Form, FromValueError, Held};
@@ -11,8 +11,8 @@ use std::alloc::{AllocError, Global};
 impl<T: Form + Drop> Form for Items<T> {
     ghost use Rattle.std.specs.Prelude.{suc};
     ghost use Rattle.rec_forms.specs.ListLaws.{list_back};
-    ghost use Rattle.rec_forms.specs.Writable.{list_writable};
     ghost use Rattle.rec_forms.specs.WellFormedLaws.{list_well_formed};
+    ghost use Rattle.rec_forms.specs.Writable.{list_writable};
 
     ghost well_formed = { AllByRecursion T.well_formed };
 

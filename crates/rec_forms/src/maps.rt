@@ -9,9 +9,9 @@ use std::alloc::{AllocError, Global};
 
 impl<V: Form + Drop> Form for TextMap<V> {
     ghost use Rattle.std.specs.Prelude.{suc};
-    ghost use Rattle.rec_forms.specs.Maps.{map_value, map_form, IsMap};
     ghost use Rattle.rec_forms.specs.MapLaws.{map_back, map_writable};
     ghost use Rattle.rec_forms.specs.MapLaws.{map_well_formed};
+    ghost use Rattle.rec_forms.specs.Maps.{map_value, map_form, IsMap};
 
     ghost well_formed = { IsMap V.well_formed };
 

@@ -1,6 +1,6 @@
 //! Numbers and truth values.
-ghost use Rattle.std.specs.Prelude.{◌≡◌, ◌^◌, ◌<◌, ℕ, FitsSigned};
 ghost use Rattle.std.specs.Int.{w32, w64};
+ghost use Rattle.std.specs.Prelude.{◌≡◌, ◌^◌, ◌<◌, ℕ, FitsSigned};
 
 use crate::{Form, FromValueError, Held};
 use rec_events::NonZeroCount;
@@ -8,10 +8,10 @@ use serde_json::Value;
 use std::alloc::{AllocError, Global};
 
 impl Form for u32 {
-    ghost use Rattle.rec_forms.specs.Shape.{natural};
+    ghost use Rattle.rec_forms.specs.NumberLaws.{u32_back, u32_well_formed};
     ghost use Rattle.rec_forms.specs.NumberLaws.{u32_writable};
     ghost use Rattle.rec_forms.specs.Numbers.{u32_form};
-    ghost use Rattle.rec_forms.specs.NumberLaws.{u32_back, u32_well_formed};
+    ghost use Rattle.rec_forms.specs.Shape.{natural};
 
     ghost well_formed = { λ n. n < 2 ^ 32 };
 
@@ -46,10 +46,10 @@ impl Held for u32 {
 }
 
 impl Form for u64 {
+    ghost use Rattle.rec_forms.specs.NumberLaws.{u64_back, u64_well_formed};
+    ghost use Rattle.rec_forms.specs.Numbers.{u64_form};
     ghost use Rattle.rec_forms.specs.Shape.{natural};
     ghost use Rattle.rec_forms.specs.Writable.{natural_writable};
-    ghost use Rattle.rec_forms.specs.Numbers.{u64_form};
-    ghost use Rattle.rec_forms.specs.NumberLaws.{u64_back, u64_well_formed};
 
     ghost well_formed = { λ n. n < 2 ^ 64 };
 
@@ -84,10 +84,10 @@ impl Held for u64 {
 }
 
 impl Form for usize {
+    ghost use Rattle.rec_forms.specs.NumberLaws.{u64_back, u64_well_formed};
+    ghost use Rattle.rec_forms.specs.Numbers.{u64_form};
     ghost use Rattle.rec_forms.specs.Shape.{natural};
     ghost use Rattle.rec_forms.specs.Writable.{natural_writable};
-    ghost use Rattle.rec_forms.specs.Numbers.{u64_form};
-    ghost use Rattle.rec_forms.specs.NumberLaws.{u64_back, u64_well_formed};
 
     ghost well_formed = { λ n. n < 2 ^ 64 };
 
@@ -122,10 +122,10 @@ impl Held for usize {
 }
 
 impl Form for i64 {
+    ghost use Rattle.rec_forms.specs.NumberLaws.{i64_back, i64_well_formed};
+    ghost use Rattle.rec_forms.specs.Numbers.{i64_form};
     ghost use Rattle.rec_forms.specs.Shape.{integer};
     ghost use Rattle.rec_forms.specs.Writable.{integer_writable};
-    ghost use Rattle.rec_forms.specs.Numbers.{i64_form};
-    ghost use Rattle.rec_forms.specs.NumberLaws.{i64_back, i64_well_formed};
 
     ghost well_formed = { FitsSigned w64 };
 
@@ -160,10 +160,10 @@ impl Held for i64 {
 }
 
 impl Form for i32 {
-    ghost use Rattle.rec_forms.specs.Shape.{integer};
+    ghost use Rattle.rec_forms.specs.NumberLaws.{i32_back, i32_well_formed};
     ghost use Rattle.rec_forms.specs.NumberLaws.{i32_writable};
     ghost use Rattle.rec_forms.specs.Numbers.{i32_form};
-    ghost use Rattle.rec_forms.specs.NumberLaws.{i32_back, i32_well_formed};
+    ghost use Rattle.rec_forms.specs.Shape.{integer};
 
     ghost well_formed = { FitsSigned w32 };
 
@@ -201,8 +201,8 @@ impl Form for bool {
     ghost use Rattle.std.specs.Prelude.{Bool, Some, refl};
     ghost use Rattle.serde_json.specs.Data.{boolean};
     ghost use Rattle.serde_json.specs.Find.{as_bool};
-    ghost use Rattle.rec_forms.specs.Writable.{boolean_writable};
     ghost use Rattle.rec_forms.specs.WellFormedLaws.{any_well_formed};
+    ghost use Rattle.rec_forms.specs.Writable.{boolean_writable};
 
     ghost well_formed = { λ _. Unit {0} };
 
@@ -235,10 +235,10 @@ impl Held for bool {
 }
 
 impl Form for NonZeroCount {
-    ghost use Rattle.rec_forms.specs.Shape.{natural};
-    ghost use Rattle.rec_forms.specs.Numbers.{count_form, IsCount};
     ghost use Rattle.rec_forms.specs.NumberLaws.{count_back, count_well_formed};
     ghost use Rattle.rec_forms.specs.NumberLaws.{count_writable};
+    ghost use Rattle.rec_forms.specs.Numbers.{count_form, IsCount};
+    ghost use Rattle.rec_forms.specs.Shape.{natural};
 
     ghost well_formed = { IsCount };
 

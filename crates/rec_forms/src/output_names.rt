@@ -7,8 +7,8 @@ use serde_json::Value;
 use std::alloc::{AllocError, Global};
 
 impl Form for OutputKind {
-    ghost use Rattle.rec_forms.specs.OutputNames.{output_kind_value, output_kind_form};
     ghost use Rattle.rec_forms.specs.OutputNameLaws.{output_kind_back, output_kind_writable};
+    ghost use Rattle.rec_forms.specs.OutputNames.{output_kind_value, output_kind_form};
     ghost use Rattle.rec_forms.specs.WellFormedLaws.{any_well_formed};
 
     ghost well_formed = { λ _. Unit {0} };
@@ -50,8 +50,8 @@ impl Held for OutputKind {
 }
 
 impl Form for OutputFileName {
-    ghost use Rattle.rec_forms.specs.OutputNames.{file_name_value, file_name_form, IsFileName};
     ghost use Rattle.rec_forms.specs.OutputNameLaws.{file_name_back, file_name_writable, file_name_well_formed};
+    ghost use Rattle.rec_forms.specs.OutputNames.{file_name_value, file_name_form, IsFileName};
 
     ghost well_formed = { IsFileName };
 
@@ -86,7 +86,7 @@ impl Held for OutputFileName {
     }
 }
 
-// States that a name is well-formed: the number of one that is passed by value is known to fit its type.
+/// States that a name is well-formed: the number of one that is passed by value is known to fit its type.
 fn held_file_name(name: OutputFileName)
     ensures { IsFileName name }
 {}

@@ -13,8 +13,8 @@ use std::alloc::{AllocError, Global};
 
 impl Form for ChildSingleOutput {
     ghost use Rattle.hex.specs.Hex.{IsBytes};
-    ghost use Rattle.rec_forms.specs.Outputs.{output_bytes_value, output_bytes_form};
     ghost use Rattle.rec_forms.specs.OutputLaws.{output_bytes_back, output_bytes_writable, output_bytes_well_formed};
+    ghost use Rattle.rec_forms.specs.Outputs.{output_bytes_value, output_bytes_form};
 
     ghost well_formed = { IsBytes };
 
@@ -53,7 +53,7 @@ impl Held for ChildSingleOutput {
     }
 }
 
-// An output that was cut.
+/// An output that was cut.
 #[tactic(auto, unfolding(crate::specs::Outputs::truncated_form))]
 fn truncated_from(alloc: Global, value: &Value) -> Result<ZipStoreOutput, FromValueError>
     ensures { Gives result (truncated_form (view value.now)) }
@@ -67,7 +67,7 @@ fn truncated_from(alloc: Global, value: &Value) -> Result<ZipStoreOutput, FromVa
     })
 }
 
-// The outputs of a process whose streams were captured apart.
+/// The outputs of a process whose streams were captured apart.
 #[tactic(auto, unfolding(crate::specs::Outputs::split_form))]
 fn split_from(alloc: Global, value: &Value) -> Result<ZipStoreOutputDescription, FromValueError>
     ensures { Gives result (split_form (view value.now)) }
@@ -82,8 +82,8 @@ fn split_from(alloc: Global, value: &Value) -> Result<ZipStoreOutputDescription,
 }
 
 impl Form for ZipStoreOutput {
-    ghost use Rattle.rec_forms.specs.Outputs.{stored_output_value, stored_output_form, IsStoredOutput};
     ghost use Rattle.rec_forms.specs.OutputLaws.{stored_output_back, stored_output_writable, stored_output_well_formed};
+    ghost use Rattle.rec_forms.specs.Outputs.{stored_output_value, stored_output_form, IsStoredOutput};
 
     ghost well_formed = { IsStoredOutput };
 
@@ -152,8 +152,8 @@ impl Held for ZipStoreOutput {
 }
 
 impl Form for ZipStoreOutputDescription {
-    ghost use Rattle.rec_forms.specs.Outputs.{stored_outputs_value, stored_outputs_form, IsStoredOutputs};
     ghost use Rattle.rec_forms.specs.OutputLaws.{stored_outputs_back, stored_outputs_writable, stored_outputs_well_formed};
+    ghost use Rattle.rec_forms.specs.Outputs.{stored_outputs_value, stored_outputs_form, IsStoredOutputs};
 
     ghost well_formed = { IsStoredOutputs };
 

@@ -14,8 +14,8 @@ use serde_json::{Map, Value};
 use std::alloc::{AllocError, Global};
 
 impl Form for FlakyResult {
-    ghost use Rattle.rec_forms.specs.Results.{flaky_result_value, flaky_result_form};
     ghost use Rattle.rec_forms.specs.ResultLaws.{flaky_result_back, flaky_result_writable};
+    ghost use Rattle.rec_forms.specs.Results.{flaky_result_value, flaky_result_form};
     ghost use Rattle.rec_forms.specs.WellFormedLaws.{any_well_formed};
 
     ghost well_formed = { λ _. Unit {0} };
@@ -55,8 +55,8 @@ impl Held for FlakyResult {
 }
 
 impl Form for LeakTimeoutResult {
-    ghost use Rattle.rec_forms.specs.Results.{leak_result_value, leak_result_form};
     ghost use Rattle.rec_forms.specs.ResultLaws.{leak_result_back, leak_result_writable};
+    ghost use Rattle.rec_forms.specs.Results.{leak_result_value, leak_result_form};
     ghost use Rattle.rec_forms.specs.WellFormedLaws.{any_well_formed};
 
     ghost well_formed = { λ _. Unit {0} };
@@ -96,8 +96,8 @@ impl Held for LeakTimeoutResult {
 }
 
 impl Form for SlowTimeoutResult {
-    ghost use Rattle.rec_forms.specs.Results.{slow_result_value, slow_result_form};
     ghost use Rattle.rec_forms.specs.ResultLaws.{slow_result_back, slow_result_writable};
+    ghost use Rattle.rec_forms.specs.Results.{slow_result_value, slow_result_form};
     ghost use Rattle.rec_forms.specs.WellFormedLaws.{any_well_formed};
 
     ghost well_formed = { λ _. Unit {0} };
@@ -137,8 +137,8 @@ impl Held for SlowTimeoutResult {
 }
 
 impl Form for FailureDescription {
-    ghost use Rattle.rec_forms.specs.Results.{failure_value, failure_form, IsFailure};
     ghost use Rattle.rec_forms.specs.ResultLaws.{failure_back, failure_writable, failure_well_formed};
+    ghost use Rattle.rec_forms.specs.Results.{failure_value, failure_form, IsFailure};
 
     ghost well_formed = { IsFailure };
 
@@ -196,7 +196,7 @@ impl Held for FailureDescription {
     }
 }
 
-// Reads the fields of an abort.
+/// Reads the fields of an abort.
 #[tactic(auto, unfolding(crate::specs::Results::abort_form))]
 fn abort_from(alloc: Global, value: &Value) -> Result<FailureDescription, FromValueError>
     ensures { Gives result (abort_form (view value.now)) }
@@ -211,8 +211,8 @@ fn abort_from(alloc: Global, value: &Value) -> Result<FailureDescription, FromVa
 }
 
 impl Form for ExecutionResultDescription {
-    ghost use Rattle.rec_forms.specs.Results.{execution_result_value, execution_result_form, IsExecutionResult};
     ghost use Rattle.rec_forms.specs.ResultLaws.{execution_result_back, execution_result_writable, execution_result_well_formed};
+    ghost use Rattle.rec_forms.specs.Results.{execution_result_value, execution_result_form, IsExecutionResult};
 
     ghost well_formed = { IsExecutionResult };
 
@@ -282,7 +282,7 @@ impl Held for ExecutionResultDescription {
     }
 }
 
-// Reads the fields of a failure.
+/// Reads the fields of a failure.
 #[tactic(auto, unfolding(crate::specs::Results::fail_form))]
 fn fail_from(alloc: Global, value: &Value) -> Result<ExecutionResultDescription, FromValueError>
     ensures { Gives result (fail_form (view value.now)) }

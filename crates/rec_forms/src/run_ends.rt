@@ -9,8 +9,8 @@ use serde_json::{Map, Value};
 use std::alloc::{AllocError, Global};
 
 impl Form for FinalRunStats {
-    ghost use Rattle.rec_forms.specs.RunEnds.{final_stats_value, final_stats_form};
     ghost use Rattle.rec_forms.specs.RunEndLaws.{final_stats_back, final_stats_writable};
+    ghost use Rattle.rec_forms.specs.RunEnds.{final_stats_value, final_stats_form};
     ghost use Rattle.rec_forms.specs.WellFormedLaws.{any_well_formed};
 
     ghost well_formed = { λ _. Unit {0} };
@@ -54,8 +54,8 @@ impl Held for FinalRunStats {
 }
 
 impl Form for StressFinalRunStats {
-    ghost use Rattle.rec_forms.specs.RunEnds.{stress_final_stats_value, stress_final_stats_form};
     ghost use Rattle.rec_forms.specs.RunEndLaws.{stress_final_stats_back, stress_final_stats_writable};
+    ghost use Rattle.rec_forms.specs.RunEnds.{stress_final_stats_value, stress_final_stats_form};
     ghost use Rattle.rec_forms.specs.WellFormedLaws.{any_well_formed};
 
     ghost well_formed = { λ _. Unit {0} };
@@ -99,8 +99,8 @@ impl Held for StressFinalRunStats {
 }
 
 impl Form for StressRunStats {
-    ghost use Rattle.rec_forms.specs.RunEnds.{stress_run_stats_value, stress_run_stats_form, IsStressRunStats};
     ghost use Rattle.rec_forms.specs.RunEndLaws.{stress_run_stats_back, stress_run_stats_writable, stress_run_stats_well_formed};
+    ghost use Rattle.rec_forms.specs.RunEnds.{stress_run_stats_value, stress_run_stats_form, IsStressRunStats};
 
     ghost well_formed = { IsStressRunStats };
 
@@ -154,8 +154,8 @@ impl Held for StressRunStats {
 }
 
 impl Form for RunFinishedStats {
-    ghost use Rattle.rec_forms.specs.RunEnds.{run_finished_stats_value, run_finished_stats_form, IsRunFinishedStats};
     ghost use Rattle.rec_forms.specs.RunEndLaws.{run_finished_stats_back, run_finished_stats_writable, run_finished_stats_well_formed};
+    ghost use Rattle.rec_forms.specs.RunEnds.{run_finished_stats_value, run_finished_stats_form, IsRunFinishedStats};
 
     ghost well_formed = { IsRunFinishedStats };
 
@@ -205,8 +205,8 @@ impl Held for RunFinishedStats {
 }
 
 impl Form for TestsNotSeenSummary {
-    ghost use Rattle.rec_forms.specs.RunEnds.{tests_not_seen_value, tests_not_seen_form, IsTestsNotSeen};
     ghost use Rattle.rec_forms.specs.RunEndLaws.{tests_not_seen_back, tests_not_seen_writable, tests_not_seen_well_formed};
+    ghost use Rattle.rec_forms.specs.RunEnds.{tests_not_seen_value, tests_not_seen_form, IsTestsNotSeen};
 
     ghost well_formed = { IsTestsNotSeen };
 

@@ -8,8 +8,8 @@ use serde_json::{Map, Value};
 use std::alloc::{AllocError, Global};
 
 impl Form for NamedTargets {
-    ghost use Rattle.rec_forms.specs.Selections.{named_targets_value, named_targets_form, IsNamedTargets};
     ghost use Rattle.rec_forms.specs.SelectionLaws.{named_targets_back, named_targets_writable, named_targets_well_formed};
+    ghost use Rattle.rec_forms.specs.Selections.{named_targets_value, named_targets_form, IsNamedTargets};
 
     ghost well_formed = { IsNamedTargets };
 
@@ -52,8 +52,8 @@ impl Held for NamedTargets {
 }
 
 impl Form for PackageSelection {
-    ghost use Rattle.rec_forms.specs.Selections.{package_selection_value, package_selection_form, IsPackageSelection};
     ghost use Rattle.rec_forms.specs.SelectionLaws.{package_selection_back, package_selection_writable, package_selection_well_formed};
+    ghost use Rattle.rec_forms.specs.Selections.{package_selection_value, package_selection_form, IsPackageSelection};
 
     ghost well_formed = { IsPackageSelection };
 
@@ -99,8 +99,8 @@ impl Held for PackageSelection {
 }
 
 impl Form for TargetSelection {
-    ghost use Rattle.rec_forms.specs.Selections.{target_selection_value, target_selection_form, IsTargetSelection};
     ghost use Rattle.rec_forms.specs.SelectionLaws.{target_selection_back, target_selection_writable, target_selection_well_formed};
+    ghost use Rattle.rec_forms.specs.Selections.{target_selection_value, target_selection_form, IsTargetSelection};
 
     ghost well_formed = { IsTargetSelection };
 
@@ -154,8 +154,8 @@ impl Held for TargetSelection {
 }
 
 impl Form for FeatureSelection {
-    ghost use Rattle.rec_forms.specs.Selections.{feature_selection_value, feature_selection_form, IsFeatureSelection};
     ghost use Rattle.rec_forms.specs.SelectionLaws.{feature_selection_back, feature_selection_writable, feature_selection_well_formed};
+    ghost use Rattle.rec_forms.specs.Selections.{feature_selection_value, feature_selection_form, IsFeatureSelection};
 
     ghost well_formed = { IsFeatureSelection };
 
@@ -205,8 +205,8 @@ impl Held for FeatureSelection {
 }
 
 impl Form for BuildScope {
-    ghost use Rattle.rec_forms.specs.Selections.{build_scope_value, build_scope_form, IsBuildScope};
     ghost use Rattle.rec_forms.specs.SelectionLaws.{build_scope_back, build_scope_writable, build_scope_well_formed};
+    ghost use Rattle.rec_forms.specs.Selections.{build_scope_value, build_scope_form, IsBuildScope};
 
     ghost well_formed = { IsBuildScope };
 

@@ -10,7 +10,7 @@ use rec_events::RunStats;
 use serde_json::{Map, Value};
 use std::alloc::{AllocError, Global};
 
-// Counts setup scripts.
+/// Counts setup scripts.
 #[derive(Drop)]
 struct Setup {
     setup_scripts_initial_count: usize,
@@ -24,7 +24,7 @@ struct Setup {
 impl Setup {
     ghost use Rattle.rec_forms.specs.Stats.{setup_fields, setup_form, AreSetup};
 
-    // Writes this part of `stats`.
+    /// Writes this part of `stats`.
     fn put(alloc: Global, object: &mut Object, stats: &RunStats) -> Result<(), AllocError>
         ensures written { OnOk result (members_view object.new.entries
             ≡ with_members (members_view object.old.entries) (setup_fields stats.now)) }
@@ -69,7 +69,7 @@ impl Setup {
         Ok(())
     }
 
-    // Reads this part.
+    /// Reads this part.
     #[tactic(auto, unfolding(crate::specs::Stats::setup_form))]
     fn read(alloc: Global, object: &Object) -> Result<Setup, FromValueError>
         ensures { Gives result (setup_form (members_view object.now.entries)) }
@@ -93,7 +93,7 @@ impl Setup {
     }
 }
 
-// Counts the tests of the run and those that passed.
+/// Counts the tests of the run and those that passed.
 #[derive(Drop)]
 struct Passes {
     initial_run_count: usize,
@@ -107,7 +107,7 @@ struct Passes {
 impl Passes {
     ghost use Rattle.rec_forms.specs.Stats.{passes_fields, passes_form, ArePasses};
 
-    // Writes this part of `stats`.
+    /// Writes this part of `stats`.
     fn put(alloc: Global, object: &mut Object, stats: &RunStats) -> Result<(), AllocError>
         ensures written { OnOk result (members_view object.new.entries
             ≡ with_members (members_view object.old.entries) (passes_fields stats.now)) }
@@ -122,7 +122,7 @@ impl Passes {
         Ok(())
     }
 
-    // Reads this part.
+    /// Reads this part.
     #[tactic(auto, unfolding(crate::specs::Stats::passes_form))]
     fn read(alloc: Global, object: &Object) -> Result<Passes, FromValueError>
         ensures { Gives result (passes_form (members_view object.now.entries)) }
@@ -138,7 +138,7 @@ impl Passes {
     }
 }
 
-// Counts the other tests.
+/// Counts the other tests.
 #[derive(Drop)]
 struct Failures {
     failed: usize,
@@ -153,7 +153,7 @@ struct Failures {
 impl Failures {
     ghost use Rattle.rec_forms.specs.Stats.{failures_fields, failures_form, AreFailures};
 
-    // Writes this part of `stats`.
+    /// Writes this part of `stats`.
     fn put(alloc: Global, object: &mut Object, stats: &RunStats) -> Result<(), AllocError>
         ensures written { OnOk result (members_view object.new.entries
             ≡ with_members (members_view object.old.entries) (failures_fields stats.now)) }
@@ -169,7 +169,7 @@ impl Failures {
         Ok(())
     }
 
-    // Reads this part.
+    /// Reads this part.
     #[tactic(auto, unfolding(crate::specs::Stats::failures_form))]
     fn read(alloc: Global, object: &Object) -> Result<Failures, FromValueError>
         ensures { Gives result (failures_form (members_view object.now.entries)) }

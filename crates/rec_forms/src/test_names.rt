@@ -5,8 +5,8 @@ use serde_json::Value;
 use std::alloc::{AllocError, Global};
 
 impl Form for TestNames {
-    ghost use Rattle.rec_forms.specs.Names.{names_value, names_form, AreNames};
     ghost use Rattle.rec_forms.specs.NameLaws.{names_back, names_writable, names_well_formed};
+    ghost use Rattle.rec_forms.specs.Names.{names_value, names_form, AreNames};
 
     ghost well_formed = { AreNames };
 

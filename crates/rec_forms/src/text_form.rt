@@ -36,7 +36,7 @@ pub fn read_text<T: Form>(alloc: Global, bytes: &[u8]) -> Result<T, FromValueErr
     T::from_value(alloc, &value)
 }
 
-// Reads the value that bytes are.
+/// Reads the value that bytes are.
 fn read_value(alloc: Global, bytes: &[u8]) -> Result<Value, FromValueError>
     ensures { GivesBy view result (value_in bytes.now) }
 {

@@ -6,8 +6,8 @@ use serde_json::{Map, Value};
 use std::alloc::{AllocError, Global};
 
 impl Form for Stamp {
-    ghost use Rattle.rec_forms.specs.Times.{stamp_value, stamp_form, IsStamp};
     ghost use Rattle.rec_forms.specs.TimeLaws.{stamp_back, stamp_writable, stamp_well_formed};
+    ghost use Rattle.rec_forms.specs.Times.{stamp_value, stamp_form, IsStamp};
 
     ghost well_formed = { IsStamp };
 
@@ -53,8 +53,8 @@ impl Held for Stamp {
 }
 
 impl Form for Duration {
-    ghost use Rattle.rec_forms.specs.Times.{duration_value, duration_form, IsDuration};
     ghost use Rattle.rec_forms.specs.TimeLaws.{duration_back, duration_writable, duration_well_formed};
+    ghost use Rattle.rec_forms.specs.Times.{duration_value, duration_form, IsDuration};
 
     ghost well_formed = { IsDuration };
 

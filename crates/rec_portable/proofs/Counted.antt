@@ -1,9 +1,9 @@
 -- Counts of entries by their names, up to an index.
 use Rattle.std.proofs.Common.{◌≡◌, ℕ, ◌+◌, ◌<◌, ◌≤◌, Bool, true, false, List, length, take, map, get_or, slice_get, Some, refl, sym, ap, ◌∙◌, arith, count_by}
-use Rattle.std.specs.Int.{from_bool}
-use Rattle.std.specs.Option.{option_map}
 use Rattle.std.proofs.lemmas.List.Sums.{count_by_more_yes, count_by_more_no}
 use Rattle.std.proofs.lemmas.Option.{slice_get-map, slice_get-get_or}
+use Rattle.std.specs.Int.{from_bool}
+use Rattle.std.specs.Option.{option_map}
 use Rattle.rec_container.specs.Container.{Entry}
 
 -- a part of the entry at an index

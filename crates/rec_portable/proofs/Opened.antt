@@ -2,16 +2,16 @@
 use Rattle.std.proofs.Common.{◌≡◌, ℕ, List, Option, Some, None, Result, Ok, refl, sym, ap, subst, ◌∙◌}
 use Rattle.std.specs.Option.{option_map}
 use Rattle.std.specs.Prelude.{is_some}
-use Rattle.rec_container.specs.Container.{Entry, IsContainer, ParsedContainer, content_of}
 use Rattle.rec_container.proofs.Unique.{one_reading_spec}
+use Rattle.rec_container.specs.Container.{Entry, IsContainer, ParsedContainer, content_of}
 use Rattle.rec_format.specs.declared.manifest.PortableManifest.{PortableManifest}
 use Rattle.rec_store.specs.Entries.{log_name, store_name}
-use Rattle.rec_portable.specs.Judging.{judged, IsJudged}
-use Rattle.rec_portable.specs.Opening.{IsOpen}
-use Rattle.rec_portable.specs.Windows.{IsWindowOf, bytes_in}
 use Rattle.rec_portable.specs.declared.errors.PortableRecordingReadError.{PortableRecordingReadError}
 use Rattle.rec_portable.specs.declared.parts.BundleParts.{BundleParts}
 use Rattle.rec_portable.specs.declared.window.Window.{Window}
+use Rattle.rec_portable.specs.Judging.{judged, IsJudged}
+use Rattle.rec_portable.specs.Opening.{IsOpen}
+use Rattle.rec_portable.specs.Windows.{IsWindowOf, bytes_in}
 
 -- what a window shows
 pub window_found : (bytes : List ℕ) (found : Option (List ℕ)) (w : Option Window) → IsWindowOf bytes found w → option_map (bytes_in bytes) w ≡ found

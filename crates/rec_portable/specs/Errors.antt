@@ -1,11 +1,11 @@
 -- The refusals of a bundle.
 use Rattle.std.specs.Prelude.{◌≡◌, ◌⊎◌, Result, Ok, Err}
-use Rattle.rec_container.specs.declared.errors.ContainerError.{ContainerError}
 use Rattle.rec_container.specs.declared.errors.ContainerError.TheVariants as faults
-use Rattle.rec_container.specs.declared.within.ReadError.{ReadError}
+use Rattle.rec_container.specs.declared.errors.ContainerError.{ContainerError}
 use Rattle.rec_container.specs.declared.within.ReadError.TheVariants as read
-use Rattle.rec_portable.specs.declared.errors.PortableRecordingReadError.{PortableRecordingReadError}
+use Rattle.rec_container.specs.declared.within.ReadError.{ReadError}
 use Rattle.rec_portable.specs.declared.errors.PortableRecordingReadError.TheVariants.{SourceFault, SpoolTooLarge, ReadArchive, OutOfMemory}
+use Rattle.rec_portable.specs.declared.errors.PortableRecordingReadError.{PortableRecordingReadError}
 
 -- the refusal of a source that wasn't read to its end
 abbrev pub source_error : ReadError → PortableRecordingReadError

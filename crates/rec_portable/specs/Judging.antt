@@ -1,22 +1,22 @@
 -- How a bundle is judged.
-use Rattle.std.specs.Prelude.{◌≡◌, ℕ, nat_eq, nat_lt, Bool, not, ◌&&◌, ◌||◌, List, [], ◌∷◌, length, count_by, if◌then◌else◌, Option, Some, None, Result, Ok, Err, ◌⊎◌}
 use Rattle.std.specs.List.{ends_with}
+use Rattle.std.specs.Prelude.{◌≡◌, ℕ, nat_eq, nat_lt, Bool, not, ◌&&◌, ◌||◌, List, [], ◌∷◌, length, count_by, if◌then◌else◌, Option, Some, None, Result, Ok, Err, ◌⊎◌}
 use Rattle.rec_container.specs.Container.{Entry, content_of, IsContainer}
-use Rattle.rec_container.specs.Reading.{IsFault, ◌>>=◌}
 use Rattle.rec_container.specs.declared.errors.ContainerError.{ContainerError}
+use Rattle.rec_container.specs.Reading.{IsFault, ◌>>=◌}
 use Rattle.rec_forms.specs.TextForm.{bytes_form}
-use Rattle.rec_format.specs.Paths.{is_zip_path}
-use Rattle.rec_format.specs.Runs.{store_version_in}
-use Rattle.rec_format.specs.RunForms.{manifest_form}
-use Rattle.rec_format.specs.Versions.{portable_readable, portable_version, store_readable, store_version}
+use Rattle.rec_format.specs.declared.incompatibility.PortableRecordingVersionIncompatibility.{PortableRecordingVersionIncompatibility}
+use Rattle.rec_format.specs.declared.incompatibility.StoreVersionIncompatibility.{StoreVersionIncompatibility}
 use Rattle.rec_format.specs.declared.manifest.PortableManifest.{PortableManifest}
 use Rattle.rec_format.specs.declared.versions.PortableRecordingFormatVersion.{PortableRecordingFormatVersion}
 use Rattle.rec_format.specs.declared.versions.StoreFormatVersion.{StoreFormatVersion}
-use Rattle.rec_format.specs.declared.incompatibility.PortableRecordingVersionIncompatibility.{PortableRecordingVersionIncompatibility}
-use Rattle.rec_format.specs.declared.incompatibility.StoreVersionIncompatibility.{StoreVersionIncompatibility}
+use Rattle.rec_format.specs.Paths.{is_zip_path}
+use Rattle.rec_format.specs.RunForms.{manifest_form}
+use Rattle.rec_format.specs.Runs.{store_version_in}
+use Rattle.rec_format.specs.Versions.{portable_readable, portable_version, store_readable, store_version}
 use Rattle.rec_store.specs.Entries.{manifest_name}
-use Rattle.rec_portable.specs.declared.errors.PortableRecordingReadError.{PortableRecordingReadError}
 use Rattle.rec_portable.specs.declared.errors.PortableRecordingReadError.TheVariants.{ReadArchive, NotAWrapperArchive, FileTooLarge, ParseManifest, UnsupportedFormatVersion, UnsupportedStoreFormatVersion, OutOfMemory}
+use Rattle.rec_portable.specs.declared.errors.PortableRecordingReadError.{PortableRecordingReadError}
 
 -- a name that ends in a slash or a backslash is no file's
 abbrev pub is_file : List ℕ → Bool

@@ -1,15 +1,15 @@
 -- A bundle that was read.
 use Rattle.std.specs.Prelude.{◌≡◌, ℕ, List, Option, Ok, ◌⊎◌}
 use Rattle.rec_container.specs.Container.{Entry, content_of, IsContainer}
-use Rattle.rec_container.specs.Within.{Gave, Unread}
 use Rattle.rec_container.specs.declared.within.ReadError.{ReadError}
+use Rattle.rec_container.specs.Within.{Gave, Unread}
 use Rattle.rec_format.specs.declared.manifest.PortableManifest.{PortableManifest}
 use Rattle.rec_store.specs.Entries.{log_name, store_name}
+use Rattle.rec_portable.specs.declared.errors.PortableRecordingReadError.{PortableRecordingReadError}
+use Rattle.rec_portable.specs.declared.parts.BundleParts.{BundleParts}
 use Rattle.rec_portable.specs.Errors.{source_error}
 use Rattle.rec_portable.specs.Judging.{judged, IsJudged, Refuses}
 use Rattle.rec_portable.specs.Windows.{IsWindowOf}
-use Rattle.rec_portable.specs.declared.errors.PortableRecordingReadError.{PortableRecordingReadError}
-use Rattle.rec_portable.specs.declared.parts.BundleParts.{BundleParts}
 
 -- where it is from, all its bytes, and the most bytes of an entry that is read
 pub record Opening : Type 0 where

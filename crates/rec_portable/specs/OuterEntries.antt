@@ -1,16 +1,16 @@
 -- The entries of a bundle: its log, its store, and any other.
-use Rattle.std.specs.Prelude.{◌≡◌, ◌≤◌, IfErr, Bool, ◌&&◌, ℕ, nat_lt, List, length, Option, Some, None, Result, Ok, Err, if◌then◌else◌}
 use Rattle.std.specs.Io.KnownBytes.{Appends}
+use Rattle.std.specs.Prelude.{◌≡◌, ◌≤◌, IfErr, Bool, ◌&&◌, ℕ, nat_lt, List, length, Option, Some, None, Result, Ok, Err, if◌then◌else◌}
 use Rattle.rec_container.specs.Causes.{Rose}
 use Rattle.rec_container.specs.Container.{Entry, content_of, IsContainer}
 use Rattle.rec_container.specs.Reading.{IsFault}
 use Rattle.rec_container.specs.Taking.{TookPart}
 use Rattle.rec_store.specs.Entries.{log_name, store_name}
+use Rattle.rec_portable.specs.declared.errors.PortableRecordingReadError.TheVariants.{ReadArchive, MissingFile, ExtractFile, OutOfMemory}
+use Rattle.rec_portable.specs.declared.errors.PortableRecordingReadError.{PortableRecordingReadError}
+use Rattle.rec_portable.specs.declared.extraction.ExtractOuterFileResult.{ExtractOuterFileResult}
 use Rattle.rec_portable.specs.Judging.{within}
 use Rattle.rec_portable.specs.Stores.{StoreReading}
-use Rattle.rec_portable.specs.declared.errors.PortableRecordingReadError.{PortableRecordingReadError}
-use Rattle.rec_portable.specs.declared.errors.PortableRecordingReadError.TheVariants.{ReadArchive, MissingFile, ExtractFile, OutOfMemory}
-use Rattle.rec_portable.specs.declared.extraction.ExtractOuterFileResult.{ExtractOuterFileResult}
 
 -- the log that was found, as far as the limit allows
 abbrev pub log_found : ℕ → Option (List ℕ) → Result (List ℕ) PortableRecordingReadError

@@ -1,9 +1,9 @@
 //! Entries of a bundle, written elsewhere as they are.
-ghost use Rattle.std.specs.Prelude.{◌≡◌, ◌&&◌, List, Some, None, nat_lt, if◌then◌else◌, IfErr, MatchResult};
 ghost use Rattle.std.specs.Option.{option_map};
+ghost use Rattle.std.specs.Prelude.{◌≡◌, ◌&&◌, List, Some, None, nat_lt, if◌then◌else◌, IfErr, MatchResult};
 ghost use Rattle.rec_container.specs.Container.{Entry, IsContainer, content_of};
-ghost use Rattle.rec_portable.specs.OuterEntries.{ExtractsOuter, OuterCause, exceeded_limit};
 ghost use Rattle.rec_portable.specs.declared.errors.PortableRecordingReadError.TheVariants.{OutOfMemory};
+ghost use Rattle.rec_portable.specs.OuterEntries.{ExtractsOuter, OuterCause, exceeded_limit};
 
 use crate::errors::PortableRecordingReadError;
 use rec_container::{Container, Sink, write_all_dyn};

@@ -1,8 +1,8 @@
 //! Laws of bundles that are read. The functions do nothing: their contracts are what they are for.
 ghost use Rattle.std.specs.Prelude.{◌≡◌, List, ℕ, Result};
 ghost use Rattle.rec_format.specs.declared.manifest.PortableManifest.{PortableManifest};
-ghost use Rattle.rec_portable.specs.Judging.{IsJudged, IsNoContainer};
 ghost use Rattle.rec_portable.specs.declared.errors.PortableRecordingReadError.{PortableRecordingReadError};
+ghost use Rattle.rec_portable.specs.Judging.{IsJudged, IsNoContainer};
 
 /// States that bytes are judged in one way: they are a container, and have one manifest or one first
 /// refusal; or they are none, and have one first fault.

@@ -1,9 +1,9 @@
 //! The parts of a bundle.
 ghost use Rattle.std.specs.Prelude.{◌≡◌, ◌⊎◌, IfOk, IfErr};
 ghost use Rattle.rec_container.specs.Container.{IsContainer};
+ghost use Rattle.rec_portable.specs.declared.errors.PortableRecordingReadError.TheVariants.{OutOfMemory};
 ghost use Rattle.rec_portable.specs.Judging.{IsNoContainer, Refuses};
 ghost use Rattle.rec_portable.specs.Opening.{IsOpen};
-ghost use Rattle.rec_portable.specs.declared.errors.PortableRecordingReadError.TheVariants.{OutOfMemory};
 
 use crate::errors::PortableRecordingReadError;
 use crate::manifest::read_manifest;

@@ -1,9 +1,9 @@
 //! A bundle that is read.
-ghost use Rattle.std.specs.Prelude.{◌≡◌, ◌≤◌, ◌+◌, ◌↔◌, List, length, is_some, IfOk, IfErr, IfSome, IsTrue, Ok, string_bytes};
 ghost use Rattle.std.specs.Option.{option_map};
+ghost use Rattle.std.specs.Prelude.{◌≡◌, ◌≤◌, ◌+◌, ◌↔◌, List, length, is_some, IfOk, IfErr, IfSome, IsTrue, Ok, string_bytes};
 ghost use Rattle.rec_container.specs.Container.{Entry, IsContainer, content_of};
-ghost use Rattle.rec_format.specs.Runs.{info_of};
 ghost use Rattle.rec_format.specs.declared.manifest.PortableManifest.{PortableManifest};
+ghost use Rattle.rec_format.specs.Runs.{info_of};
 ghost use Rattle.rec_store.specs.Entries.{log_name, store_name};
 ghost use Rattle.rec_portable.specs.Errors.{Reads};
 ghost use Rattle.rec_portable.specs.Judging.{IsJudged};

@@ -1,6 +1,6 @@
 //! The event log in a bundle.
-ghost use Rattle.std.specs.Prelude.{◌≡◌};
 ghost use Rattle.std.specs.Option.{option_map};
+ghost use Rattle.std.specs.Prelude.{◌≡◌};
 ghost use Rattle.rec_codec.specs.Lines.{lines, numbered};
 ghost use Rattle.rec_portable.specs.Errors.{Reads};
 ghost use Rattle.rec_portable.specs.OuterEntries.{log_found};

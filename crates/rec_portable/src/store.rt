@@ -1,6 +1,6 @@
 //! The store in a bundle.
-ghost use Rattle.std.specs.Prelude.{◌≡◌};
 ghost use Rattle.std.specs.Option.{option_map};
+ghost use Rattle.std.specs.Prelude.{◌≡◌};
 ghost use Rattle.rec_portable.specs.OuterEntries.{OpensStore};
 
 use crate::errors::PortableRecordingReadError;

@@ -1,21 +1,21 @@
 -- The contents of bundles, and what is judged of them.
 use Rattle.std.proofs.Common.{◌≡◌, ℕ, List, Option, Some, None, ap, refl, ◌∙◌}
 use Rattle.std.specs.Option.{option_or}
-use Rattle.rec_container.specs.Container.{spell}
-use Rattle.rec_container.specs.Writing.{named}
 use Rattle.serde_json.specs.Written.{compact_text}
-use Rattle.rec_codec.specs.Event.{LiveEvent}
-use Rattle.rec_format.specs.RunForms.{manifest_value}
-use Rattle.rec_format.specs.Runs.{manifest_of, recorded_info}
+use Rattle.rec_container.specs.Container.{spell}
+use Rattle.rec_container.specs.Writing.{entry_named}
 use Rattle.rec_format.specs.declared.head.SessionHead.{SessionHead}
 use Rattle.rec_format.specs.declared.sizes.RecordedSizes.{RecordedSizes}
+use Rattle.rec_format.specs.RunForms.{manifest_value}
+use Rattle.rec_format.specs.Runs.{manifest_of, recorded_info}
+use Rattle.rec_codec.specs.Event.{LiveEvent}
 use Rattle.rec_store.specs.Bundle.{manifest_text, run_bundle, run_entries, run_log, run_sizes, run_store}
 use Rattle.rec_store.specs.Entries.{bundle_entries, log_name, manifest_name}
 use Rattle.rec_program.specs.Bundle.{sizes_refusal}
+use Rattle.rec_program.specs.declared.refusal.RecordExportError.{RecordExportError}
+use Rattle.rec_program.specs.declared.settings.Settings.{Settings}
 use Rattle.rec_program.specs.Prepared.{contents_refusal, length_refusal}
 use Rattle.rec_program.specs.Sizes.{entries_refusal, entry_refusal}
-use Rattle.rec_program.specs.declared.settings.Settings.{Settings}
-use Rattle.rec_program.specs.declared.refusal.RecordExportError.{RecordExportError}
 
 -- the last of several causes, after the others
 or_assoc : {E : Type 0} (a b c d : Option E) → option_or (option_or a (option_or b c)) d ≡ option_or a (option_or b (option_or c d))
@@ -54,7 +54,7 @@ module _ (number : List ℕ → ℕ) (settings : Settings) (head : SessionHead) 
       ap (λ (t : List ℕ). option_or (contents_refusal limit t log store) (entries_refusal limit entries)) (written number m head events sizes manifest same refl)
       ∙ ap (λ (l : List ℕ). option_or (contents_refusal limit text l store) (entries_refusal limit entries)) logged
       ∙ ap (λ (l : List ℕ). option_or (contents_refusal limit text (run_log number m events) l) (entries_refusal limit entries)) stored
-      ∙ or_assoc (length_refusal (run_bundle number m head events)) (entry_refusal limit (named manifest_name text)) (entry_refusal limit (named log_name (run_log number m events))) (entries_refusal limit entries)
+      ∙ or_assoc (length_refusal (run_bundle number m head events)) (entry_refusal limit (entry_named manifest_name text)) (entry_refusal limit (entry_named log_name (run_log number m events))) (entries_refusal limit entries)
 
   -- the same, where the refusal of an entry is at hand
   pub same_judged : (log store : List ℕ) (too_large : Option RecordExportError) → log ≡ run_log number m events → store ≡ spell (run_store number m head events)

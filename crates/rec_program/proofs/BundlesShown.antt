@@ -1,24 +1,24 @@
 -- What is printed of a bundle that was read, and why nothing is.
 use Rattle.std.proofs.Common.{◌≡◌, ◌⊎◌, inl, inr, ℕ, List, Option, None, Some, Result, Ok, Err, IfOk, IfErr, refl, sym, ap, subst, ◌∙◌}
-use Rattle.std.specs.Prelude.{Vec}
 use Rattle.std.specs.declared.alloc.Global.{Global}
-use Rattle.rec_codec.specs.Lines.{NumberedLine}
-use Rattle.rec_container.specs.Container.{Entry, IsContainer}
+use Rattle.std.specs.Prelude.{Vec}
 use Rattle.rec_container.proofs.Unique.{one_reading_spec}
+use Rattle.rec_container.specs.Container.{Entry, IsContainer}
 use Rattle.rec_format.specs.declared.manifest.PortableManifest.{PortableManifest}
+use Rattle.rec_codec.specs.Lines.{NumberedLine}
+use Rattle.rec_portable.specs.declared.errors.PortableRecordingReadError.TheVariants as bundles
+use Rattle.rec_portable.specs.declared.errors.PortableRecordingReadError.{PortableRecordingReadError}
 use Rattle.rec_portable.specs.Judging.{judged, IsJudged, Refuses}
 use Rattle.rec_portable.specs.Opening.{Opening, Opens, Unopened}
 use Rattle.rec_portable.specs.OuterEntries.{log_part}
-use Rattle.rec_portable.specs.declared.errors.PortableRecordingReadError.{PortableRecordingReadError}
-use Rattle.rec_portable.specs.declared.errors.PortableRecordingReadError.TheVariants as bundles
-use Rattle.rec_trace.specs.declared.errors.ChromeTraceError.{ChromeTraceError}
 use Rattle.rec_trace.specs.declared.errors.ChromeTraceError.TheVariants as traces
+use Rattle.rec_trace.specs.declared.errors.ChromeTraceError.{ChromeTraceError}
+use Rattle.rec_program.specs.declared.reading_error.ReadingError.TheVariants.{OutOfMemory}
+use Rattle.rec_program.specs.declared.reading_error.ReadingError.{ReadingError}
+use Rattle.rec_program.specs.declared.settings.Settings.{Settings}
 use Rattle.rec_program.specs.LogTraces.{bundle_trace, log_lines, log_refusal, log_trace}
 use Rattle.rec_program.specs.ReadingCommands.{IsPrintedOf, Makes, Shows, Withholds, info_of, manifest_line, part, trace_of, trace_of_parts, trace_unless}
 use Rattle.rec_program.specs.ReadingErrors.{bundle_error, trace_error}
-use Rattle.rec_program.specs.declared.reading_error.ReadingError.{ReadingError}
-use Rattle.rec_program.specs.declared.reading_error.ReadingError.TheVariants.{OutOfMemory}
-use Rattle.rec_program.specs.declared.settings.Settings.{Settings}
 
 -- ---- what each command prints, by the parts that it asks for
 

@@ -2,34 +2,43 @@
 use Rattle.std.proofs.Common.{◌≡◌, ◌⊎◌, inl, inr, ℕ, ◌≤◌, ◌<◌, lit<, List, length, nat_lt, Option, None, Some, Result, Ok, Err, refl, sym, ap, subst, ◌∙◌, arith}
 use Rattle.std.specs.Io.KnownBytes.{Appends}
 use Rattle.std.specs.Option.{option_map, option_or}
-use Rattle.rec_codec.specs.LineReading.{events_before_fault, first_line_fault}
-use Rattle.rec_codec.specs.Lines.{NumberedLine}
-use Rattle.rec_container.specs.Causes.{Rose}
-use Rattle.rec_container.specs.Container.{Entry, IsContainer, content_of}
-use Rattle.rec_container.specs.Reading.{IsFault, ◌>>=◌}
-use Rattle.rec_container.specs.Within.{Gave, Unread}
-use Rattle.rec_container.specs.declared.within.ReadError.{ReadError}
-use Rattle.rec_container.specs.declared.within.ReadError.TheVariants as read
 use Rattle.rec_container.proofs.Results.{Ok-injective, then_ok, unless_ok}
 use Rattle.rec_container.proofs.Unique.{no_fault, one_reading_spec}
+use Rattle.rec_container.specs.Causes.{Rose}
+use Rattle.rec_container.specs.Container.{Entry, IsContainer, content_of}
+use Rattle.rec_container.specs.declared.within.ReadError.TheVariants as read
+use Rattle.rec_container.specs.declared.within.ReadError.{ReadError}
+use Rattle.rec_container.specs.Reading.{IsFault, ◌>>=◌}
+use Rattle.rec_container.specs.Within.{Gave, Unread}
 use Rattle.rec_forms.specs.TextForm.{bytes_form}
+use Rattle.rec_format.specs.declared.manifest.PortableManifest.{PortableManifest}
 use Rattle.rec_format.specs.RunForms.{manifest_form}
 use Rattle.rec_format.specs.Runs.{store_version_in}
-use Rattle.rec_format.specs.declared.manifest.PortableManifest.{PortableManifest}
+use Rattle.rec_codec.specs.LineReading.{events_before_fault, first_line_fault}
+use Rattle.rec_codec.specs.Lines.{NumberedLine}
+use Rattle.rec_store.specs.Entries.{log_name, manifest_name}
+use Rattle.rec_portable.specs.declared.errors.PortableRecordingReadError.TheVariants as bundles
+use Rattle.rec_portable.specs.declared.errors.PortableRecordingReadError.TheVariants.{FileTooLarge}
+use Rattle.rec_portable.specs.declared.errors.PortableRecordingReadError.{PortableRecordingReadError}
 use Rattle.rec_portable.specs.Errors.{source_error}
 use Rattle.rec_portable.specs.Judging.{content_judged, format_checked, judged, manifest_found, manifest_read, store_checked, versions_checked, within}
 use Rattle.rec_portable.specs.OuterEntries.{log_found, log_part}
-use Rattle.rec_portable.specs.declared.errors.PortableRecordingReadError.{PortableRecordingReadError}
-use Rattle.rec_portable.specs.declared.errors.PortableRecordingReadError.TheVariants as bundles
-use Rattle.rec_portable.specs.declared.errors.PortableRecordingReadError.TheVariants.{FileTooLarge}
-use Rattle.rec_store.specs.Entries.{log_name, manifest_name}
+use Rattle.rec_trace.proofs.Timelines.{timeline}
+use Rattle.rec_trace.specs.declared.errors.ChromeTraceError.TheVariants as traces
+use Rattle.rec_trace.specs.declared.errors.ChromeTraceError.{ChromeTraceError}
+use Rattle.rec_trace.specs.declared.settings.ChromeTraceGroupBy.{ChromeTraceGroupBy}
 use Rattle.rec_trace.specs.Refusals.{history_refusal}
 use Rattle.rec_trace.specs.Timeline.{IsTimeline}
-use Rattle.rec_trace.specs.declared.errors.ChromeTraceError.{ChromeTraceError}
-use Rattle.rec_trace.specs.declared.errors.ChromeTraceError.TheVariants as traces
-use Rattle.rec_trace.specs.declared.settings.ChromeTraceGroupBy.{ChromeTraceGroupBy}
-use Rattle.rec_trace.proofs.Timelines.{timeline}
+use Rattle.rec_program.proofs.BundlesShown.{trace_drawn}
+use Rattle.rec_program.proofs.Complete.{no_more, same_session}
+use Rattle.rec_program.proofs.RecordedDrawn.{recorded-is_drawn}
 use Rattle.rec_program.specs.Bundle.{AreOf}
+use Rattle.rec_program.specs.declared.counts.Exported.{Exported}
+use Rattle.rec_program.specs.declared.reading_error.ReadingError.TheVariants.{Bundle, Trace, OutOfMemory}
+use Rattle.rec_program.specs.declared.reading_error.ReadingError.{ReadingError}
+use Rattle.rec_program.specs.declared.refusal.RecordExportError.TheVariants as exports
+use Rattle.rec_program.specs.declared.refusal.RecordExportError.{RecordExportError}
+use Rattle.rec_program.specs.declared.settings.Settings.{Settings}
 use Rattle.rec_program.specs.Export.{Exports}
 use Rattle.rec_program.specs.LogTraces.{bundle_trace, log_history, log_lines, log_refusal}
 use Rattle.rec_program.specs.ReadingCommands.{IsPrintedOf, Shows, Withholds, info_of, manifest_line, part, trace_of, trace_of_parts, trace_unless}
@@ -37,15 +46,6 @@ use Rattle.rec_program.specs.ReadingErrors.{bundle_error}
 use Rattle.rec_program.specs.Running.{Records, ShowsBundle}
 use Rattle.rec_program.specs.Status.{bundle_status, export_status, reading_status}
 use Rattle.rec_program.specs.TraceFaults.{trace_fault}
-use Rattle.rec_program.specs.declared.counts.Exported.{Exported}
-use Rattle.rec_program.specs.declared.reading_error.ReadingError.{ReadingError}
-use Rattle.rec_program.specs.declared.reading_error.ReadingError.TheVariants.{Bundle, Trace, OutOfMemory}
-use Rattle.rec_program.specs.declared.refusal.RecordExportError.{RecordExportError}
-use Rattle.rec_program.specs.declared.refusal.RecordExportError.TheVariants as exports
-use Rattle.rec_program.specs.declared.settings.Settings.{Settings}
-use Rattle.rec_program.proofs.BundlesShown.{trace_drawn}
-use Rattle.rec_program.proofs.Complete.{no_more, same_session}
-use Rattle.rec_program.proofs.RecordedDrawn.{recorded-is_drawn}
 
 -- ---- the statuses of refusals are above those of success and of faulty words
 

@@ -3,11 +3,11 @@ use Rattle.std.proofs.Common.{◌≡◌, ℕ, ◌≤◌, List, ◌++◌, length,
 use Rattle.std.specs.Io.KnownBytes.{Consumes, IsAtEnd}
 use Rattle.rec_container.specs.Causes.{Rose}
 use Rattle.rec_program.specs.Bundle.{session_refusal}
-use Rattle.rec_program.specs.Reading.{Unread}
-use Rattle.rec_program.specs.Export.{Undelivered, Fails}
-use Rattle.rec_program.specs.declared.settings.Settings.{Settings}
-use Rattle.rec_program.specs.declared.refusal.RecordExportError.{RecordExportError}
 use Rattle.rec_program.specs.declared.refusal.RecordExportError.TheVariants.{SourceFault, SessionTooLarge, ParseHead, ReadRunLog, ParseEvent, NameCollision, CountOutOfRange, FileTooLarge, KindNotBuilt, MissingTestStart, SpanAlreadyOpen, SlotBusy, TimestampOutOfRange, RowOutOfRange, BundleFault, TraceFault, OutOfMemory}
+use Rattle.rec_program.specs.declared.refusal.RecordExportError.{RecordExportError}
+use Rattle.rec_program.specs.declared.settings.Settings.{Settings}
+use Rattle.rec_program.specs.Export.{Undelivered, Fails}
+use Rattle.rec_program.specs.Reading.{Unread}
 
 -- what a source gave to its end is what it had
 pub same_session : (a b : Option (List ℕ)) (session given : List ℕ) → a ≡ Some session → Consumes a b given → IsAtEnd b → given ≡ session

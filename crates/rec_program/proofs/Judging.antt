@@ -1,14 +1,14 @@
 -- Why a session is refused, and that it isn't.
 use Rattle.std.proofs.Common.{◌≡◌, ℕ, List, [], Option, Some, None, ap, refl, ◌∙◌, ◌⊎◌, inl, inr}
 use Rattle.std.specs.Option.{option_or}
-use Rattle.rec_codec.specs.Lines.{NumberedLine}
 use Rattle.rec_format.specs.declared.head.SessionHead.{SessionHead}
+use Rattle.rec_codec.specs.Lines.{NumberedLine}
 use Rattle.rec_program.specs.Bundle.{count_refusal, session_refusal, refusal_after, session_events, session_head, size_refusal, sizes_refusal}
+use Rattle.rec_program.specs.declared.refusal.RecordExportError.TheVariants.{OutOfMemory, ParseHead}
+use Rattle.rec_program.specs.declared.refusal.RecordExportError.{RecordExportError}
+use Rattle.rec_program.specs.declared.settings.Settings.{Settings}
 use Rattle.rec_program.specs.Session.{event_lines, events_of, lines_refusal, session_lines}
 use Rattle.rec_program.specs.SessionTraces.{trace_refusal}
-use Rattle.rec_program.specs.declared.settings.Settings.{Settings}
-use Rattle.rec_program.specs.declared.refusal.RecordExportError.{RecordExportError}
-use Rattle.rec_program.specs.declared.refusal.RecordExportError.TheVariants.{OutOfMemory, ParseHead}
 
 -- of three causes, one among the first two comes before the third
 found_first : {E : Type 0} (a b c : Option E) (e : E) → option_or a b ≡ Some e → option_or a (option_or b c) ≡ Some e

@@ -1,13 +1,13 @@
 -- A line that is written piece by piece.
 use Rattle.std.proofs.Common.{◌≡◌, zero, suc, ℕ, ◌+◌, ◌≤◌, List, [], ◌∷◌, ◌++◌, length, drop, Option, ap, sym, refl, ◌∙◌, arith, append_assoc, subst, add-one, append-nil}
 use lib.ListN.{get_or}
-use Rattle.std.specs.Io.KnownBytes.{Appends}
 use Rattle.std.proofs.KnownBytes.{Appends-trans}
-use Rattle.rec_container.specs.Taking.{TookPart}
+use Rattle.std.specs.Io.KnownBytes.{Appends}
 use Rattle.rec_container.proofs.Parts.{took_part}
-use Rattle.rec_program.specs.LinePieces.{fields_bytes, value_bytes}
+use Rattle.rec_container.specs.Taking.{TookPart}
 use Rattle.rec_program.specs.declared.line.Field.{Field}
 use Rattle.rec_program.specs.declared.line.FieldValue.TheVariants.{Text}
+use Rattle.rec_program.specs.LinePieces.{fields_bytes, value_bytes}
 
 -- the prefix of a line was taken that this rest is left of, and the count has not fallen
 pub record Begun (before now : Option (List ℕ)) (faults_before faults_now : ℕ) (line rest : List ℕ) : Type 0 where

@@ -4,25 +4,25 @@ use Rattle.std.proofs.lemmas.List.{map-append}
 use Rattle.std.specs.Option.{option_or}
 use Rattle.semver.specs.Parse.{Parts}
 use Rattle.rec_forms.specs.Outputs.{stored_outputs_form}
+use Rattle.rec_codec.proofs.LineReadings.{drained, failed, yielded}
+use Rattle.rec_codec.specs.declared.line_events.LineError.{LineError}
 use Rattle.rec_codec.specs.Event.{RecordedEvent}
 use Rattle.rec_codec.specs.EventForms.{event_form}
 use Rattle.rec_codec.specs.LineItems.{GivesNext}
 use Rattle.rec_codec.specs.LineReading.{events_before_fault, first_line_fault, log_items}
 use Rattle.rec_codec.specs.Lines.{NumberedLine}
-use Rattle.rec_codec.specs.declared.line_events.LineError.{LineError}
-use Rattle.rec_codec.proofs.LineReadings.{drained, failed, yielded}
+use Rattle.rec_trace.proofs.Acceptance.{history_refusal_after-append}
 use Rattle.rec_trace.specs.Converting.{Converts, HasNoTrace, IsRefused, IsUnread}
+use Rattle.rec_trace.specs.declared.errors.ChromeTraceError.TheVariants.{OutOfMemory, ReadError}
+use Rattle.rec_trace.specs.declared.errors.ChromeTraceError.{ChromeTraceError}
+use Rattle.rec_trace.specs.declared.settings.ChromeTraceGroupBy.{ChromeTraceGroupBy}
+use Rattle.rec_trace.specs.declared.settings.ChromeTraceMessageFormat.{ChromeTraceMessageFormat}
 use Rattle.rec_trace.specs.Drawing.{trace_text}
 use Rattle.rec_trace.specs.History.{after, state_after, trace_marks}
 use Rattle.rec_trace.specs.Kinds.{history, trace_input}
 use Rattle.rec_trace.specs.Past.{TraceInput}
 use Rattle.rec_trace.specs.Refusals.{history_refusal, history_refusal_after}
 use Rattle.rec_trace.specs.Timeline.{IsTimeline}
-use Rattle.rec_trace.specs.declared.errors.ChromeTraceError.{ChromeTraceError}
-use Rattle.rec_trace.specs.declared.errors.ChromeTraceError.TheVariants.{OutOfMemory, ReadError}
-use Rattle.rec_trace.specs.declared.settings.ChromeTraceGroupBy.{ChromeTraceGroupBy}
-use Rattle.rec_trace.specs.declared.settings.ChromeTraceMessageFormat.{ChromeTraceMessageFormat}
-use Rattle.rec_trace.proofs.Acceptance.{history_refusal_after-append}
 use Rattle.rec_program.specs.LogTraces.{TracesLog, log_history, log_refusal, log_trace}
 
 -- ---- the refusal of a log

@@ -1,12 +1,12 @@
 -- How options are read, one after the other.
 use Rattle.std.proofs.Common.{◌≡◌, ℕ, ◌+◌, List, ◌∷◌, Some, Ok, refl, sym, ap, ◌∙◌}
-use Rattle.std.specs.Prelude.{String, string_bytes}
 use Rattle.std.specs.declared.alloc.Global.{Global}
-use Rattle.rec_program.specs.Options.{values_from, new_option, option_named, with_value}
-use Rattle.rec_program.specs.Words.{texts}
+use Rattle.std.specs.Prelude.{String, string_bytes}
 use Rattle.rec_program.specs.declared.options.CommandName.{CommandName}
 use Rattle.rec_program.specs.declared.options.OptionName.{OptionName}
 use Rattle.rec_program.specs.declared.options.OptionValues.{OptionValues}
+use Rattle.rec_program.specs.Options.{values_from, new_option, option_named, with_value}
+use Rattle.rec_program.specs.Words.{texts}
 
 module _ (command : CommandName) (values more : OptionValues) (at : ℕ) (name : OptionName) where
   -- after an option and its value, the other words give the rest

@@ -2,32 +2,32 @@
 use Rattle.std.proofs.Common.{◌≡◌, ℕ, ◌+◌, List, [], ◌∷◌, ◌++◌, length, Bool, true, false, true≢false, ◌||◌, Option, Some, None, Result, Ok, Err, OnOk, refl, sym, ap, subst, ◌∙◌, ◌⊎◌, inl, inr, append-nil, length-append}
 use Rattle.std.specs.Io.KnownBytes.{Appends}
 use Rattle.std.specs.List.{AllByRecursion}
-use Rattle.rec_container.specs.Container.{AreFrom, ending, spell}
+use Rattle.std.specs.Option.{option_map}
 use Rattle.rec_container.proofs.Spelling.{prefix-ending}
-use Rattle.rec_codec.specs.Event.{LiveEvent, IsLogged, event_line}
-use Rattle.rec_events.specs.declared.recording.TestListSummary.{TestListSummary}
+use Rattle.rec_container.specs.Container.{AreFrom, ending, spell}
+use Rattle.rec_container.specs.Memory.{GrowingSinkState}
 use Rattle.rec_events.specs.declared.recording.RecordOpts.{RecordOpts}
+use Rattle.rec_events.specs.declared.recording.TestListSummary.{TestListSummary}
 use Rattle.rec_format.specs.declared.head.SessionHead.{SessionHead}
 use Rattle.rec_format.specs.declared.rerun.RerunInfo.{RerunInfo}
 use Rattle.rec_format.specs.declared.scope.RecordedBuildScope.{RecordedBuildScope}
+use Rattle.rec_codec.specs.Event.{LiveEvent, IsLogged, event_line}
+use Rattle.rec_store.proofs.Adding.{AreNew, with_entries-new, entries_after, taken_after, sound_after}
+use Rattle.rec_store.proofs.Clashing.{clash_none, clash_found}
+use Rattle.rec_store.proofs.OutputLaws.{clash_outputs, clash_push, log_push, outputs_of_event, outputs_push, with_outputs}
 use Rattle.rec_store.specs.Bundle.{events_recorded, outputs_stored, run_log}
 use Rattle.rec_store.specs.Clashes.{clash, with_entries}
+use Rattle.rec_store.specs.declared.error.RunStoreError.TheVariants.{Failed, NotLoadedOutput, NameCollision, CountOutOfRange, StoreWrite, RunLogWrite, OutOfMemory}
+use Rattle.rec_store.specs.declared.error.RunStoreError.{RunStoreError}
+use Rattle.rec_store.specs.declared.sizes.StoreSizes.{StoreSizes}
 use Rattle.rec_store.specs.Ending.{sizes_of, sizes_of_log, sizes_of_store}
 use Rattle.rec_store.specs.EventOutputs.{event_entries, event_recorded}
 use Rattle.rec_store.specs.Logging.{Logs, Unlogged}
 use Rattle.rec_store.specs.Recording.{AddsEach, Recording, Stores, has_failed}
 use Rattle.rec_store.specs.Store.{metadata_of, store_entries}
-use Rattle.rec_store.specs.declared.error.RunStoreError.{RunStoreError}
-use Rattle.rec_store.specs.declared.error.RunStoreError.TheVariants.{Failed, NotLoadedOutput, NameCollision, CountOutOfRange, StoreWrite, RunLogWrite, OutOfMemory}
-use Rattle.rec_store.specs.declared.sizes.StoreSizes.{StoreSizes}
-use Rattle.rec_store.proofs.Adding.{AreNew, with_entries-new, entries_after, taken_after, sound_after}
-use Rattle.rec_store.proofs.Clashing.{clash_none, clash_found}
-use Rattle.rec_store.proofs.OutputLaws.{clash_outputs, clash_push, log_push, outputs_of_event, outputs_push, with_outputs}
-use Rattle.rec_container.specs.Memory.{GrowingSinkState}
-use Rattle.std.specs.Option.{option_map}
+use Rattle.rec_program.specs.declared.refusal.RecordExportError.TheVariants as refusals
 use Rattle.rec_program.specs.Recorded.{HasRecorded, IsRunOf}
 use Rattle.rec_program.specs.RecorderFaults.{event_fault}
-use Rattle.rec_program.specs.declared.refusal.RecordExportError.TheVariants as refusals
 
 -- what holds in any case holds of an answer
 pub always : {T E V : Type 0} (r : Result T E) → V → OnOk r V

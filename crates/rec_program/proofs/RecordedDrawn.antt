@@ -2,39 +2,39 @@
 use Rattle.std.proofs.Common.{◌≡◌, ℕ, List, [], map, Option, Some, None, option_map, refl, sym, ap, ◌∙◌}
 use Rattle.std.specs.Option.{option_or}
 use Rattle.semver.specs.Parse.{Parts}
-use Rattle.rec_container.specs.Container.{Entry, IsContainer, content_of}
 use Rattle.rec_container.proofs.Unique.{one_reading_spec}
-use Rattle.rec_codec.specs.Event.{LiveEvent, RecordedEvent, log_events}
-use Rattle.rec_codec.specs.LineReading.{events_before_fault, first_line_fault}
-use Rattle.rec_codec.specs.Lines.{NumberedLine, lines}
-use Rattle.rec_codec.proofs.LineReadings.{log_events-whole}
+use Rattle.rec_container.specs.Container.{Entry, IsContainer, content_of}
 use Rattle.rec_events.specs.declared.outputs.RecordingSpec.{RecordingSpec}
 use Rattle.rec_forms.specs.Recording.{record_opts_form, test_list_form}
 use Rattle.rec_forms.specs.Shape.{◌>>=◌}
 use Rattle.rec_forms.specs.TextForm.{bytes_form}
+use Rattle.rec_format.specs.declared.head.SessionHead.{SessionHead}
+use Rattle.rec_format.specs.declared.manifest.PortableManifest.{PortableManifest}
 use Rattle.rec_format.specs.RerunForms.{rerun_info_form}
 use Rattle.rec_format.specs.RunForms.{manifest_form}
 use Rattle.rec_format.specs.Runs.{info_of}
 use Rattle.rec_format.specs.ScopeForms.{recorded_scope_form}
-use Rattle.rec_format.specs.declared.head.SessionHead.{SessionHead}
-use Rattle.rec_format.specs.declared.manifest.PortableManifest.{PortableManifest}
+use Rattle.rec_codec.proofs.LineReadings.{log_events-whole}
+use Rattle.rec_codec.specs.Event.{LiveEvent, RecordedEvent, log_events}
+use Rattle.rec_codec.specs.LineReading.{events_before_fault, first_line_fault}
+use Rattle.rec_codec.specs.Lines.{NumberedLine, lines}
 use Rattle.rec_store.specs.Entries.{build_scope_path, bundle_entries, cargo_metadata_path, log_name, manifest_name, record_opts_path, rerun_info_path, test_list_path}
 use Rattle.rec_store.specs.Kept.{event_resolved, outputs_kept, outputs_resolved}
 use Rattle.rec_store.specs.Reading.{RunRecord, maybe_part, outputs_of, part, record_of, recorded, text_part}
+use Rattle.rec_trace.proofs.OutputsNotDrawn.{same-history}
+use Rattle.rec_trace.specs.declared.settings.ChromeTraceGroupBy.{ChromeTraceGroupBy}
 use Rattle.rec_trace.specs.Drawing.{trace_text}
 use Rattle.rec_trace.specs.History.{trace_marks}
 use Rattle.rec_trace.specs.Kinds.{history}
 use Rattle.rec_trace.specs.Refusals.{history_refusal}
-use Rattle.rec_trace.specs.declared.settings.ChromeTraceGroupBy.{ChromeTraceGroupBy}
-use Rattle.rec_trace.proofs.OutputsNotDrawn.{same-history}
+use Rattle.rec_program.proofs.Judging.{after_count, after_head, after_lines, events_after}
+use Rattle.rec_program.proofs.LogTraced.{refusal-whole}
 use Rattle.rec_program.specs.Bundle.{AreOf, count_refusal, refusal_after, session_events, size_refusal}
+use Rattle.rec_program.specs.declared.settings.Settings.{Settings}
 use Rattle.rec_program.specs.LogTraces.{RecordedIsDrawn, bundle_trace, log_history, log_lines, log_refusal, log_trace}
 use Rattle.rec_program.specs.Session.{event_lines, events_of, lines_refusal, session_lines}
 use Rattle.rec_program.specs.SessionTraces.{run_trace, session_history, trace_refusal}
 use Rattle.rec_program.specs.TraceFaults.{trace_fault}
-use Rattle.rec_program.specs.declared.settings.Settings.{Settings}
-use Rattle.rec_program.proofs.Judging.{after_count, after_head, after_lines, events_after}
-use Rattle.rec_program.proofs.LogTraced.{refusal-whole}
 
 -- ---- what a record's manifest and log are
 

@@ -4,28 +4,28 @@ use Rattle.std.specs.Bool.{⊤}
 use Rattle.std.specs.List.{cons_option}
 use Rattle.std.specs.Option.{option_and_then, option_map, option_or, option_to_list}
 use Rattle.rec_container.specs.Container.{Entry}
+use Rattle.rec_container.specs.Memory.{GrowingSinkState}
+use Rattle.rec_events.specs.declared.outputs.LiveSpec.{LiveSpec}
+use Rattle.rec_forms.specs.TextForm.{text_form}
+use Rattle.rec_format.specs.declared.head.SessionHead.{SessionHead}
+use Rattle.rec_codec.proofs.ReadEventLaws.{live_event_loaded}
+use Rattle.rec_codec.specs.declared.line_events.LineError.TheVariants as lines
+use Rattle.rec_codec.specs.declared.line_events.LineError.{LineError}
 use Rattle.rec_codec.specs.Event.{LiveEvent, live_event, live_event_of}
 use Rattle.rec_codec.specs.EventForms.{event_form, kind_loaded}
 use Rattle.rec_codec.specs.LineEvents.{Misses, blank}
 use Rattle.rec_codec.specs.Lines.{NumberedLine}
 use Rattle.rec_codec.specs.Live.{is_loaded, live_form}
-use Rattle.rec_codec.proofs.ReadEventLaws.{live_event_loaded}
-use Rattle.rec_codec.specs.declared.line_events.LineError.{LineError}
-use Rattle.rec_codec.specs.declared.line_events.LineError.TheVariants as lines
-use Rattle.rec_events.specs.declared.outputs.LiveSpec.{LiveSpec}
-use Rattle.rec_forms.specs.TextForm.{text_form}
-use Rattle.rec_format.specs.declared.head.SessionHead.{SessionHead}
+use Rattle.rec_store.proofs.OutputLaws.{outputs_push}
 use Rattle.rec_store.specs.Bundle.{outputs_stored}
 use Rattle.rec_store.specs.Clashes.{clash, with_entries}
 use Rattle.rec_store.specs.EventOutputs.{event_entries}
 use Rattle.rec_store.specs.Recording.{Recording}
-use Rattle.rec_store.proofs.OutputLaws.{outputs_push}
-use Rattle.rec_container.specs.Memory.{GrowingSinkState}
+use Rattle.rec_program.specs.declared.refusal.RecordExportError.TheVariants.{NameCollision, OutOfMemory, ParseEvent, ReadRunLog}
+use Rattle.rec_program.specs.declared.refusal.RecordExportError.{RecordExportError}
 use Rattle.rec_program.specs.LineFaults.{line_fault}
 use Rattle.rec_program.specs.Recorded.{HasRecorded, RecordsEvent, RecordsLine, RecordsLines}
 use Rattle.rec_program.specs.Session.{event_at, event_refusal, events_of, line_refusal, lines_refusal, outputs_at, text_refusal}
-use Rattle.rec_program.specs.declared.refusal.RecordExportError.{RecordExportError}
-use Rattle.rec_program.specs.declared.refusal.RecordExportError.TheVariants.{NameCollision, OutOfMemory, ParseEvent, ReadRunLog}
 
 -- ---- what a line is
 

@@ -1,21 +1,21 @@
 -- Which refusals a recorder in memory doesn't give.
 use Rattle.std.proofs.Common.{◌≡◌, ℕ, List, [], ◌∷◌, true, false, Option, sym, subst, ◌∙◌, inl, inr}
-use Rattle.rec_codec.specs.Event.{LiveEvent}
-use Rattle.rec_codec.specs.EventForms.{kind_loaded}
-use Rattle.rec_codec.specs.Live.{is_loaded}
 use Rattle.rec_container.specs.Container.{Entry}
 use Rattle.rec_container.specs.Writing.{Writing}
 use Rattle.rec_format.specs.declared.head.SessionHead.{SessionHead}
+use Rattle.rec_codec.specs.Event.{LiveEvent}
+use Rattle.rec_codec.specs.EventForms.{kind_loaded}
+use Rattle.rec_codec.specs.Live.{is_loaded}
+use Rattle.rec_store.proofs.Adding.{AreNew, no_collision_among}
+use Rattle.rec_store.specs.declared.error.RunStoreError.TheVariants.{Failed, NotLoadedOutput, NameCollision, CountOutOfRange, StoreWrite, RunLogWrite, OutOfMemory}
+use Rattle.rec_store.specs.declared.error.RunStoreError.{RunStoreError}
 use Rattle.rec_store.specs.Ending.{Unended}
 use Rattle.rec_store.specs.Logging.{Unlogged}
 use Rattle.rec_store.specs.Recording.{AddsUpTo, Recording, Unstored, has_failed}
 use Rattle.rec_store.specs.Stopping.{Stops}
 use Rattle.rec_store.specs.Store.{store_entries}
-use Rattle.rec_store.specs.declared.error.RunStoreError.{RunStoreError}
-use Rattle.rec_store.specs.declared.error.RunStoreError.TheVariants.{Failed, NotLoadedOutput, NameCollision, CountOutOfRange, StoreWrite, RunLogWrite, OutOfMemory}
-use Rattle.rec_store.proofs.Adding.{AreNew, no_collision_among}
-use Rattle.rec_program.specs.RecorderFaults.{ComesAtEnd, ComesOfEvent, ComesOfHead}
 use Rattle.rec_program.proofs.Recorded.{metadata_new}
+use Rattle.rec_program.specs.RecorderFaults.{ComesAtEnd, ComesOfEvent, ComesOfHead}
 
 module _ {S : Type 0} (taken : S → Option (List ℕ)) (faults : S → ℕ) where
   -- entries are never refused for an earlier failure, an output that isn't loaded or the log

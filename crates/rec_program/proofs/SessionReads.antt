@@ -4,29 +4,29 @@ use Rattle.std.proofs.lemmas.Bool.Decides.{nat_tests}
 use Rattle.std.specs.List.{AllByRecursion, cons_option, flat_map}
 use Rattle.std.specs.Option.{option_and_then, option_map, option_or, option_to_list}
 use Rattle.serde_json.specs.Data.{Data}
+use Rattle.rec_container.specs.Container.{Entry}
+use Rattle.rec_forms.specs.TextForm.{value_in}
+use Rattle.rec_format.proofs.TextLaws.{IsHead-read}
+use Rattle.rec_format.specs.declared.head.SessionHead.{SessionHead}
+use Rattle.rec_format.specs.HeadForms.{head_form, IsHead}
+use Rattle.rec_codec.proofs.ReadEventLaws.{live_event_well_formed}
 use Rattle.rec_codec.specs.Event.{LiveEvent, live_event, live_event_of}
 use Rattle.rec_codec.specs.EventForms.{IsEvent}
 use Rattle.rec_codec.specs.Lines.{NumberedLine, is_blank, text_of}
 use Rattle.rec_codec.specs.Live.{IsLive}
-use Rattle.rec_codec.proofs.ReadEventLaws.{live_event_well_formed}
-use Rattle.rec_container.specs.Container.{Entry}
-use Rattle.rec_forms.specs.TextForm.{value_in}
-use Rattle.rec_format.specs.HeadForms.{head_form, IsHead}
-use Rattle.rec_format.specs.declared.head.SessionHead.{SessionHead}
-use Rattle.rec_format.proofs.TextLaws.{IsHead-read}
+use Rattle.rec_store.proofs.OutputLaws.{clash_push}
+use Rattle.rec_store.proofs.ReadLaws.{bundle_reads_spec}
 use Rattle.rec_store.specs.Bundle.{outputs_stored, run_bundle, run_outputs}
 use Rattle.rec_store.specs.Clashes.{clash}
 use Rattle.rec_store.specs.EventOutputs.{event_entries}
 use Rattle.rec_store.specs.Reading.{IsReading, recorded}
 use Rattle.rec_store.specs.Recordable.{HasLength, IsRecordable, event_outputs}
-use Rattle.rec_store.proofs.OutputLaws.{clash_push}
-use Rattle.rec_store.proofs.ReadLaws.{bundle_reads_spec}
-use Rattle.rec_program.specs.Bundle.{count_refusal, head_in, refusal_after, session_events, session_head, session_refusal}
-use Rattle.rec_program.specs.Session.{event_at, event_lines, event_refusal, events_of, head_text, line_refusal, lines_refusal, outputs_at, session_lines, text_refusal}
-use Rattle.rec_program.specs.declared.refusal.RecordExportError.TheVariants.{CountOutOfRange, NameCollision}
-use Rattle.rec_program.specs.declared.settings.Settings.{Settings}
 use Rattle.rec_program.proofs.Judging.{after_head, after_count, after_lines, events_after}
 use Rattle.rec_program.proofs.RecordedLines.{events_next, refusal_next}
+use Rattle.rec_program.specs.Bundle.{count_refusal, head_in, refusal_after, session_events, session_head, session_refusal}
+use Rattle.rec_program.specs.declared.refusal.RecordExportError.TheVariants.{CountOutOfRange, NameCollision}
+use Rattle.rec_program.specs.declared.settings.Settings.{Settings}
+use Rattle.rec_program.specs.Session.{event_at, event_lines, event_refusal, events_of, head_text, line_refusal, lines_refusal, outputs_at, session_lines, text_refusal}
 
 -- ---- where nothing is refused
 

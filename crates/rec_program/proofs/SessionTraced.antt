@@ -3,14 +3,14 @@ use Rattle.std.proofs.Common.{◌≡◌, List, [], ◌∷◌, ◌++◌, map, app
 use Rattle.std.specs.List.{cons_option}
 use Rattle.std.specs.Option.{option_or, option_to_list}
 use Rattle.rec_codec.specs.Event.{LiveEvent}
+use Rattle.rec_trace.proofs.Acceptance.{history_refusal_after-append}
+use Rattle.rec_trace.specs.declared.builder.TraceBuilder.{TraceBuilder}
+use Rattle.rec_trace.specs.declared.errors.ChromeTraceError.{ChromeTraceError}
+use Rattle.rec_trace.specs.declared.settings.ChromeTraceGroupBy.{ChromeTraceGroupBy}
 use Rattle.rec_trace.specs.History.{after, state_after}
 use Rattle.rec_trace.specs.Kinds.{trace_input}
 use Rattle.rec_trace.specs.Past.{TraceInput}
 use Rattle.rec_trace.specs.Refusals.{history_refusal, history_refusal_after}
-use Rattle.rec_trace.specs.declared.errors.ChromeTraceError.{ChromeTraceError}
-use Rattle.rec_trace.specs.declared.settings.ChromeTraceGroupBy.{ChromeTraceGroupBy}
-use Rattle.rec_trace.proofs.Acceptance.{history_refusal_after-append}
-use Rattle.rec_trace.specs.declared.builder.TraceBuilder.{TraceBuilder}
 use Rattle.rec_program.specs.SessionTraces.{IsTracedOr}
 
 -- a history that is refused stays so with an event more

@@ -1,22 +1,22 @@
 -- The bundle and the trace of a session, and why a session has none.
-use Rattle.std.specs.Prelude.{◌≡◌, ℕ, ◌^◌, List, [], ◌∷◌, length, Option, Some, None, nat_lt, if◌then◌else◌, option_and_then}
 use Rattle.std.specs.Option.{option_or}
-use Rattle.rec_codec.specs.Lines.{NumberedLine}
-use Rattle.rec_codec.specs.Event.{LiveEvent}
+use Rattle.std.specs.Prelude.{◌≡◌, ℕ, ◌^◌, List, [], ◌∷◌, length, Option, Some, None, nat_lt, if◌then◌else◌, option_and_then}
+use Rattle.rec_container.specs.Writing.{entry_named}
 use Rattle.rec_forms.specs.TextForm.{bytes_form}
-use Rattle.rec_format.specs.HeadForms.{head_form}
 use Rattle.rec_format.specs.declared.head.SessionHead.{SessionHead}
-use Rattle.rec_container.specs.Writing.{named}
+use Rattle.rec_format.specs.HeadForms.{head_form}
+use Rattle.rec_codec.specs.Event.{LiveEvent}
+use Rattle.rec_codec.specs.Lines.{NumberedLine}
 use Rattle.rec_store.specs.Bundle.{manifest_text, run_bundle, run_log, run_store}
 use Rattle.rec_store.specs.Entries.{log_name, manifest_name}
 use Rattle.rec_store.specs.Reading.{IsReading, recorded}
-use Rattle.rec_program.specs.Session.{session_lines, head_text, event_lines, lines_refusal, events_of}
 use Rattle.rec_trace.specs.Timeline.{IsTimeline}
+use Rattle.rec_program.specs.declared.refusal.RecordExportError.TheVariants.{ParseHead, CountOutOfRange}
+use Rattle.rec_program.specs.declared.refusal.RecordExportError.{RecordExportError}
+use Rattle.rec_program.specs.declared.settings.Settings.{Settings}
+use Rattle.rec_program.specs.Session.{session_lines, head_text, event_lines, lines_refusal, events_of}
 use Rattle.rec_program.specs.SessionTraces.{run_trace, session_history, trace_refusal}
 use Rattle.rec_program.specs.Sizes.{entries_refusal}
-use Rattle.rec_program.specs.declared.settings.Settings.{Settings}
-use Rattle.rec_program.specs.declared.refusal.RecordExportError.{RecordExportError}
-use Rattle.rec_program.specs.declared.refusal.RecordExportError.TheVariants.{ParseHead, CountOutOfRange}
 
 -- the head that a line's text is read as
 abbrev pub head_in : Option (List ℕ) → Option SessionHead
@@ -38,8 +38,8 @@ module _ (number : List ℕ → ℕ) (settings : Settings) where
   -- a reader with the limit takes the manifest, the log and each entry of the store
   abbrev pub size_refusal : SessionHead → List LiveEvent → Option RecordExportError
   size_refusal head events =
-      entries_refusal settings.read_limit (named manifest_name (manifest_text number settings.max_output head events)
-      ∷ named log_name (run_log number settings.max_output events)
+      entries_refusal settings.read_limit (entry_named manifest_name (manifest_text number settings.max_output head events)
+      ∷ entry_named log_name (run_log number settings.max_output events)
       ∷ run_store number settings.max_output head events)
 
   -- why the sizes of a run are refused, if they are: the sum of all, then the first that is too large

@@ -1,16 +1,16 @@
 -- What an export does with a session.
-use Rattle.std.specs.Prelude.{◌≡◌, ℕ, List, length, Option, Some, ◌⊎◌}
 use Rattle.std.specs.Io.KnownBytes.{Appends}
+use Rattle.std.specs.Prelude.{◌≡◌, ℕ, List, length, Option, Some, ◌⊎◌}
 use Rattle.rec_container.specs.Causes.{Rose}
 use Rattle.rec_container.specs.Taking.{TookPart}
+use Rattle.rec_container.specs.Within.{Gave}
 use Rattle.rec_store.specs.Bundle.{outputs_stored}
 use Rattle.rec_program.specs.Bundle.{session_events, session_refusal, AreOf}
-use Rattle.rec_container.specs.Within.{Gave}
-use Rattle.rec_program.specs.Reading.{Unread}
 use Rattle.rec_program.specs.declared.counts.Exported.{Exported}
-use Rattle.rec_program.specs.declared.settings.Settings.{Settings}
-use Rattle.rec_program.specs.declared.refusal.RecordExportError.{RecordExportError}
 use Rattle.rec_program.specs.declared.refusal.RecordExportError.TheVariants.{BundleFault, TraceFault}
+use Rattle.rec_program.specs.declared.refusal.RecordExportError.{RecordExportError}
+use Rattle.rec_program.specs.declared.settings.Settings.{Settings}
+use Rattle.rec_program.specs.Reading.{Unread}
 
 -- what is counted of a session, with the outputs that are stored of it, and of its bundle and its trace
 pub record CountsOf (number : List ℕ → ℕ) (m : ℕ) (session bundle trace : List ℕ) (exported : Exported) : Type 0 where

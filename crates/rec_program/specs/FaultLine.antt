@@ -1,12 +1,12 @@
 -- The line of a fault: names and fields, one after the other with a space between.
-use Rattle.std.specs.Prelude.{ℕ, List, [], ◌∷◌, ◌++◌, Option, Some, None, codes}
 use Rattle.std.specs.Fmt.{decimal}
-use Rattle.rec_program.specs.declared.refusal.RecordExportError.{RecordExportError}
-use Rattle.rec_program.specs.declared.refusal.RecordExportError.TheVariants.{SourceFault, SessionTooLarge, ParseHead, ReadRunLog, ParseEvent, NameCollision, CountOutOfRange, FileTooLarge, KindNotBuilt, MissingTestStart, SpanAlreadyOpen, SlotBusy, TimestampOutOfRange, RowOutOfRange, BundleFault, TraceFault, OutOfMemory}
-use Rattle.rec_trace.specs.declared.spans.SpanKey.{SpanKey}
+use Rattle.std.specs.Prelude.{ℕ, List, [], ◌∷◌, ◌++◌, Option, Some, None, codes}
 use Rattle.rec_trace.specs.declared.spans.SpanKey.TheVariants as spans
-use Rattle.rec_program.specs.declared.words.WordsError.{WordsError}
+use Rattle.rec_trace.specs.declared.spans.SpanKey.{SpanKey}
+use Rattle.rec_program.specs.declared.refusal.RecordExportError.TheVariants.{SourceFault, SessionTooLarge, ParseHead, ReadRunLog, ParseEvent, NameCollision, CountOutOfRange, FileTooLarge, KindNotBuilt, MissingTestStart, SpanAlreadyOpen, SlotBusy, TimestampOutOfRange, RowOutOfRange, BundleFault, TraceFault, OutOfMemory}
+use Rattle.rec_program.specs.declared.refusal.RecordExportError.{RecordExportError}
 use Rattle.rec_program.specs.declared.words.WordsError.TheVariants.{NoCommand, UnknownCommand, MissingPositional, UnknownOption, RepeatedOption, MissingValue, BadValue}
+use Rattle.rec_program.specs.declared.words.WordsError.{WordsError}
 
 mutual
   -- what a line shows: a text or an id, a number, or a variant with its fields in order of declaration

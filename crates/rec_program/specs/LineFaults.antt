@@ -1,8 +1,8 @@
 -- The refusal of a session for the fault of a line.
-use Rattle.rec_codec.specs.declared.line_events.LineError.{LineError}
 use Rattle.rec_codec.specs.declared.line_events.LineError.TheVariants as lines
-use Rattle.rec_program.specs.declared.refusal.RecordExportError.{RecordExportError}
+use Rattle.rec_codec.specs.declared.line_events.LineError.{LineError}
 use Rattle.rec_program.specs.declared.refusal.RecordExportError.TheVariants.{ReadRunLog, ParseEvent, OutOfMemory}
+use Rattle.rec_program.specs.declared.refusal.RecordExportError.{RecordExportError}
 
 abbrev pub line_fault : LineError → RecordExportError
 line_fault (lines.ReadRunLog n) = ReadRunLog n

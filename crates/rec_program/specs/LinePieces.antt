@@ -1,12 +1,12 @@
 -- A fault's line in pieces that are lent.
-use Rattle.std.specs.Prelude.{ℕ, List, [], ◌∷◌, ◌++◌}
 use Rattle.std.specs.Fmt.{decimal}
-use Rattle.rec_program.specs.declared.line.FaultText.{FaultText}
-use Rattle.rec_program.specs.declared.line.Field.{Field}
-use Rattle.rec_program.specs.declared.line.FieldValue.{FieldValue}
-use Rattle.rec_program.specs.declared.line.FieldValue.TheVariants.{Text, Number, Version, Release}
+use Rattle.std.specs.Prelude.{ℕ, List, [], ◌∷◌, ◌++◌}
 use Rattle.rec_format.specs.Incompatibility.{release_text}
 use Rattle.rec_format.specs.Versions.{version_text}
+use Rattle.rec_program.specs.declared.line.FaultText.{FaultText}
+use Rattle.rec_program.specs.declared.line.Field.{Field}
+use Rattle.rec_program.specs.declared.line.FieldValue.TheVariants.{Text, Number, Version, Release}
+use Rattle.rec_program.specs.declared.line.FieldValue.{FieldValue}
 
 abbrev pub value_bytes : FieldValue → List ℕ
 value_bytes (Text t) = t.now

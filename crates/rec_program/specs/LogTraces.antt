@@ -1,25 +1,25 @@
 -- The trace of a log: its text, or why it has none.
-use Rattle.std.specs.Prelude.{◌≡◌, ◌⊎◌, ℕ, List, Option, Some, None, option_map, Result, Ok, Err, Vec}
-use Rattle.std.specs.Option.{option_or}
 use Rattle.std.specs.declared.alloc.Global.{Global}
+use Rattle.std.specs.Option.{option_or}
+use Rattle.std.specs.Prelude.{◌≡◌, ◌⊎◌, ℕ, List, Option, Some, None, option_map, Result, Ok, Err, Vec}
 use Rattle.semver.specs.Parse.{Parts}
 use Rattle.rec_container.specs.Container.{Entry, IsContainer, content_of}
+use Rattle.rec_forms.specs.TextForm.{bytes_form}
+use Rattle.rec_format.specs.declared.manifest.PortableManifest.{PortableManifest}
+use Rattle.rec_format.specs.RunForms.{manifest_form}
 use Rattle.rec_codec.specs.LineReading.{events_before_fault, first_line_fault}
 use Rattle.rec_codec.specs.Lines.{NumberedLine, lines, numbered}
-use Rattle.rec_forms.specs.TextForm.{bytes_form}
-use Rattle.rec_format.specs.RunForms.{manifest_form}
-use Rattle.rec_format.specs.declared.manifest.PortableManifest.{PortableManifest}
 use Rattle.rec_store.specs.Entries.{log_name, manifest_name}
+use Rattle.rec_trace.specs.declared.errors.ChromeTraceError.TheVariants.{OutOfMemory, ReadError}
+use Rattle.rec_trace.specs.declared.errors.ChromeTraceError.{ChromeTraceError}
+use Rattle.rec_trace.specs.declared.settings.ChromeTraceGroupBy.{ChromeTraceGroupBy}
+use Rattle.rec_trace.specs.declared.settings.ChromeTraceMessageFormat.{ChromeTraceMessageFormat}
 use Rattle.rec_trace.specs.Drawing.{trace_text}
 use Rattle.rec_trace.specs.History.{trace_marks}
 use Rattle.rec_trace.specs.Kinds.{history}
 use Rattle.rec_trace.specs.Past.{TraceInput}
 use Rattle.rec_trace.specs.Refusals.{history_refusal}
 use Rattle.rec_trace.specs.Timeline.{IsTimeline}
-use Rattle.rec_trace.specs.declared.errors.ChromeTraceError.{ChromeTraceError}
-use Rattle.rec_trace.specs.declared.errors.ChromeTraceError.TheVariants.{OutOfMemory, ReadError}
-use Rattle.rec_trace.specs.declared.settings.ChromeTraceGroupBy.{ChromeTraceGroupBy}
-use Rattle.rec_trace.specs.declared.settings.ChromeTraceMessageFormat.{ChromeTraceMessageFormat}
 use Rattle.rec_program.specs.Bundle.{AreOf}
 use Rattle.rec_program.specs.declared.settings.Settings.{Settings}
 

@@ -1,18 +1,18 @@
 -- The options of the commands, and the settings that they give.
-use Rattle.std.specs.Prelude.{ℕ, ◌+◌, ◌^◌, List, [], ◌∷◌, length, nat_lt, ◌&&◌, Bool, true, false, Option, Some, None, is_some, option_map, unwrap_or, Result, Ok, Err, codes, if◌then◌else◌}
 use Rattle.std.specs.Option.{ok_or}
-use Rattle.std.specs.Str.{bytes_eq, all_ascii_digits}
+use Rattle.std.specs.Prelude.{ℕ, ◌+◌, ◌^◌, List, [], ◌∷◌, length, nat_lt, ◌&&◌, Bool, true, false, Option, Some, None, is_some, option_map, unwrap_or, Result, Ok, Err, codes, if◌then◌else◌}
 use Rattle.std.specs.Str.Parse.{digits_value}
+use Rattle.std.specs.Str.{bytes_eq, all_ascii_digits}
 use Rattle.rec_container.specs.Reading.{◌>>=◌}
-use Rattle.rec_program.specs.Settings.{default_settings}
-use Rattle.rec_program.specs.declared.options.CommandName.{CommandName}
 use Rattle.rec_program.specs.declared.options.CommandName.TheVariants.{Record, Trace, Info}
-use Rattle.rec_program.specs.declared.options.OptionName.{OptionName}
+use Rattle.rec_program.specs.declared.options.CommandName.{CommandName}
 use Rattle.rec_program.specs.declared.options.OptionName.TheVariants.{MaxOutput, ReadLimit, SessionLimit}
+use Rattle.rec_program.specs.declared.options.OptionName.{OptionName}
 use Rattle.rec_program.specs.declared.options.OptionValues.{OptionValues}
 use Rattle.rec_program.specs.declared.settings.Settings.{Settings}
-use Rattle.rec_program.specs.declared.words.WordsError.{WordsError}
 use Rattle.rec_program.specs.declared.words.WordsError.TheVariants.{UnknownOption, RepeatedOption, MissingValue, BadValue}
+use Rattle.rec_program.specs.declared.words.WordsError.{WordsError}
+use Rattle.rec_program.specs.Settings.{default_settings}
 
 -- the option of a name
 unfoldable pub option_named : List ℕ → Option OptionName

@@ -1,13 +1,13 @@
 -- What is exported of a session, before it is written.
-use Rattle.std.specs.Prelude.{ℕ, ◌^◌, List, length, nat_lt, Option, Some, None, if◌then◌else◌}
 use Rattle.std.specs.Option.{option_or}
+use Rattle.std.specs.Prelude.{ℕ, ◌^◌, List, length, nat_lt, Option, Some, None, if◌then◌else◌}
 use Rattle.rec_container.specs.Container.{spell}
-use Rattle.rec_container.specs.Writing.{named}
+use Rattle.rec_container.specs.Writing.{entry_named}
 use Rattle.rec_store.specs.Entries.{bundle_entries, log_name, manifest_name}
-use Rattle.rec_program.specs.Sizes.{entry_refusal}
 use Rattle.rec_program.specs.declared.prepare.Prepared.{Prepared}
-use Rattle.rec_program.specs.declared.refusal.RecordExportError.{RecordExportError}
 use Rattle.rec_program.specs.declared.refusal.RecordExportError.TheVariants.{CountOutOfRange}
+use Rattle.rec_program.specs.declared.refusal.RecordExportError.{RecordExportError}
+use Rattle.rec_program.specs.Sizes.{entry_refusal}
 
 -- the bundle of these three contents
 abbrev pub bundle_of_contents : List ℕ → List ℕ → List ℕ → List ℕ
@@ -25,4 +25,4 @@ length_refusal bundle = if nat_lt (length bundle) (2 ^ 64) then None else Some (
 abbrev pub contents_refusal : ℕ → List ℕ → List ℕ → List ℕ → Option RecordExportError
 contents_refusal limit manifest log store =
     option_or (length_refusal (bundle_of_contents manifest log store))
-    (option_or (entry_refusal limit (named manifest_name manifest)) (entry_refusal limit (named log_name log)))
+    (option_or (entry_refusal limit (entry_named manifest_name manifest)) (entry_refusal limit (entry_named log_name log)))

@@ -1,25 +1,25 @@
 -- What the commands do that read a bundle, and print something of it.
-use Rattle.std.specs.Prelude.{◌≡◌, ◌⊎◌, ℕ, List, [], ◌∷◌, ◌++◌, Option, Some, None, Result, Ok, Err, Vec}
 use Rattle.std.specs.declared.alloc.Global.{Global}
+use Rattle.std.specs.Prelude.{◌≡◌, ◌⊎◌, ℕ, List, [], ◌∷◌, ◌++◌, Option, Some, None, Result, Ok, Err, Vec}
 use Rattle.serde_json.specs.Written.{compact_text}
 use Rattle.rec_container.specs.Container.{Entry, IsContainer}
-use Rattle.rec_container.specs.Reading.{IsFault, ◌>>=◌}
-use Rattle.rec_container.specs.Within.{Gave, Unread}
 use Rattle.rec_container.specs.declared.errors.ContainerError.{ContainerError}
 use Rattle.rec_container.specs.declared.within.ReadError.{ReadError}
-use Rattle.rec_format.specs.RunForms.{manifest_value}
+use Rattle.rec_container.specs.Reading.{IsFault, ◌>>=◌}
+use Rattle.rec_container.specs.Within.{Gave, Unread}
 use Rattle.rec_format.specs.declared.manifest.PortableManifest.{PortableManifest}
+use Rattle.rec_format.specs.RunForms.{manifest_value}
+use Rattle.rec_portable.specs.declared.errors.PortableRecordingReadError.TheVariants.{ReadArchive}
+use Rattle.rec_portable.specs.declared.errors.PortableRecordingReadError.{PortableRecordingReadError}
 use Rattle.rec_portable.specs.Errors.{source_error}
 use Rattle.rec_portable.specs.Judging.{judged}
 use Rattle.rec_portable.specs.OuterEntries.{log_part}
-use Rattle.rec_portable.specs.declared.errors.PortableRecordingReadError.{PortableRecordingReadError}
-use Rattle.rec_portable.specs.declared.errors.PortableRecordingReadError.TheVariants.{ReadArchive}
 use Rattle.rec_trace.specs.declared.errors.ChromeTraceError.{ChromeTraceError}
+use Rattle.rec_program.specs.declared.reading_error.ReadingError.TheVariants.{OutOfMemory}
+use Rattle.rec_program.specs.declared.reading_error.ReadingError.{ReadingError}
+use Rattle.rec_program.specs.declared.settings.Settings.{Settings}
 use Rattle.rec_program.specs.LogTraces.{bundle_trace, log_lines, log_refusal}
 use Rattle.rec_program.specs.ReadingErrors.{bundle_error, trace_error}
-use Rattle.rec_program.specs.declared.reading_error.ReadingError.{ReadingError}
-use Rattle.rec_program.specs.declared.reading_error.ReadingError.TheVariants.{OutOfMemory}
-use Rattle.rec_program.specs.declared.settings.Settings.{Settings}
 
 -- ---- what each command prints of the entries of a bundle, or why it prints nothing
 

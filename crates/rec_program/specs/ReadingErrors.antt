@@ -1,10 +1,10 @@
 -- Why a command prints nothing of a bundle, by what was refused.
-use Rattle.rec_portable.specs.declared.errors.PortableRecordingReadError.{PortableRecordingReadError}
 use Rattle.rec_portable.specs.declared.errors.PortableRecordingReadError.TheVariants as bundles
-use Rattle.rec_trace.specs.declared.errors.ChromeTraceError.{ChromeTraceError}
+use Rattle.rec_portable.specs.declared.errors.PortableRecordingReadError.{PortableRecordingReadError}
 use Rattle.rec_trace.specs.declared.errors.ChromeTraceError.TheVariants as traces
-use Rattle.rec_program.specs.declared.reading_error.ReadingError.{ReadingError}
+use Rattle.rec_trace.specs.declared.errors.ChromeTraceError.{ChromeTraceError}
 use Rattle.rec_program.specs.declared.reading_error.ReadingError.TheVariants.{Bundle, Trace, OutOfMemory}
+use Rattle.rec_program.specs.declared.reading_error.ReadingError.{ReadingError}
 
 -- want of memory is one answer, wherever it comes
 abbrev pub bundle_error : PortableRecordingReadError → ReadingError

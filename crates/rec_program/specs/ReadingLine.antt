@@ -1,27 +1,27 @@
 -- The line of a bundle that isn't read, or that has no trace.
 use Rattle.std.specs.Prelude.{ℕ, List, codes}
-use Rattle.rec_codec.specs.declared.line_events.LineError.{LineError}
-use Rattle.rec_container.specs.declared.errors.ContainerError.{ContainerError}
 use Rattle.rec_container.specs.declared.errors.ContainerError.TheVariants as containers
-use Rattle.rec_format.specs.Incompatibility.{release_text}
-use Rattle.rec_format.specs.Versions.{version_text}
-use Rattle.rec_format.specs.declared.incompatibility.PortableRecordingVersionIncompatibility.{PortableRecordingVersionIncompatibility}
+use Rattle.rec_container.specs.declared.errors.ContainerError.{ContainerError}
 use Rattle.rec_format.specs.declared.incompatibility.PortableRecordingVersionIncompatibility.TheVariants as bundles
-use Rattle.rec_format.specs.declared.incompatibility.StoreVersionIncompatibility.{StoreVersionIncompatibility}
+use Rattle.rec_format.specs.declared.incompatibility.PortableRecordingVersionIncompatibility.{PortableRecordingVersionIncompatibility}
 use Rattle.rec_format.specs.declared.incompatibility.StoreVersionIncompatibility.TheVariants as stores
-use Rattle.rec_format.specs.declared.incompatibility.TooOldRecordingGuidance.{TooOldRecordingGuidance}
+use Rattle.rec_format.specs.declared.incompatibility.StoreVersionIncompatibility.{StoreVersionIncompatibility}
 use Rattle.rec_format.specs.declared.incompatibility.TooOldRecordingGuidance.TheVariants.{UseOlderNextest, Discard, Unknown}
+use Rattle.rec_format.specs.declared.incompatibility.TooOldRecordingGuidance.{TooOldRecordingGuidance}
 use Rattle.rec_format.specs.declared.versions.PortableRecordingFormatVersion.{PortableRecordingFormatVersion}
 use Rattle.rec_format.specs.declared.versions.StoreFormatVersion.{StoreFormatVersion}
-use Rattle.rec_portable.specs.declared.errors.PortableRecordingReadError.{PortableRecordingReadError}
+use Rattle.rec_format.specs.Incompatibility.{release_text}
+use Rattle.rec_format.specs.Versions.{version_text}
+use Rattle.rec_codec.specs.declared.line_events.LineError.{LineError}
 use Rattle.rec_portable.specs.declared.errors.PortableRecordingReadError.TheVariants.{SourceFault, SpoolTooLarge, ReadArchive, NotAWrapperArchive, FileTooLarge, ParseManifest, UnsupportedFormatVersion, UnsupportedStoreFormatVersion, MissingFile, ExtractFile, OutOfMemory}
-use Rattle.rec_trace.specs.declared.errors.ChromeTraceError.{ChromeTraceError}
+use Rattle.rec_portable.specs.declared.errors.PortableRecordingReadError.{PortableRecordingReadError}
 use Rattle.rec_trace.specs.declared.errors.ChromeTraceError.TheVariants.{ReadError}
+use Rattle.rec_trace.specs.declared.errors.ChromeTraceError.{ChromeTraceError}
+use Rattle.rec_program.specs.declared.reading_error.ReadingError.TheVariants as reading
+use Rattle.rec_program.specs.declared.reading_error.ReadingError.{ReadingError}
 use Rattle.rec_program.specs.FaultLine.{Shown, Fields, text, number, variant, no_fields, field, unnamed, at_place, line, export_name, export_fields}
 use Rattle.rec_program.specs.LineFaults.{line_fault}
 use Rattle.rec_program.specs.TraceFaults.{trace_fault}
-use Rattle.rec_program.specs.declared.reading_error.ReadingError.{ReadingError}
-use Rattle.rec_program.specs.declared.reading_error.ReadingError.TheVariants as reading
 
 -- what is wrong with the bytes of a container
 abbrev pub container_shown : ContainerError → Shown

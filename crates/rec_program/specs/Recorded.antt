@@ -1,21 +1,21 @@
 -- A run that is recorded into memory.
-use Rattle.std.specs.Prelude.{◌≡◌, ℕ, List, [], ◌∷◌, ◌++◌, length, false, None, Some, option_map, Result, Ok, Err, ◌⊎◌}
-use Rattle.std.specs.List.{AllByRecursion}
 use Rattle.std.specs.Bool.{⊤}
+use Rattle.std.specs.List.{AllByRecursion}
 use Rattle.std.specs.Option.{option_to_list}
+use Rattle.std.specs.Prelude.{◌≡◌, ℕ, List, [], ◌∷◌, ◌++◌, length, false, None, Some, option_map, Result, Ok, Err, ◌⊎◌}
 use Rattle.rec_container.specs.Container.{AreFrom, prefix, spell}
-use Rattle.rec_codec.specs.Event.{LiveEvent, IsLogged}
-use Rattle.rec_codec.specs.Lines.{NumberedLine}
+use Rattle.rec_container.specs.Memory.{GrowingSinkState}
 use Rattle.rec_format.specs.declared.head.SessionHead.{SessionHead}
 use Rattle.rec_format.specs.declared.sizes.RecordedSizes.{RecordedSizes}
+use Rattle.rec_codec.specs.Event.{LiveEvent, IsLogged}
+use Rattle.rec_codec.specs.Lines.{NumberedLine}
 use Rattle.rec_store.specs.Bundle.{events_recorded, outputs_stored, run_log, run_outputs, run_sizes, run_store}
 use Rattle.rec_store.specs.Clashes.{clash}
 use Rattle.rec_store.specs.EventOutputs.{event_entries}
 use Rattle.rec_store.specs.Recording.{Recording, has_failed}
-use Rattle.rec_container.specs.Memory.{GrowingSinkState}
-use Rattle.rec_program.specs.Session.{event_at, events_of, line_refusal, lines_refusal}
-use Rattle.rec_program.specs.declared.refusal.RecordExportError.{RecordExportError}
 use Rattle.rec_program.specs.declared.refusal.RecordExportError.TheVariants.{NameCollision, OutOfMemory}
+use Rattle.rec_program.specs.declared.refusal.RecordExportError.{RecordExportError}
+use Rattle.rec_program.specs.Session.{event_at, events_of, line_refusal, lines_refusal}
 
 -- outputs are numbered by their bytes, and cut at m bytes
 module _ (number : List ℕ → ℕ) (m : ℕ) where

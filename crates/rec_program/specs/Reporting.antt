@@ -1,6 +1,6 @@
 -- What stands on the sink for faults.
-use Rattle.std.specs.Prelude.{ℕ, List, Option, ◌⊎◌}
 use Rattle.std.specs.Io.KnownBytes.{Appends}
+use Rattle.std.specs.Prelude.{ℕ, List, Option, ◌⊎◌}
 use Rattle.rec_container.specs.Causes.{Rose}
 use Rattle.rec_container.specs.Taking.{TookPart}
 

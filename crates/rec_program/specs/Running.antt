@@ -1,24 +1,24 @@
 -- What the program does with its words.
-use Rattle.std.specs.Prelude.{◌≡◌, ℕ, List, Option, Ok, Err, Result, Vec, ◌⊎◌}
 use Rattle.std.specs.declared.alloc.Global.{Global}
 use Rattle.std.specs.Io.KnownBytes.{Appends}
+use Rattle.std.specs.Prelude.{◌≡◌, ℕ, List, Option, Ok, Err, Result, Vec, ◌⊎◌}
 use Rattle.rec_container.specs.Causes.{Rose}
-use Rattle.rec_container.specs.Taking.{TookPart}
-use Rattle.rec_program.specs.Export.{Exports, Fails}
 use Rattle.rec_container.specs.Container.{Entry}
-use Rattle.rec_program.specs.FaultLine.{words_line, export_line, sink_line}
-use Rattle.rec_program.specs.ReadingCommands.{Shows, Withholds, info_of, trace_of}
-use Rattle.rec_program.specs.ReadingLine.{reading_line}
-use Rattle.rec_program.specs.Reporting.{Reports}
-use Rattle.rec_program.specs.Status.{export_status, reading_status}
-use Rattle.rec_program.specs.Words.{Asked, recording, tracing, informing, help, version}
+use Rattle.rec_container.specs.Taking.{TookPart}
 use Rattle.rec_program.specs.declared.counts.Exported.{Exported}
 use Rattle.rec_program.specs.declared.reading_error.ReadingError.{ReadingError}
 use Rattle.rec_program.specs.declared.refusal.RecordExportError.{RecordExportError}
 use Rattle.rec_program.specs.declared.settings.Settings.{Settings}
 use Rattle.rec_program.specs.declared.usage.TheConstants.{USAGE}
-use Rattle.rec_program.specs.Usage.{versions_text}
 use Rattle.rec_program.specs.declared.words.WordsError.{WordsError}
+use Rattle.rec_program.specs.Export.{Exports, Fails}
+use Rattle.rec_program.specs.FaultLine.{words_line, export_line, sink_line}
+use Rattle.rec_program.specs.ReadingCommands.{Shows, Withholds, info_of, trace_of}
+use Rattle.rec_program.specs.ReadingLine.{reading_line}
+use Rattle.rec_program.specs.Reporting.{Reports}
+use Rattle.rec_program.specs.Status.{export_status, reading_status}
+use Rattle.rec_program.specs.Usage.{versions_text}
+use Rattle.rec_program.specs.Words.{Asked, recording, tracing, informing, help, version}
 
 module _ {T G : Type 0} (out_taken : T → Option (List ℕ)) (out_faults : T → ℕ) (diag_taken : G → Option (List ℕ)) (diag_faults : G → ℕ) where
   -- the text was printed; or the output failed, which was reported

@@ -1,13 +1,13 @@
 -- The lines of a session: the head's, and those of events.
-use Rattle.std.specs.Prelude.{ℕ, List, [], ◌∷◌, filter_map, Option, Some, None, option_map, if◌then◌else◌}
 use Rattle.std.specs.Option.{option_or}
+use Rattle.std.specs.Prelude.{ℕ, List, [], ◌∷◌, filter_map, Option, Some, None, option_map, if◌then◌else◌}
 use Rattle.rec_container.specs.Container.{Entry}
-use Rattle.rec_codec.specs.Lines.{NumberedLine, lines, numbered, text_of, is_blank}
 use Rattle.rec_codec.specs.Event.{LiveEvent, live_event, live_event_of}
+use Rattle.rec_codec.specs.Lines.{NumberedLine, lines, numbered, text_of, is_blank}
 use Rattle.rec_store.specs.Clashes.{clash, with_entries}
 use Rattle.rec_store.specs.EventOutputs.{event_entries}
-use Rattle.rec_program.specs.declared.refusal.RecordExportError.{RecordExportError}
 use Rattle.rec_program.specs.declared.refusal.RecordExportError.TheVariants.{ReadRunLog, ParseEvent, NameCollision}
+use Rattle.rec_program.specs.declared.refusal.RecordExportError.{RecordExportError}
 
 -- the lines of a session, numbered from 1
 abbrev pub session_lines : List ℕ → List NumberedLine

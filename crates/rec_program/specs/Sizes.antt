@@ -1,9 +1,9 @@
 -- Entries that are longer than a reader takes.
-use Rattle.std.specs.Prelude.{◌≡◌, List, [], ◌∷◌, ℕ, length, nat_le, Option, Some, None, Result, Ok, Err, if◌then◌else◌, ◌⊎◌}
 use Rattle.std.specs.Option.{option_or}
+use Rattle.std.specs.Prelude.{◌≡◌, List, [], ◌∷◌, ℕ, length, nat_le, Option, Some, None, Result, Ok, Err, if◌then◌else◌, ◌⊎◌}
 use Rattle.rec_container.specs.Container.{Entry}
-use Rattle.rec_program.specs.declared.refusal.RecordExportError.{RecordExportError}
 use Rattle.rec_program.specs.declared.refusal.RecordExportError.TheVariants.{FileTooLarge, OutOfMemory}
+use Rattle.rec_program.specs.declared.refusal.RecordExportError.{RecordExportError}
 
 -- why an entry is refused, if it is: it is longer than the limit
 abbrev pub entry_refusal : ℕ → Entry → Option RecordExportError

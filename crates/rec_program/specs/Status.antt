@@ -1,13 +1,13 @@
 -- The statuses that the program ends with.
 use Rattle.std.specs.Prelude.{ℕ}
-use Rattle.rec_portable.specs.declared.errors.PortableRecordingReadError.{PortableRecordingReadError}
 use Rattle.rec_portable.specs.declared.errors.PortableRecordingReadError.TheVariants as bundles
+use Rattle.rec_portable.specs.declared.errors.PortableRecordingReadError.{PortableRecordingReadError}
 use Rattle.rec_trace.specs.declared.errors.ChromeTraceError.{ChromeTraceError}
-use Rattle.rec_program.specs.TraceFaults.{trace_fault}
-use Rattle.rec_program.specs.declared.reading_error.ReadingError.{ReadingError}
 use Rattle.rec_program.specs.declared.reading_error.ReadingError.TheVariants as reading
-use Rattle.rec_program.specs.declared.refusal.RecordExportError.{RecordExportError}
+use Rattle.rec_program.specs.declared.reading_error.ReadingError.{ReadingError}
 use Rattle.rec_program.specs.declared.refusal.RecordExportError.TheVariants.{SourceFault, SessionTooLarge, ParseHead, ReadRunLog, ParseEvent, NameCollision, CountOutOfRange, FileTooLarge, KindNotBuilt, MissingTestStart, SpanAlreadyOpen, SlotBusy, TimestampOutOfRange, RowOutOfRange, BundleFault, TraceFault, OutOfMemory}
+use Rattle.rec_program.specs.declared.refusal.RecordExportError.{RecordExportError}
+use Rattle.rec_program.specs.TraceFaults.{trace_fault}
 
 -- the status for a session that isn't exported
 abbrev pub export_status : RecordExportError → ℕ

@@ -1,16 +1,16 @@
 -- The words of the command line.
+use Rattle.std.specs.declared.alloc.Global.{Global}
 use Rattle.std.specs.Prelude.{◌≡◌, ℕ, List, [], ◌∷◌, map, Option, Some, None, Result, Ok, Err, String, string_bytes, codes, if◌then◌else◌}
 use Rattle.std.specs.Str.{bytes_eq}
-use Rattle.std.specs.declared.alloc.Global.{Global}
 use Rattle.rec_container.specs.Reading.{◌>>=◌}
-use Rattle.rec_program.specs.Options.{settings_from}
-use Rattle.rec_program.specs.declared.options.CommandName.{CommandName}
 use Rattle.rec_program.specs.declared.options.CommandName.TheVariants.{Record, Trace, Info}
+use Rattle.rec_program.specs.declared.options.CommandName.{CommandName}
 use Rattle.rec_program.specs.declared.settings.Settings.{Settings}
-use Rattle.rec_program.specs.declared.words.Command.{Command}
 use Rattle.rec_program.specs.declared.words.Command.TheVariants as commands
-use Rattle.rec_program.specs.declared.words.WordsError.{WordsError}
+use Rattle.rec_program.specs.declared.words.Command.{Command}
 use Rattle.rec_program.specs.declared.words.WordsError.TheVariants.{NoCommand, UnknownCommand, MissingPositional}
+use Rattle.rec_program.specs.declared.words.WordsError.{WordsError}
+use Rattle.rec_program.specs.Options.{settings_from}
 
 -- what words ask for: a recording into a bundle at a path; the trace of a bundle, or what its manifest says; or a text about the program
 pub data Asked : Type 0 where

@@ -1,12 +1,12 @@
 //! The manifest of a bundle, and the judging of its length, its manifest and its log.
+ghost use Rattle.std.specs.Option.{option_or};
 ghost use Rattle.std.specs.Prelude.{◌≡◌, ◌<◌, ◌^◌, length, IfOk};
 ghost use Rattle.serde_json.specs.Written.{compact_text};
+ghost use Rattle.rec_container.specs.Writing.{entry_named};
 ghost use Rattle.rec_format.specs.RunForms.{manifest_value};
 ghost use Rattle.rec_format.specs.Runs.{manifest_of, recorded_info};
-ghost use Rattle.rec_program.specs.Prepared.{bundle_of_contents, contents_refusal};
-ghost use Rattle.std.specs.Option.{option_or};
-ghost use Rattle.rec_container.specs.Writing.{named};
 ghost use Rattle.rec_store.specs.Entries.{log_name, manifest_name};
+ghost use Rattle.rec_program.specs.Prepared.{bundle_of_contents, contents_refusal};
 ghost use Rattle.rec_program.specs.Sizes.{AnswersRefusal, entry_refusal};
 
 use crate::refusal::RecordExportError;
@@ -62,7 +62,7 @@ fn judge_two(
     manifest: &[u8],
     log: &[u8],
 ) -> Result<(), RecordExportError>
-    ensures { AnswersRefusal result (option_or (entry_refusal limit (named manifest_name manifest.now)) (entry_refusal limit (named log_name log.now))) }
+    ensures { AnswersRefusal result (option_or (entry_refusal limit (entry_named manifest_name manifest.now)) (entry_refusal limit (entry_named log_name log.now))) }
 {
     judge_size(alloc, limit, PORTABLE_MANIFEST_FILE_NAME, manifest)?;
     judge_size(alloc, limit, RUN_LOG_FILE_NAME, log)

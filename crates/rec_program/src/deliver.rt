@@ -1,6 +1,6 @@
 //! The bundle and the trace, into their sinks.
-ghost use Rattle.std.specs.Prelude.{OnOk, IfErr, string_bytes};
 ghost use Rattle.std.specs.Io.KnownBytes.{Appends};
+ghost use Rattle.std.specs.Prelude.{OnOk, IfErr, string_bytes};
 ghost use Rattle.rec_program.specs.Export.{Undelivered};
 ghost use Rattle.rec_program.specs.Prepared.{prepared_bundle};
 

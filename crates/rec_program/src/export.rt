@@ -2,8 +2,8 @@
 ghost use Rattle.std.specs.Prelude.{◌≡◌, ◌≤◌, ℕ, List, length, IfOk, IfErr, Some, None};
 ghost use Rattle.rec_container.specs.Causes.{Rose};
 ghost use Rattle.rec_program.specs.Bundle.{session_refusal};
-ghost use Rattle.rec_program.specs.Export.{Exports, Fails};
 ghost use Rattle.rec_program.specs.declared.refusal.RecordExportError.TheVariants.{OutOfMemory};
+ghost use Rattle.rec_program.specs.Export.{Exports, Fails};
 
 use crate::counts::Exported;
 use crate::deliver::deliver;

@@ -2,10 +2,10 @@
 ghost use Rattle.std.specs.Prelude.{◌≡◌, ◌++◌, ◌∷◌, [], ℕ, List, codes, decimal};
 ghost use Rattle.rec_format.specs.Incompatibility.{release_text};
 ghost use Rattle.rec_format.specs.Versions.{version_text};
+ghost use Rattle.rec_trace.specs.declared.spans.SpanKey.TheVariants.{Test};
+ghost use Rattle.rec_program.specs.declared.refusal.RecordExportError.TheVariants.{MissingTestStart};
 ghost use Rattle.rec_program.specs.FaultLine.{export_fields, fields_text, optional_number, shown_text, span_shown};
 ghost use Rattle.rec_program.specs.LinePieces.{fields_bytes, value_bytes};
-ghost use Rattle.rec_program.specs.declared.refusal.RecordExportError.TheVariants.{MissingTestStart};
-ghost use Rattle.rec_trace.specs.declared.spans.SpanKey.TheVariants.{Test};
 
 use crate::line::{Field, FieldValue, Fields};
 use rec_events::{OwnedTestInstanceId, RustBinaryId, TestCaseName};

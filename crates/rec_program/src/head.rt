@@ -1,10 +1,10 @@
 //! The head of a session.
-ghost use Rattle.std.specs.Prelude.{◌≡◌, ◌⊎◌, None, Some, IfOk, IfErr};
 ghost use Rattle.std.specs.Option.{option_map};
+ghost use Rattle.std.specs.Prelude.{◌≡◌, ◌⊎◌, None, Some, IfOk, IfErr};
 ghost use Rattle.rec_format.specs.HeadForms.{IsHead};
 ghost use Rattle.rec_program.specs.Bundle.{head_in};
-ghost use Rattle.rec_program.specs.Session.{head_text, event_lines};
 ghost use Rattle.rec_program.specs.declared.refusal.RecordExportError.TheVariants.{OutOfMemory, ParseHead};
+ghost use Rattle.rec_program.specs.Session.{head_text, event_lines};
 
 use crate::refusal::RecordExportError;
 use rec_codec::Lines;

@@ -1,6 +1,6 @@
 //! Laws of sessions. The functions do nothing: their contracts are what they are for.
-ghost use Rattle.std.specs.Prelude.{◌≡◌, ◌<◌, ◌^◌, List, ℕ, Some, None};
 ghost use Rattle.std.specs.List.{AllByRecursion, flat_map};
+ghost use Rattle.std.specs.Prelude.{◌≡◌, ◌<◌, ◌^◌, List, ℕ, Some, None};
 ghost use Rattle.rec_format.specs.declared.head.SessionHead.{SessionHead};
 ghost use Rattle.rec_store.specs.Bundle.{run_bundle};
 ghost use Rattle.rec_store.specs.Reading.{IsReading, recorded};

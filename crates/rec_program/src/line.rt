@@ -1,6 +1,6 @@
 //! A fault's line, lent in pieces and written piece by piece, so that no memory is needed for it.
-ghost use Rattle.std.specs.Prelude.{◌≡◌, [], ◌∷◌, ◌++◌, OnOk, OnErr, decimal};
 ghost use Rattle.std.specs.Io.KnownBytes.{Appends};
+ghost use Rattle.std.specs.Prelude.{◌≡◌, [], ◌∷◌, ◌++◌, OnOk, OnErr, decimal};
 ghost use Rattle.rec_container.specs.Causes.{HasCause};
 ghost use Rattle.rec_container.specs.Taking.{TookPart};
 ghost use Rattle.rec_format.specs.Incompatibility.{release_text};

@@ -1,21 +1,21 @@
 //! The judging of a session, and what is exported of it, in memory.
-ghost use Rattle.std.specs.Prelude.{◌≡◌, ◌⊎◌, ◌<◌, ◌^◌, [], length, Some, None, IfOk, IfErr, OnOk, string_bytes, List, ℕ};
 ghost use Rattle.std.specs.Option.{option_or};
+ghost use Rattle.std.specs.Prelude.{◌≡◌, ◌⊎◌, ◌<◌, ◌^◌, [], length, Some, None, IfOk, IfErr, OnOk, string_bytes, List, ℕ};
+ghost use Rattle.serde_json.specs.Written.{compact_text};
 ghost use Rattle.rec_format.specs.HeadForms.{IsHead};
-ghost use Rattle.rec_program.specs.Bundle.{AreOf, session_refusal, refusal_after};
-ghost use Rattle.rec_program.specs.Export.{CountsOf};
-ghost use Rattle.rec_program.specs.Prepared.{contents_refusal, prepared_bundle, bundle_of_contents};
-ghost use Rattle.rec_program.specs.Session.{events_of};
-ghost use Rattle.rec_program.specs.Sizes.{AnswersRefusal};
-ghost use Rattle.rec_trace.specs.Refusals as traces;
-ghost use Rattle.rec_program.specs.SessionTraces.{run_trace, session_history};
-ghost use Rattle.rec_program.specs.declared.refusal.RecordExportError.TheVariants.{OutOfMemory};
+ghost use Rattle.rec_format.specs.RunForms.{manifest_value};
+ghost use Rattle.rec_format.specs.Runs.{manifest_of, recorded_info};
 ghost use Rattle.rec_store.specs.Bundle.{outputs_stored, run_bundle};
 ghost use Rattle.rec_store.specs.Reading.{IsReading, recorded};
 ghost use Rattle.rec_store.specs.Store.{store_entries};
-ghost use Rattle.serde_json.specs.Written.{compact_text};
-ghost use Rattle.rec_format.specs.RunForms.{manifest_value};
-ghost use Rattle.rec_format.specs.Runs.{manifest_of, recorded_info};
+ghost use Rattle.rec_trace.specs.Refusals as traces;
+ghost use Rattle.rec_program.specs.Bundle.{AreOf, session_refusal, refusal_after};
+ghost use Rattle.rec_program.specs.declared.refusal.RecordExportError.TheVariants.{OutOfMemory};
+ghost use Rattle.rec_program.specs.Export.{CountsOf};
+ghost use Rattle.rec_program.specs.Prepared.{contents_refusal, prepared_bundle, bundle_of_contents};
+ghost use Rattle.rec_program.specs.Session.{events_of};
+ghost use Rattle.rec_program.specs.SessionTraces.{run_trace, session_history};
+ghost use Rattle.rec_program.specs.Sizes.{AnswersRefusal};
 
 use crate::bundle::{JudgedManifest, judge_contents};
 use crate::counts::Exported;

@@ -1,22 +1,22 @@
 //! What the program does.
-ghost use Rattle.std.specs.Prelude.{◌≡◌, ◌↔◌, ◌≤◌, ◌⊎◌, ℕ, List, length, Some, None, Ok, IsErr};
 ghost use Rattle.std.specs.Io.KnownBytes.{Appends};
+ghost use Rattle.std.specs.Prelude.{◌≡◌, ◌↔◌, ◌≤◌, ◌⊎◌, ℕ, List, length, Some, None, Ok, IsErr};
 ghost use Rattle.rec_container.specs.Causes.{Rose};
 ghost use Rattle.rec_container.specs.Container.{Entry, IsContainer};
 ghost use Rattle.rec_container.specs.Within.{Gave};
 ghost use Rattle.rec_format.specs.declared.manifest.PortableManifest.{PortableManifest};
+ghost use Rattle.rec_store.specs.Namer.{sha256_number};
 ghost use Rattle.rec_portable.specs.Judging.{judged};
 ghost use Rattle.rec_portable.specs.OuterEntries.{log_part};
-ghost use Rattle.rec_store.specs.Namer.{sha256_number};
 ghost use Rattle.rec_trace.specs.Timeline.{IsTimeline};
 ghost use Rattle.rec_program.specs.Bundle.{AreOf, session_refusal};
+ghost use Rattle.rec_program.specs.declared.counts.Exported.{Exported};
+ghost use Rattle.rec_program.specs.declared.settings.Settings.{Settings};
 ghost use Rattle.rec_program.specs.Export.{Exports};
 ghost use Rattle.rec_program.specs.LogTraces.{bundle_trace, log_history, log_lines, log_refusal};
 ghost use Rattle.rec_program.specs.ReadingCommands.{manifest_line};
 ghost use Rattle.rec_program.specs.Running.{Prints, Records, Runs, ShowsMade};
 ghost use Rattle.rec_program.specs.Words.{command, informing, recording, texts, tracing};
-ghost use Rattle.rec_program.specs.declared.counts.Exported.{Exported};
-ghost use Rattle.rec_program.specs.declared.settings.Settings.{Settings};
 
 use crate::export::record_and_export;
 use crate::fault_line::report;

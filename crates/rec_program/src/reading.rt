@@ -1,8 +1,8 @@
 //! What the commands make that read a bundle, before the first byte of it is printed.
 ghost use Rattle.std.specs.Prelude.{◌≡◌, List, [], IfOk, IfErr};
 ghost use Rattle.rec_container.specs.Container.{Entry, IsContainer};
-ghost use Rattle.rec_portable.specs.Opening.{Opens, Unopened};
 ghost use Rattle.rec_portable.specs.declared.errors.PortableRecordingReadError.{PortableRecordingReadError};
+ghost use Rattle.rec_portable.specs.Opening.{Opens, Unopened};
 ghost use Rattle.rec_program.specs.ReadingCommands.{Makes, Shows, Withholds, info_of, trace_of};
 ghost use Rattle.rec_program.specs.ReadingErrors.{bundle_error};
 

@@ -1,7 +1,7 @@
 //! Why a command prints nothing of a bundle.
 ghost use Rattle.std.specs.Prelude.{◌≡◌};
-ghost use Rattle.rec_program.specs.ReadingErrors.{bundle_error, trace_error};
 ghost use Rattle.rec_program.specs.declared.reading_error.ReadingError.TheVariants.{OutOfMemory};
+ghost use Rattle.rec_program.specs.ReadingErrors.{bundle_error, trace_error};
 
 use rec_portable::PortableRecordingReadError;
 use rec_trace::ChromeTraceError;

@@ -1,12 +1,12 @@
 //! The line of a bundle that isn't read, or that has no trace.
 ghost use Rattle.std.specs.Prelude.{◌≡◌, ◌++◌, ◌∷◌, [], ℕ, List, codes, decimal};
+ghost use Rattle.rec_format.specs.declared.incompatibility.StoreVersionIncompatibility.TheVariants.{RecordingTooOld};
 ghost use Rattle.rec_format.specs.Versions.{version_text};
+ghost use Rattle.rec_portable.specs.declared.errors.PortableRecordingReadError.TheVariants.{NotAWrapperArchive, ReadArchive};
+ghost use Rattle.rec_trace.specs.declared.errors.ChromeTraceError.TheVariants.{ReadError};
 ghost use Rattle.rec_program.specs.FaultLine.{fields_text, no_fields, shown_text};
 ghost use Rattle.rec_program.specs.LinePieces.{fields_bytes};
 ghost use Rattle.rec_program.specs.ReadingLine.{bundle_fields, bundle_name, bundle_version_shown, guidance_shown, majors, minors, reading_fields, reading_line, reading_name, store_version_shown, trace_fields, trace_name, unsupported};
-ghost use Rattle.rec_portable.specs.declared.errors.PortableRecordingReadError.TheVariants.{NotAWrapperArchive, ReadArchive};
-ghost use Rattle.rec_format.specs.declared.incompatibility.StoreVersionIncompatibility.TheVariants.{RecordingTooOld};
-ghost use Rattle.rec_trace.specs.declared.errors.ChromeTraceError.TheVariants.{ReadError};
 
 use crate::fault_line::FaultLine;
 use crate::fields::{

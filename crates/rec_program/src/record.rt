@@ -1,24 +1,24 @@
 //! Records a session into memory.
-ghost use Rattle.std.specs.Prelude.{◌≡◌, ◌⊎◌, ◌++◌, ◌∷◌, [], List, map, ℕ, false, true, None, Some, Ok, length, IfOk, IfErr, OnOk};
 ghost use Rattle.std.specs.Option.{option_to_list};
+ghost use Rattle.std.specs.Prelude.{◌≡◌, ◌⊎◌, ◌++◌, ◌∷◌, [], List, map, ℕ, false, true, None, Some, Ok, length, IfOk, IfErr, OnOk};
+ghost use Rattle.rec_container.specs.Memory.{GrowingSinkState};
+ghost use Rattle.rec_format.specs.declared.head.SessionHead.{SessionHead};
 ghost use Rattle.rec_codec.specs.Event.{LiveEvent};
 ghost use Rattle.rec_codec.specs.EventForms.{kind_loaded};
 ghost use Rattle.rec_codec.specs.LineView.{line_view};
 ghost use Rattle.rec_codec.specs.Live.{is_loaded};
-ghost use Rattle.rec_container.specs.Memory.{GrowingSinkState};
-ghost use Rattle.rec_format.specs.declared.head.SessionHead.{SessionHead};
-ghost use Rattle.rec_store.specs.Recording.{Stores, Unstored, has_failed};
 ghost use Rattle.rec_store.specs.Bundle.{run_store};
+ghost use Rattle.rec_store.specs.Recording.{Stores, Unstored, has_failed};
 ghost use Rattle.rec_store.specs.Store.{rerun_entries, store_entries};
-ghost use Rattle.rec_program.specs.Recorded.{HasRecorded, IsRunOf, RecordsEvent, RecordsLine, RecordsLines};
+ghost use Rattle.rec_trace.specs.declared.settings.ChromeTraceGroupBy.{ChromeTraceGroupBy};
 ghost use Rattle.rec_trace.specs.Kinds.{trace_input};
 ghost use Rattle.rec_trace.specs.Past.{TraceInput};
-ghost use Rattle.rec_trace.specs.declared.settings.ChromeTraceGroupBy.{ChromeTraceGroupBy};
+ghost use Rattle.rec_program.specs.declared.refusal.RecordExportError.TheVariants.{OutOfMemory};
+ghost use Rattle.rec_program.specs.Recorded.{HasRecorded, IsRunOf, RecordsEvent, RecordsLine, RecordsLines};
 ghost use Rattle.rec_program.specs.RecorderFaults.{ComesAtEnd, ComesOfEvent, ComesOfHead, event_fault};
 ghost use Rattle.rec_program.specs.Session.{event_at, events_of, lines_refusal};
-ghost use Rattle.rec_program.specs.Sizes.{entries_refusal};
 ghost use Rattle.rec_program.specs.SessionTraces.{IsTraceOf, session_history};
-ghost use Rattle.rec_program.specs.declared.refusal.RecordExportError.TheVariants.{OutOfMemory};
+ghost use Rattle.rec_program.specs.Sizes.{entries_refusal};
 
 use crate::refusal::RecordExportError;
 use crate::settings::Settings;

@@ -1,6 +1,6 @@
 //! The sizes of what a reader reads.
 ghost use Rattle.std.specs.Prelude.{◌≡◌, IfOk};
-ghost use Rattle.rec_container.specs.Writing.{named};
+ghost use Rattle.rec_container.specs.Writing.{entry_named};
 ghost use Rattle.rec_program.specs.Sizes.{entries_refusal, entry_refusal, AnswersRefusal};
 
 use crate::refusal::RecordExportError;
@@ -41,7 +41,7 @@ pub fn judge_size(
     name: &str,
     content: &[u8],
 ) -> Result<(), RecordExportError>
-    ensures { AnswersRefusal result (entry_refusal limit (named name.now content.now)) }
+    ensures { AnswersRefusal result (entry_refusal limit (entry_named name.now content.now)) }
 {
     match size_refusal(alloc, limit, name, content)? {
         None => Ok(()),
@@ -56,7 +56,7 @@ fn size_refusal(
     name: &str,
     content: &[u8],
 ) -> Result<Option<RecordExportError>, AllocError>
-    ensures { IfOk result (λ r. r ≡ entry_refusal limit (named name.now content.now)) }
+    ensures { IfOk result (λ r. r ≡ entry_refusal limit (entry_named name.now content.now)) }
 {
     let size = content.len() as u64;
     if size <= limit {

@@ -1,10 +1,10 @@
 //! The trace of a session's events.
 ghost use Rattle.std.specs.Prelude.{◌≡◌, List, [], ◌∷◌, ◌++◌, OnOk};
+ghost use Rattle.rec_trace.specs.declared.settings.ChromeTraceGroupBy.{ChromeTraceGroupBy};
 ghost use Rattle.rec_trace.specs.Drawing.{trace_text};
 ghost use Rattle.rec_trace.specs.History.{trace_marks};
 ghost use Rattle.rec_trace.specs.Kinds.{trace_input};
 ghost use Rattle.rec_trace.specs.Past.{TraceInput};
-ghost use Rattle.rec_trace.specs.declared.settings.ChromeTraceGroupBy.{ChromeTraceGroupBy};
 ghost use Rattle.rec_program.specs.SessionTraces.{IsTraceOf, AnswersTrace};
 
 use crate::refusal::RecordExportError;

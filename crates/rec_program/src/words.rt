@@ -1,6 +1,6 @@
 //! The words of the command line.
-ghost use Rattle.std.specs.Prelude.{◌≡◌};
 ghost use Rattle.std.specs.Option.{option_map};
+ghost use Rattle.std.specs.Prelude.{◌≡◌};
 ghost use Rattle.rec_program.specs.declared.options.CommandName.TheVariants.{Record};
 ghost use Rattle.rec_program.specs.Words.{texts, command, command_after, command_named, other_command, bundle_of, Reads};
 

@@ -1,19 +1,19 @@
 -- What several entries leave, one after the other.
 use Rattle.std.proofs.Common.{◌≡◌, ℕ, ◌^◌, ◌≤◌, List, [], ◌∷◌, ◌++◌, length, Bool, true, false, not, Option, Some, None, is_some, refl, sym, ap, subst, ◌∙◌, arith, append_assoc, append-nil, nat_lt, ◌⊎◌, inl, inr, if◌then◌else◌, MatchOption}
+use Rattle.std.proofs.KnownBytes.{Appends-trans}
 use Rattle.std.proofs.lemmas.Bool.{ltb-false}
+use Rattle.std.specs.Io.KnownBytes.{Appends}
 use Rattle.std.specs.Option.{option_map_or}
 use Rattle.std.specs.Str.{bytes_eq}
-use Rattle.std.specs.Io.KnownBytes.{Appends}
-use Rattle.std.proofs.KnownBytes.{Appends-trans}
-use Rattle.rec_container.specs.Container.{Entry, spell, prefix, addition, content_of}
-use Rattle.rec_container.specs.Writing.{Writing, Adds, named, refusal, has_name_length}
-use Rattle.rec_container.specs.declared.errors.ContainerWriteError.{ContainerWriteError}
-use Rattle.rec_container.specs.declared.errors.ContainerWriteError.TheVariants as writing
 use Rattle.rec_container.proofs.Lengths.{length-spell-push}
 use Rattle.rec_container.proofs.Spelling.{prefix-push}
-use Rattle.rec_store.specs.declared.error.RunStoreError.{RunStoreError}
-use Rattle.rec_store.specs.declared.error.RunStoreError.TheVariants.{NameCollision, CountOutOfRange}
+use Rattle.rec_container.specs.Container.{Entry, spell, prefix, addition, content_of}
+use Rattle.rec_container.specs.declared.errors.ContainerWriteError.TheVariants as writing
+use Rattle.rec_container.specs.declared.errors.ContainerWriteError.{ContainerWriteError}
+use Rattle.rec_container.specs.Writing.{Writing, Adds, entry_named, refusal, has_name_length}
 use Rattle.rec_store.specs.Clashes.{with_entry, with_entries}
+use Rattle.rec_store.specs.declared.error.RunStoreError.TheVariants.{NameCollision, CountOutOfRange}
+use Rattle.rec_store.specs.declared.error.RunStoreError.{RunStoreError}
 use Rattle.rec_store.specs.Recording.{AddsEach, AddsUpTo}
 
 -- each name is new to the entries before it
@@ -44,7 +44,7 @@ spell-grows es (f ∷ fs) = omega (arith, spell-grows_at es f (content_of es f.n
 abbrev after : List Entry → List ℕ → List ℕ → Option (List ℕ) → Option ContainerWriteError
 after es name content held =
     option_map_or (λ c. if bytes_eq c content then None else Some writing.NameCollision) held
-    (if nat_lt (length (spell (es ++ named name content ∷ []))) (2 ^ 64) then None else Some writing.CountOutOfRange)
+    (if nat_lt (length (spell (es ++ entry_named name content ∷ []))) (2 ^ 64) then None else Some writing.CountOutOfRange)
 
 -- a name of a good length is refused for what is there, or for a sum
 refusal-named : (es : List Entry) (name content : List ℕ) → has_name_length name ≡ true → refusal false es name content ≡ after es name content (content_of es name)
@@ -59,7 +59,7 @@ no_sum true h = cc
 no_sum false h = cc
 
 after-sum : (es : List Entry) (name content : List ℕ) (o : Option (List ℕ)) → after es name content o ≡ Some writing.CountOutOfRange
-    → (o ≡ None) × (2 ^ 64 ≤ length (spell (es ++ named name content ∷ [])))
+    → (o ≡ None) × (2 ^ 64 ≤ length (spell (es ++ entry_named name content ∷ [])))
 after-sum es name content None h = (refl, if_long _ _ refl h)
 after-sum es name content (Some c) h = absurd (no_sum (bytes_eq c content) h)
 
@@ -78,7 +78,7 @@ bad_name es name content false e is h =
     let w : Some writing.BadName ≡ Some e = sym (ap (λ b. if not b then Some writing.BadName else after es name content (content_of es name)) is) ∙ h in inl (let k = sym w in cc)
 
 pub refused_sum : (failed : Bool) (es : List Entry) (name content : List ℕ) → refusal failed es name content ≡ Some writing.CountOutOfRange
-    → (content_of es name ≡ None) × (2 ^ 64 ≤ length (spell (es ++ named name content ∷ [])))
+    → (content_of es name ≡ None) × (2 ^ 64 ≤ length (spell (es ++ entry_named name content ∷ [])))
 refused_sum true es name content h = absurd cc
 refused_sum false es name content h =
     elim (bad_name es name content (has_name_length name) writing.CountOutOfRange refl h) [
@@ -96,7 +96,7 @@ refused_collision false es name content n h =
 
 module _ {S : Type 0} (taken : S → Option (List ℕ)) (faults : S → ℕ) where
   added_at : (old new : Writing S) (e : Entry) (o : Option (List ℕ)) → content_of old.entries e.name ≡ o
-      → MatchOption o ((new.entries ≡ old.entries ++ named e.name e.content ∷ []) × (new.failed ≡ false) × Appends (taken old.sink) (taken new.sink) (addition old.entries (named e.name e.content))) (λ c. new ≡ old)
+      → MatchOption o ((new.entries ≡ old.entries ++ entry_named e.name e.content ∷ []) × (new.failed ≡ false) × Appends (taken old.sink) (taken new.sink) (addition old.entries (entry_named e.name e.content))) (λ c. new ≡ old)
       → new.entries ≡ with_entry old.entries e
   added_at old new e None is h = h.0 ∙ sym (ap (λ o. if is_some o then old.entries else old.entries ++ e ∷ []) is)
   added_at old new e (Some c) is h = ap (λ (w : Writing S). w.entries) h ∙ sym (ap (λ o. if is_some o then old.entries else old.entries ++ e ∷ []) is)
@@ -110,7 +110,7 @@ module _ {S : Type 0} (taken : S → Option (List ℕ)) (faults : S → ℕ) whe
   entries_after old new (e ∷ es) h = entries_after h.0 new es h.2 ∙ ap (λ l. with_entries l es) (added old h.0 e h.1.1)
 
   grown_at : (start : Option (List ℕ)) (old new : Writing S) (e : Entry) (o : Option (List ℕ))
-      → MatchOption o ((new.entries ≡ old.entries ++ named e.name e.content ∷ []) × (new.failed ≡ false) × Appends (taken old.sink) (taken new.sink) (addition old.entries (named e.name e.content))) (λ c. new ≡ old)
+      → MatchOption o ((new.entries ≡ old.entries ++ entry_named e.name e.content ∷ []) × (new.failed ≡ false) × Appends (taken old.sink) (taken new.sink) (addition old.entries (entry_named e.name e.content))) (λ c. new ≡ old)
       → Appends start (taken old.sink) (prefix old.entries) → Appends start (taken new.sink) (prefix new.entries)
   grown_at start old new e None h p =
       subst (λ l. Appends start (taken new.sink) l) (sym (ap prefix h.0 ∙ prefix-push old.entries e)) (Appends-trans start (taken old.sink) (taken new.sink) (prefix old.entries) (addition old.entries e) p h.2)
@@ -144,7 +144,7 @@ module _ {S : Type 0} (taken : S → Option (List ℕ)) (faults : S → ℕ) whe
       no_collision_among h.0 new es path (subst (λ l. AreNew l es) (sym (added old h.0 e h.1.1 ∙ with_entry-new old.entries e n.0)) n.1) h.2
 
   sound_at : (old new : Writing S) (e : Entry) (o : Option (List ℕ))
-      → MatchOption o ((new.entries ≡ old.entries ++ named e.name e.content ∷ []) × (new.failed ≡ false) × Appends (taken old.sink) (taken new.sink) (addition old.entries (named e.name e.content))) (λ c. new ≡ old)
+      → MatchOption o ((new.entries ≡ old.entries ++ entry_named e.name e.content ∷ []) × (new.failed ≡ false) × Appends (taken old.sink) (taken new.sink) (addition old.entries (entry_named e.name e.content))) (λ c. new ≡ old)
       → old.failed ≡ false → new.failed ≡ false
   sound_at old new e None h p = h.1
   sound_at old new e (Some c) h p = ap (λ (w : Writing S). w.failed) h ∙ p

@@ -3,14 +3,14 @@ use Rattle.std.proofs.Common.{◌≡◌, ℕ, List, [], ◌∷◌, Bool, true, f
 use Rattle.std.specs.Option.{option_map_or}
 use Rattle.std.specs.Str.{bytes_eq}
 use Rattle.rec_container.specs.Container.{Entry, content_of}
-use Rattle.rec_container.specs.Writing.{Writing, refusal, has_name_length}
-use Rattle.rec_container.specs.declared.errors.ContainerWriteError.{ContainerWriteError}
 use Rattle.rec_container.specs.declared.errors.ContainerWriteError.TheVariants as writing
-use Rattle.rec_store.specs.declared.error.RunStoreError.TheVariants.{NameCollision}
+use Rattle.rec_container.specs.declared.errors.ContainerWriteError.{ContainerWriteError}
+use Rattle.rec_container.specs.Writing.{Writing, refusal, has_name_length}
+use Rattle.rec_store.proofs.Adding.{added, entries_after, no_collision, sound_added}
 use Rattle.rec_store.specs.Clashes.{with_entry, with_entries, differs, clash}
+use Rattle.rec_store.specs.declared.error.RunStoreError.TheVariants.{NameCollision}
 use Rattle.rec_store.specs.Recording.{AddsEntry, AddsEach, AddsUpTo}
 use Rattle.rec_store.specs.Stopping.{Stops}
-use Rattle.rec_store.proofs.Adding.{added, entries_after, no_collision, sound_added}
 
 -- ---- one entry: what a refusal says of the content that is there
 

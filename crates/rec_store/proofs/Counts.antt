@@ -4,8 +4,8 @@ use Rattle.std.specs.Bool.{⊤}
 use Rattle.rec_container.specs.Container.{Entry}
 use Rattle.rec_container.specs.Writing.{Writing}
 use Rattle.rec_codec.specs.Event.{LiveEvent}
-use Rattle.rec_store.specs.declared.error.RunStoreError.{RunStoreError}
 use Rattle.rec_store.specs.declared.error.RunStoreError.TheVariants.{Failed, NotLoadedOutput, NameCollision, CountOutOfRange, StoreWrite, RunLogWrite, OutOfMemory}
+use Rattle.rec_store.specs.declared.error.RunStoreError.{RunStoreError}
 use Rattle.rec_store.specs.Logging.{Unappended, LogsLoaded}
 use Rattle.rec_store.specs.Recording.{Recording, AddsEach, RefusesEntry, AddsUpTo, Stores, Unstored, KeepsCounts}
 use Rattle.rec_store.specs.Stopping.{AddsFirst, Stops}

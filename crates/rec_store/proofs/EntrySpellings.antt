@@ -1,35 +1,35 @@
 -- The entries of a run's store and bundle have spellings.
 use Rattle.std.proofs.Common.{◌≡◌, ℕ, zero, suc, ◌+◌, ◌<◌, ◌≤◌, ◌^◌, List, [], ◌∷◌, ◌++◌, length, Bool, true, Option, Some, None, is_some, codes, nat_lt, ◌&&◌, ltb-true, refl, sym, ap, subst, ◌∙◌, arith, append_assoc, append-nil, length-append, if◌then◌else◌}
-use Rattle.std.specs.List.{flat_map, list_all, AllByRecursion}
-use Rattle.std.specs.Int.{w64, to_be_bytes}
-use Rattle.std.specs.Str.{IsAscii}
 use Rattle.std.proofs.lemmas.Bool.{and_parts}
 use Rattle.std.proofs.lemmas.List.{length-map}
 use Rattle.std.proofs.lemmas.Str.{IsUtf8-from_ascii, IsAscii-append}
-use Rattle.hex.specs.Hex.{encode_lower, lower_digits}
+use Rattle.std.specs.Int.{w64, to_be_bytes}
+use Rattle.std.specs.List.{flat_map, list_all, AllByRecursion}
+use Rattle.std.specs.Str.{IsAscii}
 use Rattle.hex.proofs.HexLemmas.{length-encode_with, IsAscii-encode_with}
-use Rattle.rec_container.specs.Container.{Entry, entry, spell, content_of, IsName, AreFrom}
-use Rattle.rec_container.specs.Writing.{named}
+use Rattle.hex.specs.Hex.{encode_lower, lower_digits}
 use Rattle.rec_container.proofs.Lengths.{length-entry, length-spell, content_bytes-below, length-below}
-use Rattle.rec_codec.specs.Event.{LiveEvent, RecordedEvent, event_text, event_line, log_text}
-use Rattle.rec_events.specs.OutputNames.{kind_suffix}
-use Rattle.rec_events.specs.declared.output_names.OutputKind.{OutputKind}
-use Rattle.rec_events.specs.declared.output_names.OutputKind.TheVariants.{Stdout, Stderr, Combined}
+use Rattle.rec_container.specs.Container.{Entry, entry, spell, content_of, IsName, AreFrom}
+use Rattle.rec_container.specs.Writing.{entry_named}
 use Rattle.rec_events.specs.declared.output_names.OutputFileName.{OutputFileName}
+use Rattle.rec_events.specs.declared.output_names.OutputKind.TheVariants.{Stdout, Stderr, Combined}
+use Rattle.rec_events.specs.declared.output_names.OutputKind.{OutputKind}
 use Rattle.rec_events.specs.declared.recording.RecordOpts.{RecordOpts}
 use Rattle.rec_events.specs.declared.recording.TestListSummary.{TestListSummary}
+use Rattle.rec_events.specs.OutputNames.{kind_suffix}
 use Rattle.rec_format.specs.declared.head.SessionHead.{SessionHead}
 use Rattle.rec_format.specs.declared.rerun.RerunInfo.{RerunInfo}
 use Rattle.rec_format.specs.declared.scope.RecordedBuildScope.{RecordedBuildScope}
 use Rattle.rec_format.specs.SizeForms.{AreSizes}
+use Rattle.rec_codec.specs.Event.{LiveEvent, RecordedEvent, event_text, event_line, log_text}
+use Rattle.rec_store.proofs.Held.{all_weaker}
+use Rattle.rec_store.proofs.OutputLaws.{IsOutputEntry, outputs_of_events, with_outputs}
 use Rattle.rec_store.specs.Bundle.{events_recorded, run_log, run_outputs, run_store, run_sizes, manifest_text, run_entries, run_bundle}
 use Rattle.rec_store.specs.Clashes.{with_entry, with_entries}
 use Rattle.rec_store.specs.Entries.{build_scope_path, rerun_info_path, test_list_path, cargo_metadata_path, record_opts_path, manifest_name, log_name, store_name, bundle_entries}
 use Rattle.rec_store.specs.EventOutputs.{event_recorded}
 use Rattle.rec_store.specs.OutputPaths.{output_path}
 use Rattle.rec_store.specs.Store.{metadata_of, store_entries}
-use Rattle.rec_store.proofs.Held.{all_weaker}
-use Rattle.rec_store.proofs.OutputLaws.{IsOutputEntry, outputs_of_events, with_outputs}
 
 -- ---- names, each new to those before it
 
@@ -151,9 +151,9 @@ module _ (number : List ℕ → ℕ) (m : ℕ) (head : SessionHead) (events : Li
   contents_small : (length (manifest_text number m head events) < 2 ^ 64) × (length (run_log number m events) < 2 ^ 64) × (length (spell (run_store number m head events)) < 2 ^ 64)
   contents_small =
       three_contents
-      (named manifest_name (manifest_text number m head events))
-      (named log_name (run_log number m events))
-      (named store_name (spell (run_store number m head events)))
+      (entry_named manifest_name (manifest_text number m head events))
+      (entry_named log_name (run_log number m events))
+      (entry_named store_name (spell (run_store number m head events)))
       small
 
   -- its log is as well

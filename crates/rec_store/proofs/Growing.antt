@@ -5,17 +5,17 @@ use Rattle.std.specs.List.{AllByRecursion}
 use Rattle.rec_container.specs.Container.{Entry, content_of}
 use Rattle.rec_container.specs.Writing.{Writing}
 use Rattle.rec_codec.specs.Event.{LiveEvent}
-use Rattle.rec_store.specs.declared.error.RunStoreError.{RunStoreError}
+use Rattle.rec_store.proofs.Adding.{added}
+use Rattle.rec_store.proofs.Clashing.{clash_none}
+use Rattle.rec_store.proofs.Held.{all_held, IsHeld}
+use Rattle.rec_store.proofs.KeptLaws.{names, paths_of_event}
 use Rattle.rec_store.specs.declared.error.RunStoreError.TheVariants.{Failed, NotLoadedOutput, NameCollision, CountOutOfRange, StoreWrite, RunLogWrite, OutOfMemory}
+use Rattle.rec_store.specs.declared.error.RunStoreError.{RunStoreError}
 use Rattle.rec_store.specs.EventOutputs.{event_entries, event_recorded}
 use Rattle.rec_store.specs.Kept.{HasOutputs}
 use Rattle.rec_store.specs.Logging.{LogsLoaded}
 use Rattle.rec_store.specs.Recording.{Recording, AddsEntry, RefusesEntry, AddsEach, AddsUpTo, Stores, Unstored, KeepsEntries}
 use Rattle.rec_store.specs.Stopping.{AddsFirst, Stops}
-use Rattle.rec_store.proofs.Adding.{added}
-use Rattle.rec_store.proofs.Clashing.{clash_none}
-use Rattle.rec_store.proofs.Held.{all_held, IsHeld}
-use Rattle.rec_store.proofs.KeptLaws.{names, paths_of_event}
 
 -- ---- entries
 

@@ -1,11 +1,11 @@
 -- What is found under a name, as entries are put in one after the other.
 use Rattle.std.proofs.Common.{◌≡◌, ℕ, List, [], ◌∷◌, ◌++◌, Bool, true, false, not, Option, Some, None, is_some, refl, sym, ap, ◌∙◌, append_assoc, if◌then◌else◌}
+use Rattle.std.proofs.lemmas.Slice.Eq.{bytes_eq-Decides}
 use Rattle.std.specs.List.{AllByRecursion}
 use Rattle.std.specs.Option.{option_or}
 use Rattle.std.specs.Str.{bytes_eq}
-use Rattle.std.proofs.lemmas.Slice.Eq.{bytes_eq-Decides}
-use Rattle.rec_container.specs.Container.{Entry, content_of}
 use Rattle.rec_container.proofs.Contents.{content_of-found, content_of-missing}
+use Rattle.rec_container.specs.Container.{Entry, content_of}
 use Rattle.rec_store.specs.Clashes.{with_entry, with_entries, differs, clash}
 
 -- ---- of each element

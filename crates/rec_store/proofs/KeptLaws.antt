@@ -1,23 +1,23 @@
 -- What is kept of outputs, by the names under which they were recorded.
 use Rattle.std.proofs.Common.{◌≡◌, ℕ, List, [], ◌∷◌, ◌++◌, length, nat_le, Bool, true, false, Option, Some, None, option_map, unwrap_or, map, refl, sym, ap, ◌∙◌, if◌then◌else◌, ◌==◌}
-use Rattle.std.specs.List.{flat_map, AllByRecursion}
 use Rattle.std.proofs.lemmas.List.{map-append}
+use Rattle.std.specs.List.{flat_map, AllByRecursion}
 use Rattle.rec_container.specs.Container.{Entry, content_of}
-use Rattle.rec_container.specs.Writing.{named}
-use Rattle.rec_codec.specs.Event.{LiveEvent}
+use Rattle.rec_container.specs.Writing.{entry_named}
 use Rattle.rec_events.specs.declared.output_names.OutputFileName.{OutputFileName}
-use Rattle.rec_events.specs.declared.output_names.OutputKind.{OutputKind}
 use Rattle.rec_events.specs.declared.output_names.OutputKind.TheVariants as kind
-use Rattle.rec_events.specs.declared.outputs.ChildOutputDescription.{ChildOutputDescription}
+use Rattle.rec_events.specs.declared.output_names.OutputKind.{OutputKind}
 use Rattle.rec_events.specs.declared.outputs.ChildOutputDescription.TheVariants as live
+use Rattle.rec_events.specs.declared.outputs.ChildOutputDescription.{ChildOutputDescription}
 use Rattle.rec_events.specs.declared.outputs.RecordingSpec.{RecordingSpec}
 use Rattle.rec_events.specs.declared.outputs.ZipStoreOutput.TheVariants.{Empty, Full, Truncated}
+use Rattle.rec_codec.specs.Event.{LiveEvent}
+use Rattle.rec_store.proofs.EventMapLaws.{of_event-with, event_twice}
+use Rattle.rec_store.proofs.Held.{all_prefix, all_back, IsHeld}
 use Rattle.rec_store.specs.Cut.{cut}
 use Rattle.rec_store.specs.EventOutputs.{file_name, output_entries, captured_entries, description_entries, event_entries, stored_as, description_recorded, event_recorded}
 use Rattle.rec_store.specs.Kept.{empty, full, truncated, split, combined, kept, outputs_kept, event_kept, bytes_under, resolved, outputs_resolved, event_resolved, output_paths, captured_paths, description_paths, event_paths}
 use Rattle.rec_store.specs.OutputPaths.{output_path}
-use Rattle.rec_store.proofs.EventMapLaws.{of_event-with, event_twice}
-use Rattle.rec_store.proofs.Held.{all_prefix, all_back, IsHeld}
 
 -- the names of entries
 abbrev pub names : List Entry → List (List ℕ)
@@ -27,7 +27,7 @@ module _ (number : List ℕ → ℕ) (m : ℕ) where
   -- ---- the paths that an event names are those of its entries
 
   paths_unless : (z l : Bool) (f : OutputFileName) (content : List ℕ) (n : ℕ)
-      → output_paths (if z then Empty else if l then Full f else Truncated f n) ≡ names (if z then [] else named (output_path f) content ∷ [])
+      → output_paths (if z then Empty else if l then Full f else Truncated f n) ≡ names (if z then [] else entry_named (output_path f) content ∷ [])
   paths_unless true l f content n = refl
   paths_unless false true f content n = refl
   paths_unless false false f content n = refl
@@ -69,7 +69,7 @@ module _ (number : List ℕ → ℕ) (m : ℕ) where
     bytes_held : (f : OutputFileName) (content : List ℕ) → content_of es (output_path f) ≡ Some content → bytes_under es f ≡ content
     bytes_held f content h = ap (λ o. unwrap_or o []) h
 
-    resolved_unless : (z l : Bool) (f : OutputFileName) (b content : List ℕ) → (l ≡ true → content ≡ b) → AllByRecursion (IsHeld es) (if z then [] else named (output_path f) content ∷ [])
+    resolved_unless : (z l : Bool) (f : OutputFileName) (b content : List ℕ) → (l ≡ true → content ≡ b) → AllByRecursion (IsHeld es) (if z then [] else entry_named (output_path f) content ∷ [])
         → resolved es (if z then Empty else if l then Full f else Truncated f (length b)) ≡ (if z then empty else if l then full b else truncated content (length b))
     resolved_unless true l f b content whole h = refl
     resolved_unless false true f b content whole h = ap full (bytes_held f content h.0 ∙ whole refl)

@@ -4,13 +4,13 @@ use Rattle.std.specs.Bool.{⊤}
 use Rattle.rec_container.specs.Container.{Entry}
 use Rattle.rec_container.specs.Writing.{Writing}
 use Rattle.rec_codec.specs.Event.{LiveEvent, RecordedEvent, event_text, event_line, IsLogged}
-use Rattle.rec_store.specs.declared.error.RunStoreError.{RunStoreError}
+use Rattle.rec_store.proofs.Stopped.{all_added}
 use Rattle.rec_store.specs.declared.error.RunStoreError.TheVariants.{Failed, NotLoadedOutput, NameCollision, CountOutOfRange, StoreWrite, RunLogWrite, OutOfMemory}
+use Rattle.rec_store.specs.declared.error.RunStoreError.{RunStoreError}
 use Rattle.rec_store.specs.EventOutputs.{event_entries, event_recorded}
 use Rattle.rec_store.specs.Logging.{AppendsLine, Unappended, AppendsAs, AppendsEvent, LogsLoaded}
 use Rattle.rec_store.specs.Recording.{Recording, AddsEach}
 use Rattle.rec_store.specs.Stopping.{StoresAs}
-use Rattle.rec_store.proofs.Stopped.{all_added}
 
 -- a line has its line feed at least
 pub some_line : (e : RecordedEvent) (line : List ℕ) → line ≡ event_line e → 0 < length line

@@ -1,24 +1,26 @@
 -- The outputs of events among the entries of a store.
 use Rattle.std.proofs.Common.{◌≡◌, ℕ, List, [], ◌∷◌, ◌++◌, length, Bool, true, false, Option, Some, None, not, cond, refl, sym, ap, ◌∙◌, append-nil, if◌then◌else◌, ◌==◌}
+use Rattle.std.proofs.lemmas.Grind.{flat_map-append}
+use Rattle.std.proofs.lemmas.List.Elements.{filter-append}
+use Rattle.std.proofs.lemmas.List.{map-append}
 use Rattle.std.specs.List.{filter, flat_map, AllByRecursion}
 use Rattle.std.specs.Option.{option_or}
 use Rattle.std.specs.Str.{bytes_eq}
-use Rattle.std.proofs.lemmas.Grind.{flat_map-append}
-use Rattle.std.proofs.lemmas.List.{map-append}
-use Rattle.std.proofs.lemmas.List.Elements.{filter-append}
 use Rattle.rec_container.specs.Container.{Entry, content_of}
-use Rattle.rec_container.specs.Writing.{named}
-use Rattle.rec_codec.specs.Event.{LiveEvent, event_line}
+use Rattle.rec_container.specs.Writing.{entry_named}
 use Rattle.rec_events.specs.declared.output_names.OutputFileName.{OutputFileName}
-use Rattle.rec_events.specs.declared.output_names.OutputKind.{OutputKind}
 use Rattle.rec_events.specs.declared.output_names.OutputKind.TheVariants as kind
-use Rattle.rec_events.specs.declared.outputs.ChildOutputDescription.{ChildOutputDescription}
+use Rattle.rec_events.specs.declared.output_names.OutputKind.{OutputKind}
 use Rattle.rec_events.specs.declared.outputs.ChildOutputDescription.TheVariants as live
+use Rattle.rec_events.specs.declared.outputs.ChildOutputDescription.{ChildOutputDescription}
 use Rattle.rec_events.specs.declared.recording.RecordOpts.{RecordOpts}
 use Rattle.rec_events.specs.declared.recording.TestListSummary.{TestListSummary}
 use Rattle.rec_format.specs.declared.head.SessionHead.{SessionHead}
 use Rattle.rec_format.specs.declared.rerun.RerunInfo.{RerunInfo}
 use Rattle.rec_format.specs.declared.scope.RecordedBuildScope.{RecordedBuildScope}
+use Rattle.rec_codec.specs.Event.{LiveEvent, event_line}
+use Rattle.rec_store.proofs.EventMapLaws.{all_of_event}
+use Rattle.rec_store.proofs.Held.{IsAbsent, all_append, all_weaker, all_with, with_entries-append, clash-append, with_entries-after, clash-after}
 use Rattle.rec_store.specs.Bundle.{events_recorded, run_log, run_outputs, outputs_stored, run_store}
 use Rattle.rec_store.specs.Clashes.{with_entries, clash}
 use Rattle.rec_store.specs.Cut.{cut}
@@ -27,8 +29,6 @@ use Rattle.rec_store.specs.EventOutputs.{file_name, output_entries, captured_ent
 use Rattle.rec_store.specs.OutputPaths.{output_path}
 use Rattle.rec_store.specs.Reading.{is_metadata}
 use Rattle.rec_store.specs.Store.{metadata_of, store_entries}
-use Rattle.rec_store.proofs.EventMapLaws.{all_of_event}
-use Rattle.rec_store.proofs.Held.{IsAbsent, all_append, all_weaker, all_with, with_entries-append, clash-append, with_entries-after, clash-after}
 
 -- an entry that stands where an output does
 abbrev pub IsOutputEntry : Entry → Type 0
@@ -37,7 +37,7 @@ IsOutputEntry e = (f : OutputFileName) × (e.name ≡ output_path f)
 -- ---- the entries of events are outputs
 
 module _ (number : List ℕ → ℕ) (m : ℕ) where
-  output_unless : (z : Bool) (f : OutputFileName) (content : List ℕ) → AllByRecursion IsOutputEntry (if z then [] else named (output_path f) content ∷ [])
+  output_unless : (z : Bool) (f : OutputFileName) (content : List ℕ) → AllByRecursion IsOutputEntry (if z then [] else entry_named (output_path f) content ∷ [])
   output_unless true f content = tt
   output_unless false f content = ((f, refl), tt)
 

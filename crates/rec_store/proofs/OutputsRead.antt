@@ -1,20 +1,20 @@
 -- The outputs that the store of a run is read as.
 use Rattle.std.proofs.Common.{◌≡◌, ℕ, List, [], ◌∷◌, ◌++◌, Bool, true, false, Option, Some, None, is_some, not, ◌&&◌, ◌||◌, refl, ap, subst, ◌∙◌}
+use Rattle.std.proofs.lemmas.Slice.Eq.{bytes_eq-Decides}
 use Rattle.std.specs.List.{filter, flat_map, AllByRecursion, list_any, list_all}
 use Rattle.std.specs.Str.{bytes_eq}
-use Rattle.std.proofs.lemmas.Slice.Eq.{bytes_eq-Decides}
 use Rattle.rec_container.specs.Container.{Entry, content_of}
-use Rattle.rec_codec.specs.Event.{LiveEvent, RecordedEvent}
 use Rattle.rec_forms.specs.Shape.{only}
 use Rattle.rec_format.specs.declared.head.SessionHead.{SessionHead}
+use Rattle.rec_codec.specs.Event.{LiveEvent, RecordedEvent}
+use Rattle.rec_store.proofs.Held.{IsHeld, all_held, all_weaker, all_with}
+use Rattle.rec_store.proofs.KeptLaws.{names, paths_of_events}
+use Rattle.rec_store.proofs.OutputLaws.{outputs_of_events, stored_are_outputs, with_outputs, clash_outputs, others_are_outputs}
 use Rattle.rec_store.specs.Bundle.{events_recorded, run_outputs, outputs_stored, run_store}
 use Rattle.rec_store.specs.Clashes.{clash}
 use Rattle.rec_store.specs.Kept.{event_paths}
 use Rattle.rec_store.specs.Reading.{is_metadata, outputs_of}
 use Rattle.rec_store.specs.Store.{store_entries}
-use Rattle.rec_store.proofs.Held.{IsHeld, all_held, all_weaker, all_with}
-use Rattle.rec_store.proofs.KeptLaws.{names, paths_of_events}
-use Rattle.rec_store.proofs.OutputLaws.{outputs_of_events, stored_are_outputs, with_outputs, clash_outputs, others_are_outputs}
 
 abbrev IsAmong : List (List ℕ) → Entry → Type 0
 IsAmong paths e = list_any (λ p. bytes_eq e.name p) paths ≡ true

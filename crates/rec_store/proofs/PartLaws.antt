@@ -1,21 +1,21 @@
 -- The parts of a store are the components of what it is read as.
 use Rattle.std.proofs.Common.{◌≡◌, ℕ, List, Option, Some, None, option_map, Result, ap, ◌∙◌, refl}
 use Rattle.rec_container.specs.Container.{Entry, content_of}
-use Rattle.rec_codec.specs.Event.{log_events}
-use Rattle.rec_codec.specs.Lines.{lines}
 use Rattle.rec_forms.specs.Recording.{test_list_form, record_opts_form}
 use Rattle.rec_forms.specs.Shape.{◌>>=◌}
 use Rattle.rec_forms.specs.TextForm.{bytes_form}
-use Rattle.rec_format.specs.RunForms.{manifest_form}
 use Rattle.rec_format.specs.RerunForms.{rerun_info_form}
+use Rattle.rec_format.specs.RunForms.{manifest_form}
 use Rattle.rec_format.specs.ScopeForms.{recorded_scope_form}
+use Rattle.rec_codec.specs.Event.{log_events}
+use Rattle.rec_codec.specs.Lines.{lines}
+use Rattle.rec_store.proofs.PartOutputs.{output_of_reading}
+use Rattle.rec_store.proofs.PartsWithin.{metadata_read, text_read, rerun_read, output_read}
+use Rattle.rec_store.specs.declared.read_error.RecordReadError.TheVariants.{OutOfMemory}
+use Rattle.rec_store.specs.declared.read_error.RecordReadError.{RecordReadError}
 use Rattle.rec_store.specs.Entries.{build_scope_path, cargo_metadata_path, record_opts_path, rerun_info_path, test_list_path}
 use Rattle.rec_store.specs.Parts.{ArePartsOf, AreWithin, or_refused}
 use Rattle.rec_store.specs.Reading.{RunRecord, part, maybe_part, text_part, outputs_of, record_of}
-use Rattle.rec_store.specs.declared.read_error.RecordReadError.{RecordReadError}
-use Rattle.rec_store.specs.declared.read_error.RecordReadError.TheVariants.{OutOfMemory}
-use Rattle.rec_store.proofs.PartOutputs.{output_of_reading}
-use Rattle.rec_store.proofs.PartsWithin.{metadata_read, text_read, rerun_read, output_read}
 
 -- a chain has a value only where its first option has one
 first_some : {A B : Type 0} (o : Option A) (f : A → Option B) (y : B) → (o >>= f) ≡ Some y → (x : A) × (o ≡ Some x) × (f x ≡ Some y)

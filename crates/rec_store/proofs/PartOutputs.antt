@@ -1,33 +1,33 @@
 -- The outputs of a reading as parts of its store.
 use Rattle.std.proofs.Common.{◌≡◌, ℕ, nat_eq, List, [], ◌∷◌, ◌++◌, Bool, true, false, ◌||◌, not, Option, Some, None, Ok, is_some, refl, sym, ap, subst, ◌∙◌, codes, if◌then◌else◌}
+use Rattle.std.proofs.lemmas.Bool.Decides.{Decides-eqb}
+use Rattle.std.proofs.lemmas.Bool.{and_parts}
+use Rattle.std.proofs.lemmas.Slice.Eq.{bytes_eq-Decides, ends_is}
 use Rattle.std.specs.Int.{w64, to_be_bytes}
 use Rattle.std.specs.List.{ends_with, filter, flat_map, list_any, list_all, AllByRecursion}
 use Rattle.std.specs.Str.{bytes_eq}
-use Rattle.std.proofs.lemmas.Bool.{and_parts}
-use Rattle.std.proofs.lemmas.Bool.Decides.{Decides-eqb}
-use Rattle.std.proofs.lemmas.Slice.Eq.{bytes_eq-Decides, ends_is}
 use Rattle.hex.specs.Hex.{encode_lower}
 use Rattle.rec_container.specs.Container.{Entry, content_of}
-use Rattle.rec_codec.specs.Event.{RecordedEvent}
-use Rattle.rec_events.specs.OutputNames.{file_name_text}
 use Rattle.rec_events.specs.declared.output_names.OutputFileName.{OutputFileName}
-use Rattle.rec_events.specs.declared.output_names.OutputKind.{OutputKind}
 use Rattle.rec_events.specs.declared.output_names.OutputKind.TheVariants as kind
-use Rattle.rec_events.specs.OutputNames.{kind_suffix}
-use Rattle.rec_events.specs.declared.outputs.ZipStoreOutput.{ZipStoreOutput}
+use Rattle.rec_events.specs.declared.output_names.OutputKind.{OutputKind}
 use Rattle.rec_events.specs.declared.outputs.ZipStoreOutput.TheVariants.{Empty, Full, Truncated}
-use Rattle.rec_events.specs.declared.outputs.ZipStoreOutputDescription.{ZipStoreOutputDescription}
+use Rattle.rec_events.specs.declared.outputs.ZipStoreOutput.{ZipStoreOutput}
 use Rattle.rec_events.specs.declared.outputs.ZipStoreOutputDescription.TheVariants as stored
+use Rattle.rec_events.specs.declared.outputs.ZipStoreOutputDescription.{ZipStoreOutputDescription}
+use Rattle.rec_events.specs.OutputNames.{file_name_text}
+use Rattle.rec_events.specs.OutputNames.{kind_suffix}
 use Rattle.rec_forms.specs.Shape.{only}
-use Rattle.rec_format.specs.Paths.{dict_of_name}
 use Rattle.rec_format.specs.declared.paths.OutputDict.TheVariants as dict
+use Rattle.rec_format.specs.Paths.{dict_of_name}
+use Rattle.rec_codec.specs.Event.{RecordedEvent}
+use Rattle.rec_store.proofs.EventMapLaws.{all_of_event}
+use Rattle.rec_store.proofs.Held.{all_append}
+use Rattle.rec_store.proofs.PartContents.{found_name, chosen_content}
 use Rattle.rec_store.specs.Kept.{output_paths, captured_paths, description_paths, event_paths}
 use Rattle.rec_store.specs.OutputPaths.{output_path}
 use Rattle.rec_store.specs.Parts.{of_kind, path_of_output}
 use Rattle.rec_store.specs.Reading.{is_metadata, outputs_of}
-use Rattle.rec_store.proofs.EventMapLaws.{all_of_event}
-use Rattle.rec_store.proofs.Held.{all_append}
-use Rattle.rec_store.proofs.PartContents.{found_name, chosen_content}
 
 -- ---- each path that events name is that of an output
 

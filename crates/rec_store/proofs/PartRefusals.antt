@@ -1,9 +1,9 @@
 -- What follows from the answer of a part.
 use Rattle.std.proofs.Common.{ℕ, Result, Ok, Err, ap}
 use Rattle.rec_container.specs.Reading.{◌>>=◌}
-use Rattle.rec_store.specs.Readers.{Refuses, Reads, Denies, Answers, IsDiskCaused}
-use Rattle.rec_store.specs.declared.read_error.RecordReadError.{RecordReadError}
 use Rattle.rec_store.specs.declared.read_error.RecordReadError.TheVariants.{RunNotFound, OpenArchive, ParseArchive, FileNotFound, FileTooLarge, NotUtf8, DeserializeMetadata, UnknownOutputType, ExtractFile, OpenRunLog, DiskFault, ReadRunLog, ParseEvent, OutOfMemory}
+use Rattle.rec_store.specs.declared.read_error.RecordReadError.{RecordReadError}
+use Rattle.rec_store.specs.Readers.{Refuses, Reads, Denies, Answers, IsDiskCaused}
 
 -- a part that is refused gives nothing to the next step
 pub refuses_next : {Y Z : Type 0} (part : Result Y RecordReadError) (next : Y → Result Z RecordReadError) (e : RecordReadError) → Refuses part e → Refuses (part >>= next) e

@@ -1,21 +1,21 @@
 -- The parts of a store whose entries are within the limit.
 use Rattle.std.proofs.Common.{◌≡◌, ◌≤◌, ℕ, List, length, Option, Some, None, option_map, option_and_then, Ok, Err, refl, sym, ap, ◌∙◌, if◌then◌else◌}
-use Rattle.std.specs.Str.{is_utf8}
 use Rattle.std.proofs.lemmas.Bool.{le-ltb}
+use Rattle.std.specs.Str.{is_utf8}
 use Rattle.serde_json.specs.Data.{Data}
 use Rattle.rec_container.specs.Container.{Entry, content_of}
 use Rattle.rec_container.specs.Reading.{◌>>=◌}
 use Rattle.rec_forms.specs.Shape.{only}
 use Rattle.rec_forms.specs.TextForm.{bytes_form}
+use Rattle.rec_format.specs.declared.rerun.RerunInfo.{RerunInfo}
 use Rattle.rec_format.specs.Paths.{dict_of_name}
 use Rattle.rec_format.specs.RerunForms.{rerun_info_form}
-use Rattle.rec_format.specs.declared.rerun.RerunInfo.{RerunInfo}
+use Rattle.rec_store.proofs.PartContents.{found_content}
+use Rattle.rec_store.proofs.PartOutputs.{IsOutput}
+use Rattle.rec_store.specs.declared.read_error.RecordReadError.TheVariants.{FileTooLarge, NotUtf8, DeserializeMetadata, OutOfMemory}
 use Rattle.rec_store.specs.Entries.{rerun_info_path}
 use Rattle.rec_store.specs.Parts.{AreWithin, content_within, found_within, entry_part, or_refused, item_of, metadata_part, utf8_of, utf8_part, some_info, found_rerun_info, of_kind, path_of_output, IsReadAs}
 use Rattle.rec_store.specs.Reading.{part, maybe_part, text_part}
-use Rattle.rec_store.specs.declared.read_error.RecordReadError.TheVariants.{FileTooLarge, NotUtf8, DeserializeMetadata, OutOfMemory}
-use Rattle.rec_store.proofs.PartContents.{found_content}
-use Rattle.rec_store.proofs.PartOutputs.{IsOutput}
 
 -- ---- options, taken apart
 

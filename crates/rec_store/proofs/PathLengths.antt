@@ -2,13 +2,13 @@
 use Rattle.std.proofs.Common.{◌≡◌, ℕ, ◌+◌, List, ◌++◌, length, true, codes, arith}
 use Rattle.std.proofs.lemmas.List.{length-append}
 use Rattle.std.specs.Int.{w64, to_be_bytes}
-use Rattle.hex.specs.Hex.{encode_lower, lower_digits}
 use Rattle.hex.proofs.HexLemmas.{length-encode_with}
+use Rattle.hex.specs.Hex.{encode_lower, lower_digits}
 use Rattle.rec_container.specs.Writing.{has_name_length}
-use Rattle.rec_events.specs.OutputNames.{kind_suffix}
-use Rattle.rec_events.specs.declared.output_names.OutputKind.{OutputKind}
-use Rattle.rec_events.specs.declared.output_names.OutputKind.TheVariants.{Stdout, Stderr, Combined}
 use Rattle.rec_events.specs.declared.output_names.OutputFileName.{OutputFileName}
+use Rattle.rec_events.specs.declared.output_names.OutputKind.TheVariants.{Stdout, Stderr, Combined}
+use Rattle.rec_events.specs.declared.output_names.OutputKind.{OutputKind}
+use Rattle.rec_events.specs.OutputNames.{kind_suffix}
 use Rattle.rec_store.specs.OutputPaths.{output_path}
 
 joined : (digits suffix : List ℕ) → length digits ≡ 16 → length (codes "out/" ++ (digits ++ suffix)) ≡ 20 + length suffix

@@ -2,17 +2,15 @@
 use Rattle.std.proofs.Common.{◌≡◌, ℕ, ◌<◌, ◌^◌, length, List, [], ◌∷◌, ◌++◌, Option, Some, None, IfSome, IsTrue, map, sym, ap, subst, ◌∙◌}
 use Rattle.std.specs.List.{AllByRecursion}
 use Rattle.std.specs.Str.{is_utf8}
-use Rattle.rec_container.specs.Container.{Entry, content_of, spell, AreFrom, IsContainer}
+use Rattle.serde_json.specs.Written.{compact_text}
 use Rattle.rec_container.proofs.Spelling.{IsContainer-spell}
 use Rattle.rec_container.proofs.Unique.{one_reading_spec}
-use Rattle.rec_codec.specs.Event.{LiveEvent, RecordedEvent, IsLogged, log_events}
-use Rattle.rec_codec.specs.Lines.{lines}
-use Rattle.rec_codec.proofs.LogLaws.{event_logged, log_events_back}
-use Rattle.rec_events.specs.declared.recording.TestListSummary.{TestListSummary}
+use Rattle.rec_container.specs.Container.{Entry, content_of, spell, AreFrom, IsContainer}
 use Rattle.rec_events.specs.declared.recording.RecordOpts.{RecordOpts}
+use Rattle.rec_events.specs.declared.recording.TestListSummary.{TestListSummary}
 use Rattle.rec_forms.specs.Recording.{test_list_value, test_list_form, record_opts_value, record_opts_form}
 use Rattle.rec_forms.specs.TextForm.{bytes_form}
-use Rattle.serde_json.specs.Written.{compact_text}
+use Rattle.rec_format.proofs.TextLaws.{head_texts, recorded_manifest_text}
 use Rattle.rec_format.specs.declared.head.SessionHead.{SessionHead}
 use Rattle.rec_format.specs.declared.manifest.PortableManifest.{PortableManifest}
 use Rattle.rec_format.specs.declared.rerun.RerunInfo.{RerunInfo}
@@ -21,12 +19,19 @@ use Rattle.rec_format.specs.declared.scope.RecordedBuildScope.{RecordedBuildScop
 use Rattle.rec_format.specs.declared.status.RecordedRunStatus.{RecordedRunStatus}
 use Rattle.rec_format.specs.HeadForms.{IsHead}
 use Rattle.rec_format.specs.HeadTexts.{AreTextsRead}
-use Rattle.rec_format.specs.RunForms.{manifest_form}
-use Rattle.rec_format.proofs.TextLaws.{head_texts, recorded_manifest_text}
 use Rattle.rec_format.specs.RerunForms.{rerun_info_form}
+use Rattle.rec_format.specs.RunForms.{manifest_form}
 use Rattle.rec_format.specs.Runs.{manifest_of, run_of, info_of}
 use Rattle.rec_format.specs.ScopeForms.{recorded_scope_form}
 use Rattle.rec_format.specs.StatusFormLaws.{of-format}
+use Rattle.rec_codec.proofs.LogLaws.{event_logged, log_events_back}
+use Rattle.rec_codec.specs.Event.{LiveEvent, RecordedEvent, IsLogged, log_events}
+use Rattle.rec_codec.specs.Lines.{lines}
+use Rattle.rec_store.proofs.EntrySpellings.{store_spelled, bundle_spelled, run_sizes_are}
+use Rattle.rec_store.proofs.KeptLaws.{resolved_events}
+use Rattle.rec_store.proofs.OutputLaws.{no_rerun, stored_are_outputs}
+use Rattle.rec_store.proofs.OutputsRead.{run_held, run_outputs_read}
+use Rattle.rec_store.proofs.RecordedEvents.{event_recorded_is}
 use Rattle.rec_store.specs.Bundle.{events_recorded, run_log, run_outputs, outputs_stored, run_store, run_info, run_sizes, manifest_text, run_bundle, run_entries}
 use Rattle.rec_store.specs.Clashes.{clash}
 use Rattle.rec_store.specs.Entries.{rerun_info_path}
@@ -35,11 +40,6 @@ use Rattle.rec_store.specs.Kept.{KeptEvent, event_kept, event_resolved}
 use Rattle.rec_store.specs.Reading.{IsReading, RunRecord, outputs_of, record_of, recorded}
 use Rattle.rec_store.specs.Recordable.{IsRecordable}
 use Rattle.rec_store.specs.Store.{build_scope_entry, rerun_entry, metadata_of}
-use Rattle.rec_store.proofs.EntrySpellings.{store_spelled, bundle_spelled, run_sizes_are}
-use Rattle.rec_store.proofs.KeptLaws.{resolved_events}
-use Rattle.rec_store.proofs.OutputLaws.{no_rerun, stored_are_outputs}
-use Rattle.rec_store.proofs.RecordedEvents.{event_recorded_is}
-use Rattle.rec_store.proofs.OutputsRead.{run_held, run_outputs_read}
 
 -- run information that went into a manifest comes out of it
 pub info_again : (info : RecordedRunInfo) → info_of (run_of info) ≡ info

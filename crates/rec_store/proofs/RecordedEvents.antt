@@ -1,23 +1,23 @@
 -- What a well-formed event is recorded as is well-formed.
 use Rattle.std.proofs.Common.{ℕ, ◌<◌, ◌^◌, List, [], ◌∷◌, length, map, Bool, true, false, Option, Some, None, option_map, IfSome, nat_le, sym, subst, if◌then◌else◌, ◌==◌}
-use Rattle.std.specs.List.{flat_map, AllByRecursion}
 use Rattle.std.proofs.lemmas.List.{length-map}
+use Rattle.std.specs.List.{flat_map, AllByRecursion}
+use Rattle.rec_events.specs.declared.events.OutputEventKind.TheVariants.{SetupScriptFinished, TestAttemptFailedWillRetry, TestFinished}
+use Rattle.rec_events.specs.declared.events.OutputEventKind.{OutputEventKind}
+use Rattle.rec_events.specs.declared.events.TestEventKindSummary.TheVariants as event
+use Rattle.rec_events.specs.declared.events.TestEventKindSummary.{TestEventKindSummary}
+use Rattle.rec_events.specs.declared.events.TestEventSummary.{TestEventSummary}
 use Rattle.rec_events.specs.declared.output_names.OutputFileName.{OutputFileName}
-use Rattle.rec_events.specs.declared.output_names.OutputKind.{OutputKind}
 use Rattle.rec_events.specs.declared.output_names.OutputKind.TheVariants as kind
-use Rattle.rec_events.specs.declared.outputs.ChildExecutionOutputDescription.{ChildExecutionOutputDescription}
+use Rattle.rec_events.specs.declared.output_names.OutputKind.{OutputKind}
 use Rattle.rec_events.specs.declared.outputs.ChildExecutionOutputDescription.TheVariants.{Output, StartError}
-use Rattle.rec_events.specs.declared.outputs.ChildOutputDescription.{ChildOutputDescription}
+use Rattle.rec_events.specs.declared.outputs.ChildExecutionOutputDescription.{ChildExecutionOutputDescription}
 use Rattle.rec_events.specs.declared.outputs.ChildOutputDescription.TheVariants as live
+use Rattle.rec_events.specs.declared.outputs.ChildOutputDescription.{ChildOutputDescription}
 use Rattle.rec_events.specs.declared.outputs.RecordingSpec.{RecordingSpec}
 use Rattle.rec_events.specs.declared.outputs.ZipStoreOutput.TheVariants.{Empty, Full, Truncated}
-use Rattle.rec_events.specs.declared.statuses.ExecuteStatus.{ExecuteStatus}
 use Rattle.rec_events.specs.declared.script_statuses.SetupScriptExecuteStatus.{SetupScriptExecuteStatus}
-use Rattle.rec_events.specs.declared.events.OutputEventKind.{OutputEventKind}
-use Rattle.rec_events.specs.declared.events.OutputEventKind.TheVariants.{SetupScriptFinished, TestAttemptFailedWillRetry, TestFinished}
-use Rattle.rec_events.specs.declared.events.TestEventKindSummary.{TestEventKindSummary}
-use Rattle.rec_events.specs.declared.events.TestEventKindSummary.TheVariants as event
-use Rattle.rec_events.specs.declared.events.TestEventSummary.{TestEventSummary}
+use Rattle.rec_events.specs.declared.statuses.ExecuteStatus.{ExecuteStatus}
 use Rattle.rec_events.specs.EventMaps.{execution_with, status_with, script_status_with, output_kind_with, kind_with, event_with, of_execution, of_status, of_output_kind, of_kind, of_event}
 use Rattle.rec_forms.specs.Outputs.{IsStoredOutput, IsStoredOutputs}
 use Rattle.rec_codec.specs.Event.{LiveEvent}
@@ -26,9 +26,9 @@ use Rattle.rec_codec.specs.Live.{IsLive}
 use Rattle.rec_codec.specs.OutputKinds.{IsOutput}
 use Rattle.rec_codec.specs.ScriptStatus.{IsScriptStatus}
 use Rattle.rec_codec.specs.Status.{IsDescription, IsStatus}
+use Rattle.rec_store.proofs.Held.{all_prefix, all_back}
 use Rattle.rec_store.specs.EventOutputs.{file_name, stored_as, description_recorded, event_recorded}
 use Rattle.rec_store.specs.Recordable.{captured_outputs, description_outputs, HasLength, IsRecordable}
-use Rattle.rec_store.proofs.Held.{all_prefix, all_back}
 
 -- ---- where each output is replaced by one that is well-formed, what is gathered of the outputs being as it should
 

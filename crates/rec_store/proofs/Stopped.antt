@@ -3,10 +3,10 @@ use Rattle.std.proofs.Common.{◌≡◌, ℕ, List, [], ◌∷◌, ◌++◌, fal
 use Rattle.std.specs.Bool.{⊤}
 use Rattle.rec_container.specs.Container.{Entry}
 use Rattle.rec_container.specs.Writing.{Writing}
+use Rattle.rec_store.proofs.Adding.{AddsUpTo-prefix, AddsUpTo-after}
 use Rattle.rec_store.specs.declared.error.RunStoreError.{RunStoreError}
 use Rattle.rec_store.specs.Recording.{AddsEntry, RefusesEntry, AddsEach}
 use Rattle.rec_store.specs.Stopping.{AddsFirst, Stops, StoresAs}
-use Rattle.rec_store.proofs.Adding.{AddsUpTo-prefix, AddsUpTo-after}
 
 module _ {S : Type 0} (taken : S → Option (List ℕ)) (faults : S → ℕ) where
   pub one_stored : (old new : Writing S) (e : Entry) (r : Result ⊤ RunStoreError) → OnOk r (AddsEntry taken faults old new e) → OnOk r (new.failed ≡ false)

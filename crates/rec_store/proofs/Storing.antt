@@ -1,9 +1,9 @@
 -- What several calls of a recorder leave, one after the other.
 use Rattle.std.proofs.Common.{◌≡◌, ℕ, List, ◌++◌, Bool, true, false, ◌||◌, Option, refl, sym, ap, ◌∙◌, inl, inr}
 use Rattle.rec_container.specs.Container.{Entry}
+use Rattle.rec_store.proofs.Adding.{AddsEach-append, AddsUpTo-prefix, AddsUpTo-after, sound_after}
 use Rattle.rec_store.specs.declared.error.RunStoreError.{RunStoreError}
 use Rattle.rec_store.specs.Recording.{Recording, has_failed, Stores, Unstored}
-use Rattle.rec_store.proofs.Adding.{AddsEach-append, AddsUpTo-prefix, AddsUpTo-after, sound_after}
 
 both_false : (a b : Bool) → (a || b) ≡ false → (a ≡ false) × (b ≡ false)
 both_false true b h = absurd (let k = h in cc)

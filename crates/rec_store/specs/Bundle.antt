@@ -1,17 +1,17 @@
 -- The bundle of a run.
-use Rattle.std.specs.Prelude.{ℕ, List, [], ◌++◌, length, map}
 use Rattle.std.specs.List.{flat_map}
+use Rattle.std.specs.Prelude.{ℕ, List, [], ◌++◌, length, map}
 use Rattle.serde_json.specs.Written.{compact_text}
 use Rattle.rec_container.specs.Container.{Entry, spell}
-use Rattle.rec_codec.specs.Event.{LiveEvent, RecordedEvent, log_text}
 use Rattle.rec_format.specs.declared.head.SessionHead.{SessionHead}
 use Rattle.rec_format.specs.declared.run.RecordedRunInfo.{RecordedRunInfo}
 use Rattle.rec_format.specs.declared.sizes.RecordedSizes.{RecordedSizes}
-use Rattle.rec_format.specs.Runs.{recorded_info, manifest_of}
 use Rattle.rec_format.specs.RunForms.{manifest_value}
+use Rattle.rec_format.specs.Runs.{recorded_info, manifest_of}
+use Rattle.rec_codec.specs.Event.{LiveEvent, RecordedEvent, log_text}
 use Rattle.rec_store.specs.Clashes.{with_entries}
-use Rattle.rec_store.specs.Entries.{bundle_entries}
 use Rattle.rec_store.specs.Ending.{sizes_of_log, sizes_of_store}
+use Rattle.rec_store.specs.Entries.{bundle_entries}
 use Rattle.rec_store.specs.EventOutputs.{event_entries, event_recorded}
 use Rattle.rec_store.specs.Store.{store_entries}
 

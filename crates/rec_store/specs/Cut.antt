@@ -1,8 +1,8 @@
 -- How an output is cut to a limit.
-use Rattle.std.specs.Prelude.{ℕ, List, ◌++◌, ◌-◌, ◌/◌, nat_le, length, take, drop, if◌then◌else◌, codes, ⊤}
 use Rattle.std.specs.Fmt.{decimal}
-use Rattle.rec_store.specs.declared.cut.CutOutput.{CutOutput}
+use Rattle.std.specs.Prelude.{ℕ, List, ◌++◌, ◌-◌, ◌/◌, nat_le, length, take, drop, if◌then◌else◌, codes, ⊤}
 use Rattle.rec_store.specs.declared.cut.CutOutput.TheVariants.{Borrowed, Owned}
+use Rattle.rec_store.specs.declared.cut.CutOutput.{CutOutput}
 
 -- what stands between the ends of an output that is n bytes too long
 abbrev pub marker : ℕ → List ℕ

@@ -1,11 +1,11 @@
 -- How a recording ends.
 use Rattle.std.specs.Prelude.{◌≡◌, ℕ, List, length, true, false, Option}
 use Rattle.rec_container.specs.Causes.{Rose}
-use Rattle.rec_container.specs.Taking.{TookPart}
 use Rattle.rec_container.specs.Container.{Entry, spell, ending, content_bytes}
-use Rattle.rec_store.specs.declared.error.RunStoreError.{RunStoreError}
-use Rattle.rec_store.specs.declared.error.RunStoreError.TheVariants.{Failed, NotLoadedOutput, NameCollision, CountOutOfRange, StoreWrite, RunLogWrite, OutOfMemory}
+use Rattle.rec_container.specs.Taking.{TookPart}
 use Rattle.rec_format.specs.declared.sizes.ComponentSizes.{ComponentSizes}
+use Rattle.rec_store.specs.declared.error.RunStoreError.TheVariants.{Failed, NotLoadedOutput, NameCollision, CountOutOfRange, StoreWrite, RunLogWrite, OutOfMemory}
+use Rattle.rec_store.specs.declared.error.RunStoreError.{RunStoreError}
 use Rattle.rec_store.specs.declared.sizes.StoreSizes.{StoreSizes}
 use Rattle.rec_store.specs.Recording.{Recording, has_failed}
 

@@ -3,7 +3,7 @@ use Rattle.std.specs.Prelude.{ℕ, List, [], ◌∷◌, codes}
 use Rattle.serde_json.specs.Data.{Data}
 use Rattle.serde_json.specs.Written.{compact_text}
 use Rattle.rec_container.specs.Container.{Entry}
-use Rattle.rec_container.specs.Writing.{named}
+use Rattle.rec_container.specs.Writing.{entry_named}
 
 -- the paths of metadata
 abbrev pub build_scope_path : List ℕ
@@ -23,11 +23,11 @@ record_opts_path = codes "meta/record-opts.json"
 
 -- an entry that is JSON
 abbrev pub json_entry : List ℕ → Data → Entry
-json_entry path value = named path (compact_text value)
+json_entry path value = entry_named path (compact_text value)
 
 -- the entries of these three texts
 abbrev pub three_entries : List ℕ → List ℕ → List ℕ → List Entry
-three_entries list metadata opts = named test_list_path list ∷ named cargo_metadata_path metadata ∷ named record_opts_path opts ∷ []
+three_entries list metadata opts = entry_named test_list_path list ∷ entry_named cargo_metadata_path metadata ∷ entry_named record_opts_path opts ∷ []
 
 -- the names of a bundle's entries
 abbrev pub manifest_name : List ℕ
@@ -41,4 +41,4 @@ store_name = codes "store.zip"
 
 -- a bundle of these three contents
 abbrev pub bundle_entries : List ℕ → List ℕ → List ℕ → List Entry
-bundle_entries manifest log store = named manifest_name manifest ∷ named log_name log ∷ named store_name store ∷ []
+bundle_entries manifest log store = entry_named manifest_name manifest ∷ entry_named log_name log ∷ entry_named store_name store ∷ []

@@ -1,25 +1,25 @@
 -- What is stored of an event's outputs, and what the event is recorded as.
 use Rattle.std.specs.Prelude.{ℕ, List, [], ◌∷◌, ◌++◌, length, nat_le, ◌==◌, Bool, false, true, Option, Some, None, option_map, if◌then◌else◌}
 use Rattle.rec_container.specs.Container.{Entry}
-use Rattle.rec_container.specs.Writing.{named}
-use Rattle.rec_events.specs.declared.output_names.OutputKind.{OutputKind}
-use Rattle.rec_events.specs.declared.output_names.OutputKind.TheVariants as kind
+use Rattle.rec_container.specs.Writing.{entry_named}
+use Rattle.rec_events.specs.declared.events.OutputEventKind.TheVariants.{SetupScriptFinished, TestAttemptFailedWillRetry, TestFinished}
+use Rattle.rec_events.specs.declared.events.OutputEventKind.{OutputEventKind}
+use Rattle.rec_events.specs.declared.events.TestEventKindSummary.{TestEventKindSummary}
 use Rattle.rec_events.specs.declared.output_names.OutputFileName.{OutputFileName}
+use Rattle.rec_events.specs.declared.output_names.OutputKind.TheVariants as kind
+use Rattle.rec_events.specs.declared.output_names.OutputKind.{OutputKind}
+use Rattle.rec_events.specs.declared.outputs.ChildExecutionOutputDescription.{ChildExecutionOutputDescription}
+use Rattle.rec_events.specs.declared.outputs.ChildOutputDescription.TheVariants as live
+use Rattle.rec_events.specs.declared.outputs.ChildOutputDescription.{ChildOutputDescription}
 use Rattle.rec_events.specs.declared.outputs.LiveSpec.{LiveSpec}
 use Rattle.rec_events.specs.declared.outputs.RecordingSpec.{RecordingSpec}
-use Rattle.rec_events.specs.declared.outputs.ChildOutputDescription.{ChildOutputDescription}
-use Rattle.rec_events.specs.declared.outputs.ChildOutputDescription.TheVariants as live
-use Rattle.rec_events.specs.declared.outputs.ZipStoreOutput.{ZipStoreOutput}
 use Rattle.rec_events.specs.declared.outputs.ZipStoreOutput.TheVariants.{Empty, Full, Truncated}
-use Rattle.rec_events.specs.declared.outputs.ZipStoreOutputDescription.{ZipStoreOutputDescription}
+use Rattle.rec_events.specs.declared.outputs.ZipStoreOutput.{ZipStoreOutput}
 use Rattle.rec_events.specs.declared.outputs.ZipStoreOutputDescription.TheVariants as stored
-use Rattle.rec_events.specs.declared.outputs.ChildExecutionOutputDescription.{ChildExecutionOutputDescription}
+use Rattle.rec_events.specs.declared.outputs.ZipStoreOutputDescription.{ZipStoreOutputDescription}
+use Rattle.rec_events.specs.declared.script_statuses.SetupScriptExecuteStatus.{SetupScriptExecuteStatus}
 use Rattle.rec_events.specs.declared.statuses.ExecuteStatus.{ExecuteStatus}
 use Rattle.rec_events.specs.declared.statuses.ExecutionStatuses.{ExecutionStatuses}
-use Rattle.rec_events.specs.declared.script_statuses.SetupScriptExecuteStatus.{SetupScriptExecuteStatus}
-use Rattle.rec_events.specs.declared.events.OutputEventKind.{OutputEventKind}
-use Rattle.rec_events.specs.declared.events.OutputEventKind.TheVariants.{SetupScriptFinished, TestAttemptFailedWillRetry, TestFinished}
-use Rattle.rec_events.specs.declared.events.TestEventKindSummary.{TestEventKindSummary}
 use Rattle.rec_events.specs.EventMaps.{execution_with, status_with, statuses_with, script_status_with, output_kind_with, kind_with, event_with, of_execution, of_status, of_output_kind, of_kind, of_event}
 use Rattle.rec_codec.specs.Event.{LiveEvent, RecordedEvent}
 use Rattle.rec_store.specs.Cut.{cut}
@@ -54,7 +54,7 @@ module _ (number : List ℕ → ℕ) (m : ℕ) where
   -- ---- what is stored of an output
 
   abbrev pub output_entry : OutputKind → List ℕ → Entry
-  output_entry kind b = named (output_path (file_name kind b)) (cut b m)
+  output_entry kind b = entry_named (output_path (file_name kind b)) (cut b m)
 
   -- an output without bytes has no entry
   abbrev pub output_entries : OutputKind → List ℕ → List Entry

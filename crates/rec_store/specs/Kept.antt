@@ -1,17 +1,17 @@
 -- What is kept of an event's outputs: what a bundle is read as.
-use Rattle.std.specs.Prelude.{ℕ, List, [], ◌∷◌, ◌++◌, length, nat_le, ◌==◌, Option, Some, None, IsTrue, is_some, option_map, unwrap_or, if◌then◌else◌}
 use Rattle.std.specs.List.{AllByRecursion}
+use Rattle.std.specs.Prelude.{ℕ, List, [], ◌∷◌, ◌++◌, length, nat_le, ◌==◌, Option, Some, None, IsTrue, is_some, option_map, unwrap_or, if◌then◌else◌}
 use Rattle.rec_container.specs.Container.{Entry, content_of}
-use Rattle.rec_events.specs.EventMaps.{event_with, of_event}
 use Rattle.rec_events.specs.declared.events.TestEventSummary.{TestEventSummary}
 use Rattle.rec_events.specs.declared.output_names.OutputFileName.{OutputFileName}
-use Rattle.rec_events.specs.declared.outputs.ChildOutputDescription.{ChildOutputDescription}
 use Rattle.rec_events.specs.declared.outputs.ChildOutputDescription.TheVariants as live
+use Rattle.rec_events.specs.declared.outputs.ChildOutputDescription.{ChildOutputDescription}
 use Rattle.rec_events.specs.declared.outputs.RecordingSpec.{RecordingSpec}
-use Rattle.rec_events.specs.declared.outputs.ZipStoreOutput.{ZipStoreOutput}
 use Rattle.rec_events.specs.declared.outputs.ZipStoreOutput.TheVariants.{Empty, Full, Truncated}
-use Rattle.rec_events.specs.declared.outputs.ZipStoreOutputDescription.{ZipStoreOutputDescription}
+use Rattle.rec_events.specs.declared.outputs.ZipStoreOutput.{ZipStoreOutput}
 use Rattle.rec_events.specs.declared.outputs.ZipStoreOutputDescription.TheVariants as stored
+use Rattle.rec_events.specs.declared.outputs.ZipStoreOutputDescription.{ZipStoreOutputDescription}
+use Rattle.rec_events.specs.EventMaps.{event_with, of_event}
 use Rattle.rec_codec.specs.Event.{LiveEvent, RecordedEvent}
 use Rattle.rec_store.specs.Cut.{cut}
 use Rattle.rec_store.specs.OutputPaths.{output_path}

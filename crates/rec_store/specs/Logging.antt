@@ -1,16 +1,16 @@
 -- What recording an event does to a recorder.
-use Rattle.std.specs.Prelude.{◌≡◌, ℕ, ◌+◌, ◌^◌, ◌≤◌, List, length, true, false, Option, Result, Ok, Err, ⊤, ◌⊎◌}
 use Rattle.std.specs.Io.KnownBytes.{Appends}
+use Rattle.std.specs.Prelude.{◌≡◌, ℕ, ◌+◌, ◌^◌, ◌≤◌, List, length, true, false, Option, Result, Ok, Err, ⊤, ◌⊎◌}
 use Rattle.rec_container.specs.Causes.{Rose}
 use Rattle.rec_container.specs.Taking.{TookPart}
 use Rattle.rec_codec.specs.Event.{LiveEvent, RecordedEvent, event_line, IsLogged}
 use Rattle.rec_codec.specs.EventForms.{kind_loaded}
 use Rattle.rec_codec.specs.Live.{is_loaded}
+use Rattle.rec_store.specs.declared.error.RunStoreError.TheVariants.{Failed, NotLoadedOutput, CountOutOfRange, RunLogWrite, OutOfMemory}
+use Rattle.rec_store.specs.declared.error.RunStoreError.{RunStoreError}
 use Rattle.rec_store.specs.EventOutputs.{event_entries, event_recorded}
 use Rattle.rec_store.specs.Recording.{Recording, has_failed, AddsEach}
 use Rattle.rec_store.specs.Stopping.{Stops}
-use Rattle.rec_store.specs.declared.error.RunStoreError.{RunStoreError}
-use Rattle.rec_store.specs.declared.error.RunStoreError.TheVariants.{Failed, NotLoadedOutput, CountOutOfRange, RunLogWrite, OutOfMemory}
 
 module _ {L : Type 0} (taken : L → Option (List ℕ)) (faults : L → ℕ) {S N : Type 0} where
   -- a line was appended to the log, whose count of faults has not fallen

@@ -1,6 +1,6 @@
 -- The number of an output.
-use Rattle.std.specs.Prelude.{ℕ, ◌%◌, ◌^◌, List, take}
 use Rattle.std.specs.Int.{w64, from_be_bytes}
+use Rattle.std.specs.Prelude.{ℕ, ◌%◌, ◌^◌, List, take}
 use Rattle.sha2.specs.Sha256.{sha256}
 
 -- the first eight bytes as a big-endian number

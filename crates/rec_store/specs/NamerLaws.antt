@@ -1,7 +1,7 @@
 -- The number of an output is a u64.
 use Rattle.std.proofs.Common.{ℕ, zero, suc, ◌<◌, ◌%◌, ◌/◌, ◌^◌, List, [], ◌∷◌, ◌++◌, take, arith}
-use Rattle.std.specs.List.{AllByRecursion}
 use Rattle.std.specs.Int.{byte_at, bytes_high_first}
+use Rattle.std.specs.List.{AllByRecursion}
 use Rattle.sha2.specs.Sha256.{sha256, digest_bytes}
 use Rattle.rec_store.specs.Namer.{first_word, sha256_number, as_u64}
 

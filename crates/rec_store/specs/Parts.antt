@@ -1,6 +1,6 @@
 -- The parts of a store: what its entries have under a path, as far as a limit allows, or why that is no part.
-use Rattle.std.specs.Prelude.{◌≡◌, ℕ, ◌≤◌, nat_lt, List, ◌++◌, length, codes, if◌then◌else◌, Option, Some, None, Result, Ok, Err}
 use Rattle.std.specs.List.{AllByRecursion}
+use Rattle.std.specs.Prelude.{◌≡◌, ℕ, ◌≤◌, nat_lt, List, ◌++◌, length, codes, if◌then◌else◌, Option, Some, None, Result, Ok, Err}
 use Rattle.std.specs.Str.{is_utf8}
 use Rattle.serde_json.specs.Data.{Data}
 use Rattle.rec_container.specs.Container.{Entry, content_of}
@@ -8,16 +8,16 @@ use Rattle.rec_container.specs.Reading.{◌>>=◌}
 use Rattle.rec_forms.specs.Recording.{test_list_form, record_opts_form}
 use Rattle.rec_forms.specs.Shape.{only}
 use Rattle.rec_forms.specs.TextForm.{bytes_form}
+use Rattle.rec_format.specs.declared.paths.OutputDict.TheVariants as dict
+use Rattle.rec_format.specs.declared.paths.OutputDict.{OutputDict}
+use Rattle.rec_format.specs.declared.rerun.RerunInfo.{RerunInfo}
 use Rattle.rec_format.specs.Paths.{dict_of_name}
 use Rattle.rec_format.specs.RerunForms.{rerun_info_form}
 use Rattle.rec_format.specs.ScopeForms.{recorded_scope_form}
-use Rattle.rec_format.specs.declared.paths.OutputDict.{OutputDict}
-use Rattle.rec_format.specs.declared.paths.OutputDict.TheVariants as dict
-use Rattle.rec_format.specs.declared.rerun.RerunInfo.{RerunInfo}
+use Rattle.rec_store.specs.declared.read_error.RecordReadError.TheVariants.{FileNotFound, FileTooLarge, NotUtf8, DeserializeMetadata, UnknownOutputType}
+use Rattle.rec_store.specs.declared.read_error.RecordReadError.{RecordReadError}
 use Rattle.rec_store.specs.Entries.{build_scope_path, cargo_metadata_path, record_opts_path, rerun_info_path, test_list_path}
 use Rattle.rec_store.specs.Reading.{RunRecord}
-use Rattle.rec_store.specs.declared.read_error.RecordReadError.{RecordReadError}
-use Rattle.rec_store.specs.declared.read_error.RecordReadError.TheVariants.{FileNotFound, FileTooLarge, NotUtf8, DeserializeMetadata, UnknownOutputType}
 
 -- the content of an entry, where it is no longer than the limit
 abbrev pub content_within : List ℕ → ℕ → List ℕ → Result (List ℕ) RecordReadError

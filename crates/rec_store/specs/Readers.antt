@@ -1,11 +1,11 @@
 -- What a reader of a store answers, and what its calls leave.
-use Rattle.std.specs.Prelude.{◌≡◌, ◌↔◌, ℕ, ◌≤◌, List, length, Option, Some, None, Result, Ok, Err, IfErr}
 use Rattle.std.specs.Io.KnownBytes.{Appends}
+use Rattle.std.specs.Prelude.{◌≡◌, ◌↔◌, ℕ, ◌≤◌, List, length, Option, Some, None, Result, Ok, Err, IfErr}
 use Rattle.rec_container.specs.Causes.{Rose}
 use Rattle.rec_container.specs.Container.{Entry, content_of}
 use Rattle.rec_container.specs.Taking.{TookPart}
-use Rattle.rec_store.specs.declared.read_error.RecordReadError.{RecordReadError}
 use Rattle.rec_store.specs.declared.read_error.RecordReadError.TheVariants.{OpenArchive, ParseArchive, FileNotFound, ExtractFile, DiskFault, OutOfMemory}
+use Rattle.rec_store.specs.declared.read_error.RecordReadError.{RecordReadError}
 
 -- why a part of entries at hand isn't read: it is refused so, or memory ran out, which is free
 abbrev pub Refuses : {Y : Type 0} → Result Y RecordReadError → RecordReadError → Type 0

@@ -1,28 +1,28 @@
 -- What a bundle's bytes are read as.
-use Rattle.std.specs.Prelude.{◌≡◌, ℕ, Bool, not, ◌&&◌, List, [], ◌∷◌, filter, Option, Some, None, is_some, option_map, option_and_then, map}
 use Rattle.std.specs.List.{list_any, list_all, flat_map}
+use Rattle.std.specs.Prelude.{◌≡◌, ℕ, Bool, not, ◌&&◌, List, [], ◌∷◌, filter, Option, Some, None, is_some, option_map, option_and_then, map}
 use Rattle.std.specs.Str.{bytes_eq, is_utf8}
 use Rattle.serde_json.specs.Data.{Data}
 use Rattle.rec_container.specs.Container.{Entry, content_of, IsContainer}
-use Rattle.rec_events.specs.declared.recording.TestListSummary.{TestListSummary}
 use Rattle.rec_events.specs.declared.recording.RecordOpts.{RecordOpts}
-use Rattle.rec_codec.specs.Lines.{lines}
-use Rattle.rec_codec.specs.Event.{LiveEvent, RecordedEvent, log_events}
+use Rattle.rec_events.specs.declared.recording.TestListSummary.{TestListSummary}
+use Rattle.rec_forms.specs.Recording.{test_list_form, record_opts_form}
 use Rattle.rec_forms.specs.Shape.{◌>>=◌, only}
 use Rattle.rec_forms.specs.TextForm.{bytes_form}
-use Rattle.rec_forms.specs.Recording.{test_list_form, record_opts_form}
-use Rattle.rec_format.specs.declared.scope.RecordedBuildScope.{RecordedBuildScope}
+use Rattle.rec_format.specs.declared.head.SessionHead.{SessionHead}
 use Rattle.rec_format.specs.declared.rerun.RerunInfo.{RerunInfo}
 use Rattle.rec_format.specs.declared.run.RecordedRunInfo.{RecordedRunInfo}
+use Rattle.rec_format.specs.declared.scope.RecordedBuildScope.{RecordedBuildScope}
 use Rattle.rec_format.specs.declared.versions.PortableRecordingFormatVersion.{PortableRecordingFormatVersion}
-use Rattle.rec_format.specs.ScopeForms.{recorded_scope_form}
 use Rattle.rec_format.specs.RerunForms.{rerun_info_form}
-use Rattle.rec_format.specs.Runs.{info_of}
 use Rattle.rec_format.specs.RunForms.{manifest_form}
-use Rattle.rec_store.specs.Entries.{build_scope_path, rerun_info_path, test_list_path, cargo_metadata_path, record_opts_path, bundle_entries}
-use Rattle.rec_format.specs.declared.head.SessionHead.{SessionHead}
+use Rattle.rec_format.specs.Runs.{info_of}
+use Rattle.rec_format.specs.ScopeForms.{recorded_scope_form}
 use Rattle.rec_format.specs.Versions.{portable_version}
+use Rattle.rec_codec.specs.Event.{LiveEvent, RecordedEvent, log_events}
+use Rattle.rec_codec.specs.Lines.{lines}
 use Rattle.rec_store.specs.Bundle.{run_info, outputs_stored}
+use Rattle.rec_store.specs.Entries.{build_scope_path, rerun_info_path, test_list_path, cargo_metadata_path, record_opts_path, bundle_entries}
 use Rattle.rec_store.specs.Kept.{KeptEvent, event_kept, event_resolved, event_paths}
 
 -- what was recorded of a run

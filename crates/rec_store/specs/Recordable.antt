@@ -1,12 +1,12 @@
 -- Events that a log can hold, and runs whose bundle can be written.
-use Rattle.std.specs.Prelude.{ℕ, ◌<◌, ◌^◌, List, [], ◌∷◌, ◌++◌, length, Option, Some, None}
 use Rattle.std.specs.List.{AllByRecursion}
+use Rattle.std.specs.Prelude.{ℕ, ◌<◌, ◌^◌, List, [], ◌∷◌, ◌++◌, length, Option, Some, None}
+use Rattle.rec_events.specs.declared.outputs.ChildOutputDescription.TheVariants as live
+use Rattle.rec_events.specs.declared.outputs.ChildOutputDescription.{ChildOutputDescription}
+use Rattle.rec_events.specs.EventMaps.{of_event}
 use Rattle.rec_codec.specs.Event.{LiveEvent}
 use Rattle.rec_codec.specs.EventForms.{IsEvent}
 use Rattle.rec_codec.specs.Live.{IsLive}
-use Rattle.rec_events.specs.EventMaps.{of_event}
-use Rattle.rec_events.specs.declared.outputs.ChildOutputDescription.{ChildOutputDescription}
-use Rattle.rec_events.specs.declared.outputs.ChildOutputDescription.TheVariants as live
 
 -- ---- the captured outputs of an event, in order
 

@@ -1,10 +1,10 @@
 -- What a recorder is, as contracts see it, and what its calls do.
 use Rattle.std.specs.Prelude.{◌≡◌, ℕ, ◌≤◌, List, [], ◌∷◌, ◌++◌, Bool, true, false, ◌||◌, Option, Some, None, ◌⊎◌}
 use Rattle.rec_container.specs.Container.{Entry}
-use Rattle.rec_container.specs.Writing.{Writing, Adds, RefusesLate, refusal}
 use Rattle.rec_container.specs.declared.errors.ContainerWriteError.TheVariants as writing
-use Rattle.rec_store.specs.declared.error.RunStoreError.{RunStoreError}
+use Rattle.rec_container.specs.Writing.{Writing, Adds, RefusesLate, refusal}
 use Rattle.rec_store.specs.declared.error.RunStoreError.TheVariants.{Failed, NotLoadedOutput, NameCollision, CountOutOfRange, StoreWrite, RunLogWrite, OutOfMemory}
+use Rattle.rec_store.specs.declared.error.RunStoreError.{RunStoreError}
 
 -- the store's writer; the log's sink, whether it has failed, its length and its events; the namer and the limit of an output
 pub record Recording (S L N : Type 0) : Type 0 where

@@ -2,8 +2,8 @@
 use Rattle.std.specs.Prelude.{◌≡◌, ℕ, List, [], ◌∷◌, false, Option, Result, Ok, Err, ◌⊎◌}
 use Rattle.rec_container.specs.Container.{Entry}
 use Rattle.rec_container.specs.Writing.{Writing}
-use Rattle.rec_store.specs.declared.error.RunStoreError.{RunStoreError}
 use Rattle.rec_store.specs.declared.error.RunStoreError.TheVariants.{OutOfMemory}
+use Rattle.rec_store.specs.declared.error.RunStoreError.{RunStoreError}
 use Rattle.rec_store.specs.Recording.{AddsEntry, AddsEach, AddsUpTo}
 
 module _ {S : Type 0} (taken : S → Option (List ℕ)) (faults : S → ℕ) where

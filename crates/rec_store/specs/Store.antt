@@ -2,16 +2,16 @@
 use Rattle.std.specs.Prelude.{◌≡◌, ℕ, List, [], ◌∷◌, ◌++◌, Option, Some, None}
 use Rattle.serde_json.specs.Written.{compact_text}
 use Rattle.rec_container.specs.Container.{Entry}
-use Rattle.rec_events.specs.declared.recording.TestListSummary.{TestListSummary}
 use Rattle.rec_events.specs.declared.recording.RecordOpts.{RecordOpts}
+use Rattle.rec_events.specs.declared.recording.TestListSummary.{TestListSummary}
 use Rattle.rec_forms.specs.Recording.{test_list_value, test_list_form, record_opts_value, record_opts_form}
 use Rattle.rec_forms.specs.TextForm.{bytes_form}
-use Rattle.rec_format.specs.declared.scope.RecordedBuildScope.{RecordedBuildScope}
-use Rattle.rec_format.specs.declared.rerun.RerunInfo.{RerunInfo}
-use Rattle.rec_format.specs.ScopeForms.{recorded_scope_value}
-use Rattle.rec_format.specs.RerunForms.{rerun_info_value}
-use Rattle.rec_store.specs.Entries.{build_scope_path, rerun_info_path, json_entry, three_entries}
 use Rattle.rec_format.specs.declared.head.SessionHead.{SessionHead}
+use Rattle.rec_format.specs.declared.rerun.RerunInfo.{RerunInfo}
+use Rattle.rec_format.specs.declared.scope.RecordedBuildScope.{RecordedBuildScope}
+use Rattle.rec_format.specs.RerunForms.{rerun_info_value}
+use Rattle.rec_format.specs.ScopeForms.{recorded_scope_value}
+use Rattle.rec_store.specs.Entries.{build_scope_path, rerun_info_path, json_entry, three_entries}
 
 abbrev pub build_scope_entry : RecordedBuildScope → Entry
 build_scope_entry scope = json_entry build_scope_path (recorded_scope_value scope)

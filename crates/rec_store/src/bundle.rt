@@ -1,10 +1,10 @@
 //! The bundle of a run: the container of its manifest, its log and its store.
 //!
 //! The three contents are at hand, so neither memory nor a map is used, and none of them is copied.
-ghost use Rattle.std.specs.Prelude.{◌≡◌, ◌<◌, ◌^◌, length, map, OnOk, OnErr};
+ghost use Rattle.std.specs.Io.KnownBytes.{Appends};
 ghost use Rattle.std.specs.List.{AllByRecursion};
 ghost use Rattle.std.specs.Option.{SomeIff};
-ghost use Rattle.std.specs.Io.KnownBytes.{Appends};
+ghost use Rattle.std.specs.Prelude.{◌≡◌, ◌<◌, ◌^◌, length, map, OnOk, OnErr};
 ghost use Rattle.rec_container.specs.Causes.{HasCause};
 ghost use Rattle.rec_container.specs.Container.{spell};
 ghost use Rattle.rec_container.specs.NamedContents.{entry_of};

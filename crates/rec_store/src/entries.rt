@@ -1,6 +1,6 @@
 //! Entries of a store, one at a time.
 ghost use Rattle.std.specs.Prelude.{◌≡◌, true, false, IfErr, OnOk};
-ghost use Rattle.rec_container.specs.Writing.{named, has_name_length};
+ghost use Rattle.rec_container.specs.Writing.{entry_named, has_name_length};
 ghost use Rattle.rec_store.specs.Recording.{RefusesEntry, IsCollisionAt, AddsEntry};
 
 use crate::error::RunStoreError;
@@ -17,9 +17,9 @@ pub(crate) fn add_entry<S: Sink>(
 ) -> Result<(), RunStoreError>
     requires sound { store.old.failed ≡ false }
     requires name { has_name_length path.now ≡ true }
-    ensures ok { OnOk result (AddsEntry S.taken S.faults store.old store.new (named path.now content.now)) }
+    ensures ok { OnOk result (AddsEntry S.taken S.faults store.old store.new (entry_named path.now content.now)) }
     ensures sound { OnOk result (store.new.failed ≡ false) }
-    ensures err { IfErr result (RefusesEntry S.taken S.faults store.old store.new (named path.now content.now)) }
+    ensures err { IfErr result (RefusesEntry S.taken S.faults store.old store.new (entry_named path.now content.now)) }
 {
     match store.add(path, content) {
         Ok(()) => Ok(()),

@@ -1,8 +1,8 @@
 //! The outputs of an event's scripts and attempts, as they are stored.
+ghost use Rattle.std.specs.List.{flat_map};
 ghost use Rattle.std.specs.Prelude.{◌≡◌, false, true, Err};
 ghost use Rattle.rec_store.specs.declared.error.RunStoreError.TheVariants.{Failed};
 ghost use Rattle.rec_store.specs.EventOutputs.{status_entries, status_recorded, statuses_recorded, script_status_entries, script_status_recorded, is_script_finished, is_failed_attempt, is_finished, output_kind_entries, output_kind_recorded, kind_entries, kind_recorded, event_entries, event_recorded};
-ghost use Rattle.std.specs.List.{flat_map};
 ghost use Rattle.rec_store.specs.Stopping.{StoresAs};
 
 use crate::error::RunStoreError;

@@ -1,10 +1,10 @@
 //! Laws of bundles. The functions do nothing: their contracts are what they are for.
-ghost use Rattle.std.specs.Prelude.{◌≡◌, ◌<◌, ◌^◌, [], List, ℕ, None, Some, length};
 ghost use Rattle.std.specs.List.{AllByRecursion};
+ghost use Rattle.std.specs.Prelude.{◌≡◌, ◌<◌, ◌^◌, [], List, ℕ, None, Some, length};
 ghost use Rattle.rec_container.specs.Container.{Entry};
-ghost use Rattle.rec_codec.specs.Event.{LiveEvent};
-ghost use Rattle.rec_format.specs.HeadForms.{IsHead};
 ghost use Rattle.rec_format.specs.declared.head.SessionHead.{SessionHead};
+ghost use Rattle.rec_format.specs.HeadForms.{IsHead};
+ghost use Rattle.rec_codec.specs.Event.{LiveEvent};
 ghost use Rattle.rec_store.specs.Bundle.{run_bundle, run_outputs};
 ghost use Rattle.rec_store.specs.Clashes.{clash};
 ghost use Rattle.rec_store.specs.Parts.{ArePartsOf, AreWithin};

@@ -1,11 +1,11 @@
 //! The outputs of an event, as they are stored.
+ghost use Rattle.std.specs.Prelude.{option_map, nat_le, if◌then◌else◌};
 ghost use Rattle.std.specs.Prelude.{◌≡◌, ◌∷◌, [], false, true};
-ghost use Rattle.rec_container.specs.Writing.{named, has_name_length};
+ghost use Rattle.rec_container.specs.Writing.{entry_named, has_name_length};
+ghost use Rattle.rec_events.specs.declared.outputs.ZipStoreOutput.TheVariants.{Full, Truncated};
 ghost use Rattle.rec_store.specs.EventOutputs.{output_entries, captured_entries, description_entries, execution_entries, stored_as, description_recorded, execution_recorded};
 ghost use Rattle.rec_store.specs.OutputPaths as spec;
 ghost use Rattle.rec_store.specs.Stopping.{StoresAs};
-ghost use Rattle.std.specs.Prelude.{option_map, nat_le, if◌then◌else◌};
-ghost use Rattle.rec_events.specs.declared.outputs.ZipStoreOutput.TheVariants.{Full, Truncated};
 
 use crate::cut::truncate_output;
 use crate::entries::add_entry;
@@ -40,7 +40,7 @@ fn put_output<S: Sink>(
     content: &[u8],
 ) -> Result<(), RunStoreError>
     requires sound { store.old.failed ≡ false }
-    ensures { StoresAs S.taken S.faults store.old store.new (named (spec.output_path file_name) content.now ∷ []) tt result }
+    ensures { StoresAs S.taken S.faults store.old store.new (entry_named (spec.output_path file_name) content.now ∷ []) tt result }
 {
     let path = output_path(alloc, file_name)?;
     add_entry(alloc, store, path.as_str(), content)

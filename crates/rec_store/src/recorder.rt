@@ -1,23 +1,23 @@
 //! The recorder of one run.
-ghost use Rattle.std.specs.Prelude.{◌≡◌, ◌<◌, ◌≤◌, Some, [], ◌∷◌, length, false, true, IfErr, OnOk, IfOk};
-ghost use Rattle.rec_container.specs.Writing.{named, has_name_length};
 ghost use Rattle.std.specs.Io.KnownBytes.{Appends};
-ghost use Rattle.rec_container.specs.Container.{ending};
+ghost use Rattle.std.specs.Prelude.{◌≡◌, ◌<◌, ◌≤◌, Some, [], ◌∷◌, length, false, true, IfErr, OnOk, IfOk};
+ghost use Rattle.serde_json.specs.Read.{max_depth};
+ghost use Rattle.serde_json.specs.Written.{compact_text};
 ghost use Rattle.rec_container.specs.Container.{AreFrom};
+ghost use Rattle.rec_container.specs.Container.{ending};
+ghost use Rattle.rec_container.specs.Writing.{entry_named, has_name_length};
+ghost use Rattle.rec_forms.specs.TextForm.{bytes_form};
+ghost use Rattle.rec_format.specs.RerunForms.{rerun_info_form};
+ghost use Rattle.rec_format.specs.ScopeForms.{recorded_scope_form};
+ghost use Rattle.rec_codec.specs.Event.{IsLogged};
 ghost use Rattle.rec_store.specs.Ending.{sizes_of, sizes_of_log, Unended};
-ghost use Rattle.rec_store.specs.Recording.{RefusesEntry, has_failed, KeepsEntries, KeepsCounts, Stores, Unstored, AddsEach, AddsUpTo, AddsEntry};
+ghost use Rattle.rec_store.specs.Entries.{json_entry, three_entries};
 ghost use Rattle.rec_store.specs.EventOutputs.{event_entries, event_recorded};
 ghost use Rattle.rec_store.specs.Kept.{HasOutputs};
 ghost use Rattle.rec_store.specs.Logging.{AppendsAs, AppendsEvent, Logs, LogsLoaded, Unlogged};
+ghost use Rattle.rec_store.specs.Recording.{RefusesEntry, has_failed, KeepsEntries, KeepsCounts, Stores, Unstored, AddsEach, AddsUpTo, AddsEntry};
 ghost use Rattle.rec_store.specs.Stopping.{StoresAs};
-ghost use Rattle.rec_codec.specs.Event.{IsLogged};
-ghost use Rattle.rec_store.specs.Entries.{json_entry, three_entries};
 ghost use Rattle.rec_store.specs.Store.{build_scope_entry, rerun_entry, meta_entries, AreMetaRead};
-ghost use Rattle.rec_forms.specs.TextForm.{bytes_form};
-ghost use Rattle.serde_json.specs.Read.{max_depth};
-ghost use Rattle.serde_json.specs.Written.{compact_text};
-ghost use Rattle.rec_format.specs.ScopeForms.{recorded_scope_form};
-ghost use Rattle.rec_format.specs.RerunForms.{rerun_info_form};
 
 use crate::entries::add_entry;
 use crate::error::RunStoreError;
@@ -381,9 +381,9 @@ impl<'n, S: Sink, L: Sink, N: OutputNamer> RunRecorder<'n, S, L, N> {
         requires sound { self.old.store.failed ≡ false }
         requires name { has_name_length path.now ≡ true }
         ensures kept { self.new ≡ record self.old { store = self.new.store } }
-        ensures ok { OnOk result (AddsEntry S.taken S.faults self.old.store self.new.store (named path.now content.now)) }
+        ensures ok { OnOk result (AddsEntry S.taken S.faults self.old.store self.new.store (entry_named path.now content.now)) }
         ensures sound { OnOk result (self.new.store.failed ≡ false) }
-        ensures err { IfErr result (RefusesEntry S.taken S.faults self.old.store self.new.store (named path.now content.now)) }
+        ensures err { IfErr result (RefusesEntry S.taken S.faults self.old.store self.new.store (entry_named path.now content.now)) }
     {
         add_entry(self.alloc, &mut self.store, path, content)
     }

@@ -2,20 +2,20 @@
 use Rattle.std.proofs.Common.{◌≡◌, ℕ, suc, List, [], ◌∷◌, ◌++◌, length, Option, Some, None, refl, sym, ◌∙◌, ap, subst, cond}
 use Rattle.std.specs.Option.{option_or}
 use Rattle.rec_events.specs.declared.events.TestEventSummary.{TestEventSummary}
-use Rattle.rec_trace.specs.History.{TraceState, after, state_after}
-use Rattle.rec_trace.specs.Kinds.{history}
-use Rattle.rec_trace.specs.Past.{Change, TraceInput, in_place, is_paused, of_key, open_after, open_spans, pause_after}
-use Rattle.rec_trace.specs.Past.Change.{Start, Stop, Pause, Resume, Other}
-use Rattle.rec_trace.specs.Refusals.{busy, change_refusal, count_refusal, event_refusal, history_refusal, history_refusal_after, instant_refusal, is_none_open, kind_refusal, missing_refusal, next_refusal, number_refusal, open_refusal, row_refusal, slot_refusal}
-use Rattle.rec_trace.specs.declared.errors.ChromeTraceError.TheVariants.{SpanAlreadyOpen}
-use Rattle.rec_trace.specs.declared.settings.ChromeTraceGroupBy.{ChromeTraceGroupBy}
-use Rattle.rec_trace.specs.declared.spans.Place.{Place}
-use Rattle.rec_trace.specs.declared.spans.Place.TheVariants as places
-use Rattle.rec_trace.specs.declared.spans.Span.{Span}
-use Rattle.rec_trace.specs.declared.spans.SpanKey.{SpanKey}
-use Rattle.rec_trace.specs.declared.spans.SpanKey.TheVariants.{Run, SubRun, Script, Test}
 use Rattle.rec_trace.proofs.Fits.{FitsAt, Fits, AllFit, StartFits, StartsFit, AllFit-open_after, row-free_from_place, place-free_from_key, only_run, only_sub_run, only_script, history-fits}
 use Rattle.rec_trace.proofs.Rows.{FindsRoom, AllFindRoom}
+use Rattle.rec_trace.specs.declared.errors.ChromeTraceError.TheVariants.{SpanAlreadyOpen}
+use Rattle.rec_trace.specs.declared.settings.ChromeTraceGroupBy.{ChromeTraceGroupBy}
+use Rattle.rec_trace.specs.declared.spans.Place.TheVariants as places
+use Rattle.rec_trace.specs.declared.spans.Place.{Place}
+use Rattle.rec_trace.specs.declared.spans.Span.{Span}
+use Rattle.rec_trace.specs.declared.spans.SpanKey.TheVariants.{Run, SubRun, Script, Test}
+use Rattle.rec_trace.specs.declared.spans.SpanKey.{SpanKey}
+use Rattle.rec_trace.specs.History.{TraceState, after, state_after}
+use Rattle.rec_trace.specs.Kinds.{history}
+use Rattle.rec_trace.specs.Past.Change.{Start, Stop, Pause, Resume, Other}
+use Rattle.rec_trace.specs.Past.{Change, TraceInput, in_place, is_paused, of_key, open_after, open_spans, pause_after}
+use Rattle.rec_trace.specs.Refusals.{busy, change_refusal, count_refusal, event_refusal, history_refusal, history_refusal_after, instant_refusal, is_none_open, kind_refusal, missing_refusal, next_refusal, number_refusal, open_refusal, row_refusal, slot_refusal}
 
 -- ---- the state
 

@@ -3,24 +3,24 @@ use Rattle.std.proofs.Common.{◌≡◌, ◌⊎◌, inl, inr, ℕ, List, [], ◌
 use Rattle.std.proofs.lemmas.List.{map-append}
 use Rattle.std.specs.Iterator.{Yields}
 use Rattle.semver.specs.Parse.{Parts}
-use Rattle.rec_codec.specs.Event.{RecordedEvent}
-use Rattle.rec_codec.specs.declared.line_events.LineError.{LineError}
 use Rattle.rec_codec.specs.declared.line_events.LineError.TheVariants as faults
+use Rattle.rec_codec.specs.declared.line_events.LineError.{LineError}
+use Rattle.rec_codec.specs.Event.{RecordedEvent}
+use Rattle.rec_trace.proofs.Acceptance.{accepted-prefix}
+use Rattle.rec_trace.proofs.Prefixes.{marks_after-append}
+use Rattle.rec_trace.proofs.Timelines.{timeline}
 use Rattle.rec_trace.specs.Converting.{Converts, HasNoTrace, KeepsPrefixes, fault_error}
+use Rattle.rec_trace.specs.declared.builder.TraceBuilder.{TraceBuilder}
+use Rattle.rec_trace.specs.declared.errors.ChromeTraceError.TheVariants.{OutOfMemory, ReadError}
+use Rattle.rec_trace.specs.declared.errors.ChromeTraceError.{ChromeTraceError}
+use Rattle.rec_trace.specs.declared.settings.ChromeTraceGroupBy.{ChromeTraceGroupBy}
+use Rattle.rec_trace.specs.declared.settings.ChromeTraceMessageFormat.{ChromeTraceMessageFormat}
 use Rattle.rec_trace.specs.Drawing.{trace_text}
 use Rattle.rec_trace.specs.History.{after, marks_after, trace_marks}
 use Rattle.rec_trace.specs.Kinds.{history, trace_input}
 use Rattle.rec_trace.specs.Past.{TraceInput}
 use Rattle.rec_trace.specs.Refusals.{history_refusal}
 use Rattle.rec_trace.specs.Traces.{HasTraced}
-use Rattle.rec_trace.specs.declared.builder.TraceBuilder.{TraceBuilder}
-use Rattle.rec_trace.specs.declared.errors.ChromeTraceError.{ChromeTraceError}
-use Rattle.rec_trace.specs.declared.errors.ChromeTraceError.TheVariants.{OutOfMemory, ReadError}
-use Rattle.rec_trace.specs.declared.settings.ChromeTraceGroupBy.{ChromeTraceGroupBy}
-use Rattle.rec_trace.specs.declared.settings.ChromeTraceMessageFormat.{ChromeTraceMessageFormat}
-use Rattle.rec_trace.proofs.Acceptance.{accepted-prefix}
-use Rattle.rec_trace.proofs.Prefixes.{marks_after-append}
-use Rattle.rec_trace.proofs.Timelines.{timeline}
 
 -- the builder has traced the events that these items hold
 abbrev pub HasConverted : ChromeTraceGroupBy → List (Result RecordedEvent LineError) → TraceBuilder → Type 0

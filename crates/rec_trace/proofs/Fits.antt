@@ -1,29 +1,29 @@
 -- The rows of spans that are open together are apart, since their places are.
 use Rattle.std.proofs.Common.{◌≡◌, ◌≤◌, ◌+◌, ℕ, Bool, true, false, not, cond, List, [], ◌∷◌, filter, refl, sym, ◌∙◌, ap, arith}
 use Rattle.std.proofs.lemmas.Bool.{false≢true, false_from_ne_true}
-use Rattle.rec_events.specs.declared.events.CoreEventKind.{CoreEventKind}
 use Rattle.rec_events.specs.declared.events.CoreEventKind.TheVariants.{RunStarted, TestStarted}
-use Rattle.rec_events.specs.declared.events.OutputEventKind.{OutputEventKind}
+use Rattle.rec_events.specs.declared.events.CoreEventKind.{CoreEventKind}
 use Rattle.rec_events.specs.declared.events.OutputEventKind.TheVariants.{TestFinished}
-use Rattle.rec_events.specs.declared.events.TestEventKindSummary.{TestEventKindSummary}
+use Rattle.rec_events.specs.declared.events.OutputEventKind.{OutputEventKind}
 use Rattle.rec_events.specs.declared.events.TestEventKindSummary.TheVariants.{Core, Output}
+use Rattle.rec_events.specs.declared.events.TestEventKindSummary.{TestEventKindSummary}
 use Rattle.rec_events.specs.declared.events.TestEventSummary.{TestEventSummary}
+use Rattle.rec_trace.proofs.Filters.{filter-none, filter-no}
+use Rattle.rec_trace.proofs.Keys.{row_eq-true, place_eq-true, place_eq-from, key_eq-from}
+use Rattle.rec_trace.specs.declared.settings.ChromeTraceGroupBy.TheVariants.{Slot}
+use Rattle.rec_trace.specs.declared.settings.ChromeTraceGroupBy.{ChromeTraceGroupBy}
+use Rattle.rec_trace.specs.declared.spans.Place.TheVariants as places
+use Rattle.rec_trace.specs.declared.spans.Place.{Place}
+use Rattle.rec_trace.specs.declared.spans.Row.{Row}
+use Rattle.rec_trace.specs.declared.spans.Span.{Span}
+use Rattle.rec_trace.specs.declared.spans.SpanKey.TheVariants.{Run, SubRun, Script, Test}
+use Rattle.rec_trace.specs.declared.spans.SpanKey.{SpanKey}
 use Rattle.rec_trace.specs.History.{after}
 use Rattle.rec_trace.specs.Keys.{key_eq, row_eq}
 use Rattle.rec_trace.specs.Kinds.{change_of, core_change, history, output_change, trace_input}
-use Rattle.rec_trace.specs.Past.{Change, TraceInput, in_place, in_row, of_key, open_after, open_spans, put_in}
 use Rattle.rec_trace.specs.Past.Change.{Start, Stop, Pause, Resume, Other}
+use Rattle.rec_trace.specs.Past.{Change, TraceInput, in_place, in_row, of_key, open_after, open_spans, put_in}
 use Rattle.rec_trace.specs.Places.{place_eq, place_lt}
-use Rattle.rec_trace.specs.declared.settings.ChromeTraceGroupBy.{ChromeTraceGroupBy}
-use Rattle.rec_trace.specs.declared.settings.ChromeTraceGroupBy.TheVariants.{Slot}
-use Rattle.rec_trace.specs.declared.spans.Place.{Place}
-use Rattle.rec_trace.specs.declared.spans.Place.TheVariants as places
-use Rattle.rec_trace.specs.declared.spans.Row.{Row}
-use Rattle.rec_trace.specs.declared.spans.Span.{Span}
-use Rattle.rec_trace.specs.declared.spans.SpanKey.{SpanKey}
-use Rattle.rec_trace.specs.declared.spans.SpanKey.TheVariants.{Run, SubRun, Script, Test}
-use Rattle.rec_trace.proofs.Filters.{filter-none, filter-no}
-use Rattle.rec_trace.proofs.Keys.{row_eq-true, place_eq-true, place_eq-from, key_eq-from}
 
 -- ---- what fits
 

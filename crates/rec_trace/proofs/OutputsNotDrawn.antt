@@ -1,13 +1,13 @@
 -- A trace doesn't see the outputs of events.
 use Rattle.std.proofs.Common.{◌≡◌, List, [], ◌∷◌, map, refl}
+use Rattle.rec_events.specs.declared.events.OutputEventKind.TheVariants.{SetupScriptFinished, TestAttemptFailedWillRetry, TestFinished}
+use Rattle.rec_events.specs.declared.events.TestEventKindSummary.TheVariants.{Core, Output}
+use Rattle.rec_events.specs.declared.events.TestEventKindSummary.{TestEventKindSummary}
+use Rattle.rec_events.specs.declared.events.TestEventSummary.{TestEventSummary}
 use Rattle.rec_events.specs.EventMaps.{event_with, kind_with}
 use Rattle.rec_events.specs.Times.{micros}
-use Rattle.rec_events.specs.declared.events.OutputEventKind.TheVariants.{SetupScriptFinished, TestAttemptFailedWillRetry, TestFinished}
-use Rattle.rec_events.specs.declared.events.TestEventKindSummary.{TestEventKindSummary}
-use Rattle.rec_events.specs.declared.events.TestEventKindSummary.TheVariants.{Core, Output}
-use Rattle.rec_events.specs.declared.events.TestEventSummary.{TestEventSummary}
-use Rattle.rec_trace.specs.Kinds.{change_of, drawn_of, failures_of, history, trace_input}
 use Rattle.rec_trace.specs.declared.settings.ChromeTraceGroupBy.{ChromeTraceGroupBy}
+use Rattle.rec_trace.specs.Kinds.{change_of, drawn_of, failures_of, history, trace_input}
 
 module _ (U : Type 0) {S O P : Type 0} (g : ChromeTraceGroupBy) (f : O → P) where
   -- what a kind of event does is the same with other outputs

@@ -1,17 +1,17 @@
 -- In an accepted history of events each begin and each end is marked once, and is that of one slice.
 use Rattle.std.proofs.Common.{◌≡◌, ℕ, List, None, Some, slice_get, sym, subst}
 use Rattle.rec_events.specs.declared.events.TestEventSummary.{TestEventSummary}
+use Rattle.rec_trace.proofs.Acceptance.{history-room}
+use Rattle.rec_trace.proofs.Once.{event_marks-once}
+use Rattle.rec_trace.proofs.Slices.{begins-are_slices, ends-are_slices}
+use Rattle.rec_trace.proofs.Unique.{one-slice, one-slice_ends}
+use Rattle.rec_trace.specs.declared.settings.ChromeTraceGroupBy.{ChromeTraceGroupBy}
+use Rattle.rec_trace.specs.declared.spans.Span.{Span}
 use Rattle.rec_trace.specs.Kinds as kinds
 use Rattle.rec_trace.specs.Past.{TraceInput}
 use Rattle.rec_trace.specs.Positions.{IsSlice, IsSliceOf, Slice}
 use Rattle.rec_trace.specs.Refusals.{history_refusal}
 use Rattle.rec_trace.specs.Timeline.{MarksSlices}
-use Rattle.rec_trace.specs.declared.settings.ChromeTraceGroupBy.{ChromeTraceGroupBy}
-use Rattle.rec_trace.specs.declared.spans.Span.{Span}
-use Rattle.rec_trace.proofs.Acceptance.{history-room}
-use Rattle.rec_trace.proofs.Once.{event_marks-once}
-use Rattle.rec_trace.proofs.Slices.{begins-are_slices, ends-are_slices}
-use Rattle.rec_trace.proofs.Unique.{one-slice, one-slice_ends}
 
 module _ {S O : Type 0} (g : ChromeTraceGroupBy) (events : List (TestEventSummary S O)) (accepted : history_refusal (kinds.history g events) ≡ None) where
   -- the marks of each event are those of the slices there, each once

@@ -1,12 +1,12 @@
 -- The marks of a history that has a trace are a timeline.
 use Rattle.std.proofs.Common.{◌≡◌, List, None}
 use Rattle.rec_events.specs.declared.events.TestEventSummary.{TestEventSummary}
+use Rattle.rec_trace.proofs.SlicesOfHistory.{history-one_begins, history-one_ends, history-slices}
+use Rattle.rec_trace.proofs.TurnsOfHistory.{history-turns}
+use Rattle.rec_trace.specs.declared.settings.ChromeTraceGroupBy.{ChromeTraceGroupBy}
 use Rattle.rec_trace.specs.Kinds.{history}
 use Rattle.rec_trace.specs.Refusals.{history_refusal}
 use Rattle.rec_trace.specs.Timeline.{IsTimeline}
-use Rattle.rec_trace.specs.declared.settings.ChromeTraceGroupBy.{ChromeTraceGroupBy}
-use Rattle.rec_trace.proofs.SlicesOfHistory.{history-one_begins, history-one_ends, history-slices}
-use Rattle.rec_trace.proofs.TurnsOfHistory.{history-turns}
 
 pub timeline : {S O : Type 0} (g : ChromeTraceGroupBy) (events : List (TestEventSummary S O)) → history_refusal (history g events) ≡ None → IsTimeline (history g events)
 timeline g events accepted = record {

@@ -1,17 +1,17 @@
 -- A trace has no number with a fraction, so its value determines its text.
-use Rattle.std.specs.Prelude.{◌≡◌, ℕ, ℤ, pos, negsuc, List, [], ◌∷◌, map, Bool, false, ◌||◌, Option, Some, None, ⊤, refl}
-use Rattle.std.specs.Ordering.{nat_cmp, match_ordering}
-use Rattle.std.specs.Cmp.Lexicographic.{slice_cmp}
 use Rattle.std.proofs.Common.{Ordering, Less, Equal, Greater, ap, ◌∙◌, true, true≢false}
+use Rattle.std.specs.Cmp.Lexicographic.{slice_cmp}
+use Rattle.std.specs.Ordering.{nat_cmp, match_ordering}
+use Rattle.std.specs.Prelude.{◌≡◌, ℕ, ℤ, pos, negsuc, List, [], ◌∷◌, map, Bool, false, ◌||◌, Option, Some, None, ⊤, refl}
 use Rattle.semver.specs.Parse.{Parts}
 use Rattle.serde_json.specs.Data.{Data, Members, no_members, member, put}
-use Rattle.serde_json.specs.Written.{compact_text, has_float, items_have_float, members_have_float}
 use Rattle.serde_json.specs.View.{items_of}
+use Rattle.serde_json.specs.Written.{compact_text, has_float, items_have_float, members_have_float}
 use Rattle.rec_forms.specs.Shape.{Field, integer, with_member, with_members, members_of, struct}
+use Rattle.rec_trace.specs.declared.settings.ChromeTraceMessageFormat.TheVariants.{Json}
+use Rattle.rec_trace.specs.declared.settings.ChromeTraceMessageFormat.{ChromeTraceMessageFormat}
 use Rattle.rec_trace.specs.Drawing.{mark_value, other_data, trace_text, trace_value}
 use Rattle.rec_trace.specs.Past.{Mark}
-use Rattle.rec_trace.specs.declared.settings.ChromeTraceMessageFormat.{ChromeTraceMessageFormat}
-use Rattle.rec_trace.specs.declared.settings.ChromeTraceMessageFormat.TheVariants.{Json}
 
 or_left : (a b : Bool) → (a || b) ≡ false → a ≡ false
 or_left true b h = absurd (true≢false h)

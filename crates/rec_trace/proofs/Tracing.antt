@@ -2,19 +2,19 @@
 use Rattle.std.proofs.Common.{◌≡◌, ◌⊎◌, inl, inr, List, [], ◌∷◌, ◌++◌, map, append-nil, Option, None, Some, ap, refl, sym, ◌∙◌}
 use Rattle.std.proofs.lemmas.List.{map-append}
 use Rattle.std.specs.Option.{option_or}
-use Rattle.serde_json.specs.View.{view}
 use Rattle.serde_json.specs.declared.value.Value.{Value}
+use Rattle.serde_json.specs.View.{view}
+use Rattle.rec_trace.proofs.Acceptance.{history_refusal_after-append, state_after-in_pause, state_after-spans}
+use Rattle.rec_trace.proofs.Prefixes.{after-append, marks_after-append}
+use Rattle.rec_trace.specs.declared.builder.TraceBuilder.{TraceBuilder}
+use Rattle.rec_trace.specs.declared.errors.ChromeTraceError.TheVariants.{OutOfMemory}
+use Rattle.rec_trace.specs.declared.errors.ChromeTraceError.{ChromeTraceError}
+use Rattle.rec_trace.specs.declared.settings.ChromeTraceGroupBy.{ChromeTraceGroupBy}
 use Rattle.rec_trace.specs.Drawing.{mark_value}
 use Rattle.rec_trace.specs.History.{TraceState, after, next_marks, next_state, state_after, trace_marks}
 use Rattle.rec_trace.specs.Past.{TraceInput, event_marks}
 use Rattle.rec_trace.specs.Refusals.{history_refusal, history_refusal_after, next_refusal}
 use Rattle.rec_trace.specs.Traces.{HasTraced}
-use Rattle.rec_trace.specs.declared.builder.TraceBuilder.{TraceBuilder}
-use Rattle.rec_trace.specs.declared.errors.ChromeTraceError.{ChromeTraceError}
-use Rattle.rec_trace.specs.declared.errors.ChromeTraceError.TheVariants.{OutOfMemory}
-use Rattle.rec_trace.specs.declared.settings.ChromeTraceGroupBy.{ChromeTraceGroupBy}
-use Rattle.rec_trace.proofs.Acceptance.{history_refusal_after-append, state_after-in_pause, state_after-spans}
-use Rattle.rec_trace.proofs.Prefixes.{after-append, marks_after-append}
 
 -- the cause of the last event of a history is that of the history, where the events before have none
 pub history_refusal-push : (history : List TraceInput) (h : TraceInput) → history_refusal history ≡ None → history_refusal (history ++ h ∷ []) ≡ next_refusal (state_after (after [] history)) h

@@ -1,7 +1,7 @@
 -- The marks of a history, from its first event on, and the state after it. A history is a list of trace inputs, the oldest first.
 use Rattle.std.specs.Prelude.{ℕ, suc, Bool, false, List, [], ◌∷◌, ◌++◌}
-use Rattle.rec_trace.specs.Past.{Mark, TraceInput, change_marks, event_marks, open_after, pause_after}
 use Rattle.rec_trace.specs.declared.spans.Span.{Span}
+use Rattle.rec_trace.specs.Past.{Mark, TraceInput, change_marks, event_marks, open_after, pause_after}
 
 -- the past with these events after it
 abbrev pub after : List TraceInput → List TraceInput → List TraceInput

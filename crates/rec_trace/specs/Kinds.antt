@@ -1,23 +1,23 @@
 -- What each kind of event does, as a trace sees it.
 use Rattle.std.specs.Prelude.{ℕ, ℤ, ◌+◌, Bool, true, false, List, ◌∷◌, ◌++◌, map, codes}
-use Rattle.rec_events.specs.Stats as stats
-use Rattle.rec_events.specs.Times.{micros}
-use Rattle.rec_events.specs.declared.events.CoreEventKind.{CoreEventKind}
 use Rattle.rec_events.specs.declared.events.CoreEventKind.TheVariants.{RunStarted, TestStarted}
-use Rattle.rec_events.specs.declared.events.OutputEventKind.{OutputEventKind}
+use Rattle.rec_events.specs.declared.events.CoreEventKind.{CoreEventKind}
 use Rattle.rec_events.specs.declared.events.OutputEventKind.TheVariants.{TestFinished}
-use Rattle.rec_events.specs.declared.events.TestEventKindSummary.{TestEventKindSummary}
+use Rattle.rec_events.specs.declared.events.OutputEventKind.{OutputEventKind}
 use Rattle.rec_events.specs.declared.events.TestEventKindSummary.TheVariants.{Core, Output}
+use Rattle.rec_events.specs.declared.events.TestEventKindSummary.{TestEventKindSummary}
 use Rattle.rec_events.specs.declared.events.TestEventSummary.{TestEventSummary}
 use Rattle.rec_events.specs.declared.instances.OwnedTestInstanceId.{OwnedTestInstanceId}
-use Rattle.rec_trace.specs.Past.{Change, TraceInput}
-use Rattle.rec_trace.specs.Past.Change.{Start, Stop, Other}
-use Rattle.rec_trace.specs.declared.settings.ChromeTraceGroupBy.{ChromeTraceGroupBy}
+use Rattle.rec_events.specs.Stats as stats
+use Rattle.rec_events.specs.Times.{micros}
 use Rattle.rec_trace.specs.declared.settings.ChromeTraceGroupBy.TheVariants.{Slot}
+use Rattle.rec_trace.specs.declared.settings.ChromeTraceGroupBy.{ChromeTraceGroupBy}
 use Rattle.rec_trace.specs.declared.spans.Place.TheVariants as places
 use Rattle.rec_trace.specs.declared.spans.Row.{Row}
 use Rattle.rec_trace.specs.declared.spans.Span.{Span}
 use Rattle.rec_trace.specs.declared.spans.SpanKey.TheVariants.{Run, Test}
+use Rattle.rec_trace.specs.Past.Change.{Start, Stop, Other}
+use Rattle.rec_trace.specs.Past.{Change, TraceInput}
 
 -- ---- spans
 

@@ -1,13 +1,13 @@
 -- The marks of each event of a run in its trace, after what came before. A past is the list of the trace inputs so far, the newest first.
 use Rattle.std.specs.Prelude.{ℕ, ℤ, Bool, true, false, not, List, [], ◌∷◌, ◌++◌, map, filter, if◌then◌else◌}
-use Rattle.rec_trace.specs.Keys.{key_eq, row_eq}
-use Rattle.rec_trace.specs.Places.{place_eq, place_lt}
-use Rattle.rec_trace.specs.declared.spans.Phase.{Phase}
 use Rattle.rec_trace.specs.declared.spans.Phase.TheVariants.{Begin, End}
+use Rattle.rec_trace.specs.declared.spans.Phase.{Phase}
 use Rattle.rec_trace.specs.declared.spans.Place.{Place}
 use Rattle.rec_trace.specs.declared.spans.Row.{Row}
 use Rattle.rec_trace.specs.declared.spans.Span.{Span}
 use Rattle.rec_trace.specs.declared.spans.SpanKey.{SpanKey}
+use Rattle.rec_trace.specs.Keys.{key_eq, row_eq}
+use Rattle.rec_trace.specs.Places.{place_eq, place_lt}
 
 -- what an event does: it starts a span, stops the span of a key, pauses the run, lets it go on, or none of these
 pub data Change : Type 0 where

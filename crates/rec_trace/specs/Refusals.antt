@@ -1,18 +1,18 @@
 -- Why a history has no trace.
-use Rattle.std.specs.Prelude.{◌≡◌, ℕ, suc, ◌^◌, ℤ, List, [], ◌∷◌, nat_lt, Bool, true, false, Option, Some, None, Result, Ok, Err, if◌then◌else◌, ◌⊎◌}
 use Rattle.std.specs.Option.{option_or}
+use Rattle.std.specs.Prelude.{◌≡◌, ℕ, suc, ◌^◌, ℤ, List, [], ◌∷◌, nat_lt, Bool, true, false, Option, Some, None, Result, Ok, Err, if◌then◌else◌, ◌⊎◌}
 use Rattle.rec_forms.specs.Shape.{fits}
-use Rattle.rec_trace.specs.History.{TraceState, initial_state, next_state}
-use Rattle.rec_trace.specs.Past.{Change, TraceInput, in_place, of_key}
-use Rattle.rec_trace.specs.Past.Change.{Start, Stop, Pause, Resume, Other}
-use Rattle.rec_trace.specs.Places.{number}
-use Rattle.rec_trace.specs.declared.errors.ChromeTraceError.{ChromeTraceError}
 use Rattle.rec_trace.specs.declared.errors.ChromeTraceError.TheVariants.{CountOutOfRange, KindNotBuilt, MissingTestStart, OutOfMemory, RowOutOfRange, SlotBusy, SpanAlreadyOpen, TimestampOutOfRange}
-use Rattle.rec_trace.specs.declared.spans.Place.{Place}
+use Rattle.rec_trace.specs.declared.errors.ChromeTraceError.{ChromeTraceError}
 use Rattle.rec_trace.specs.declared.spans.Place.TheVariants as places
+use Rattle.rec_trace.specs.declared.spans.Place.{Place}
 use Rattle.rec_trace.specs.declared.spans.Span.{Span}
-use Rattle.rec_trace.specs.declared.spans.SpanKey.{SpanKey}
 use Rattle.rec_trace.specs.declared.spans.SpanKey.TheVariants as keys
+use Rattle.rec_trace.specs.declared.spans.SpanKey.{SpanKey}
+use Rattle.rec_trace.specs.History.{TraceState, initial_state, next_state}
+use Rattle.rec_trace.specs.Past.Change.{Start, Stop, Pause, Resume, Other}
+use Rattle.rec_trace.specs.Past.{Change, TraceInput, in_place, of_key}
+use Rattle.rec_trace.specs.Places.{number}
 
 abbrev pub is_none_open : List Span → Bool
 is_none_open [] = true

@@ -1,8 +1,8 @@
 -- Spans, as messages name them.
-use Rattle.std.specs.Prelude.{ℕ, List, ◌∷◌, ◌++◌, codes}
 use Rattle.std.specs.Fmt.{decimal}
-use Rattle.rec_trace.specs.declared.spans.SpanKey.{SpanKey}
+use Rattle.std.specs.Prelude.{ℕ, List, ◌∷◌, ◌++◌, codes}
 use Rattle.rec_trace.specs.declared.spans.SpanKey.TheVariants.{Run, SubRun, Script, Test}
+use Rattle.rec_trace.specs.declared.spans.SpanKey.{SpanKey}
 
 -- a test by its binary and its name
 abbrev pub span_key_text : SpanKey → List ℕ

@@ -1,15 +1,15 @@
 -- What has been traced of a history.
-use Rattle.std.specs.Prelude.{◌≡◌, ◌⊎◌, List, [], ◌∷◌, ◌++◌, map, None, Some, Result, Ok, Err}
 use Rattle.std.specs.Bool.{⊤}
+use Rattle.std.specs.Prelude.{◌≡◌, ◌⊎◌, List, [], ◌∷◌, ◌++◌, map, None, Some, Result, Ok, Err}
 use Rattle.serde_json.specs.View.{view}
+use Rattle.rec_trace.specs.declared.builder.TraceBuilder.{TraceBuilder}
+use Rattle.rec_trace.specs.declared.errors.ChromeTraceError.TheVariants.{OutOfMemory}
+use Rattle.rec_trace.specs.declared.errors.ChromeTraceError.{ChromeTraceError}
+use Rattle.rec_trace.specs.declared.settings.ChromeTraceGroupBy.{ChromeTraceGroupBy}
 use Rattle.rec_trace.specs.Drawing.{mark_value}
 use Rattle.rec_trace.specs.History.{after, state_after, trace_marks}
 use Rattle.rec_trace.specs.Past.{TraceInput}
 use Rattle.rec_trace.specs.Refusals.{history_refusal}
-use Rattle.rec_trace.specs.declared.builder.TraceBuilder.{TraceBuilder}
-use Rattle.rec_trace.specs.declared.errors.ChromeTraceError.{ChromeTraceError}
-use Rattle.rec_trace.specs.declared.errors.ChromeTraceError.TheVariants.{OutOfMemory}
-use Rattle.rec_trace.specs.declared.settings.ChromeTraceGroupBy.{ChromeTraceGroupBy}
 
 -- the trace that is built is that of this history so far, which has no cause to be refused
 pub record HasTraced (g : ChromeTraceGroupBy) (history : List TraceInput) (b : TraceBuilder) : Type 0 where

@@ -1,11 +1,11 @@
 //! Builds the trace of a history, event by event.
 ghost use Rattle.std.specs.Prelude.{◌≡◌, List, [], ◌++◌, IfOk, string_bytes};
+ghost use Rattle.rec_trace.specs.declared.settings.ChromeTraceGroupBy.{ChromeTraceGroupBy};
 ghost use Rattle.rec_trace.specs.Drawing.{trace_text};
 ghost use Rattle.rec_trace.specs.History.{trace_marks};
 ghost use Rattle.rec_trace.specs.Kinds.{trace_input};
 ghost use Rattle.rec_trace.specs.Past.{TraceInput};
 ghost use Rattle.rec_trace.specs.Traces.{HasTraced, Traces};
-ghost use Rattle.rec_trace.specs.declared.settings.ChromeTraceGroupBy.{ChromeTraceGroupBy};
 
 use crate::drawing::trace_text;
 use crate::errors::ChromeTraceError;

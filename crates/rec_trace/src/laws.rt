@@ -1,16 +1,16 @@
 //! Laws of the marks of a trace, as clauses of functions that do nothing.
 ghost use Rattle.std.specs.Prelude.{◌≡◌, ◌↔◌, ◌≤◌, ℕ, ℤ, true, List, [], ◌++◌, length, map, slice_get, Some, None};
-ghost use Rattle.rec_events.specs.EventMaps.{event_with};
 ghost use Rattle.rec_events.specs.declared.events.TestEventSummary.{TestEventSummary};
+ghost use Rattle.rec_events.specs.EventMaps.{event_with};
+ghost use Rattle.rec_trace.specs.declared.settings.ChromeTraceGroupBy as group_by;
+ghost use Rattle.rec_trace.specs.declared.spans.Phase.TheVariants as phases;
+ghost use Rattle.rec_trace.specs.declared.spans.Span as spans;
 ghost use Rattle.rec_trace.specs.History.{after, marks_after, trace_marks};
 ghost use Rattle.rec_trace.specs.Kinds as kinds;
 ghost use Rattle.rec_trace.specs.Past.{TraceInput, event_marks, is_paused, mark, open_spans};
 ghost use Rattle.rec_trace.specs.Positions.{Has, IsInPause, IsOpen, SliceBegins, SliceEnds, past_at};
 ghost use Rattle.rec_trace.specs.Refusals.{history_refusal};
 ghost use Rattle.rec_trace.specs.Timeline.{IsTimeline};
-ghost use Rattle.rec_trace.specs.declared.settings.ChromeTraceGroupBy as group_by;
-ghost use Rattle.rec_trace.specs.declared.spans.Phase.TheVariants as phases;
-ghost use Rattle.rec_trace.specs.declared.spans.Span as spans;
 
 use rec_events::OutputSpec;
 

@@ -1,9 +1,9 @@
 //! The spans that are open at once.
 ghost use Rattle.std.specs.Prelude.{◌≡◌, ℕ, [], Some, OnOk, OnErr, option_copied, option_to_list};
-ghost use Rattle.rec_trace.specs.Past.{in_place, of_key, put_in, without};
-ghost use Rattle.rec_trace.specs.Tied.{place_of};
 ghost use Rattle.rec_trace.specs.declared.spans.Place.TheVariants as places;
 ghost use Rattle.rec_trace.specs.declared.spans.SpanKey.TheVariants as keys;
+ghost use Rattle.rec_trace.specs.Past.{in_place, of_key, put_in, without};
+ghost use Rattle.rec_trace.specs.Tied.{place_of};
 
 use crate::spans::{Place, Span};
 use rec_events::{OwnedTestInstanceId, TryClone};
@@ -21,10 +21,10 @@ pub struct OpenSpans {
 }
 
 impl Model for OpenSpans {
-    ghost use Rattle.std.specs.Prelude.{List};
     ghost use Rattle.std.specs.Map.{values_of};
-    ghost use Rattle.rec_trace.specs.Tied.{AreTied};
+    ghost use Rattle.std.specs.Prelude.{List};
     ghost use Rattle.rec_trace.specs.declared.spans.Span.{Span};
+    ghost use Rattle.rec_trace.specs.Tied.{AreTied};
 
     ghost Value = { List Span };
 

@@ -3,16 +3,16 @@ ghost use Rattle.std.specs.Prelude.{◌≡◌, ◌^◌, ◌⊎◌, suc, [], ◌�
 ghost use Rattle.serde_json.specs.View.{view};
 ghost use Rattle.rec_events.specs.Stats as stats;
 ghost use Rattle.rec_events.specs.Times.{micros};
-ghost use Rattle.rec_trace.specs.Drawing.{mark_value};
-ghost use Rattle.rec_trace.specs.History.{initial_state};
-ghost use Rattle.rec_trace.specs.Kinds.{core_trace_input, output_trace_input, run_span, test_name, test_row, test_span, trace_input};
-ghost use Rattle.rec_trace.specs.Past.{in_place, mark, marks, of_key};
-ghost use Rattle.rec_trace.specs.Past.Change.{Start, Stop};
-ghost use Rattle.rec_trace.specs.Refusals.{Judges, change_refusal, count_refusal, event_refusal, instant_refusal, next_refusal, number_refusal};
-ghost use Rattle.rec_trace.specs.Tracking.{Tracks};
 ghost use Rattle.rec_trace.specs.declared.spans.Phase.TheVariants as phases;
 ghost use Rattle.rec_trace.specs.declared.spans.Place.TheVariants as places;
 ghost use Rattle.rec_trace.specs.declared.spans.SpanKey.TheVariants as keys;
+ghost use Rattle.rec_trace.specs.Drawing.{mark_value};
+ghost use Rattle.rec_trace.specs.History.{initial_state};
+ghost use Rattle.rec_trace.specs.Kinds.{core_trace_input, output_trace_input, run_span, test_name, test_row, test_span, trace_input};
+ghost use Rattle.rec_trace.specs.Past.Change.{Start, Stop};
+ghost use Rattle.rec_trace.specs.Past.{in_place, mark, marks, of_key};
+ghost use Rattle.rec_trace.specs.Refusals.{Judges, change_refusal, count_refusal, event_refusal, instant_refusal, next_refusal, number_refusal};
+ghost use Rattle.rec_trace.specs.Tracking.{Tracks};
 
 use crate::drawing::mark_value;
 use crate::errors::ChromeTraceError;

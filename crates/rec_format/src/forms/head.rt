@@ -14,7 +14,7 @@ use rec_forms::{
 use serde_json::{Map, Value};
 use std::alloc::{AllocError, Global};
 
-// How the run ended, and what is kept of it beside its events.
+/// How the run ended, and what is kept of it beside its events.
 #[derive(Drop)]
 struct Contents {
     status: RecordedRunStatus,
@@ -56,8 +56,8 @@ impl Contents {
 }
 
 impl Form for SessionHead {
-    ghost use Rattle.rec_format.specs.HeadForms.{head_value, head_form, IsHead};
     ghost use Rattle.rec_format.specs.HeadFormLaws.{head_back, head_writable, head_well_formed};
+    ghost use Rattle.rec_format.specs.HeadForms.{head_value, head_form, IsHead};
 
     ghost well_formed = { IsHead };
 

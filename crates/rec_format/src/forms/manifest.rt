@@ -5,8 +5,8 @@ use serde_json::{Map, Value};
 use std::alloc::{AllocError, Global};
 
 impl Form for PortableManifest {
-    ghost use Rattle.rec_format.specs.RunForms.{manifest_value, manifest_form, IsManifest};
     ghost use Rattle.rec_format.specs.RunFormLaws.{manifest_back, manifest_writable, manifest_well_formed};
+    ghost use Rattle.rec_format.specs.RunForms.{manifest_value, manifest_form, IsManifest};
 
     ghost well_formed = { IsManifest };
 

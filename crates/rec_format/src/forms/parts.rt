@@ -11,7 +11,7 @@ use rec_forms::{
 };
 use std::alloc::{AllocError, Global};
 
-// Which run it is, and when it ran.
+/// Which run it is, and when it ran.
 #[derive(Drop)]
 pub(crate) struct Identity {
     pub run_id: ReportUuid,
@@ -59,7 +59,7 @@ impl Identity {
     }
 }
 
-// How the run was started.
+/// How the run was started.
 #[derive(Drop)]
 pub(crate) struct Invocation {
     pub cli_args: Items<Text>,

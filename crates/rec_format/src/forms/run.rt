@@ -8,8 +8,8 @@ use serde_json::{Map, Value};
 use std::alloc::{AllocError, Global};
 
 impl Form for RecordedRun {
-    ghost use Rattle.rec_format.specs.RunForms.{run_value, run_form, IsRun};
     ghost use Rattle.rec_format.specs.RunFormLaws.{run_back, run_writable, run_well_formed};
+    ghost use Rattle.rec_format.specs.RunForms.{run_value, run_form, IsRun};
 
     ghost well_formed = { IsRun };
 

@@ -9,8 +9,8 @@ use serde_json::{Map, Value};
 use std::alloc::{AllocError, Global};
 
 impl Form for RecordedRunList {
-    ghost use Rattle.rec_format.specs.RunListForms.{run_list_value, run_list_form, IsRunList};
     ghost use Rattle.rec_format.specs.RunListFormLaws.{run_list_back, run_list_writable, run_list_well_formed};
+    ghost use Rattle.rec_format.specs.RunListForms.{run_list_value, run_list_form, IsRunList};
 
     ghost well_formed = { IsRunList };
 

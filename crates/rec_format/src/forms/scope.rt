@@ -5,9 +5,9 @@ use serde_json::{Map, Value};
 use std::alloc::{AllocError, Global};
 
 impl Form for BuildKind {
-    ghost use Rattle.rec_format.specs.ScopeForms.{build_kind_value, build_kind_form};
-    ghost use Rattle.rec_format.specs.ScopeFormLaws.{build_kind_back, build_kind_writable};
     ghost use Rattle.rec_forms.specs.WellFormedLaws.{any_well_formed};
+    ghost use Rattle.rec_format.specs.ScopeFormLaws.{build_kind_back, build_kind_writable};
+    ghost use Rattle.rec_format.specs.ScopeForms.{build_kind_value, build_kind_form};
 
     ghost well_formed = { λ _. Unit {0} };
 
@@ -46,8 +46,8 @@ impl Held for BuildKind {
 }
 
 impl Form for RecordedBuildScope {
-    ghost use Rattle.rec_format.specs.ScopeForms.{recorded_scope_value, recorded_scope_form, IsRecordedScope};
     ghost use Rattle.rec_format.specs.ScopeFormLaws.{recorded_scope_back, recorded_scope_writable, recorded_scope_well_formed};
+    ghost use Rattle.rec_format.specs.ScopeForms.{recorded_scope_value, recorded_scope_form, IsRecordedScope};
 
     ghost well_formed = { IsRecordedScope };
 

@@ -5,8 +5,8 @@ use serde_json::{Map, Value};
 use std::alloc::{AllocError, Global};
 
 impl Form for ComponentSizesFormat {
-    ghost use Rattle.rec_format.specs.SizeForms.{component_format_value, component_format_form, IsComponentFormat};
     ghost use Rattle.rec_format.specs.SizeFormLaws.{component_format_back, component_format_writable, component_format_well_formed};
+    ghost use Rattle.rec_format.specs.SizeForms.{component_format_value, component_format_form, IsComponentFormat};
 
     ghost well_formed = { IsComponentFormat };
 
@@ -53,8 +53,8 @@ impl Held for ComponentSizesFormat {
 }
 
 impl Form for RecordedSizesFormat {
-    ghost use Rattle.rec_format.specs.SizeForms.{sizes_format_value, sizes_format_form, IsSizesFormat};
     ghost use Rattle.rec_format.specs.SizeFormLaws.{sizes_format_back, sizes_format_writable, sizes_format_well_formed};
+    ghost use Rattle.rec_format.specs.SizeForms.{sizes_format_value, sizes_format_form, IsSizesFormat};
 
     ghost well_formed = { IsSizesFormat };
 
@@ -98,8 +98,8 @@ impl Held for RecordedSizesFormat {
 }
 
 impl Form for ComponentSizes {
-    ghost use Rattle.rec_format.specs.SizeForms.{component_value, component_form, IsComponent};
     ghost use Rattle.rec_format.specs.SizeFormLaws.{component_back, component_writable, component_well_formed};
+    ghost use Rattle.rec_format.specs.SizeForms.{component_value, component_form, IsComponent};
 
     ghost well_formed = { IsComponent };
 
@@ -131,8 +131,8 @@ impl Held for ComponentSizes {
 }
 
 impl Form for RecordedSizes {
-    ghost use Rattle.rec_format.specs.SizeForms.{sizes_value, sizes_form, AreSizes};
     ghost use Rattle.rec_format.specs.SizeFormLaws.{sizes_back, sizes_writable, sizes_well_formed};
+    ghost use Rattle.rec_format.specs.SizeForms.{sizes_value, sizes_form, AreSizes};
 
     ghost well_formed = { AreSizes };
 

@@ -17,7 +17,7 @@ use rec_forms::{
 use serde_json::{Map, Value};
 use std::alloc::{AllocError, Global};
 
-// An object with the name of a status.
+/// An object with the name of a status.
 fn named(alloc: Global, name: &str) -> Result<Object, AllocError>
     ensures { IfOk result (λ object. members_view object.entries ≡ with_members no_members (field (codes "status") (string name.now) ∷ [])) }
 {
@@ -31,14 +31,14 @@ fn named(alloc: Global, name: &str) -> Result<Object, AllocError>
     Ok(object)
 }
 
-// The name of the status that an object has.
+/// The name of the status that an object has.
 fn name_in(object: &Object) -> Option<&str>
     ensures { option_map (λ name. name.now) result ≡ required as_str (codes "status") (members_view object.now.entries) }
 {
     member(object, "status")?.as_str()
 }
 
-// A status alone.
+/// A status alone.
 #[tactic(auto, unfolding(rec_forms::specs::Shape::members_of))]
 fn bare(alloc: Global, name: &str) -> Result<Value, AllocError>
     ensures { IfOk result (λ v. view v ≡ bare_value name.now) }
@@ -46,7 +46,7 @@ fn bare(alloc: Global, name: &str) -> Result<Value, AllocError>
     Ok(Value::from(named(alloc, name)?))
 }
 
-// A status with the statistics of a run beside it.
+/// A status with the statistics of a run beside it.
 #[tactic(auto, unfolding(rec_forms::specs::Shape::members_of))]
 fn completed(alloc: Global, name: &str, stats: &CompletedRunStats) -> Result<Value, AllocError>
     ensures written { IfOk result (λ v. view v ≡ completed_value name.now stats.now) }
@@ -65,7 +65,7 @@ fn completed(alloc: Global, name: &str, stats: &CompletedRunStats) -> Result<Val
     Ok(Value::from(object))
 }
 
-// The statistics of a run in an object.
+/// The statistics of a run in an object.
 #[tactic(auto, unfolding(crate::specs::StatusForms::completed_form))]
 fn completed_in(alloc: Global, object: &Object) -> Result<CompletedRunStats, FromValueError>
     ensures { Gives result (completed_form (members_view object.now.entries)) }
@@ -78,7 +78,7 @@ fn completed_in(alloc: Global, object: &Object) -> Result<CompletedRunStats, Fro
     })
 }
 
-// A status with the statistics of a stress run beside it.
+/// A status with the statistics of a stress run beside it.
 #[tactic(auto, unfolding(rec_forms::specs::Shape::members_of))]
 fn stress(alloc: Global, name: &str, stats: &StressCompletedRunStats) -> Result<Value, AllocError>
     ensures written { IfOk result (λ v. view v ≡ stress_value name.now stats.now) }
@@ -97,7 +97,7 @@ fn stress(alloc: Global, name: &str, stats: &StressCompletedRunStats) -> Result<
     Ok(Value::from(object))
 }
 
-// The statistics of a stress run in an object.
+/// The statistics of a stress run in an object.
 #[tactic(auto, unfolding(crate::specs::StatusForms::stress_form))]
 fn stress_in(alloc: Global, object: &Object) -> Result<StressCompletedRunStats, FromValueError>
     ensures { Gives result (stress_form (members_view object.now.entries)) }
@@ -110,7 +110,7 @@ fn stress_in(alloc: Global, object: &Object) -> Result<StressCompletedRunStats, 
     })
 }
 
-// The status of a name, with what an object has beside it.
+/// The status of a name, with what an object has beside it.
 fn status_in(
     alloc: Global,
     name: &str,
@@ -129,8 +129,8 @@ fn status_in(
 }
 
 impl Form for RecordedRunStatus {
-    ghost use Rattle.rec_format.specs.StatusForms.{status_value, status_form, IsStatus};
     ghost use Rattle.rec_format.specs.StatusFormLaws.{status_back, status_writable, status_well_formed};
+    ghost use Rattle.rec_format.specs.StatusForms.{status_value, status_form, IsStatus};
 
     ghost well_formed = { IsStatus };
 
@@ -169,7 +169,7 @@ impl Form for RecordedRunStatus {
     }
 }
 
-// States that the statistics of a run are well-formed.
+/// States that the statistics of a run are well-formed.
 fn held_completed(stats: &CompletedRunStats)
     ensures { AreCompleted stats.now }
 {
@@ -179,7 +179,7 @@ fn held_completed(stats: &CompletedRunStats)
     stats.exit_code.held();
 }
 
-// States that the statistics of a stress run are well-formed.
+/// States that the statistics of a stress run are well-formed.
 fn held_stress(stats: &StressCompletedRunStats)
     ensures { AreStress stats.now }
 {
@@ -203,8 +203,8 @@ impl Held for RecordedRunStatus {
 }
 
 impl Form for RecordedRunStatusFormat {
-    ghost use Rattle.rec_format.specs.StatusForms.{status_format_value, status_format_form, IsStatusFormat};
     ghost use Rattle.rec_format.specs.StatusFormLaws.{status_format_back, status_format_writable, status_format_well_formed};
+    ghost use Rattle.rec_format.specs.StatusForms.{status_format_value, status_format_form, IsStatusFormat};
 
     ghost well_formed = { IsStatusFormat };
 

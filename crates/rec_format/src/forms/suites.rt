@@ -5,8 +5,8 @@ use serde_json::{Map, Value};
 use std::alloc::{AllocError, Global};
 
 impl Form for RerunTestSuiteInfo {
-    ghost use Rattle.rec_format.specs.SuiteForms.{suite_value, suite_form, IsSuite};
     ghost use Rattle.rec_format.specs.SuiteFormLaws.{suite_back, suite_writable, suite_well_formed};
+    ghost use Rattle.rec_format.specs.SuiteForms.{suite_value, suite_form, IsSuite};
 
     ghost well_formed = { IsSuite };
 
@@ -53,8 +53,8 @@ impl Held for RerunTestSuiteInfo {
 }
 
 impl Form for RerunSuites {
-    ghost use Rattle.rec_format.specs.SuiteForms.{suites_value, suites_form, AreSuites};
     ghost use Rattle.rec_format.specs.SuiteFormLaws.{suites_back, suites_writable, suites_well_formed};
+    ghost use Rattle.rec_format.specs.SuiteForms.{suites_value, suites_form, AreSuites};
 
     ghost well_formed = { AreSuites };
 

@@ -9,8 +9,8 @@ use serde_json::{Map, Value};
 use std::alloc::{AllocError, Global};
 
 impl Form for StoreFormatMajorVersion {
-    ghost use Rattle.rec_forms.specs.Numbers.{u32_form};
     ghost use Rattle.rec_forms.specs.NumberLaws.{u32_back, u32_well_formed, u32_writable};
+    ghost use Rattle.rec_forms.specs.Numbers.{u32_form};
     ghost use Rattle.rec_forms.specs.Shape.{natural};
     ghost use Rattle.rec_format.specs.VersionForms.{IsNumber};
 
@@ -44,8 +44,8 @@ impl Held for StoreFormatMajorVersion {
 }
 
 impl Form for StoreFormatMinorVersion {
-    ghost use Rattle.rec_forms.specs.Numbers.{u32_form};
     ghost use Rattle.rec_forms.specs.NumberLaws.{u32_back, u32_well_formed, u32_writable};
+    ghost use Rattle.rec_forms.specs.Numbers.{u32_form};
     ghost use Rattle.rec_forms.specs.Shape.{natural};
     ghost use Rattle.rec_format.specs.VersionForms.{IsNumber};
 
@@ -79,8 +79,8 @@ impl Held for StoreFormatMinorVersion {
 }
 
 impl Form for PortableRecordingFormatMajorVersion {
-    ghost use Rattle.rec_forms.specs.Numbers.{u32_form};
     ghost use Rattle.rec_forms.specs.NumberLaws.{u32_back, u32_well_formed, u32_writable};
+    ghost use Rattle.rec_forms.specs.Numbers.{u32_form};
     ghost use Rattle.rec_forms.specs.Shape.{natural};
     ghost use Rattle.rec_format.specs.VersionForms.{IsNumber};
 
@@ -117,8 +117,8 @@ impl Held for PortableRecordingFormatMajorVersion {
 }
 
 impl Form for PortableRecordingFormatMinorVersion {
-    ghost use Rattle.rec_forms.specs.Numbers.{u32_form};
     ghost use Rattle.rec_forms.specs.NumberLaws.{u32_back, u32_well_formed, u32_writable};
+    ghost use Rattle.rec_forms.specs.Numbers.{u32_form};
     ghost use Rattle.rec_forms.specs.Shape.{natural};
     ghost use Rattle.rec_format.specs.VersionForms.{IsNumber};
 
@@ -155,8 +155,8 @@ impl Held for PortableRecordingFormatMinorVersion {
 }
 
 impl Form for RunsJsonFormatVersion {
-    ghost use Rattle.rec_forms.specs.Numbers.{u32_form};
     ghost use Rattle.rec_forms.specs.NumberLaws.{u32_back, u32_well_formed, u32_writable};
+    ghost use Rattle.rec_forms.specs.Numbers.{u32_form};
     ghost use Rattle.rec_forms.specs.Shape.{natural};
     ghost use Rattle.rec_format.specs.VersionForms.{IsNumber};
 
@@ -190,8 +190,8 @@ impl Held for RunsJsonFormatVersion {
 }
 
 impl Form for PortableRecordingFormatVersion {
-    ghost use Rattle.rec_format.specs.VersionForms.{portable_version_value, portable_version_form, IsPortableVersion};
     ghost use Rattle.rec_format.specs.VersionFormLaws.{portable_version_back, portable_version_writable, portable_version_well_formed};
+    ghost use Rattle.rec_format.specs.VersionForms.{portable_version_value, portable_version_form, IsPortableVersion};
 
     ghost well_formed = { IsPortableVersion };
 

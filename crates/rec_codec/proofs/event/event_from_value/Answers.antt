@@ -1,8 +1,8 @@
 use Rattle.serde_json.specs.View.{view}
-use Rattle.rec_codec.specs.EventForms.{event_form, IsEvent}
-use Rattle.rec_codec.specs.EventFormLaws.{event_well_formed}
-use Rattle.rec_codec.proofs.ReadEventLaws.{given_well_formed}
 use Rattle.rec_codec.proofs.event.event_from_value.Goals as goal
+use Rattle.rec_codec.proofs.ReadEventLaws.{given_well_formed}
+use Rattle.rec_codec.specs.EventFormLaws.{event_well_formed}
+use Rattle.rec_codec.specs.EventForms.{event_form, IsEvent}
 
 pub returns-clause-known : goal.returns-clause-known
 returns-clause-known g c =

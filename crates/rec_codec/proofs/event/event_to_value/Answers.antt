@@ -1,5 +1,5 @@
-use Rattle.rec_codec.specs.EventFormLaws.{event_back}
 use Rattle.rec_codec.proofs.event.event_to_value.Goals as goal
+use Rattle.rec_codec.specs.EventFormLaws.{event_back}
 
 pub returns-clause-reads_back : goal.returns-clause-reads_back
 returns-clause-reads_back g c =

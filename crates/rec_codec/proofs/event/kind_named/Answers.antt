@@ -1,9 +1,9 @@
 use Rattle.std.proofs.Common.{refl}
 use Rattle.std.proofs.lemmas.Result.{err_from_is_err_and}
 use Rattle.serde_json.specs.View.{members_view}
-use Rattle.rec_codec.specs.CoreKindForms.{core_kinds, kind_in}
-use Rattle.rec_codec.proofs.KindTables.{core_named, refused}
 use Rattle.rec_codec.proofs.event.kind_named.Goals as goal
+use Rattle.rec_codec.proofs.KindTables.{core_named, refused}
+use Rattle.rec_codec.specs.CoreKindForms.{core_kinds, kind_in}
 
 pub returns-in_err-core_from-in_default : goal.returns-in_err-core_from-in_default
 returns-in_err-core_from-in_default g c =

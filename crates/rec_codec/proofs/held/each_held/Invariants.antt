@@ -1,7 +1,7 @@
 use Rattle.std.proofs.Common.{◌≡◌, true, drop}
 use Rattle.std.specs.List.{AllByRecursion}
-use Rattle.rec_codec.specs.Writes.{every}
 use Rattle.rec_codec.proofs.held.each_held.Given as goal
+use Rattle.rec_codec.specs.Writes.{every}
 
 -- what is left decides
 abbrev pub invariant-loop-item : goal.invariant-loop-item

@@ -1,6 +1,6 @@
-use Rattle.rec_codec.specs.EventForms.{event_form}
-use Rattle.rec_codec.proofs.LineReadings.{drained, failed, yielded}
 use Rattle.rec_codec.proofs.laws.lines_give_items.Goals as goal
+use Rattle.rec_codec.proofs.LineReadings.{drained, failed, yielded}
+use Rattle.rec_codec.specs.EventForms.{event_form}
 
 pub returns-clause-drained : goal.returns-clause-drained
 returns-clause-drained g c = drained (event_form {S = g.row.S.Denot} g.S.OutputForm.output_form)

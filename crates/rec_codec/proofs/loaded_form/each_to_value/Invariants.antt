@@ -1,8 +1,8 @@
 use Rattle.std.proofs.Common.{◌≡◌, map, ◌++◌, drop}
 use Rattle.std.specs.List.{AllByRecursion}
 use Rattle.serde_json.specs.View.{view}
-use Rattle.rec_codec.specs.Writes.{every}
 use Rattle.rec_codec.proofs.loaded_form.each_to_value.Given as goal
+use Rattle.rec_codec.specs.Writes.{every}
 
 -- what is left completes the list
 abbrev pub invariant-loop-item : goal.invariant-loop-item

@@ -1,8 +1,8 @@
 use Rattle.std.proofs.Common.{◌≡◌, false, sym, subst}
 use Rattle.serde_json.specs.Written.{has_float}
-use Rattle.rec_codec.specs.Event.{event_text}
-use Rattle.rec_codec.proofs.LogLaws.{event_logged, event_value_writable}
 use Rattle.rec_codec.proofs.log_lines.log_line.Goals as goal
+use Rattle.rec_codec.proofs.LogLaws.{event_logged, event_value_writable}
+use Rattle.rec_codec.specs.Event.{event_text}
 
 pub returns-clause-line : goal.returns-clause-line
 unfolding event_text

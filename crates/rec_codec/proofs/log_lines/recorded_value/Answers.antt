@@ -1,5 +1,5 @@
-use Rattle.rec_codec.proofs.ReadEventLaws.{never_unloaded}
 use Rattle.rec_codec.proofs.log_lines.recorded_value.Goals as goal
+use Rattle.rec_codec.proofs.ReadEventLaws.{never_unloaded}
 
 -- the names of an event's files are always loaded
 pub unreachable-requires : goal.unreachable-requires

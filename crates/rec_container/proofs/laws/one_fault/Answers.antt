@@ -1,5 +1,5 @@
-use Rattle.rec_container.proofs.Unique.{no_fault, one_fault}
 use Rattle.rec_container.proofs.laws.one_fault.Goals as goal
+use Rattle.rec_container.proofs.Unique.{no_fault, one_fault}
 
 pub returns-clause-spelled : goal.returns-clause-spelled
 returns-clause-spelled c = no_fault

@@ -1,5 +1,5 @@
-use Rattle.rec_container.proofs.Spelling.{prefix-push, prefix-ending}
 use Rattle.rec_container.proofs.laws.one_spelling.Goals as goal
+use Rattle.rec_container.proofs.Spelling.{prefix-push, prefix-ending}
 
 pub returns-clause-push : goal.returns-clause-push
 returns-clause-push c = prefix-push

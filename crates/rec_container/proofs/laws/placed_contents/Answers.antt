@@ -1,5 +1,5 @@
-use Rattle.rec_container.proofs.Spelling.{place_from-stands}
 use Rattle.rec_container.proofs.laws.placed_contents.Goals as goal
+use Rattle.rec_container.proofs.Spelling.{place_from-stands}
 
 pub returns : goal.returns
 returns c = place_from-stands

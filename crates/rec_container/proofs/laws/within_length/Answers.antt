@@ -1,5 +1,5 @@
-use Rattle.rec_container.proofs.Lengths.{content_bytes-below, length-below}
 use Rattle.rec_container.proofs.laws.within_length.Goals as goal
+use Rattle.rec_container.proofs.Lengths.{content_bytes-below, length-below}
 
 pub returns-clause-contents : goal.returns-clause-contents
 returns-clause-contents c = content_bytes-below

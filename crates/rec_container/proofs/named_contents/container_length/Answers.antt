@@ -1,8 +1,8 @@
 use Rattle.std.proofs.Common.{◌≡◌, ◌+◌, ◌<◌, ◌^◌, length, map, sym, ap, subst, SomeIff, arith}
-use Rattle.rec_container.specs.NamedContents.{container_of, entry_of}
 use Rattle.rec_container.proofs.ContentsLeft.{left, left_none, length-left, nothing}
 use Rattle.rec_container.proofs.Lengths.{length-spell}
 use Rattle.rec_container.proofs.named_contents.container_length.Goals as goal
+use Rattle.rec_container.specs.NamedContents.{container_of, entry_of}
 
 pub loop-content-init : goal.loop-content-init
 loop-content-init c = record { fits = omega arith; whole = sym (length-spell (map entry_of c.args.contents.now)) }

@@ -1,8 +1,8 @@
 use Rattle.std.proofs.Common.{◌≡◌, ◌+◌, ◌<◌, ◌^◌, length, drop, map}
 use Rattle.std.specs.List.{flat_map}
+use Rattle.rec_container.proofs.named_contents.container_length.Given as goal
 use Rattle.rec_container.specs.Container.{entry}
 use Rattle.rec_container.specs.NamedContents.{container_of, entry_of}
-use Rattle.rec_container.proofs.named_contents.container_length.Given as goal
 
 -- what is left completes the container
 abbrev pub invariant-loop-content : goal.invariant-loop-content

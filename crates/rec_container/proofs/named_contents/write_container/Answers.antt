@@ -1,11 +1,11 @@
 use Rattle.std.proofs.Common.{◌++◌, get_or, arith}
-use Rattle.rec_container.specs.Container.{entry}
-use Rattle.rec_container.specs.NamedContents.{entry_of}
+use Rattle.std.proofs.KnownBytes.{Appends-trans}
 use Rattle.rec_container.proofs.ContentsLeft.{left_parts, left_step, left_end, nothing, all_more}
+use Rattle.rec_container.proofs.named_contents.write_container.Goals as goal
 use Rattle.rec_container.proofs.Parts.{took_part, took_second}
 use Rattle.rec_container.proofs.Results.{on_err, err_then}
-use Rattle.std.proofs.KnownBytes.{Appends-trans}
-use Rattle.rec_container.proofs.named_contents.write_container.Goals as goal
+use Rattle.rec_container.specs.Container.{entry}
+use Rattle.rec_container.specs.NamedContents.{entry_of}
 
 pub returns-in_err-write_content-clause-fault : goal.returns-in_err-write_content-clause-fault
 returns-in_err-write_content-clause-fault g c =

@@ -1,9 +1,9 @@
 use Rattle.std.proofs.Common.{◌≡◌, ◌≤◌, [], ◌∷◌, ◌++◌, List, ℕ, length, ◌<◌, drop}
-use Rattle.std.specs.List.{AllByRecursion}
 use Rattle.std.specs.Io.KnownBytes.{Appends}
-use Rattle.rec_container.specs.NamedContents.{container_of}
+use Rattle.std.specs.List.{AllByRecursion}
 use Rattle.rec_container.proofs.ContentsLeft.{left}
 use Rattle.rec_container.proofs.named_contents.write_container.Given as goal
+use Rattle.rec_container.specs.NamedContents.{container_of}
 
 -- what was taken, and what is left to write, are the container
 abbrev pub invariant-loop-content : goal.invariant-loop-content

@@ -1,9 +1,9 @@
 use Rattle.std.proofs.Common.{◌++◌, refl}
-use Rattle.rec_container.specs.NamedContents.{entry_of, tagged_name}
 use Rattle.rec_container.proofs.ContentsLeft.{entry_parts}
+use Rattle.rec_container.proofs.named_contents.write_content.Goals as goal
 use Rattle.rec_container.proofs.Parts.{took_first, took_both, took_second}
 use Rattle.rec_container.proofs.Results.{on_err, ok_then, err_then}
-use Rattle.rec_container.proofs.named_contents.write_content.Goals as goal
+use Rattle.rec_container.specs.NamedContents.{entry_of, tagged_name}
 
 pub returns-in_err-write_name-clause-fault : goal.returns-in_err-write_name-clause-fault
 returns-in_err-write_name-clause-fault g c =

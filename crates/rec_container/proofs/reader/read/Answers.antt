@@ -1,14 +1,14 @@
 use Rattle.std.proofs.Common.{◌≡◌, ◌∙◌, ◌+◌, ap, arith, length, drop, inl, inr, refl, Ok, Some, None, Option, Result, List, ℕ, Bor, subst, IfSome}
 use Rattle.std.specs.Option.{option_map}
-use Rattle.rec_container.specs.declared.errors.ContainerError.{ContainerError}
-use Rattle.rec_container.specs.declared.indexed.PlacedEntry.{PlacedEntry}
-use Rattle.rec_container.specs.Container.{Entry}
-use Rattle.rec_container.specs.Reading.{step_at}
-use Rattle.rec_container.specs.Placed.{placed_entry, placed_entries}
-use Rattle.rec_container.proofs.Prefixes.{reading_begins, reading_goes_on, reading_ends, magic_tested}
 use Rattle.rec_container.proofs.Grammar.{step_at-some}
 use Rattle.rec_container.proofs.Placed.{prefix_placed}
+use Rattle.rec_container.proofs.Prefixes.{reading_begins, reading_goes_on, reading_ends, magic_tested}
 use Rattle.rec_container.proofs.reader.read.Goals as goal
+use Rattle.rec_container.specs.Container.{Entry}
+use Rattle.rec_container.specs.declared.errors.ContainerError.{ContainerError}
+use Rattle.rec_container.specs.declared.indexed.PlacedEntry.{PlacedEntry}
+use Rattle.rec_container.specs.Placed.{placed_entry, placed_entries}
+use Rattle.rec_container.specs.Reading.{step_at}
 
 pub returns-in_default-clause-fault : goal.returns-in_default-clause-fault
 returns-in_default-clause-fault c = inr (inl (magic_tested c.args.bytes.now c.as_slice.result.now _ c.as_slice.ensures c.in_default.ensures.cases, refl))

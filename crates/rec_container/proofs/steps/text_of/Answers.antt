@@ -1,6 +1,6 @@
 use Rattle.std.proofs.lemmas.Str.{is_utf8-from_IsUtf8}
-use Rattle.rec_container.proofs.Utf8.{not_utf8}
 use Rattle.rec_container.proofs.steps.text_of.Goals as goal
+use Rattle.rec_container.proofs.Utf8.{not_utf8}
 
 pub returns-in-Ok : goal.returns-in-Ok
 returns-in-Ok c = (is_utf8-from_IsUtf8 _ c.in-Ok.ensures.cases.1, c.in-Ok.ensures.cases.0)

@@ -1,5 +1,5 @@
-use Rattle.rec_container.proofs.Written.{written_more}
 use Rattle.rec_container.proofs.streams.write_all.Goals as goal
+use Rattle.rec_container.proofs.Written.{written_more}
 
 pub loop-at-preserved : goal.loop-at-preserved
 loop-at-preserved g c =

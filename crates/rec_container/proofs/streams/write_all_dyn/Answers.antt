@@ -1,5 +1,5 @@
-use Rattle.rec_container.proofs.Written.{written_more}
 use Rattle.rec_container.proofs.streams.write_all_dyn.Goals as goal
+use Rattle.rec_container.proofs.Written.{written_more}
 
 pub loop-done-preserved : goal.loop-done-preserved
 loop-done-preserved g c =

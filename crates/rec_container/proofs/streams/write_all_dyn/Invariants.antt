@@ -1,6 +1,6 @@
 use Rattle.std.proofs.Common.{length, ◌-◌}
-use Rattle.rec_container.proofs.Written.{Written}
 use Rattle.rec_container.proofs.streams.write_all_dyn.Given as goal
+use Rattle.rec_container.proofs.Written.{Written}
 
 abbrev pub invariant-loop-done : goal.invariant-loop-done
 invariant-loop-done g l =

@@ -1,8 +1,8 @@
 use Rattle.std.proofs.Common.{rules, ◌≡◌, ◌≤◌, ◌++◌, ◌+◌, length, take, ◌∙◌, length-append}
 use Rattle.std.proofs.KnownBytes.{Consumes-trans}
-use Rattle.rec_container.specs.declared.within.ReadError.TheVariants.{OutOfMemory}
 use Rattle.rec_container.proofs.Results.{err_is}
 use Rattle.rec_container.proofs.within.read_within.Goals as goal
+use Rattle.rec_container.specs.declared.within.ReadError.TheVariants.{OutOfMemory}
 
 pub returns-in_err-extend_from_slice-in-Ok-clause-err : goal.returns-in_err-extend_from_slice-in-Ok-clause-err
 returns-in_err-extend_from_slice-in-Ok-clause-err g c =

@@ -1,9 +1,9 @@
 use Rattle.std.proofs.Common.{◌∙◌, ap, sym, arith, Some}
 use Rattle.std.specs.Str.{bytes_eq}
-use Rattle.rec_container.specs.Writing.{entries_of, named}
 use Rattle.rec_container.proofs.Entries.{found_some, found_none, refusal_none, refusal_long, refusal_there, some_name, same_bytes}
 use Rattle.rec_container.proofs.Lengths.{length-spell-push}
 use Rattle.rec_container.proofs.writer.judge.Goals as goal
+use Rattle.rec_container.specs.Writing.{entries_of, entry_named}
 
 pub returns-in-None-grown-clause-refused : goal.returns-in-None-grown-clause-refused
 returns-in-None-grown-clause-refused c =
@@ -19,7 +19,7 @@ returns-in-Some-grown-clause-accepted c =
       some_name _ c.if-is_empty.ensures,
       omega arith,
       absent,
-      omega (arith, fits.1, c.requires, length-spell-push (entries_of c.args.entries.now.entries) (named name c.args.bytes.now)),
+      omega (arith, fits.1, c.requires, length-spell-push (entries_of c.args.entries.now.entries) (entry_named name c.args.bytes.now)),
     )
 
 pub returns-then-eq-clause-accepted : goal.returns-then-eq-clause-accepted

@@ -2,9 +2,9 @@ use Rattle.std.proofs.Common.{rules, lit<}
 use borrow.Author.Tests.{tests}
 use Rattle.std.proofs.lemmas.Iterator.Consumers.{YieldsList-at, YieldsList-from_filter}
 use Rattle.std.proofs.lemmas.Iterator.Splits.{YieldsList-from_str_split}
-use Rattle.rec_format.specs.Paths.{is_name}
 use Rattle.rec_format.proofs.LastItem.{last_from_yields_List}
 use Rattle.rec_format.proofs.paths.last_name.Goals as goal
+use Rattle.rec_format.specs.Paths.{is_name}
 
 pub returns : goal.returns
 returns c =

@@ -1,6 +1,6 @@
 use Rattle.std.proofs.Common.{ap₂, length, min, ◌∙◌}
-use Rattle.rec_format.proofs.SharedTexts.{all_compared}
 use Rattle.rec_format.proofs.run_ids.common_len.Goals as goal
+use Rattle.rec_format.proofs.SharedTexts.{all_compared}
 
 pub returns : goal.returns
 returns c =

@@ -3,9 +3,9 @@ use Rattle.std.specs.BTreeMap.{get}
 use Rattle.std.specs.List.{common_prefix_len}
 use Rattle.std.specs.Ordering.{is_gt}
 use Rattle.std.specs.String.{string_cmp}
-use Rattle.rec_format.specs.RunIdEntries.{IsAbove}
-use Rattle.rec_format.proofs.RunIdMaps.{most_above}
 use Rattle.rec_format.proofs.run_ids.shared_above.Goals as goal
+use Rattle.rec_format.proofs.RunIdMaps.{most_above}
+use Rattle.rec_format.specs.RunIdEntries.{IsAbove}
 
 pub returns-in-Some : goal.returns-in-Some
 returns-in-Some c =

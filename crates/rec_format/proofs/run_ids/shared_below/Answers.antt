@@ -1,7 +1,7 @@
 use Rattle.std.proofs.Common.{ap, ap₂, is_some, nat_eq, ◌∙◌}
 use Rattle.std.specs.List.{common_prefix_len}
-use Rattle.rec_format.proofs.RunIdMaps.{most_below}
 use Rattle.rec_format.proofs.run_ids.shared_below.Goals as goal
+use Rattle.rec_format.proofs.RunIdMaps.{most_below}
 
 pub returns-in-Some : goal.returns-in-Some
 returns-in-Some c =

@@ -1,6 +1,6 @@
 use Rattle.std.proofs.Common.{◌∙◌, sym}
-use Rattle.rec_forms.proofs.OnlyMember.{not_one, just_one}
 use Rattle.rec_forms.proofs.fields.only_member.Goals as goal
+use Rattle.rec_forms.proofs.OnlyMember.{not_one, just_one}
 
 pub returns-then-len-ne1 : goal.returns-then-len-ne1
 returns-then-len-ne1 c = not_one c.args.object.now.entries (λ h. c.if-len-ne1.true (c.len.ensures.len ∙ h))

@@ -1,5 +1,5 @@
-use Rattle.std.specs.Prelude.{IfSome}
 use Rattle.std.proofs.Common.{subst}
+use Rattle.std.specs.Prelude.{IfSome}
 use Rattle.rec_forms.proofs.laws.read_items_are_well_formed.Goals as goal
 
 pub returns : goal.returns

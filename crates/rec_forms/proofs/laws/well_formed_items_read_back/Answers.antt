@@ -1,5 +1,5 @@
-use Rattle.rec_forms.proofs.ReadBack.{IsWritable-read_back}
 use Rattle.rec_forms.proofs.laws.well_formed_items_read_back.Goals as goal
+use Rattle.rec_forms.proofs.ReadBack.{IsWritable-read_back}
 
 pub returns : goal.returns
 returns g c = λ deep x h.

@@ -1,5 +1,5 @@
-use Rattle.rec_forms.proofs.ReadBack.{IsWritable-read_back}
 use Rattle.rec_forms.proofs.laws.writable_values_read_back.Goals as goal
+use Rattle.rec_forms.proofs.ReadBack.{IsWritable-read_back}
 
 pub returns-clause-read : goal.returns-clause-read
 returns-clause-read c = λ n d w deep. (IsWritable-read_back n d w deep).0

@@ -1,10 +1,10 @@
-use Rattle.std.specs.Str.{is_utf8}
 use Rattle.std.proofs.Common.{◌≡◌, Bool, true, false, Option, None, if◌then◌else◌, refl, subst}
 use Rattle.std.proofs.lemmas.Str.{is_utf8-from_IsUtf8, IsUtf8-from_is_utf8}
+use Rattle.std.specs.Str.{is_utf8}
 use Rattle.serde_json.specs.Read.{read}
 use Rattle.serde_json.specs.View.{view}
-use Rattle.rec_forms.specs.Gives.{GivesBy}
 use Rattle.rec_forms.proofs.text_form.read_value.Goals as goal
+use Rattle.rec_forms.specs.Gives.{GivesBy}
 
 none_unless : {T : Type 0} (b : Bool) (o : Option T) → (b ≡ true → ⊥) → (if b then o else None) ≡ None
 none_unless true o h = absurd (h refl)

@@ -1,8 +1,8 @@
 use Rattle.std.proofs.Common.{sym, ap, ◌∙◌}
 use Rattle.rec_container.proofs.Unique.{one_reading_spec, no_fault, one_fault}
-use Rattle.rec_portable.specs.Judging.{judged}
-use Rattle.rec_portable.specs.declared.errors.PortableRecordingReadError.TheVariants.{ReadArchive}
 use Rattle.rec_portable.proofs.laws.one_judgement.Goals as goal
+use Rattle.rec_portable.specs.declared.errors.PortableRecordingReadError.TheVariants.{ReadArchive}
+use Rattle.rec_portable.specs.Judging.{judged}
 
 pub returns-clause-entries : goal.returns-clause-entries
 returns-clause-entries c bytes limit r s h g = sym h.2 ∙ ap (judged limit) (one_reading_spec bytes h.0 g.0 h.1 g.1) ∙ g.2

@@ -1,6 +1,6 @@
 use Rattle.std.proofs.Common.{◌∙◌, refl}
-use Rattle.rec_program.proofs.Lines.{piece_is}
 use Rattle.rec_program.proofs.fields.open_test.Goals as goal
+use Rattle.rec_program.proofs.Lines.{piece_is}
 
 pub returns : goal.returns
 returns c = λ rest.

@@ -1,8 +1,8 @@
 use Rattle.std.proofs.Common.{[], ◌∷◌}
 use Rattle.std.proofs.lemmas.Result.{on_err_weaker}
 use Rattle.std.specs.Fmt.{decimal}
-use Rattle.rec_program.proofs.Lines.{part_after}
 use Rattle.rec_program.proofs.line.write_after_dot.Goals as goal
+use Rattle.rec_program.proofs.Lines.{part_after}
 
 pub returns-clause-fault : goal.returns-clause-fault
 returns-clause-fault g c =

@@ -1,9 +1,9 @@
 use Rattle.std.proofs.Common.{List, ℕ, subst}
 use Rattle.std.proofs.lemmas.Result.{on_err_weaker}
 use Rattle.std.specs.Io.KnownBytes.{Appends}
-use Rattle.rec_program.specs.LinePieces.{value_bytes}
-use Rattle.rec_program.proofs.Lines.{part_after}
 use Rattle.rec_program.proofs.line.write_field.Goals as goal
+use Rattle.rec_program.proofs.Lines.{part_after}
+use Rattle.rec_program.specs.LinePieces.{value_bytes}
 
 pub returns-clause-fault : goal.returns-clause-fault
 returns-clause-fault g c =

@@ -1,9 +1,9 @@
 use Rattle.std.proofs.Common.{[], ◌∷◌, ◌++◌, arith}
 use Rattle.std.proofs.lemmas.Result.{on_err_weaker, on_ok_weaker}
 use Rattle.rec_container.proofs.Results.{on_err}
-use Rattle.rec_program.specs.LinePieces.{fields_bytes}
-use Rattle.rec_program.proofs.Lines.{field_failed, field_taken, rest_failed, rest_taken}
 use Rattle.rec_program.proofs.line.write_line.Goals as goal
+use Rattle.rec_program.proofs.Lines.{field_failed, field_taken, rest_failed, rest_taken}
+use Rattle.rec_program.specs.LinePieces.{fields_bytes}
 
 pub returns-in_err-write_field-clause-fault : goal.returns-in_err-write_field-clause-fault
 returns-in_err-write_field-clause-fault g c =

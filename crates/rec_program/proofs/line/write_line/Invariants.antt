@@ -1,7 +1,7 @@
 use Rattle.std.proofs.Common.{[], ◌∷◌, ◌++◌, drop}
-use Rattle.rec_program.specs.LinePieces.{fields_bytes}
-use Rattle.rec_program.proofs.Lines.{Begun}
 use Rattle.rec_program.proofs.line.write_line.Given as goal
+use Rattle.rec_program.proofs.Lines.{Begun}
+use Rattle.rec_program.specs.LinePieces.{fields_bytes}
 
 -- what is left to write are the fields from the index on, and the LF
 abbrev pub invariant-loop-field : goal.invariant-loop-field

@@ -2,8 +2,8 @@ use Rattle.std.proofs.Common.{◌∷◌}
 use Rattle.std.proofs.lemmas.Result.{on_err_weaker}
 use Rattle.std.specs.Fmt.{decimal}
 use Rattle.rec_format.specs.Versions.{version_text}
-use Rattle.rec_program.proofs.Lines.{part_after}
 use Rattle.rec_program.proofs.line.write_release.Goals as goal
+use Rattle.rec_program.proofs.Lines.{part_after}
 
 pub returns-clause-fault : goal.returns-clause-fault
 returns-clause-fault g c =

@@ -1,7 +1,7 @@
 use Rattle.std.proofs.Common.{◌≡◌, ◌+◌, length}
+use Rattle.rec_program.proofs.options.read_options.Given as goal
 use Rattle.rec_program.specs.Options.{no_values, options_at, values_from}
 use Rattle.rec_program.specs.Words.{texts}
-use Rattle.rec_program.proofs.options.read_options.Given as goal
 
 abbrev pub invariant-options : goal.invariant-options
 invariant-options l = record {

@@ -3,16 +3,16 @@ use Rattle.std.proofs.lemmas.Result.{err_from_is_err_and}
 use Rattle.rec_codec.specs.Event.{LiveEvent}
 use Rattle.rec_store.specs.Bundle.{outputs_stored, run_bundle}
 use Rattle.rec_store.specs.Reading.{IsReading, recorded}
-use Rattle.rec_program.specs.Bundle.{head_in, refusal_after, session_events}
-use Rattle.rec_program.specs.Session.{event_lines, events_of, head_text}
-use Rattle.rec_trace.specs.Refusals as traces
 use Rattle.rec_trace.proofs.Timelines.{timeline}
-use Rattle.rec_program.specs.SessionTraces.{run_trace, session_history}
-use Rattle.rec_program.specs.Prepared.{prepared_bundle}
-use Rattle.rec_program.specs.declared.refusal.RecordExportError.{RecordExportError}
-use Rattle.rec_program.specs.declared.refusal.RecordExportError.TheVariants.{OutOfMemory}
+use Rattle.rec_trace.specs.Refusals as traces
 use Rattle.rec_program.proofs.Judging.{after_head, events_after, refused_head}
 use Rattle.rec_program.proofs.prepare.prepare.Goals as goal
+use Rattle.rec_program.specs.Bundle.{head_in, refusal_after, session_events}
+use Rattle.rec_program.specs.declared.refusal.RecordExportError.TheVariants.{OutOfMemory}
+use Rattle.rec_program.specs.declared.refusal.RecordExportError.{RecordExportError}
+use Rattle.rec_program.specs.Prepared.{prepared_bundle}
+use Rattle.rec_program.specs.Session.{event_lines, events_of, head_text}
+use Rattle.rec_program.specs.SessionTraces.{run_trace, session_history}
 
 -- five facts of an answer make a sixth
 joined : {T E V W : Type 0} {P Q A R : T → Type 0} (r : Result T E) → ((x : T) → P x → Q x → A x → V → W → R x) → IfOk r P → IfOk r Q → IfOk r A → OnOk r V → OnOk r W → IfOk r R

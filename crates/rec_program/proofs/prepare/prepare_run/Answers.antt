@@ -3,17 +3,17 @@ use Rattle.std.proofs.lemmas.Result.{err_from_is_err_and}
 use Rattle.std.specs.Option.{option_map}
 use Rattle.rec_container.specs.Container.{spell}
 use Rattle.rec_format.specs.declared.sizes.RecordedSizes.{RecordedSizes}
+use Rattle.rec_store.proofs.ReadLaws.{bundle_reads_logged}
 use Rattle.rec_store.specs.Entries.{bundle_entries}
 use Rattle.rec_store.specs.Reading.{IsReading, recorded}
-use Rattle.rec_store.proofs.ReadLaws.{bundle_reads_logged}
-use Rattle.rec_program.specs.Session.{events_of}
-use Rattle.rec_program.specs.SessionTraces.{run_trace, session_history}
-use Rattle.rec_program.specs.TraceFaults.{trace_fault}
-use Rattle.rec_program.specs.declared.refusal.RecordExportError.{RecordExportError}
-use Rattle.rec_program.specs.declared.refusal.RecordExportError.TheVariants.{OutOfMemory}
 use Rattle.rec_program.proofs.Bundles.{same_entries, same_judged}
 use Rattle.rec_program.proofs.Judging.{refused_sizes, trace_left}
 use Rattle.rec_program.proofs.prepare.prepare_run.Goals as goal
+use Rattle.rec_program.specs.declared.refusal.RecordExportError.TheVariants.{OutOfMemory}
+use Rattle.rec_program.specs.declared.refusal.RecordExportError.{RecordExportError}
+use Rattle.rec_program.specs.Session.{events_of}
+use Rattle.rec_program.specs.SessionTraces.{run_trace, session_history}
+use Rattle.rec_program.specs.TraceFaults.{trace_fault}
 
 pub returns-in-Err-clause-err : goal.returns-in-Err-clause-err
 returns-in-Err-clause-err g c =

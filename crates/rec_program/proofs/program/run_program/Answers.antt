@@ -1,12 +1,12 @@
 use Rattle.std.proofs.Common.{List, ℕ, Result, subst}
 use Rattle.rec_store.specs.Namer.{sha256_number}
+use Rattle.rec_program.proofs.Commands.{info_printed, informed, recorded_whole, redrawn, shown_or_memory, trace_printed, traced}
+use Rattle.rec_program.proofs.program.run_program.Goals as goal
+use Rattle.rec_program.specs.declared.words.WordsError.{WordsError}
 use Rattle.rec_program.specs.LogTraces.{bundle_trace}
 use Rattle.rec_program.specs.ReadingCommands.{info_of, manifest_line, trace_of}
 use Rattle.rec_program.specs.Running.{Runs}
 use Rattle.rec_program.specs.Words.{Asked}
-use Rattle.rec_program.specs.declared.words.WordsError.{WordsError}
-use Rattle.rec_program.proofs.Commands.{info_printed, informed, recorded_whole, redrawn, shown_or_memory, trace_printed, traced}
-use Rattle.rec_program.proofs.program.run_program.Goals as goal
 
 pub returns-clause-recorded : goal.returns-clause-recorded
 returns-clause-recorded g c = λ path settings asked zeroed.

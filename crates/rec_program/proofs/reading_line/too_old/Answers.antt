@@ -1,8 +1,8 @@
 use Rattle.std.proofs.Common.{ℕ, List, [], ◌∷◌, ◌++◌, ap, codes, ◌∙◌}
+use Rattle.rec_program.proofs.reading_line.too_old.Goals as goal
 use Rattle.rec_program.specs.FaultLine.{fields_text, no_fields}
 use Rattle.rec_program.specs.LinePieces.{fields_bytes}
 use Rattle.rec_program.specs.ReadingLine.{majors}
-use Rattle.rec_program.proofs.reading_line.too_old.Goals as goal
 
 pub returns : goal.returns
 returns c = λ rest.

@@ -2,12 +2,12 @@ use Rattle.std.proofs.Common.{ap, sym, subst, ◌∙◌}
 use Rattle.std.proofs.lemmas.Result.{IfErr-weaker}
 use Rattle.rec_container.specs.Memory.{GrowingSinkState}
 use Rattle.rec_container.specs.Writing.{Writing}
+use Rattle.rec_program.proofs.record.end_run.Goals as goal
+use Rattle.rec_program.proofs.Recorded.{ended, text_taken}
+use Rattle.rec_program.proofs.RecorderFaults.{end_comes}
 use Rattle.rec_program.specs.Recorded.{IsRunOf}
 use Rattle.rec_program.specs.RecorderFaults.{ComesAtEnd}
 use Rattle.rec_program.specs.Sizes.{entries_refusal}
-use Rattle.rec_program.proofs.Recorded.{ended, text_taken}
-use Rattle.rec_program.proofs.RecorderFaults.{end_comes}
-use Rattle.rec_program.proofs.record.end_run.Goals as goal
 
 pub sizes_at_end-requires : goal.sizes_at_end-requires
 sizes_at_end-requires g c =

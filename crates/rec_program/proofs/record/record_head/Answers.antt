@@ -1,8 +1,8 @@
 use Rattle.rec_container.specs.Memory.{GrowingSinkState}
-use Rattle.rec_store.specs.Store.{store_entries}
 use Rattle.rec_store.proofs.Storing.{sound_stores}
-use Rattle.rec_program.proofs.Recorded.{text_taken}
+use Rattle.rec_store.specs.Store.{store_entries}
 use Rattle.rec_program.proofs.record.record_head.Goals as goal
+use Rattle.rec_program.proofs.Recorded.{text_taken}
 
 pub returns-in-Ok-clause-sound : goal.returns-in-Ok-clause-sound
 returns-in-Ok-clause-sound g c =

@@ -1,18 +1,18 @@
 use Rattle.std.proofs.Common.{[], ◌++◌, map, Option, Result, Some, OnOk, subst, sym}
 use Rattle.std.proofs.lemmas.Result.{err_from_is_err_and}
 use Rattle.std.specs.Option.{option_to_list}
+use Rattle.rec_codec.specs.declared.line_events.LineError.{LineError}
 use Rattle.rec_codec.specs.Event.{LiveEvent}
 use Rattle.rec_codec.specs.EventForms.{event_form}
 use Rattle.rec_codec.specs.LineEvents.{Answers}
 use Rattle.rec_codec.specs.Lines.{text_of}
 use Rattle.rec_codec.specs.LineView.{line_view}
 use Rattle.rec_codec.specs.Live.{live_form}
-use Rattle.rec_codec.specs.declared.line_events.LineError.{LineError}
 use Rattle.rec_store.specs.Bundle.{outputs_stored}
 use Rattle.rec_trace.specs.Kinds.{trace_input}
-use Rattle.rec_program.specs.SessionTraces.{IsTraceOf}
-use Rattle.rec_program.proofs.RecordedLines.{event_is_loaded, line_of_event, line_of_fault, line_recorded}
 use Rattle.rec_program.proofs.record.record_line.Goals as goal
+use Rattle.rec_program.proofs.RecordedLines.{event_is_loaded, line_of_event, line_of_fault, line_recorded}
+use Rattle.rec_program.specs.SessionTraces.{IsTraceOf}
 
 pub record_event-requires-clause-loaded : goal.record_event-requires-clause-loaded
 record_event-requires-clause-loaded g c =

@@ -1,16 +1,16 @@
 use Rattle.std.proofs.Common.{List, [], ◌++◌, map, Ok, ap, refl, sym, subst, append-nil, ◌∙◌}
 use Rattle.std.specs.Option.{option_to_list}
 use Rattle.rec_codec.specs.Event.{LiveEvent}
-use Rattle.rec_codec.specs.LineView.{line_view}
 use Rattle.rec_codec.specs.Lines.{NumberedLine}
-use Rattle.rec_program.specs.Recorded.{HasRecorded, RecordsLines}
+use Rattle.rec_codec.specs.LineView.{line_view}
 use Rattle.rec_trace.specs.Kinds.{trace_input}
 use Rattle.rec_trace.specs.Past.{TraceInput}
-use Rattle.rec_program.specs.Session.{event_at, events_of}
-use Rattle.rec_program.specs.SessionTraces.{IsTraceOf}
+use Rattle.rec_program.proofs.record.record_lines.Goals as goal
 use Rattle.rec_program.proofs.RecordedLines.{line_with, made_with, recorded_here}
 use Rattle.rec_program.proofs.SessionTraced.{inputs_next}
-use Rattle.rec_program.proofs.record.record_lines.Goals as goal
+use Rattle.rec_program.specs.Recorded.{HasRecorded, RecordsLines}
+use Rattle.rec_program.specs.Session.{event_at, events_of}
+use Rattle.rec_program.specs.SessionTraces.{IsTraceOf}
 
 pub loop-line-init : goal.loop-line-init
 loop-line-init g c =

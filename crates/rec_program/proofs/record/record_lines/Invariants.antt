@@ -1,17 +1,17 @@
 use Rattle.std.proofs.Common.{◌≡◌, false, List, ◌++◌, map, Result}
 use Rattle.std.specs.Bool.{⊤}
-use Rattle.rec_codec.specs.Event.{LiveEvent}
-use Rattle.rec_format.specs.declared.head.SessionHead.{SessionHead}
-use Rattle.rec_store.specs.Recording.{Recording, has_failed}
 use Rattle.rec_container.specs.Memory.{GrowingSinkState}
-use Rattle.rec_program.specs.Recorded.{HasRecorded, RecordsLines}
+use Rattle.rec_format.specs.declared.head.SessionHead.{SessionHead}
+use Rattle.rec_codec.specs.Event.{LiveEvent}
+use Rattle.rec_store.specs.Recording.{Recording, has_failed}
+use Rattle.rec_trace.specs.declared.settings.ChromeTraceGroupBy.{ChromeTraceGroupBy}
 use Rattle.rec_trace.specs.Kinds.{trace_input}
 use Rattle.rec_trace.specs.Past.{TraceInput}
-use Rattle.rec_trace.specs.declared.settings.ChromeTraceGroupBy.{ChromeTraceGroupBy}
+use Rattle.rec_program.proofs.record.record_lines.Given as goal
+use Rattle.rec_program.specs.declared.refusal.RecordExportError.{RecordExportError}
+use Rattle.rec_program.specs.Recorded.{HasRecorded, RecordsLines}
 use Rattle.rec_program.specs.Session.{events_of}
 use Rattle.rec_program.specs.SessionTraces.{IsTraceOf}
-use Rattle.rec_program.specs.declared.refusal.RecordExportError.{RecordExportError}
-use Rattle.rec_program.proofs.record.record_lines.Given as goal
 
 -- what the rest gives is what all give
 abbrev pub invariant-loop-line : goal.invariant-loop-line

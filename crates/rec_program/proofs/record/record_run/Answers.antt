@@ -1,14 +1,14 @@
 use Rattle.std.proofs.Common.{◌≡◌, [], Ok, Err, subst, sym, inl}
 use Rattle.std.proofs.lemmas.Result.{IfErr-weaker, IfOk-weaker}
+use Rattle.rec_container.specs.Memory.{GrowingSinkState}
 use Rattle.rec_store.specs.Recording.{Recording, Stores}
 use Rattle.rec_store.specs.Store.{store_entries}
-use Rattle.rec_container.specs.Memory.{GrowingSinkState}
-use Rattle.rec_program.specs.Session.{events_of}
-use Rattle.rec_program.specs.SessionTraces.{IsTraceOf, session_history}
-use Rattle.rec_program.specs.declared.record.RecordedInMemory.{RecordedInMemory}
+use Rattle.rec_program.proofs.record.record_run.Goals as goal
 use Rattle.rec_program.proofs.Recorded.{always, begun, text_taken}
 use Rattle.rec_program.proofs.RecordedLines.{lines_with, made_with}
-use Rattle.rec_program.proofs.record.record_run.Goals as goal
+use Rattle.rec_program.specs.declared.record.RecordedInMemory.{RecordedInMemory}
+use Rattle.rec_program.specs.Session.{events_of}
+use Rattle.rec_program.specs.SessionTraces.{IsTraceOf, session_history}
 
 pub returns-in-Err-clause-err : goal.returns-in-Err-clause-err
 returns-in-Err-clause-err g c =

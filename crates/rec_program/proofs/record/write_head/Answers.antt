@@ -1,11 +1,11 @@
 use Rattle.std.proofs.Common.{List, ℕ, ◌∷◌, [], ◌++◌, subst}
 use Rattle.std.proofs.lemmas.Result.{err_from_is_err_and, IfErr-weaker, on_ok_weaker}
+use Rattle.rec_store.proofs.Storing.{sound_stores, Stores-append, Unstored-after, Unstored-prefix}
 use Rattle.rec_store.specs.Recording.{Stores, Unstored}
 use Rattle.rec_store.specs.Store.{build_scope_entry, meta_entries, rerun_entries}
-use Rattle.rec_store.proofs.Storing.{sound_stores, Stores-append, Unstored-after, Unstored-prefix}
-use Rattle.rec_program.specs.RecorderFaults.{ComesOfHead}
-use Rattle.rec_program.proofs.RecorderFaults.{head_comes}
 use Rattle.rec_program.proofs.record.write_head.Goals as goal
+use Rattle.rec_program.proofs.RecorderFaults.{head_comes}
+use Rattle.rec_program.specs.RecorderFaults.{ComesOfHead}
 
 pub write_rerun-requires : goal.write_rerun-requires
 write_rerun-requires g c = record {

@@ -1,6 +1,6 @@
 use Rattle.std.proofs.Common.{◌≡◌, drop}
-use Rattle.rec_program.specs.Sizes.{entries_refusal}
 use Rattle.rec_program.proofs.sizes.first_too_large.Given as goal
+use Rattle.rec_program.specs.Sizes.{entries_refusal}
 
 -- the refusal of what is left is that of all
 abbrev pub invariant-loop-i : goal.invariant-loop-i

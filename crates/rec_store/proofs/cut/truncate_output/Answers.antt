@@ -2,8 +2,8 @@ use Rattle.std.proofs.Common.{◌≡◌, refl, sym, ap, ◌∙◌, ℕ, ◌+◌,
 use Rattle.std.proofs.lemmas.Bool.{lt-leb}
 use Rattle.std.proofs.lemmas.List.{take_all, length-drop}
 use Rattle.std.specs.Fmt.{decimal}
-use Rattle.rec_store.specs.Cut.{marker, last, cut}
 use Rattle.rec_store.proofs.cut.truncate_output.Goals as goal
+use Rattle.rec_store.specs.Cut.{marker, last, cut}
 
 abbrev start : List ℕ
 start = codes "\n\n... [truncated "

@@ -1,7 +1,7 @@
 use Rattle.std.proofs.Common.{[], ap, refl, ◌∙◌}
 use Rattle.std.proofs.lemmas.Result.{err_from_is_err_and}
-use Rattle.rec_trace.proofs.Converting.{converted-push, converts-all, refused-event, unread-event}
 use Rattle.rec_trace.proofs.convert.convert_to_chrome_trace.Goals as goal
+use Rattle.rec_trace.proofs.Converting.{converted-push, converts-all, refused-event, unread-event}
 
 pub loop-item-init : goal.loop-item-init
 loop-item-init g c = record { converted = ([], refl, c.new-builder.ensures) }

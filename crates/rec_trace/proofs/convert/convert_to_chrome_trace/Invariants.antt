@@ -1,5 +1,5 @@
-use Rattle.rec_trace.proofs.Converting.{HasConverted}
 use Rattle.rec_trace.proofs.convert.convert_to_chrome_trace.Given as goal
+use Rattle.rec_trace.proofs.Converting.{HasConverted}
 
 abbrev pub invariant-loop-item : goal.invariant-loop-item
 invariant-loop-item g l = record {

@@ -1,8 +1,8 @@
 use Rattle.std.proofs.Common.{string_bytes}
 use Rattle.std.proofs.lemmas.Result.{IfOk-weaker}
 use Rattle.serde_json.specs.View.{view}
-use Rattle.rec_trace.proofs.TraceTexts.{text-is}
 use Rattle.rec_trace.proofs.drawing.trace_text.Goals as goal
+use Rattle.rec_trace.proofs.TraceTexts.{text-is}
 
 pub returns : goal.returns
 returns c =

@@ -1,5 +1,5 @@
-use Rattle.rec_trace.proofs.Slices.{begins-are_slices, ends-are_slices}
 use Rattle.rec_trace.proofs.laws.slices.Goals as goal
+use Rattle.rec_trace.proofs.Slices.{begins-are_slices, ends-are_slices}
 
 pub returns-clause-begins : goal.returns-clause-begins
 returns-clause-begins c = begins-are_slices

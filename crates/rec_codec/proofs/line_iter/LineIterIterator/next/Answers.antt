@@ -1,8 +1,8 @@
 use Rattle.std.proofs.Common.{◌≡◌, ◌<◌, ◌∷◌, length, sym, ap, ◌∙◌, arith}
+use Rattle.rec_codec.proofs.line_iter.LineIterIterator.next.Goals as goal
+use Rattle.rec_codec.proofs.LineItemLemmas.{length-left_after, same_past_blank, gives_item, gives_none}
 use Rattle.rec_codec.specs.EventForms.{event_form}
 use Rattle.rec_codec.specs.LineView.{line_view}
-use Rattle.rec_codec.proofs.LineItemLemmas.{length-left_after, same_past_blank, gives_item, gives_none}
-use Rattle.rec_codec.proofs.line_iter.LineIterIterator.next.Goals as goal
 
 pub loop-line-smaller : goal.loop-line-smaller
 loop-line-smaller g c =

@@ -1,7 +1,7 @@
 use Rattle.std.proofs.Common.{◌≤◌, length}
-use Rattle.rec_codec.specs.EventForms.{event_form}
-use Rattle.rec_codec.proofs.LineItemLemmas.{GivesSame}
 use Rattle.rec_codec.proofs.line_iter.LineIterIterator.next.Given as goal
+use Rattle.rec_codec.proofs.LineItemLemmas.{GivesSame}
+use Rattle.rec_codec.specs.EventForms.{event_form}
 
 -- what is left gives what all gave
 abbrev pub invariant-loop-line : goal.invariant-loop-line

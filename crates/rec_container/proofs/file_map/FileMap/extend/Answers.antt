@@ -1,7 +1,7 @@
 use Rattle.std.proofs.Common.{rules, List, ℕ, ◌∙◌, ap, sym, subst, Some}
-use Rattle.rec_container.specs.MemoryDisks.{file_at, files_of, HasFile}
-use Rattle.rec_container.proofs.FileMaps.{extends_memory, extends_ok, file_updated, found_none, found_some}
 use Rattle.rec_container.proofs.file_map.FileMap.extend.Goals as goal
+use Rattle.rec_container.proofs.FileMaps.{extends_memory, extends_ok, file_updated, found_none, found_some}
+use Rattle.rec_container.specs.MemoryDisks.{file_at, files_of, HasFile}
 
 pub returns-in_default : goal.returns-in_default
 returns-in_default c = (

@@ -1,9 +1,9 @@
 use Rattle.std.proofs.Common.{◌∙◌, Bool, List, ℕ, String, ◌||◌, ap, sym, string_bytes}
-use Rattle.std.specs.List.{list_any}
 use Rattle.std.specs.declared.alloc.Global.{Global}
-use Rattle.rec_container.specs.MemoryDisks.{lies_at}
-use Rattle.rec_container.proofs.FileMaps.{any_keys}
+use Rattle.std.specs.List.{list_any}
 use Rattle.rec_container.proofs.file_map.FileMap.has_any.Goals as goal
+use Rattle.rec_container.proofs.FileMaps.{any_keys}
+use Rattle.rec_container.specs.MemoryDisks.{lies_at}
 
 abbrev any : List ℕ → List (String Global) → Bool
 any path names = list_any (λ n. lies_at path (string_bytes n)) names

@@ -1,7 +1,7 @@
 use Rattle.std.proofs.Common.{◌≡◌, string_bytes}
 use Rattle.std.specs.List.{list_any}
-use Rattle.rec_container.specs.MemoryDisks.{lies_at}
 use Rattle.rec_container.proofs.file_map.FileMap.has_any.Given as goal
+use Rattle.rec_container.specs.MemoryDisks.{lies_at}
 
 -- none was found so far
 abbrev pub invariant-loop-name : goal.invariant-loop-name

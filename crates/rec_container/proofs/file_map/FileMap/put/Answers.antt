@@ -1,7 +1,7 @@
 use Rattle.std.proofs.Common.{Some, subst, string_bytes}
-use Rattle.rec_container.specs.MemoryDisks.{files_of, HasFile}
-use Rattle.rec_container.proofs.FileMaps.{file_updated}
 use Rattle.rec_container.proofs.file_map.FileMap.put.Goals as goal
+use Rattle.rec_container.proofs.FileMaps.{file_updated}
+use Rattle.rec_container.specs.MemoryDisks.{files_of, HasFile}
 
 pub returns-clause-ok : goal.returns-clause-ok
 returns-clause-ok c =

@@ -1,10 +1,10 @@
-use Rattle.std.proofs.Common.{◌∙◌, sym, subst, refl, Some}
 use Rattle.std.proofs.Common.{List, ℕ}
+use Rattle.std.proofs.Common.{◌∙◌, sym, subst, refl, Some}
+use Rattle.rec_container.proofs.Entries.{same_bytes}
+use Rattle.rec_container.proofs.file_map.FileMap.rename.Goals as goal
+use Rattle.rec_container.proofs.FileMaps.{refuses_missing, renames_same, renames_other}
 use Rattle.rec_container.specs.Disks.{AreSame, with_file}
 use Rattle.rec_container.specs.MemoryDisks.{file_at}
-use Rattle.rec_container.proofs.Entries.{same_bytes}
-use Rattle.rec_container.proofs.FileMaps.{refuses_missing, renames_same, renames_other}
-use Rattle.rec_container.proofs.file_map.FileMap.rename.Goals as goal
 
 pub returns-in_default-clause-answer : goal.returns-in_default-clause-answer
 returns-in_default-clause-answer c = (refuses_missing _ c.in_default.ensures, λ _. refl)

@@ -1,8 +1,8 @@
 use Rattle.std.proofs.Common.{◌≡◌, ◌∙◌, [], ◌∷◌, ◌++◌, None, ap, refl}
+use Rattle.rec_container.proofs.indexed.IndexedEntries.push.Goals as goal
+use Rattle.rec_container.proofs.NameIndex.{HasContents-push}
 use Rattle.rec_container.specs.Container.{content_of}
 use Rattle.rec_container.specs.Placed.{placed_entries}
-use Rattle.rec_container.proofs.NameIndex.{HasContents-push}
-use Rattle.rec_container.proofs.indexed.IndexedEntries.push.Goals as goal
 
 pub invariant_of-self-2 : goal.invariant_of-self-2
 invariant_of-self-2 c =

@@ -1,8 +1,8 @@
 use Rattle.std.proofs.Common.{◌∙◌, List, ℕ, ap}
 use Rattle.std.specs.List.{list_any}
-use Rattle.rec_container.specs.MemoryDisks.{MemoryDiskState, lies_at}
 use Rattle.rec_container.proofs.FileMaps.{any_there}
 use Rattle.rec_container.proofs.memory_disk.MemoryDiskDisk.exists.Goals as goal
+use Rattle.rec_container.specs.MemoryDisks.{MemoryDiskState, lies_at}
 
 pub returns-clause-answer : goal.returns-clause-answer
 returns-clause-answer c =

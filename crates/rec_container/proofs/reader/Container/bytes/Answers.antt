@@ -1,9 +1,9 @@
 use Rattle.std.proofs.Common.{◌∙◌, ap, sym, arith, length, map, slice_get}
 use Rattle.std.proofs.lemmas.List.{length-map}
-use Rattle.rec_container.specs.Container.{Entry, ParsedContainer}
-use Rattle.rec_container.specs.Placed.{placed_entry}
 use Rattle.rec_container.proofs.Placed.{slice_get-placed_entries}
 use Rattle.rec_container.proofs.reader.Container.bytes.Goals as goal
+use Rattle.rec_container.specs.Container.{Entry, ParsedContainer}
+use Rattle.rec_container.specs.Placed.{placed_entry}
 
 pub returns : goal.returns
 returns c =

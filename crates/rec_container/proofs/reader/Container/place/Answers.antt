@@ -1,9 +1,9 @@
 use Rattle.std.proofs.Common.{◌∙◌, List, ap, subst, arith, length, map, ℕ, Some, ◌≡◌, slice_get}
 use Rattle.std.proofs.lemmas.List.{length-map}
-use Rattle.rec_container.specs.Container.{Entry, ParsedContainer, place_from, StandsWithin}
-use Rattle.rec_container.specs.Placed.{placed_entry}
 use Rattle.rec_container.proofs.Placed.{placed_at, content_placed}
 use Rattle.rec_container.proofs.reader.Container.place.Goals as goal
+use Rattle.rec_container.specs.Container.{Entry, ParsedContainer, place_from, StandsWithin}
+use Rattle.rec_container.specs.Placed.{placed_entry}
 
 pub entry-requires : goal.entry-requires
 entry-requires c = omega (arith, c.requires, ap (λ (p : ParsedContainer). length p.entries) c.self.view_is, length-map c.self.inside.entries placed_entry)

@@ -1,7 +1,7 @@
 use Rattle.std.proofs.Common.{ap, ◌∙◌}
+use Rattle.rec_events.proofs.test_names.TestNames.insert.Goals as goal
 use Rattle.rec_events.specs.Names.{texts, with_name}
 use Rattle.rec_events.specs.PairLaws.{texts-insert_key}
-use Rattle.rec_events.proofs.test_names.TestNames.insert.Goals as goal
 
 pub returns-clause-put : goal.returns-clause-put
 returns-clause-put c =

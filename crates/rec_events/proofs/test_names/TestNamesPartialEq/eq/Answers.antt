@@ -1,9 +1,9 @@
-use Rattle.std.specs.Prelude.{◌==◌}
-use Rattle.std.specs.Cmp.Lexicographic.{pointwise}
 use Rattle.std.proofs.Common.{ap, ◌∙◌}
+use Rattle.std.specs.Cmp.Lexicographic.{pointwise}
+use Rattle.std.specs.Prelude.{◌==◌}
+use Rattle.rec_events.proofs.test_names.TestNamesPartialEq.eq.Goals as goal
 use Rattle.rec_events.specs.Names.{texts}
 use Rattle.rec_events.specs.PairLaws.{texts-eq}
-use Rattle.rec_events.proofs.test_names.TestNamesPartialEq.eq.Goals as goal
 
 pub returns : goal.returns
 returns c =

@@ -1,5 +1,5 @@
-use Rattle.rec_events.specs.PairLaws.{KeysRise-pairs, AreTexts-pairs}
 use Rattle.rec_events.proofs.text_map.TextMap.as_map.Goals as goal
+use Rattle.rec_events.specs.PairLaws.{KeysRise-pairs, AreTexts-pairs}
 
 pub returns-clause-rise : goal.returns-clause-rise
 returns-clause-rise g c = rw (← c.self.view_is) (KeysRise-pairs c.self.inside.inner.entries c.len-ordered.ensures.ordered)

@@ -1,7 +1,7 @@
 use Rattle.std.proofs.Common.{ap, ◌∙◌}
-use Rattle.rec_events.specs.Pairs.{pairs, put_pair}
-use Rattle.rec_events.specs.PairLaws.{pairs-insert_entry}
 use Rattle.rec_events.proofs.text_map.TextMap.insert.Goals as goal
+use Rattle.rec_events.specs.PairLaws.{pairs-insert_entry}
+use Rattle.rec_events.specs.Pairs.{pairs, put_pair}
 
 pub returns-clause-put : goal.returns-clause-put
 returns-clause-put g c =

@@ -1,9 +1,9 @@
-use Rattle.std.specs.Prelude.{◌==◌, ◌&&◌}
-use Rattle.std.specs.Cmp.Lexicographic.{pointwise}
 use Rattle.std.proofs.Common.{ap, ◌∙◌}
+use Rattle.std.specs.Cmp.Lexicographic.{pointwise}
+use Rattle.std.specs.Prelude.{◌==◌, ◌&&◌}
+use Rattle.rec_events.proofs.text_map.TextMapPartialEq.eq.Goals as goal
 use Rattle.rec_events.specs.PairLaws.{pairs-eq}
 use Rattle.rec_events.specs.Pairs.{pairs}
-use Rattle.rec_events.proofs.text_map.TextMapPartialEq.eq.Goals as goal
 
 pub returns : goal.returns
 returns g c =

@@ -1,7 +1,7 @@
 use Rattle.std.proofs.Common.{Some, None}
-use Rattle.rec_format.specs.Paths.{pieces}
 use Rattle.rec_format.proofs.PathPieces.{pieces_split, dict_alone, dict_elsewhere}
 use Rattle.rec_format.proofs.paths.OutputDict.for_path.Goals as goal
+use Rattle.rec_format.specs.Paths.{pieces}
 
 pub returns-in_default : goal.returns-in_default
 returns-in_default c = rw (pieces_split c.args.path.now None c.in_default.ensures.cases) (dict_alone c.args.path.now)

@@ -1,7 +1,7 @@
 use Rattle.std.proofs.Common.{◌≡◌, ◌∷◌, ◌+◌, [], sym, ◌∙◌, ap, drop, subst}
 use Rattle.std.proofs.lemmas.List.{drop_more, drop_all}
-use Rattle.rec_format.proofs.RunIdMaps.{IsPartOf, IsPartOf-start, IsPartOf-put, IsPartOf-end}
 use Rattle.rec_format.proofs.run_ids.RunIdIndex.new.Goals as goal
+use Rattle.rec_format.proofs.RunIdMaps.{IsPartOf, IsPartOf-start, IsPartOf-put, IsPartOf-end}
 
 pub loop-id-init : goal.loop-id-init
 loop-id-init c = rw c.new-entries.ensures.empty (IsPartOf-start c.args.ids.now)

@@ -1,8 +1,8 @@
+use Rattle.std.proofs.Common.{string_bytes}
 use Rattle.std.proofs.Common.{◌+◌, arith, sym, ap, ◌∙◌, is_some, take, drop}
 use Rattle.std.proofs.lemmas.Str.{IsCharBoundary-from_ascii}
-use Rattle.std.proofs.Common.{string_bytes}
-use Rattle.rec_format.proofs.RunIdMaps.{found, not_there, most_apart, fits, cut_shortest, text_length, text_ascii}
 use Rattle.rec_format.proofs.run_ids.RunIdIndex.shortest_unique_prefix.Goals as goal
+use Rattle.rec_format.proofs.RunIdMaps.{found, not_there, most_apart, fits, cut_shortest, text_length, text_ascii}
 
 pub returns-then-not-contains_key : goal.returns-then-not-contains_key
 returns-then-not-contains_key c =

@@ -1,8 +1,8 @@
 use Rattle.std.proofs.Common.{◌≡◌, ◌∙◌, ap, string_bytes}
-use Rattle.rec_format.specs.Suites.{put_suite, suite_of}
-use Rattle.rec_format.specs.SuiteEntries.{suites_in}
 use Rattle.rec_format.proofs.SuiteMaps.{lookup-suites, suites_in-insert_entry, AreNamed-insert_entry}
 use Rattle.rec_format.proofs.suites.RerunSuites.insert.Goals as goal
+use Rattle.rec_format.specs.SuiteEntries.{suites_in}
+use Rattle.rec_format.specs.Suites.{put_suite, suite_of}
 
 pub invariant_of-self-2 : goal.invariant_of-self-2
 invariant_of-self-2 c =

@@ -1,13 +1,13 @@
 use Rattle.std.proofs.Common.{◌≡◌, ◌≢◌, ℕ, List, Bool, true, false, if◌then◌else◌, Some, codes, refl, sym, ap, ◌∙◌, string_bytes}
-use Rattle.std.specs.Str.{bytes_eq, is_utf8}
 use Rattle.std.proofs.lemmas.Slice.Eq.{bytes_eq-Decides}
 use Rattle.std.proofs.lemmas.Str.{is_utf8-from_IsUtf8, IsUtf8-string_bytes}
+use Rattle.std.specs.Str.{bytes_eq, is_utf8}
 use Rattle.serde_json.specs.Data.{Data}
 use Rattle.serde_json.specs.Find.{as_str}
 use Rattle.serde_json.specs.View.{view}
 use Rattle.rec_events.specs.declared.groups.TestGroup.TheVariants.{Global, Custom}
-use Rattle.rec_forms.specs.Groups.{test_group_form}
 use Rattle.rec_forms.proofs.groups.TestGroupForm.from_value.Goals as goal
+use Rattle.rec_forms.specs.Groups.{test_group_form}
 
 custom : (b : Bool) (s : List ℕ) → (b ≡ true → s ≡ codes "@global") → s ≢ codes "@global" → (if b then Global else Custom s) ≡ Custom s
 custom true s same other = absurd (other (same refl))

@@ -1,7 +1,7 @@
 use Rattle.std.proofs.Common.{◌≡◌, ◌++◌, drop, option_map}
 use Rattle.serde_json.specs.View.{items_view}
-use Rattle.rec_forms.specs.Lists.{each}
 use Rattle.rec_forms.proofs.lists.ItemsForm.from_value.Given as goal
+use Rattle.rec_forms.specs.Lists.{each}
 
 -- what is left completes the list
 abbrev pub invariant-loop-value : goal.invariant-loop-value

@@ -1,11 +1,11 @@
 use Rattle.std.proofs.Common.{◌≡◌}
 use Rattle.std.specs.List.{AllByRecursion}
-use Rattle.serde_json.specs.View.{members_view}
 use Rattle.serde_json.specs.Data.{no_members}
+use Rattle.serde_json.specs.View.{members_view}
 use Rattle.rec_events.specs.Pairs.{pairs}
-use Rattle.rec_forms.specs.Shape.{with_members}
-use Rattle.rec_forms.specs.Maps.{map_fields, each_value}
 use Rattle.rec_forms.proofs.maps.TextMapForm.to_value.Given as goal
+use Rattle.rec_forms.specs.Maps.{map_fields, each_value}
+use Rattle.rec_forms.specs.Shape.{with_members}
 
 -- what is left completes the object
 abbrev pub invariant-loop-key : goal.invariant-loop-key

@@ -1,7 +1,7 @@
 use Rattle.std.specs.List.{AllByRecursion}
 use Rattle.rec_events.specs.Pairs.{pairs}
-use Rattle.rec_forms.specs.Maps.{each_value}
 use Rattle.rec_forms.proofs.maps.TextMapHeld.held.Given as goal
+use Rattle.rec_forms.specs.Maps.{each_value}
 
 -- what is left decides
 abbrev pub invariant-loop-item : goal.invariant-loop-item

@@ -2,9 +2,9 @@ use Rattle.std.proofs.Common.{◌≡◌, ◌<◌, ◌∙◌, ◌&&◌, Bool, ap,
 use Rattle.std.specs.Int.{from_bool}
 use Rattle.rec_container.specs.Container.{Entry}
 use Rattle.rec_format.specs.Paths.{is_zip_path}
-use Rattle.rec_portable.specs.Judging.{is_file}
 use Rattle.rec_portable.proofs.Counted.{counted_more, not_above}
 use Rattle.rec_portable.proofs.file_counts.FileCounts.of_entries.Goals as goal
+use Rattle.rec_portable.specs.Judging.{is_file}
 
 abbrev is_zip_file : List ℕ → Bool
 is_zip_file name = is_file name && is_zip_path name

@@ -1,8 +1,8 @@
 use Rattle.std.proofs.Common.{◌≡◌, ◌≤◌, ◌&&◌, take, count_by}
 use Rattle.rec_container.specs.Container.{Entry}
 use Rattle.rec_format.specs.Paths.{is_zip_path}
-use Rattle.rec_portable.specs.Judging.{is_file}
 use Rattle.rec_portable.proofs.file_counts.FileCounts.of_entries.Given as goal
+use Rattle.rec_portable.specs.Judging.{is_file}
 
 -- the entries before are counted
 abbrev pub invariant-loop-i : goal.invariant-loop-i

@@ -1,9 +1,9 @@
 use Rattle.std.proofs.Common.{subst, Ok, ◌≡◌}
 use Rattle.rec_format.specs.declared.manifest.PortableManifest.{PortableManifest}
-use Rattle.rec_portable.specs.Judging.{IsJudged}
-use Rattle.rec_portable.specs.Opening.{Opening}
 use Rattle.rec_portable.proofs.Opened.{is_judged, one_manifest}
 use Rattle.rec_portable.proofs.recording.PortableRecording.manifest.Goals as goal
+use Rattle.rec_portable.specs.Judging.{IsJudged}
+use Rattle.rec_portable.specs.Opening.{Opening}
 
 pub returns-clause-judged : goal.returns-clause-judged
 returns-clause-judged c =

@@ -1,7 +1,7 @@
 use Rattle.std.proofs.Common.{refl, subst, List, ℕ}
-use Rattle.rec_portable.specs.Opening.{IsOpen}
 use Rattle.rec_portable.proofs.Opened.{is_judged}
 use Rattle.rec_portable.proofs.recording.PortableRecording.open.Goals as goal
+use Rattle.rec_portable.specs.Opening.{IsOpen}
 
 pub returns-clause-ok : goal.returns-clause-ok
 returns-clause-ok g c =

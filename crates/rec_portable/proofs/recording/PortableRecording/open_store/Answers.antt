@@ -2,11 +2,11 @@ use Rattle.std.proofs.Common.{◌∙◌, ap, subst, List, ℕ, Option}
 use Rattle.std.specs.Option.{option_map}
 use Rattle.rec_container.specs.Container.{Entry, IsContainer, content_of}
 use Rattle.rec_store.specs.Entries.{store_name}
+use Rattle.rec_portable.proofs.Opened.{store_shown}
+use Rattle.rec_portable.proofs.recording.PortableRecording.open_store.Goals as goal
 use Rattle.rec_portable.specs.Opening.{Opening}
 use Rattle.rec_portable.specs.OuterEntries.{OpensStore}
 use Rattle.rec_portable.specs.Windows.{bytes_in}
-use Rattle.rec_portable.proofs.Opened.{store_shown}
-use Rattle.rec_portable.proofs.recording.PortableRecording.open_store.Goals as goal
 
 pub returns : goal.returns
 returns c =

@@ -1,12 +1,12 @@
 use Rattle.std.proofs.Common.{◌∙◌, ap, subst, List, ℕ, Option}
 use Rattle.std.specs.Option.{option_map}
 use Rattle.rec_container.specs.Container.{Entry, IsContainer}
+use Rattle.rec_portable.proofs.Opened.{log_shown}
+use Rattle.rec_portable.proofs.recording.PortableRecording.read_run_log.Goals as goal
 use Rattle.rec_portable.specs.Errors.{Reads}
 use Rattle.rec_portable.specs.Opening.{Opening}
 use Rattle.rec_portable.specs.OuterEntries.{log_found, log_part}
 use Rattle.rec_portable.specs.Windows.{bytes_in}
-use Rattle.rec_portable.proofs.Opened.{log_shown}
-use Rattle.rec_portable.proofs.recording.PortableRecording.read_run_log.Goals as goal
 
 pub returns : goal.returns
 returns c =

@@ -1,11 +1,11 @@
 use Rattle.std.proofs.Common.{subst, Ok}
 use Rattle.std.specs.Prelude.{◌≡◌, IfOk}
-use Rattle.rec_format.specs.Runs.{info_of}
 use Rattle.rec_format.specs.declared.manifest.PortableManifest.{PortableManifest}
-use Rattle.rec_portable.specs.Judging.{IsJudged}
-use Rattle.rec_portable.specs.Opening.{Opening}
+use Rattle.rec_format.specs.Runs.{info_of}
 use Rattle.rec_portable.proofs.Opened.{one_manifest}
 use Rattle.rec_portable.proofs.recording.PortableRecording.run_info.Goals as goal
+use Rattle.rec_portable.specs.Judging.{IsJudged}
+use Rattle.rec_portable.specs.Opening.{Opening}
 
 pub returns : goal.returns
 returns c =

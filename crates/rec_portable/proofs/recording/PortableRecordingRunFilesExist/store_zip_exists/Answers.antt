@@ -2,9 +2,9 @@ use Rattle.std.proofs.Common.{◌≡◌, ◌∙◌, subst, List}
 use Rattle.std.specs.Prelude.{is_some}
 use Rattle.rec_container.specs.Container.{Entry, IsContainer, content_of}
 use Rattle.rec_store.specs.Entries.{store_name}
-use Rattle.rec_portable.specs.Opening.{Opening}
 use Rattle.rec_portable.proofs.Opened.{store_there}
 use Rattle.rec_portable.proofs.recording.PortableRecordingRunFilesExist.store_zip_exists.Goals as goal
+use Rattle.rec_portable.specs.Opening.{Opening}
 
 pub returns : goal.returns
 returns c =

@@ -2,9 +2,9 @@ use Rattle.std.proofs.Common.{subst, string_bytes}
 use Rattle.rec_store.specs.Entries.{cargo_metadata_path}
 use Rattle.rec_store.specs.Parts.{utf8_part}
 use Rattle.rec_store.specs.Readers.{Reads}
-use Rattle.rec_portable.specs.Stores.{StoreReading}
-use Rattle.rec_portable.proofs.StoreParts.{answers_entries}
 use Rattle.rec_portable.proofs.store.PortableStoreReaderStoreReader.read_cargo_metadata.Goals as goal
+use Rattle.rec_portable.proofs.StoreParts.{answers_entries}
+use Rattle.rec_portable.specs.Stores.{StoreReading}
 
 pub returns-clause-answer : goal.returns-clause-answer
 returns-clause-answer c =

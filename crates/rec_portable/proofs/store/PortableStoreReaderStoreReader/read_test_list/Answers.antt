@@ -3,9 +3,9 @@ use Rattle.rec_forms.specs.Recording.{test_list_form}
 use Rattle.rec_store.specs.Entries.{test_list_path}
 use Rattle.rec_store.specs.Parts.{metadata_part}
 use Rattle.rec_store.specs.Readers.{Reads}
-use Rattle.rec_portable.specs.Stores.{StoreReading}
-use Rattle.rec_portable.proofs.StoreParts.{answers_entries}
 use Rattle.rec_portable.proofs.store.PortableStoreReaderStoreReader.read_test_list.Goals as goal
+use Rattle.rec_portable.proofs.StoreParts.{answers_entries}
+use Rattle.rec_portable.specs.Stores.{StoreReading}
 
 pub returns-clause-answer : goal.returns-clause-answer
 returns-clause-answer c =

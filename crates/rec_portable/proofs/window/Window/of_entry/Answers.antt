@@ -1,9 +1,9 @@
 use Rattle.std.proofs.Common.{◌≡◌, ◌≤◌, ◌∙◌, sym, subst, arith, length, Option, List, ℕ, Some, None, true, false}
 use Rattle.std.specs.Str.{bytes_eq}
-use Rattle.rec_portable.specs.Windows.{IsWindowOf}
-use Rattle.rec_portable.specs.declared.window.Window.{Window}
 use Rattle.rec_portable.proofs.Places.{content_here, content_later, content_missing}
 use Rattle.rec_portable.proofs.window.Window.of_entry.Goals as goal
+use Rattle.rec_portable.specs.declared.window.Window.{Window}
+use Rattle.rec_portable.specs.Windows.{IsWindowOf}
 
 pub returns-then-eq : goal.returns-then-eq
 returns-then-eq c =

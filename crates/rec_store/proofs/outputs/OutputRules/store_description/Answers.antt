@@ -3,8 +3,8 @@ use Rattle.std.proofs.lemmas.Result.{err_from_is_err_and}
 use Rattle.rec_events.specs.declared.outputs.ZipStoreOutput.{ZipStoreOutput}
 use Rattle.rec_events.specs.declared.outputs.ZipStoreOutputDescription.TheVariants.{Split, Combined}
 use Rattle.rec_store.proofs.Adding.{AddsEach-append}
-use Rattle.rec_store.proofs.Stopped.{Stops-prefix, Stops-after}
 use Rattle.rec_store.proofs.outputs.OutputRules.store_description.Goals as goal
+use Rattle.rec_store.proofs.Stopped.{Stops-prefix, Stops-after}
 
 split : {a b c d : Option ZipStoreOutput} → a ≡ c → b ≡ d → Split a b ≡ Split c d
 split p q = rw (p, q)

@@ -1,18 +1,18 @@
 use Rattle.std.proofs.Common.{◌≡◌, ℕ, ◌+◌, ◌<◌, List, [], ◌∷◌, ◌++◌, length, map, refl, sym, ap, ◌∙◌, subst, inr, arith, append_assoc, rules}
-use Rattle.std.proofs.lemmas.Result.{err_from_is_err_and}
 use Rattle.std.proofs.lemmas.List.{append-nil, length-map}
+use Rattle.std.proofs.lemmas.Result.{err_from_is_err_and}
 use Rattle.std.specs.List.{flat_map}
 use Rattle.std.specs.Vec.Iter.{into_iter_items}
-use Rattle.rec_store.specs.declared.error.RunStoreError.TheVariants.{OutOfMemory}
-use Rattle.rec_store.specs.EventOutputs.{Live, Recorded, status_entries, status_recorded}
-use Rattle.rec_store.specs.Recording.{AddsEach}
-use Rattle.rec_store.specs.Stopping.{Stops}
 use Rattle.rec_events.specs.declared.results.FlakyResult.{FlakyResult}
 use Rattle.rec_events.specs.declared.statuses.ExecuteStatus.{ExecuteStatus}
 use Rattle.rec_events.specs.declared.statuses.ExecutionStatuses.{ExecutionStatuses}
 use Rattle.rec_store.proofs.Adding.{AddsEach-append}
-use Rattle.rec_store.proofs.Stopped.{Stops-prefix, Stops-after, none_added}
 use Rattle.rec_store.proofs.outputs.OutputRules.store_statuses.Goals as goal
+use Rattle.rec_store.proofs.Stopped.{Stops-prefix, Stops-after, none_added}
+use Rattle.rec_store.specs.declared.error.RunStoreError.TheVariants.{OutOfMemory}
+use Rattle.rec_store.specs.EventOutputs.{Live, Recorded, status_entries, status_recorded}
+use Rattle.rec_store.specs.Recording.{AddsEach}
+use Rattle.rec_store.specs.Stopping.{Stops}
 
 nothing_left : {A : Type 0} (xs : List A) → length xs ≡ 0 → xs ≡ []
 nothing_left [] h = refl

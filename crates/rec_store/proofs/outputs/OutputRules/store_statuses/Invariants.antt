@@ -2,11 +2,11 @@ use Rattle.std.proofs.Common.{◌≡◌, ◌++◌, length, map, false}
 use Rattle.std.specs.List.{flat_map}
 use Rattle.std.specs.Vec.Iter.{into_iter_items, into_iter_len}
 use Rattle.rec_container.specs.Writing.{Writing}
+use Rattle.rec_store.proofs.outputs.OutputRules.store_statuses.Given as goal
 use Rattle.rec_store.specs.declared.error.RunStoreError.{RunStoreError}
 use Rattle.rec_store.specs.EventOutputs.{status_entries, status_recorded}
 use Rattle.rec_store.specs.Recording.{AddsEach}
 use Rattle.rec_store.specs.Stopping.{Stops}
-use Rattle.rec_store.proofs.outputs.OutputRules.store_statuses.Given as goal
 
 -- what is left completes what was stored
 abbrev pub invariant-loop-status : goal.invariant-loop-status

@@ -1,7 +1,7 @@
 use Rattle.std.proofs.Common.{refl, inl, inr}
 use Rattle.std.proofs.lemmas.Result.{on_ok_weaker, err_from_is_err_and}
-use Rattle.rec_store.proofs.Refusals.{if_err_weaker}
 use Rattle.rec_store.proofs.recorder.RunRecorder.store_three.Goals as goal
+use Rattle.rec_store.proofs.Refusals.{if_err_weaker}
 
 pub returns-in_err-store_entry-2-clause-err : goal.returns-in_err-store_entry-2-clause-err
 returns-in_err-store_entry-2-clause-err g c =

@@ -3,13 +3,13 @@ use Rattle.std.proofs.lemmas.Result.{on_ok_weaker}
 use Rattle.serde_json.specs.Written.{compact_text}
 use Rattle.rec_container.specs.Container.{Entry}
 use Rattle.rec_forms.specs.Recording.{test_list_value, record_opts_value}
-use Rattle.rec_store.specs.Entries.{three_entries}
-use Rattle.rec_store.specs.Recording.{AddsEach, AddsUpTo}
-use Rattle.rec_store.specs.declared.error.RunStoreError.{RunStoreError}
 use Rattle.rec_store.proofs.Counts.{counts_of_store}
 use Rattle.rec_store.proofs.Growing.{keeps_all}
-use Rattle.rec_store.proofs.Refusals.{if_err_weaker}
 use Rattle.rec_store.proofs.recorder.RunRecorder.write_meta.Goals as goal
+use Rattle.rec_store.proofs.Refusals.{if_err_weaker}
+use Rattle.rec_store.specs.declared.error.RunStoreError.{RunStoreError}
+use Rattle.rec_store.specs.Entries.{three_entries}
+use Rattle.rec_store.specs.Recording.{AddsEach, AddsUpTo}
 
 -- three texts, where two of them are known
 same_entries : (a b c metadata texts opts : List ℕ) → a ≡ texts → b ≡ metadata → c ≡ opts → three_entries a b c ≡ three_entries texts metadata opts

@@ -1,8 +1,8 @@
 use Rattle.std.proofs.Common.{refl}
 use Rattle.std.proofs.lemmas.Result.{err_from_is_err_and}
-use Rattle.rec_trace.specs.Kinds.{trace_input}
-use Rattle.rec_trace.proofs.Tracing.{refused-traced, traced-push}
 use Rattle.rec_trace.proofs.builder.TraceBuilder.process_event.Goals as goal
+use Rattle.rec_trace.proofs.Tracing.{refused-traced, traced-push}
+use Rattle.rec_trace.specs.Kinds.{trace_input}
 
 pub returns-in_err-events : goal.returns-in_err-events
 returns-in_err-events g c history has =

@@ -1,8 +1,8 @@
 use Rattle.std.proofs.Common.{◌≡◌, map, ◌++◌}
 use Rattle.std.specs.List.{AllByRecursion}
 use Rattle.serde_json.specs.View.{view}
-use Rattle.rec_format.specs.SuiteForms.{suite_value, IsSuite}
 use Rattle.rec_format.proofs.forms.suites.RerunSuitesForm.to_value.Given as goal
+use Rattle.rec_format.specs.SuiteForms.{suite_value, IsSuite}
 
 -- what is left completes the array
 abbrev pub invariant-loop-suite : goal.invariant-loop-suite

@@ -1,6 +1,6 @@
 use Rattle.std.specs.List.{AllByRecursion}
-use Rattle.rec_format.specs.SuiteForms.{IsSuite}
 use Rattle.rec_format.proofs.forms.suites.RerunSuitesHeld.held.Given as goal
+use Rattle.rec_format.specs.SuiteForms.{IsSuite}
 
 -- what is left decides
 abbrev pub invariant-loop-suite : goal.invariant-loop-suite
