@@ -7,6 +7,7 @@ use Rattle.rec_codec.specs.declared.line_events.LineError.TheVariants as faults
 use Rattle.rec_codec.specs.declared.line_events.LineError.{LineError}
 use Rattle.rec_codec.specs.Event.{RecordedEvent}
 use Rattle.rec_trace.proofs.Acceptance.{accepted-prefix}
+use Rattle.rec_trace.proofs.Histories.{history-append}
 use Rattle.rec_trace.proofs.Prefixes.{marks_after-append}
 use Rattle.rec_trace.proofs.Timelines.{timeline}
 use Rattle.rec_trace.specs.Converting.{Converts, HasNoTrace, KeepsPrefixes, fault_error}
@@ -15,30 +16,30 @@ use Rattle.rec_trace.specs.declared.errors.ChromeTraceError.TheVariants.{OutOfMe
 use Rattle.rec_trace.specs.declared.errors.ChromeTraceError.{ChromeTraceError}
 use Rattle.rec_trace.specs.declared.settings.ChromeTraceGroupBy.{ChromeTraceGroupBy}
 use Rattle.rec_trace.specs.declared.settings.ChromeTraceMessageFormat.{ChromeTraceMessageFormat}
-use Rattle.rec_trace.specs.Drawing.{trace_text}
 use Rattle.rec_trace.specs.History.{after, marks_after, trace_marks}
-use Rattle.rec_trace.specs.Kinds.{history, trace_input}
-use Rattle.rec_trace.specs.Past.{TraceInput}
+use Rattle.rec_trace.specs.Kinds.{history, history_after}
+use Rattle.rec_trace.specs.Plain.{PlainEvent, plain}
 use Rattle.rec_trace.specs.Refusals.{history_refusal}
-use Rattle.rec_trace.specs.Traces.{HasTraced}
+use Rattle.rec_trace.specs.Traces.{HasTraced, events_refusal, trace_text}
 
 -- the builder has traced the events that these items hold
 abbrev pub HasConverted : ChromeTraceGroupBy → List (Result RecordedEvent LineError) → TraceBuilder → Type 0
-HasConverted g items b = (events : List RecordedEvent) × (items ≡ map Ok events) × HasTraced g (history g events) b
+HasConverted g items b = (events : List RecordedEvent) × (items ≡ map Ok events) × HasTraced g (map plain events) b
 
 -- ---- what a trace keeps
 
--- the history of two lists of events
-history-append : (g : ChromeTraceGroupBy) (xs ys : List RecordedEvent) → history g (xs ++ ys) ≡ history g xs ++ history g ys
-history-append g xs ys = map-append (trace_input g) xs ys
-
 -- each prefix of events that have a trace has one too
-pub keeps-prefixes : (g : ChromeTraceGroupBy) (events : List RecordedEvent) → history_refusal (history g events) ≡ None → KeepsPrefixes g events
+pub keeps-prefixes : (g : ChromeTraceGroupBy) (events : List PlainEvent) → events_refusal g events ≡ None → KeepsPrefixes g events
 keeps-prefixes g events ok xs ys is =
-    let parts : history g events ≡ history g xs ++ history g ys = ap (history g) is ∙ history-append g xs ys in (
-      accepted-prefix (history g xs) (history g ys) (ap history_refusal (sym parts) ∙ ok),
-      (marks_after (after [] (history g xs)) (history g ys), ap trace_marks parts ∙ marks_after-append [] (history g xs) (history g ys)),
+    let more = history_after g (after [] (history g xs)) ys in
+    let parts : history g events ≡ history g xs ++ more = ap (history g) is ∙ history-append g xs ys in (
+      accepted-prefix (history g xs) more (ap history_refusal (sym parts) ∙ ok),
+      (marks_after (after [] (history g xs)) more, ap trace_marks parts ∙ marks_after-append [] (history g xs) more),
     )
+
+-- plain events with one event more
+plain-push : (events : List RecordedEvent) (event : RecordedEvent) → map plain (events ++ event ∷ []) ≡ map plain events ++ plain event ∷ []
+plain-push events event = map-append plain events (event ∷ [])
 
 -- ---- one item more
 
@@ -55,22 +56,22 @@ items-push items item events event all is = ap (λ v. items ++ v ∷ []) is ∙ 
 module _ (g : ChromeTraceGroupBy) (b : TraceBuilder) (items : List (Result RecordedEvent LineError)) (converted : HasConverted g items b) where
   -- an event that was traced is converted with those before it
   pub converted-push : (new : TraceBuilder) (item : Result RecordedEvent LineError) (event : RecordedEvent) → item ≡ Ok event →
-      ((past : List TraceInput) → HasTraced b.group_by past b → HasTraced b.group_by (past ++ trace_input b.group_by event ∷ []) new) → HasConverted g (items ++ item ∷ []) new
+      ((past : List PlainEvent) → HasTraced b.group_by past b → HasTraced b.group_by (past ++ plain event ∷ []) new) → HasConverted g (items ++ item ∷ []) new
   converted-push new item event is step =
       let events = converted.0 in
       let has = converted.2 in
-      let traced = subst (λ k. HasTraced k (history g events ++ trace_input k event ∷ []) new) has.group_kept (step (history g events) (subst (λ k. HasTraced k (history g events) b) (sym has.group_kept) has)) in
-      (events ++ event ∷ [], items-push items item events event converted.1 is, subst (λ v. HasTraced g v new) (sym (history-append g events (event ∷ []))) traced)
+      let traced = subst (λ k. HasTraced k (map plain events ++ plain event ∷ []) new) has.group_kept (step (map plain events) (subst (λ k. HasTraced k (map plain events) b) (sym has.group_kept) has)) in
+      (events ++ event ∷ [], items-push items item events event converted.1 is, subst (λ v. HasTraced g v new) (sym (plain-push events event)) traced)
 
   module _ {S : Type 0} (steps : S → Option (Result RecordedEvent LineError) → S → Type 0) (s start mid rest : S) (from : start ≡ s) (yields : Yields steps start items mid) where
     -- an event that was refused is the first one
     pub refused-event : (new : TraceBuilder) (item : Result RecordedEvent LineError) (event : RecordedEvent) (e : ChromeTraceError) → item ≡ Ok event → steps mid (Some item) rest →
-        ((past : List TraceInput) → HasTraced b.group_by past b → (e ≡ OutOfMemory) ⊎ ((history_refusal (past ++ trace_input b.group_by event ∷ []) ≡ Some e) × (new ≡ b))) → HasNoTrace steps s g e
+        ((past : List PlainEvent) → HasTraced b.group_by past b → ((e ≡ OutOfMemory) ⊎ (events_refusal b.group_by (past ++ plain event ∷ []) ≡ Some e)) × HasTraced b.group_by past new) → HasNoTrace steps s g e
     refused-event new item event e is step answer =
         let events = converted.0 in
         let has = converted.2 in
-        elim (subst (λ k. (e ≡ OutOfMemory) ⊎ ((history_refusal (history g events ++ trace_input k event ∷ []) ≡ Some e) × (new ≡ b))) has.group_kept
-        (answer (history g events) (subst (λ k. HasTraced k (history g events) b) (sym has.group_kept) has))) [
+        elim (subst (λ k. (e ≡ OutOfMemory) ⊎ (events_refusal k (map plain events ++ plain event ∷ []) ≡ Some e)) has.group_kept
+        (answer (map plain events) (subst (λ k. HasTraced k (map plain events) b) (sym has.group_kept) has)).0) [
           | inl memory ↦ inl memory
           | inr refused ↦ inr (inr (record {
             before = events;
@@ -79,7 +80,7 @@ module _ (g : ChromeTraceGroupBy) (b : TraceBuilder) (items : List (Result Recor
             yielded = subst (λ v. Yields steps v (map Ok (events ++ event ∷ [])) rest) from
                 (subst (λ v. Yields steps start v rest) (items-push items item events event converted.1 is) (yields-push steps start items item mid rest yields step));
             accepted = has.accepted;
-            refused = ap history_refusal (history-append g events (event ∷ [])) ∙ refused.0;
+            refused = ap (events_refusal g) (plain-push events event) ∙ refused;
           }))
         ]
 
@@ -109,7 +110,7 @@ module _ (g : ChromeTraceGroupBy) (b : TraceBuilder) (items : List (Result Recor
 
     -- events to the end, and the text of their trace
     pub converts-all : (format : ChromeTraceMessageFormat) (version : Parts) (text : List ℕ) → steps mid None rest →
-        ((k : ChromeTraceGroupBy) (past : List TraceInput) → HasTraced k past b → text ≡ trace_text format version (trace_marks past)) → Converts steps s g format version text
+        ((k : ChromeTraceGroupBy) (past : List PlainEvent) → HasTraced k past b → text ≡ trace_text format k version past) → Converts steps s g format version text
     converts-all format version text step written =
         let events = converted.0 in
         let has = converted.2 in
@@ -120,7 +121,7 @@ module _ (g : ChromeTraceGroupBy) (b : TraceBuilder) (items : List (Result Recor
             (mid, subst (λ v. Yields steps v (map Ok events) mid) from (subst (λ v. Yields steps start v mid) converted.1 yields), step),
           );
           accepted = has.accepted;
-          written = written g (history g events) has;
-          timeline = timeline g events has.accepted;
-          prefixes = keeps-prefixes g events has.accepted;
+          written = written g (map plain events) has;
+          timeline = timeline g (map plain events) has.accepted;
+          prefixes = keeps-prefixes g (map plain events) has.accepted;
         }

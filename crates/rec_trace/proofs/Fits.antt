@@ -1,16 +1,11 @@
 -- The rows of spans that are open together are apart, since their places are.
 use Rattle.std.proofs.Common.{◌≡◌, ◌≤◌, ◌+◌, ℕ, Bool, true, false, not, cond, List, [], ◌∷◌, filter, refl, sym, ◌∙◌, ap, arith}
 use Rattle.std.proofs.lemmas.Bool.{false≢true, false_from_ne_true}
-use Rattle.rec_events.specs.declared.events.CoreEventKind.TheVariants.{RunStarted, TestStarted}
-use Rattle.rec_events.specs.declared.events.CoreEventKind.{CoreEventKind}
-use Rattle.rec_events.specs.declared.events.OutputEventKind.TheVariants.{TestFinished}
-use Rattle.rec_events.specs.declared.events.OutputEventKind.{OutputEventKind}
-use Rattle.rec_events.specs.declared.events.TestEventKindSummary.TheVariants.{Core, Output}
-use Rattle.rec_events.specs.declared.events.TestEventKindSummary.{TestEventKindSummary}
-use Rattle.rec_events.specs.declared.events.TestEventSummary.{TestEventSummary}
 use Rattle.rec_trace.proofs.Filters.{filter-none, filter-no}
 use Rattle.rec_trace.proofs.Keys.{row_eq-true, place_eq-true, place_eq-from, key_eq-from}
-use Rattle.rec_trace.specs.declared.settings.ChromeTraceGroupBy.TheVariants.{Slot}
+use Rattle.rec_trace.specs.Acts.Act.{RunStarts, SubRunStarts, ScriptStarts, AttemptStarts}
+use Rattle.rec_trace.specs.Acts.{Act, act_of}
+use Rattle.rec_trace.specs.declared.settings.ChromeTraceGroupBy.TheVariants.{Binary, Slot}
 use Rattle.rec_trace.specs.declared.settings.ChromeTraceGroupBy.{ChromeTraceGroupBy}
 use Rattle.rec_trace.specs.declared.spans.Place.TheVariants as places
 use Rattle.rec_trace.specs.declared.spans.Place.{Place}
@@ -20,10 +15,11 @@ use Rattle.rec_trace.specs.declared.spans.SpanKey.TheVariants.{Run, SubRun, Scri
 use Rattle.rec_trace.specs.declared.spans.SpanKey.{SpanKey}
 use Rattle.rec_trace.specs.History.{after}
 use Rattle.rec_trace.specs.Keys.{key_eq, row_eq}
-use Rattle.rec_trace.specs.Kinds.{change_of, core_change, history, output_change, trace_input}
+use Rattle.rec_trace.specs.Kinds.{change_of, history, history_after, trace_input}
 use Rattle.rec_trace.specs.Past.Change.{Start, Stop, Pause, Resume, Other}
-use Rattle.rec_trace.specs.Past.{Change, TraceInput, in_place, in_row, of_key, open_after, open_spans, put_in}
+use Rattle.rec_trace.specs.Past.{Change, TraceInput, binaries, in_place, in_row, of_key, open_after, open_spans, put_in}
 use Rattle.rec_trace.specs.Places.{place_eq, place_lt}
+use Rattle.rec_trace.specs.Plain.{PlainEvent}
 
 -- ---- what fits
 
@@ -170,33 +166,24 @@ StartsFit-after past (h ∷ hs) f g = StartsFit-after (h ∷ past) hs (g.0, f) g
 
 -- ---- events
 
-core-fits : (g : ChromeTraceGroupBy) (k : CoreEventKind) → StartFits (core_change g k)
-core-fits g (RunStarted run_id profile_name cli_args stress_condition) = (refl, refl, refl)
-core-fits Slot (TestStarted stress_index test slot_assignment current_stats running command_line) = (slot_assignment.global_slot, refl, omega arith, refl)
-core-fits g _ = tt
+-- what an act starts fits, whatever binaries were before it
+pub act-fits : (g : ChromeTraceGroupBy) (seen : List (List ℕ × ℕ)) (act : Act) → StartFits (change_of g seen act)
+act-fits g seen RunStarts = (refl, refl, refl)
+act-fits g seen SubRunStarts = (refl, refl, refl)
+act-fits g seen (ScriptStarts index id) = (refl, refl, refl)
+act-fits Slot seen (AttemptStarts test slot) = (slot, refl, omega arith, refl)
+act-fits Binary seen (AttemptStarts test slot) = (slot, refl, omega arith, refl)
+act-fits g seen _ = tt
 
-module _ {S O : Type 0} where
-  output-fits : (k : OutputEventKind S O) → StartFits (output_change k)
-  output-fits (TestFinished index test success failure store_success store_failure flaky statuses current_stats running) = tt
-  output-fits _ = tt
+-- what the events of a history start fits
+pub history_after-fits : (g : ChromeTraceGroupBy) (past : List TraceInput) (events : List PlainEvent) → StartsFit (history_after g past events)
+history_after-fits g past [] = tt
+history_after-fits g past (event ∷ events) =
+    (act-fits g (binaries past) (act_of event.kind), history_after-fits g (trace_input g (binaries past) event ∷ past) events)
 
-  change-fits : (g : ChromeTraceGroupBy) (k : TestEventKindSummary S O) → StartFits (change_of g k)
-  change-fits g (Core kind) = core-fits g kind
-  change-fits g (Output kind) = output-fits kind
+pub history-fits : (g : ChromeTraceGroupBy) (events : List PlainEvent) → StartsFit (history g events)
+history-fits g events = history_after-fits g [] events
 
-  -- what an event starts fits
-  pub trace_input-fits : (g : ChromeTraceGroupBy) (event : TestEventSummary S O) → StartFits (trace_input g event).change
-  trace_input-fits g event = change-fits g event.kind
-
-  -- what the events of a history start fits
-  pub history-fits : (g : ChromeTraceGroupBy) (events : List (TestEventSummary S O)) → StartsFit (history g events)
-  history-fits g [] = tt
-  history-fits g (event ∷ events) = (trace_input-fits g event, history-fits g events)
-
-  -- what is open after a history of events fits
-  pub open-fits : (g : ChromeTraceGroupBy) (events : List (TestEventSummary S O)) → AllFit (open_spans (after [] (history g events)))
-  open-fits g events = AllFit-open (after [] (history g events)) (StartsFit-after [] (history g events) tt (history-fits g events))
-
-  -- what is open after a past of events, the newest first, fits
-  pub open-fits_newest_first : (g : ChromeTraceGroupBy) (events : List (TestEventSummary S O)) → AllFit (open_spans (history g events))
-  open-fits_newest_first g events = AllFit-open (history g events) (history-fits g events)
+-- what is open after a history of events fits
+pub open-fits : (g : ChromeTraceGroupBy) (events : List PlainEvent) → AllFit (open_spans (after [] (history g events)))
+open-fits g events = AllFit-open (after [] (history g events)) (StartsFit-after [] (history g events) tt (history-fits g events))

@@ -3,12 +3,13 @@ pub mod Converting
 pub mod EventMarks
 pub mod Filters
 pub mod Fits
+pub mod Histories
 pub mod Keys
 pub mod Maps
 pub mod Once
 pub mod OpenTests
 pub mod Orders
-pub mod OutputsNotDrawn
+pub mod Plains
 pub mod PlacesOfHistory
 pub mod Prefixes
 pub mod Rows

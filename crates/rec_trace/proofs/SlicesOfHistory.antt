@@ -1,6 +1,5 @@
 -- In an accepted history of events each begin and each end is marked once, and is that of one slice.
 use Rattle.std.proofs.Common.{◌≡◌, ℕ, List, None, Some, slice_get, sym, subst}
-use Rattle.rec_events.specs.declared.events.TestEventSummary.{TestEventSummary}
 use Rattle.rec_trace.proofs.Acceptance.{history-room}
 use Rattle.rec_trace.proofs.Once.{event_marks-once}
 use Rattle.rec_trace.proofs.Slices.{begins-are_slices, ends-are_slices}
@@ -9,11 +8,12 @@ use Rattle.rec_trace.specs.declared.settings.ChromeTraceGroupBy.{ChromeTraceGrou
 use Rattle.rec_trace.specs.declared.spans.Span.{Span}
 use Rattle.rec_trace.specs.Kinds as kinds
 use Rattle.rec_trace.specs.Past.{TraceInput}
+use Rattle.rec_trace.specs.Plain.{PlainEvent}
 use Rattle.rec_trace.specs.Positions.{IsSlice, IsSliceOf, Slice}
 use Rattle.rec_trace.specs.Refusals.{history_refusal}
 use Rattle.rec_trace.specs.Timeline.{MarksSlices}
 
-module _ {S O : Type 0} (g : ChromeTraceGroupBy) (events : List (TestEventSummary S O)) (accepted : history_refusal (kinds.history g events) ≡ None) where
+module _ (g : ChromeTraceGroupBy) (events : List PlainEvent) (accepted : history_refusal (kinds.history g events) ≡ None) where
   -- the marks of each event are those of the slices there, each once
   pub history-slices : (i : ℕ) (e : TraceInput) → slice_get (kinds.history g events) i ≡ Some e → MarksSlices (kinds.history g events) i e
   history-slices i e at = record {

@@ -1,14 +1,14 @@
 -- The marks of a history that has a trace are a timeline.
 use Rattle.std.proofs.Common.{◌≡◌, List, None}
-use Rattle.rec_events.specs.declared.events.TestEventSummary.{TestEventSummary}
 use Rattle.rec_trace.proofs.SlicesOfHistory.{history-one_begins, history-one_ends, history-slices}
 use Rattle.rec_trace.proofs.TurnsOfHistory.{history-turns}
 use Rattle.rec_trace.specs.declared.settings.ChromeTraceGroupBy.{ChromeTraceGroupBy}
 use Rattle.rec_trace.specs.Kinds.{history}
+use Rattle.rec_trace.specs.Plain.{PlainEvent}
 use Rattle.rec_trace.specs.Refusals.{history_refusal}
 use Rattle.rec_trace.specs.Timeline.{IsTimeline}
 
-pub timeline : {S O : Type 0} (g : ChromeTraceGroupBy) (events : List (TestEventSummary S O)) → history_refusal (history g events) ≡ None → IsTimeline (history g events)
+pub timeline : (g : ChromeTraceGroupBy) (events : List PlainEvent) → history_refusal (history g events) ≡ None → IsTimeline (history g events)
 timeline g events accepted = record {
   turns = history-turns g events accepted;
   slices = history-slices g events accepted;

@@ -9,12 +9,12 @@ use Rattle.rec_trace.specs.declared.errors.ChromeTraceError.TheVariants.{OutOfMe
 use Rattle.rec_trace.specs.declared.errors.ChromeTraceError.{ChromeTraceError}
 use Rattle.rec_trace.specs.declared.settings.ChromeTraceGroupBy.{ChromeTraceGroupBy}
 use Rattle.rec_trace.specs.declared.settings.ChromeTraceMessageFormat.{ChromeTraceMessageFormat}
-use Rattle.rec_trace.specs.Drawing.{trace_text}
 use Rattle.rec_trace.specs.History.{trace_marks}
 use Rattle.rec_trace.specs.Kinds.{history}
 use Rattle.rec_trace.specs.Past.{Mark}
-use Rattle.rec_trace.specs.Refusals.{history_refusal}
+use Rattle.rec_trace.specs.Plain.{PlainEvent, plain}
 use Rattle.rec_trace.specs.Timeline.{IsTimeline}
+use Rattle.rec_trace.specs.Traces.{events_refusal, trace_text}
 
 -- what a fault of the history is answered as: want of memory as such, every other as a history that can't be read
 abbrev pub fault_error : LineError → ChromeTraceError
@@ -23,18 +23,18 @@ fault_error (faults.ParseEvent n) = ReadError (faults.ParseEvent n)
 fault_error faults.OutOfMemory = OutOfMemory
 
 -- each prefix of these events has a trace, whose marks are the first of theirs
-abbrev pub KeepsPrefixes : ChromeTraceGroupBy → List RecordedEvent → Type 0
-KeepsPrefixes g events = (xs ys : List RecordedEvent) → events ≡ xs ++ ys →
-    (history_refusal (history g xs) ≡ None) × ((more : List Mark) × (trace_marks (history g events) ≡ trace_marks (history g xs) ++ more))
+abbrev pub KeepsPrefixes : ChromeTraceGroupBy → List PlainEvent → Type 0
+KeepsPrefixes g events = (xs ys : List PlainEvent) → events ≡ xs ++ ys →
+    (events_refusal g xs ≡ None) × ((more : List Mark) × (trace_marks (history g events) ≡ trace_marks (history g xs) ++ more))
 
 -- the iterator gave events and ended, and the text is that of their trace, whose marks are their timeline
 pub record Converts {S : Type 0} (steps : S → Option (Result RecordedEvent LineError) → S → Type 0) (s : S) (g : ChromeTraceGroupBy) (format : ChromeTraceMessageFormat) (version : Parts) (text : List ℕ) : Type 0 where
   pub events : List RecordedEvent
   pub drained : Drains steps s (map Ok events)
-  pub accepted : history_refusal (history g events) ≡ None
-  pub written : text ≡ trace_text format version (trace_marks (history g events))
-  pub timeline : IsTimeline (history g events)
-  pub prefixes : KeepsPrefixes g events
+  pub accepted : events_refusal g (map plain events) ≡ None
+  pub written : text ≡ trace_text format g version (map plain events)
+  pub timeline : IsTimeline (history g (map plain events))
+  pub prefixes : KeepsPrefixes g (map plain events)
 
 -- the iterator gave events without a cause to be refused, and then a fault, which is the error
 pub record IsUnread {S : Type 0} (steps : S → Option (Result RecordedEvent LineError) → S → Type 0) (s : S) (g : ChromeTraceGroupBy) (e : ChromeTraceError) : Type 0 where
@@ -44,7 +44,7 @@ pub record IsUnread {S : Type 0} (steps : S → Option (Result RecordedEvent Lin
   pub yielded : YieldsThen steps s (map Ok events) (Some (Err fault)) rest
   pub answered : e ≡ ReadError fault
   pub no_memory : fault ≡ faults.OutOfMemory → ⊥
-  pub accepted : history_refusal (history g events) ≡ None
+  pub accepted : events_refusal g (map plain events) ≡ None
 
 -- the iterator gave events, of which the last is the first with a cause to be refused, which is the error
 pub record IsRefused {S : Type 0} (steps : S → Option (Result RecordedEvent LineError) → S → Type 0) (s : S) (g : ChromeTraceGroupBy) (e : ChromeTraceError) : Type 0 where
@@ -52,8 +52,8 @@ pub record IsRefused {S : Type 0} (steps : S → Option (Result RecordedEvent Li
   pub event : RecordedEvent
   pub rest : S
   pub yielded : Yields steps s (map Ok (before ++ event ∷ [])) rest
-  pub accepted : history_refusal (history g before) ≡ None
-  pub refused : history_refusal (history g (before ++ event ∷ [])) ≡ Some e
+  pub accepted : events_refusal g (map plain before) ≡ None
+  pub refused : events_refusal g (map plain (before ++ event ∷ [])) ≡ Some e
 
 -- why there is no trace: memory ran out, or the history can't be read, or an event is refused
 abbrev pub HasNoTrace : {S : Type 0} → (S → Option (Result RecordedEvent LineError) → S → Type 0) → S → ChromeTraceGroupBy → ChromeTraceError → Type 0

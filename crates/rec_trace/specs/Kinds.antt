@@ -1,90 +1,85 @@
--- What each kind of event does, as a trace sees it.
-use Rattle.std.specs.Prelude.{ℕ, ℤ, ◌+◌, Bool, true, false, List, ◌∷◌, ◌++◌, map, codes}
-use Rattle.rec_events.specs.declared.events.CoreEventKind.TheVariants.{RunStarted, TestStarted}
-use Rattle.rec_events.specs.declared.events.CoreEventKind.{CoreEventKind}
-use Rattle.rec_events.specs.declared.events.OutputEventKind.TheVariants.{TestFinished}
-use Rattle.rec_events.specs.declared.events.OutputEventKind.{OutputEventKind}
-use Rattle.rec_events.specs.declared.events.TestEventKindSummary.TheVariants.{Core, Output}
-use Rattle.rec_events.specs.declared.events.TestEventKindSummary.{TestEventKindSummary}
-use Rattle.rec_events.specs.declared.events.TestEventSummary.{TestEventSummary}
+-- What an event does to the spans of a trace, after the binaries that have started an attempt, and the history of events.
+use Rattle.std.specs.Option.{unwrap_or}
+use Rattle.std.specs.Prelude.{ℕ, ℤ, ◌+◌, List, [], ◌∷◌, ◌++◌, length, codes}
 use Rattle.rec_events.specs.declared.instances.OwnedTestInstanceId.{OwnedTestInstanceId}
-use Rattle.rec_events.specs.Stats as stats
 use Rattle.rec_events.specs.Times.{micros}
-use Rattle.rec_trace.specs.declared.settings.ChromeTraceGroupBy.TheVariants.{Slot}
+use Rattle.rec_trace.specs.Acts.Act.{RunStarts, RunEnds, SubRunStarts, SubRunEnds, ScriptStarts, ScriptEnds, AttemptStarts, AttemptFails, TestEnds, Pauses, Continues}
+use Rattle.rec_trace.specs.Acts.{Act, act_of}
+use Rattle.rec_trace.specs.declared.settings.ChromeTraceGroupBy.TheVariants.{Binary, Slot}
 use Rattle.rec_trace.specs.declared.settings.ChromeTraceGroupBy.{ChromeTraceGroupBy}
 use Rattle.rec_trace.specs.declared.spans.Place.TheVariants as places
 use Rattle.rec_trace.specs.declared.spans.Row.{Row}
 use Rattle.rec_trace.specs.declared.spans.Span.{Span}
-use Rattle.rec_trace.specs.declared.spans.SpanKey.TheVariants.{Run, Test}
-use Rattle.rec_trace.specs.Past.Change.{Start, Stop, Other}
-use Rattle.rec_trace.specs.Past.{Change, TraceInput}
+use Rattle.rec_trace.specs.declared.spans.SpanKey.TheVariants as keys
+use Rattle.rec_trace.specs.History.{after}
+use Rattle.rec_trace.specs.Past.Change.{Start, Stop, Pause, Resume, Other}
+use Rattle.rec_trace.specs.Past.{Change, TraceInput, binaries, number_of}
+use Rattle.rec_trace.specs.Plain.{PlainEvent}
 
 -- ---- spans
 
 abbrev pub run_span : Span
-run_span = record { key = Run; place = places.Run; row = record { pid = 0; tid = 1 }; name = codes "test run" }
+run_span = record { key = keys.Run; place = places.Run; row = record { pid = 0; tid = 1 }; name = codes "test run" }
 
--- all tests are threads of one process, a thread for each slot
-abbrev pub test_row : ChromeTraceGroupBy → ℕ → Row
-test_row Slot slot = record { pid = 2; tid = slot + 10000 }
+abbrev pub sub_run_span : Span
+sub_run_span = record { key = keys.SubRun; place = places.SubRun; row = record { pid = 0; tid = 2 }; name = codes "sub-run" }
 
+-- all setup scripts are threads of one process
+abbrev pub script_span : ℕ → List ℕ → Span
+script_span index id = record { key = keys.Script index; place = places.Script index; row = record { pid = 1; tid = index + 10000 }; name = id }
+
+-- the process of a binary: 2 and how many others started an attempt before it, or one for all
+abbrev pub pid_of : ChromeTraceGroupBy → List (List ℕ × ℕ) → List ℕ → ℕ
+pid_of Binary seen b = 2 + unwrap_or (number_of b seen) (length seen)
+pid_of Slot seen b = 2
+
+-- a process has a thread for each slot
+abbrev pub test_row : ChromeTraceGroupBy → List (List ℕ × ℕ) → OwnedTestInstanceId → ℕ → Row
+test_row g seen test slot = record { pid = pid_of g seen test.binary_id; tid = slot + 10000 }
+
+-- a process that is a binary needs no name of it beside the test's
 abbrev pub test_name : ChromeTraceGroupBy → OwnedTestInstanceId → List ℕ
+test_name Binary test = test.test_name
 test_name Slot test = test.binary_id ++ 32 ∷ test.test_name
 
-abbrev pub test_span : ChromeTraceGroupBy → OwnedTestInstanceId → ℕ → Span
-test_span g test slot = record { key = Test test; place = places.Slot slot; row = test_row g slot; name = test_name g test }
+abbrev pub test_span : ChromeTraceGroupBy → List (List ℕ × ℕ) → OwnedTestInstanceId → ℕ → Span
+test_span g seen test slot = record { key = keys.Test test; place = places.Slot slot; row = test_row g seen test slot; name = test_name g test }
 
 -- ---- events
 
--- whether a kind of event is drawn yet. An event of another is refused, so nothing is said of what it does
-abbrev pub core_drawn : CoreEventKind → Bool
-core_drawn (RunStarted run_id profile_name cli_args stress_condition) = true
-core_drawn (TestStarted stress_index test slot_assignment current_stats running command_line) = true
-core_drawn _ = false
+abbrev pub change_of : ChromeTraceGroupBy → List (List ℕ × ℕ) → Act → Change
+change_of g seen RunStarts = Start run_span
+change_of g seen RunEnds = Stop keys.Run
+change_of g seen SubRunStarts = Start sub_run_span
+change_of g seen SubRunEnds = Stop keys.SubRun
+change_of g seen (ScriptStarts index id) = Start (script_span index id)
+change_of g seen (ScriptEnds index id) = Stop (keys.Script index)
+change_of g seen (AttemptStarts test slot) = Start (test_span g seen test slot)
+change_of g seen (AttemptFails test) = Stop (keys.Test test)
+change_of g seen (TestEnds test failures) = Stop (keys.Test test)
+change_of g seen (Pauses scripts) = Pause
+change_of g seen (Continues scripts) = Resume
+change_of g seen _ = Other
 
-abbrev pub core_change : ChromeTraceGroupBy → CoreEventKind → Change
-core_change g (RunStarted run_id profile_name cli_args stress_condition) = Start run_span
-core_change g (TestStarted stress_index test slot_assignment current_stats running command_line) = Start (test_span g test slot_assignment.global_slot)
-core_change g _ = Other
+-- what is an act at an instant, as a trace sees it
+abbrev pub act_input : ChromeTraceGroupBy → List (List ℕ × ℕ) → ℤ → Act → TraceInput
+act_input g seen t act = record { at = t; act = act; change = change_of g seen act }
 
--- an event without outputs, at an instant, as a trace sees it
-abbrev pub core_trace_input : ChromeTraceGroupBy → ℤ → CoreEventKind → TraceInput
-core_trace_input g t kind = record { at = t; drawn = core_drawn kind; change = core_change g kind; failures = 0 }
+-- an event as a trace sees it
+abbrev pub trace_input : ChromeTraceGroupBy → List (List ℕ × ℕ) → PlainEvent → TraceInput
+trace_input g seen event = act_input g seen (micros event.timestamp) (act_of event.kind)
 
-module _ {S O : Type 0} where
-  abbrev pub output_drawn : OutputEventKind S O → Bool
-  output_drawn (TestFinished index test success failure store_success store_failure flaky statuses current_stats running) = true
-  output_drawn _ = false
+-- ---- histories
 
-  abbrev pub drawn_of : TestEventKindSummary S O → Bool
-  drawn_of (Core kind) = core_drawn kind
-  drawn_of (Output kind) = output_drawn kind
+-- the history of these events after a past: each is seen after the binaries before it
+abbrev pub history_after : ChromeTraceGroupBy → List TraceInput → List PlainEvent → List TraceInput
+history_after g past [] = []
+history_after g past (event ∷ events) = let input = trace_input g (binaries past) event in input ∷ history_after g (input ∷ past) events
 
-  abbrev pub output_change : OutputEventKind S O → Change
-  output_change (TestFinished index test success failure store_success store_failure flaky statuses current_stats running) = Stop (Test test)
-  output_change _ = Other
+-- the history of events
+abbrev pub history : ChromeTraceGroupBy → List PlainEvent → List TraceInput
+history g events = history_after g [] events
 
-  abbrev pub change_of : ChromeTraceGroupBy → TestEventKindSummary S O → Change
-  change_of g (Core kind) = core_change g kind
-  change_of g (Output kind) = output_change kind
-
-  abbrev pub output_failures : OutputEventKind S O → ℕ
-  output_failures (TestFinished index test success failure store_success store_failure flaky statuses current_stats running) = stats.failures current_stats
-  output_failures _ = 0
-
-  -- how many tests an event counts as failed
-  abbrev pub failures_of : TestEventKindSummary S O → ℕ
-  failures_of (Core kind) = 0
-  failures_of (Output kind) = output_failures kind
-
-  -- an event with outputs, at an instant, as a trace sees it
-  abbrev pub output_trace_input : ℤ → OutputEventKind S O → TraceInput
-  output_trace_input t kind = record { at = t; drawn = output_drawn kind; change = output_change kind; failures = output_failures kind }
-
-  -- an event as a trace sees it
-  abbrev pub trace_input : ChromeTraceGroupBy → TestEventSummary S O → TraceInput
-  trace_input g event = record { at = micros event.timestamp; drawn = drawn_of event.kind; change = change_of g event.kind; failures = failures_of event.kind }
-
-  -- the history of events
-  abbrev pub history : ChromeTraceGroupBy → List (TestEventSummary S O) → List TraceInput
-  history g events = map (trace_input g) events
+-- the next event after a history
+abbrev pub next_input : ChromeTraceGroupBy → List TraceInput → PlainEvent → TraceInput
+next_input g past event = trace_input g (binaries (after [] past)) event

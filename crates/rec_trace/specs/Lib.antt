@@ -1,5 +1,7 @@
 pub mod Places
 pub mod Keys
+pub mod Plain
+pub mod Acts
 pub mod Past
 pub mod History
 pub mod Turns
@@ -8,6 +10,8 @@ pub mod Refusals
 pub mod Kinds
 pub mod Drawing
 pub mod Tied
+pub mod Seen
+pub mod Starts
 pub mod Tracking
 pub mod Traces
 pub mod Timeline

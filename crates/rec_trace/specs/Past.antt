@@ -1,10 +1,18 @@
 -- The marks of each event of a run in its trace, after what came before. A past is the list of the trace inputs so far, the newest first.
-use Rattle.std.specs.Prelude.{ℕ, ℤ, Bool, true, false, not, List, [], ◌∷◌, ◌++◌, map, filter, if◌then◌else◌}
+use Rattle.std.specs.BTreeMap.{insert_entry}
+use Rattle.std.specs.Cmp.Lexicographic.{slice_cmp}
+use Rattle.std.specs.Map.{lookup}
+use Rattle.std.specs.Option.{unwrap_or}
+use Rattle.std.specs.Ordering.{nat_cmp}
+use Rattle.std.specs.Prelude.{ℕ, suc, ◌-◌, ℤ, Bool, true, false, not, List, [], ◌∷◌, ◌++◌, length, map, filter, bytes_eq, Option, is_some, if◌then◌else◌}
+use Rattle.rec_trace.specs.Acts.Act.{ScriptStarts, ScriptEnds, AttemptFails, Pauses, Continues, Cancels}
+use Rattle.rec_trace.specs.Acts.{Act}
 use Rattle.rec_trace.specs.declared.spans.Phase.TheVariants.{Begin, End}
 use Rattle.rec_trace.specs.declared.spans.Phase.{Phase}
 use Rattle.rec_trace.specs.declared.spans.Place.{Place}
 use Rattle.rec_trace.specs.declared.spans.Row.{Row}
 use Rattle.rec_trace.specs.declared.spans.Span.{Span}
+use Rattle.rec_trace.specs.declared.spans.SpanKey.TheVariants as keys
 use Rattle.rec_trace.specs.declared.spans.SpanKey.{SpanKey}
 use Rattle.rec_trace.specs.Keys.{key_eq, row_eq}
 use Rattle.rec_trace.specs.Places.{place_eq, place_lt}
@@ -17,13 +25,11 @@ pub data Change : Type 0 where
   Resume : Change
   Other : Change
 
--- an event as a trace sees it: its instant in microseconds, whether its kind is drawn yet, what it does, and how many tests it counts
--- as failed
+-- an event as a trace sees it: its instant in microseconds, what it is, and what it does to the spans
 pub record TraceInput : Type 0 where
   pub at : ℤ
-  pub drawn : Bool
+  pub act : Act
   pub change : Change
-  pub failures : ℕ
 
 -- the begin or the end of a slice of a span, at an instant
 pub record Mark : Type 0 where
@@ -77,6 +83,56 @@ open_after Other spans = spans
 abbrev pub open_spans : List TraceInput → List Span
 open_spans [] = []
 open_spans (input ∷ past) = open_after input.change (open_spans past)
+
+-- ---- binaries and counts
+
+-- the number of a binary: how many others started an attempt before it
+abbrev pub number_of : List ℕ → List (List ℕ × ℕ) → Option ℕ
+number_of b seen = lookup (λ c. bytes_eq b c) seen
+
+-- the binaries by name, each with its number, after an attempt of this one has started
+abbrev pub with_binary : List ℕ → List (List ℕ × ℕ) → List (List ℕ × ℕ)
+with_binary b seen = if is_some (number_of b seen) then seen else insert_entry (slice_cmp nat_cmp) seen b (length seen)
+
+abbrev pub with_key : SpanKey → List (List ℕ × ℕ) → List (List ℕ × ℕ)
+with_key keys.Run seen = seen
+with_key keys.SubRun seen = seen
+with_key (keys.Script index) seen = seen
+with_key (keys.Test test) seen = with_binary test.binary_id seen
+
+abbrev pub binaries_after : Change → List (List ℕ × ℕ) → List (List ℕ × ℕ)
+binaries_after (Start s) seen = with_key s.key seen
+binaries_after (Stop k) seen = seen
+binaries_after Pause seen = seen
+binaries_after Resume seen = seen
+binaries_after Other seen = seen
+
+-- the binaries that started an attempt
+abbrev pub binaries : List TraceInput → List (List ℕ × ℕ)
+binaries [] = []
+binaries (input ∷ past) = binaries_after input.change (binaries past)
+
+abbrev pub scripts_after : Act → ℕ → ℕ
+scripts_after (ScriptStarts index id) before = suc before
+scripts_after (ScriptEnds index id) before = before - 1
+scripts_after (Pauses scripts) before = scripts
+scripts_after (Continues scripts) before = scripts
+scripts_after (Cancels scripts) before = scripts
+scripts_after _ before = before
+
+-- how many setup scripts run
+abbrev pub running_scripts : List TraceInput → ℕ
+running_scripts [] = 0
+running_scripts (input ∷ past) = scripts_after input.act (running_scripts past)
+
+abbrev pub flow_after : Act → ℕ → ℕ
+flow_after (AttemptFails test) before = suc before
+flow_after _ before = before
+
+-- the next flow number: how many attempts failed
+abbrev pub next_flow : List TraceInput → ℕ
+next_flow [] = 0
+next_flow (input ∷ past) = flow_after input.act (next_flow past)
 
 -- ---- marks
 

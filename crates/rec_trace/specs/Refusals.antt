@@ -1,15 +1,18 @@
 -- Why a history has no trace.
 use Rattle.std.specs.Option.{option_or}
-use Rattle.std.specs.Prelude.{◌≡◌, ℕ, suc, ◌^◌, ℤ, List, [], ◌∷◌, nat_lt, Bool, true, false, Option, Some, None, Result, Ok, Err, if◌then◌else◌, ◌⊎◌}
+use Rattle.std.specs.Prelude.{◌≡◌, ℕ, suc, ◌^◌, ℤ, List, [], ◌∷◌, filter, bytes_eq, nat_lt, Bool, true, false, Option, Some, None, Result, Ok, Err, if◌then◌else◌, ◌⊎◌}
+use Rattle.rec_events.specs.declared.instances.OwnedTestInstanceId.{OwnedTestInstanceId}
 use Rattle.rec_forms.specs.Shape.{fits}
-use Rattle.rec_trace.specs.declared.errors.ChromeTraceError.TheVariants.{CountOutOfRange, KindNotBuilt, MissingTestStart, OutOfMemory, RowOutOfRange, SlotBusy, SpanAlreadyOpen, TimestampOutOfRange}
+use Rattle.rec_trace.specs.Acts.Act.{SubRunEnds, ScriptStarts, ScriptEnds, ScriptIsSlow, AttemptFails, TestEnds, TestIsSlow}
+use Rattle.rec_trace.specs.Acts.{Act}
+use Rattle.rec_trace.specs.declared.errors.ChromeTraceError.TheVariants.{CountOutOfRange, MissingScriptStart, MissingStressSubRunStart, MissingTestStart, OutOfMemory, RowOutOfRange, SlotBusy, SpanAlreadyOpen, TimestampOutOfRange}
 use Rattle.rec_trace.specs.declared.errors.ChromeTraceError.{ChromeTraceError}
 use Rattle.rec_trace.specs.declared.spans.Place.TheVariants as places
 use Rattle.rec_trace.specs.declared.spans.Place.{Place}
 use Rattle.rec_trace.specs.declared.spans.Span.{Span}
 use Rattle.rec_trace.specs.declared.spans.SpanKey.TheVariants as keys
 use Rattle.rec_trace.specs.declared.spans.SpanKey.{SpanKey}
-use Rattle.rec_trace.specs.History.{TraceState, initial_state, next_state}
+use Rattle.rec_trace.specs.History.{TraceState, state_after}
 use Rattle.rec_trace.specs.Past.Change.{Start, Stop, Pause, Resume, Other}
 use Rattle.rec_trace.specs.Past.{Change, TraceInput, in_place, of_key}
 use Rattle.rec_trace.specs.Places.{number}
@@ -18,33 +21,44 @@ abbrev pub is_none_open : List Span → Bool
 is_none_open [] = true
 is_none_open (s ∷ spans) = false
 
+abbrev pub is_script : SpanKey → Bool
+is_script (keys.Script index) = true
+is_script _ = false
+
+-- the setup scripts among these spans, and the spans of this name, which for a setup script is its id
+abbrev pub scripts_in : List Span → List Span
+scripts_in spans = filter (λ s. is_script s.key) spans
+
+abbrev pub under : List ℕ → List Span → List Span
+under name spans = filter (λ s. bytes_eq s.name name) spans
+
 -- ---- the causes, in their order; n is the number of the event, and `spans` are open before it
 
 -- it has a number past u64
 abbrev pub number_refusal : ℕ → Option ChromeTraceError
 number_refusal n = if nat_lt n (2 ^ 64) then None else Some (CountOutOfRange 18446744073709551615)
 
--- its kind is not drawn yet
-abbrev pub kind_refusal : ℕ → Bool → Option ChromeTraceError
-kind_refusal n drawn = if drawn then None else Some (KindNotBuilt n)
-
 -- its instant is no i64
 abbrev pub instant_refusal : ℕ → ℤ → Option ChromeTraceError
 instant_refusal n t = if fits (2 ^ 63) t then None else Some (TimestampOutOfRange n)
 
--- what a stop misses that needs its key open; a run may end that isn't open
-abbrev pub missing : ℕ → SpanKey → Option ChromeTraceError
-missing n keys.Run = None
-missing n keys.SubRun = None
-missing n (keys.Script index) = None
-missing n (keys.Test test) = Some (MissingTestStart n test.binary_id test.test_name)
+-- it needs an open attempt of a test
+abbrev pub attempt_missing : ℕ → List Span → OwnedTestInstanceId → Option ChromeTraceError
+attempt_missing n spans test = if is_none_open (of_key (keys.Test test) spans) then Some (MissingTestStart n test.binary_id test.test_name) else None
 
-abbrev pub missing_refusal : ℕ → List Span → Change → Option ChromeTraceError
-missing_refusal n spans (Stop k) = if is_none_open (of_key k spans) then missing n k else None
-missing_refusal n spans (Start s) = None
-missing_refusal n spans Pause = None
-missing_refusal n spans Resume = None
-missing_refusal n spans Other = None
+-- it needs one of these setup scripts, of this id
+abbrev pub script_missing : ℕ → List Span → List ℕ → Option ChromeTraceError
+script_missing n scripts id = if is_none_open (under id scripts) then Some (MissingScriptStart n id) else None
+
+-- it ends what isn't open, or is slow without having started; a run may end that isn't open
+abbrev pub missing_refusal : ℕ → List Span → Act → Option ChromeTraceError
+missing_refusal n spans (AttemptFails test) = attempt_missing n spans test
+missing_refusal n spans (TestEnds test failures) = attempt_missing n spans test
+missing_refusal n spans (TestIsSlow test) = attempt_missing n spans test
+missing_refusal n spans (ScriptEnds index id) = script_missing n (of_key (keys.Script index) spans) id
+missing_refusal n spans (ScriptIsSlow id) = script_missing n (scripts_in spans) id
+missing_refusal n spans SubRunEnds = if is_none_open (of_key keys.SubRun spans) then Some (MissingStressSubRunStart n) else None
+missing_refusal n spans _ = None
 
 -- it starts what is open
 abbrev pub open_refusal : ℕ → List Span → Change → Option ChromeTraceError
@@ -68,50 +82,59 @@ slot_refusal n spans Pause = None
 slot_refusal n spans Resume = None
 slot_refusal n spans Other = None
 
--- the row of what it starts has a number past u64
+-- the row of what it starts has a number past u64: that made of its slot or its index, or that of its process
 abbrev pub row_refusal : ℕ → Change → Option ChromeTraceError
-row_refusal n (Start s) = if nat_lt s.row.tid (2 ^ 64) then None else Some (RowOutOfRange n (number s.place))
+row_refusal n (Start s) =
+    option_or (if nat_lt s.row.tid (2 ^ 64) then None else Some (RowOutOfRange n (number s.place)))
+    (if nat_lt s.row.pid (2 ^ 64) then None else Some (RowOutOfRange n 18446744073709551615))
 row_refusal n (Stop k) = None
 row_refusal n Pause = None
 row_refusal n Resume = None
 row_refusal n Other = None
 
+-- it issues a flow number past u64
+abbrev pub flow_refusal : ℕ → Act → ℕ → Option ChromeTraceError
+flow_refusal n (AttemptFails test) next = if nat_lt next (2 ^ 64) then None else Some (RowOutOfRange n 18446744073709551615)
+flow_refusal n _ next = None
+
+-- with it more setup scripts run than a usize counts
+abbrev pub scripts_refusal : ℕ → Act → ℕ → Option ChromeTraceError
+scripts_refusal n (ScriptStarts index id) before = if nat_lt (suc before) (2 ^ 64) then None else Some (CountOutOfRange n)
+scripts_refusal n _ before = None
+
 -- it counts more failed tests than a usize holds
-abbrev pub count_refusal : ℕ → ℕ → Option ChromeTraceError
-count_refusal n failures = if nat_lt failures (2 ^ 64) then None else Some (CountOutOfRange n)
+abbrev pub failures_refusal : ℕ → Act → Option ChromeTraceError
+failures_refusal n (TestEnds test failures) = if nat_lt failures (2 ^ 64) then None else Some (CountOutOfRange n)
+failures_refusal n _ = None
 
 -- ---- the first cause
 
--- the first cause in what an event does
-abbrev pub change_refusal : ℕ → List Span → Change → ℕ → Option ChromeTraceError
-change_refusal n spans change failures =
-    option_or (missing_refusal n spans change)
-    (option_or (open_refusal n spans change)
-    (option_or (slot_refusal n spans change)
+-- the first cause of an event but for its number and its instant
+abbrev pub act_refusal : ℕ → TraceState → Act → Change → Option ChromeTraceError
+act_refusal n state act change =
+    option_or (missing_refusal n state.spans act)
+    (option_or (open_refusal n state.spans change)
+    (option_or (slot_refusal n state.spans change)
     (option_or (row_refusal n change)
-    (count_refusal n failures))))
-
--- the first cause of an event but for its number
-abbrev pub event_refusal : ℕ → List Span → TraceInput → Option ChromeTraceError
-event_refusal n spans input =
-    option_or (kind_refusal n input.drawn)
-    (option_or (instant_refusal n input.at)
-    (change_refusal n spans input.change input.failures))
+    (option_or (flow_refusal n act state.next_flow)
+    (option_or (scripts_refusal n act state.scripts)
+    (failures_refusal n act))))))
 
 -- the first cause of the next event after a state, if it has one
 abbrev pub next_refusal : TraceState → TraceInput → Option ChromeTraceError
 next_refusal state input =
     option_or (number_refusal (suc state.number))
-    (event_refusal (suc state.number) state.spans input)
+    (option_or (instant_refusal (suc state.number) input.at)
+    (act_refusal (suc state.number) state input.act input.change))
 
--- the cause of the first event after a state that has one
-abbrev pub history_refusal_after : TraceState → List TraceInput → Option ChromeTraceError
-history_refusal_after state [] = None
-history_refusal_after state (input ∷ history) = option_or (next_refusal state input) (history_refusal_after (next_state input state) history)
+-- the cause of the first event after a past that has one
+abbrev pub history_refusal_after : List TraceInput → List TraceInput → Option ChromeTraceError
+history_refusal_after past [] = None
+history_refusal_after past (input ∷ history) = option_or (next_refusal (state_after past) input) (history_refusal_after (input ∷ past) history)
 
 -- why a history has no trace, if it has none
 abbrev pub history_refusal : List TraceInput → Option ChromeTraceError
-history_refusal history = history_refusal_after initial_state history
+history_refusal history = history_refusal_after [] history
 
 -- a refusal is answered, exactly where there is one; or memory runs out
 abbrev pub Judges : {T : Type 0} → Result T ChromeTraceError → Option ChromeTraceError → Type 0

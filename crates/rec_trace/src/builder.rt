@@ -1,13 +1,10 @@
 //! Builds the trace of a history, event by event.
-ghost use Rattle.std.specs.Prelude.{◌≡◌, List, [], ◌++◌, IfOk, string_bytes};
+ghost use Rattle.std.specs.Prelude.{◌≡◌, List, [], IfOk, string_bytes};
 ghost use Rattle.rec_trace.specs.declared.settings.ChromeTraceGroupBy.{ChromeTraceGroupBy};
-ghost use Rattle.rec_trace.specs.Drawing.{trace_text};
-ghost use Rattle.rec_trace.specs.History.{trace_marks};
-ghost use Rattle.rec_trace.specs.Kinds.{trace_input};
-ghost use Rattle.rec_trace.specs.Past.{TraceInput};
-ghost use Rattle.rec_trace.specs.Traces.{HasTraced, Traces};
+ghost use Rattle.rec_trace.specs.Plain.{PlainEvent, plain};
+ghost use Rattle.rec_trace.specs.Traces.{HasTraced, Traces, trace_text};
 
-use crate::drawing::trace_text;
+use crate::drawing::text_of_events;
 use crate::errors::ChromeTraceError;
 use crate::settings::{ChromeTraceGroupBy, ChromeTraceMessageFormat};
 use crate::span_tracker::SpanTracker;
@@ -39,20 +36,17 @@ impl TraceBuilder {
     ///
     /// # Errors
     ///
-    /// Answers the first cause for which the event is refused, in the order that `ChromeTraceError` gives.
-    /// The builder then stays as it was, and may be used on. `OutOfMemory` means that memory ran out; the
-    /// builder is of no further use then.
+    /// Answers the first cause for which the event is refused, in the order that `ChromeTraceError` gives, or
+    /// `OutOfMemory` where memory ran out. The trace is then that of the events before, and may be built on.
     pub fn process_event<S: OutputSpec>(
         &mut self,
         alloc: Global,
         event: &TestEventSummary<S>,
     ) -> Result<(), ChromeTraceError>
-        ensures { (history : List TraceInput) → HasTraced self.old.group_by history self.old
-            → Traces self.old.group_by history (trace_input self.old.group_by event.now) self.old self.new result }
+        ensures { (events : List PlainEvent) → HasTraced self.old.group_by events self.old
+            → Traces self.old.group_by events (plain event.now) self.new result }
     {
-        let mut events = self.tracker.step(alloc, self.group_by, event)?;
-        self.events.append(&mut events)?;
-        Ok(())
+        self.tracker.step(alloc, self.group_by, event, &mut self.events)
     }
 
     /// Writes the text of the trace, of a run by this version of the runner.
@@ -66,9 +60,9 @@ impl TraceBuilder {
         version: &Version,
         format: ChromeTraceMessageFormat,
     ) -> Result<String, AllocError>
-        ensures { IfOk result (λ text. (g : ChromeTraceGroupBy) (history : List TraceInput) → HasTraced g history self
-            → string_bytes text ≡ trace_text format version.now (trace_marks history)) }
+        ensures { IfOk result (λ text. (g : ChromeTraceGroupBy) (events : List PlainEvent) → HasTraced g events self
+            → string_bytes text ≡ trace_text format g version.now events) }
     {
-        trace_text(alloc, format, version, self.events)
+        text_of_events(alloc, format, version, self.events)
     }
 }

@@ -2,8 +2,7 @@
 ghost use Rattle.std.specs.Iterator.{IsFinite};
 ghost use Rattle.std.specs.Prelude.{List, IfOk, IfErr};
 ghost use Rattle.rec_trace.specs.Converting.{Converts, HasNoTrace};
-ghost use Rattle.rec_trace.specs.Kinds.{trace_input};
-ghost use Rattle.rec_trace.specs.Past.{TraceInput};
+ghost use Rattle.rec_trace.specs.Plain.{PlainEvent, plain};
 ghost use Rattle.rec_trace.specs.Traces.{HasTraced, Traces};
 
 use crate::builder::TraceBuilder;
@@ -23,7 +22,7 @@ use std::alloc::Global;
 /// ```
 /// let version = Version::parse(alloc, "0.9.111")?;
 /// let events = LineIter::<RecordingSpec>::new(alloc, log, 1);
-/// let (group_by, format) = (ChromeTraceGroupBy::Slot, ChromeTraceMessageFormat::Json);
+/// let (group_by, format) = (ChromeTraceGroupBy::Binary, ChromeTraceMessageFormat::Json);
 /// let text = convert_to_chrome_trace(alloc, &version, events, group_by, format)?;
 /// ```
 ///
@@ -32,13 +31,15 @@ use std::alloc::Global;
 /// The first item that is refused is the cause:
 ///
 /// - `ReadError`: it is a fault of the reader, other than want of memory.
-/// - `KindNotBuilt`: it is an event of a kind that isn't drawn yet.
-/// - `MissingTestStart`: it ends a test that isn't running.
+/// - `MissingTestStart`: it is of a test that isn't running: its end, a failed attempt, or that it is slow.
+/// - `MissingScriptStart`: it is of a setup script that isn't running: its end, or that it is slow.
+/// - `MissingStressSubRunStart`: it ends a sub-run, and none is running.
 /// - `SpanAlreadyOpen`: it starts what is running already.
 /// - `SlotBusy`: it starts a test on a slot on which another runs.
 /// - `TimestampOutOfRange`: its instant in microseconds isn't an i64.
-/// - `RowOutOfRange`: it starts a test on a row whose number isn't a u64.
-/// - `CountOutOfRange`: it counts 2^64 failed tests or more, or its own number isn't a u64.
+/// - `RowOutOfRange`: it starts a test or a setup script on a row whose number isn't a u64.
+/// - `CountOutOfRange`: it counts 2^64 failed tests or running setup scripts or more, or its own number isn't
+///   a u64.
 ///
 /// Where an event has several of these causes, the first in the order that `ChromeTraceError` gives is
 /// answered. `OutOfMemory` may come at any time, and stands for the reader's want of memory too.
@@ -75,8 +76,8 @@ pub(crate) fn add_event(
     builder: &mut TraceBuilder,
     event: TestEventSummary<RecordingSpec>,
 ) -> Result<(), ChromeTraceError>
-    ensures { (history : List TraceInput) → HasTraced builder.old.group_by history builder.old
-        → Traces builder.old.group_by history (trace_input builder.old.group_by event) builder.old builder.new result }
+    ensures { (events : List PlainEvent) → HasTraced builder.old.group_by events builder.old
+        → Traces builder.old.group_by events (plain event) builder.new result }
 {
     let result = builder.process_event(alloc, &event);
     drop(event);

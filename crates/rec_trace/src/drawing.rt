@@ -3,7 +3,7 @@ ghost use Rattle.std.specs.Prelude.{◌≡◌, List, map, Some, IfOk, OnOk, stri
 ghost use Rattle.serde_json.specs.Data.{string};
 ghost use Rattle.serde_json.specs.View.{view, members_view};
 ghost use Rattle.rec_forms.specs.Shape.{with_member};
-ghost use Rattle.rec_trace.specs.Drawing.{category, mark_value, other_data, phase_text, text_in, trace_text, trace_value};
+ghost use Rattle.rec_trace.specs.Drawing.{category, mark_value, other_data, phase_text, text_in, trace_value};
 ghost use Rattle.rec_trace.specs.Past.{Mark, mark};
 
 use crate::settings::ChromeTraceMessageFormat;
@@ -81,14 +81,14 @@ fn trace_value(alloc: Global, version: &Version, events: Vec<Value>) -> Result<V
     Ok(Value::from(object))
 }
 
-/// Writes the text of a trace, in the form asked for.
-pub fn trace_text(
+/// Writes the text of a trace with these trace events, in the form asked for.
+pub fn text_of_events(
     alloc: Global,
     format: ChromeTraceMessageFormat,
     version: &Version,
     events: Vec<Value>,
 ) -> Result<String, AllocError>
-    ensures { IfOk result (λ s. (marks : List Mark) → map view events.items ≡ map mark_value marks → string_bytes s ≡ trace_text format version.now marks) }
+    ensures { IfOk result (λ s. (marks : List Mark) → map view events.items ≡ map mark_value marks → string_bytes s ≡ text_in format (trace_value version.now marks)) }
 {
     let value = trace_value(alloc, version, events)?;
     match format {

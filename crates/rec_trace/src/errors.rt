@@ -5,31 +5,37 @@ ghost use Rattle.rec_trace.specs.declared.errors.ChromeTraceError.TheVariants.{O
 
 use crate::spans::SpanKey;
 use rec_codec::LineError;
-use rec_events::{RustBinaryId, TestCaseName};
+use rec_events::{RustBinaryId, ScriptId, TestCaseName};
 use std::alloc::AllocError;
+use std::fmt;
 use thiserror::Error;
 
 /// Says why there is no trace of a history. Events are numbered from 1. Of the first event that is refused,
-/// the first cause is answered in the order number, kind, instant, start that is missing, span that is open,
-/// slot that is busy, row, count; but want of memory may come at any time.
-#[derive(PartialEq, Debug, Drop, Error)]
+/// the first cause is answered in the order number, instant, start that is missing, span that is open,
+/// slot that is busy, row or flow number, count; but want of memory may come at any time.
+#[derive(PartialEq, Drop, Error)]
 pub enum ChromeTraceError {
     /// The history could not be read.
     #[error("the events can't be read: {0}")]
     ReadError(LineError),
-    /// The event is of a kind that isn't drawn yet: any but the run's start, a test's start and its end.
-    /// No earlier event is refused, and of this one nothing is judged before its kind but that its number
-    /// is a u64.
-    #[error("the kind of event {event} isn't drawn yet")]
-    KindNotBuilt {
-        event: u64,
-    },
-    /// The event finishes a test of which no attempt is open.
-    #[error("event {event} ends {} {}, which isn't running", .binary_id.as_str(), .test_name.as_str())]
+    /// The event finishes a test of which no attempt is open, or says that it failed or is slow.
+    #[error("event {event} is of {} {}, which isn't running", .binary_id.as_str(), .test_name.as_str())]
     MissingTestStart {
         event: u64,
         binary_id: RustBinaryId,
         test_name: TestCaseName,
+    },
+    /// The event finishes a setup script whose index isn't open under its id, or says that one is slow while
+    /// none of its id is open.
+    #[error("event {event} is of setup script {}, which isn't running", .script_id.as_str())]
+    MissingScriptStart {
+        event: u64,
+        script_id: ScriptId,
+    },
+    /// The event finishes a sub-run while none is open.
+    #[error("event {event} ends a sub-run, and none is running")]
+    MissingStressSubRunStart {
+        event: u64,
     },
     /// The event starts what is open already.
     #[error("event {event} starts {span}, which is running already")]
@@ -48,14 +54,15 @@ pub enum ChromeTraceError {
     TimestampOutOfRange {
         event: u64,
     },
-    /// The number of a row isn't a u64. `number` is the slot from which it is made.
-    #[error("event {event} needs a row that is out of range, by its number {number}")]
+    /// A number isn't a u64: that of a row, and `number` is the slot or the index from which it is made; or
+    /// that of a process or a flow, and `number` is the greatest u64.
+    #[error("event {event} needs a row or a flow that is out of range, by its number {number}")]
     RowOutOfRange {
         event: u64,
         number: u64,
     },
-    /// The event counts 2^64 failed tests or more, or has a number past u64; `event` is then the greatest
-    /// u64.
+    /// The event counts 2^64 failed tests or running setup scripts or more, or has a number past u64; `event`
+    /// is then the greatest u64.
     #[error("a count of event {event} is out of range")]
     CountOutOfRange {
         event: u64,
@@ -63,6 +70,13 @@ pub enum ChromeTraceError {
     /// There was not enough memory.
     #[error("out of memory")]
     OutOfMemory,
+}
+
+/// Prints the error as `Display` does.
+impl fmt::Debug for ChromeTraceError {
+    fn fmt<W: fmt::Write>(&self, f: &mut fmt::Formatter<W>) -> fmt::Result {
+        fmt::Display::fmt(self, f)
+    }
 }
 
 impl From<AllocError> for ChromeTraceError {

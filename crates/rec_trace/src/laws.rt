@@ -8,9 +8,11 @@ ghost use Rattle.rec_trace.specs.declared.spans.Span as spans;
 ghost use Rattle.rec_trace.specs.History.{after, marks_after, trace_marks};
 ghost use Rattle.rec_trace.specs.Kinds as kinds;
 ghost use Rattle.rec_trace.specs.Past.{TraceInput, event_marks, is_paused, mark, open_spans};
+ghost use Rattle.rec_trace.specs.Plain.{PlainEvent, plain};
 ghost use Rattle.rec_trace.specs.Positions.{Has, IsInPause, IsOpen, SliceBegins, SliceEnds, past_at};
 ghost use Rattle.rec_trace.specs.Refusals.{history_refusal};
 ghost use Rattle.rec_trace.specs.Timeline.{IsTimeline};
+ghost use Rattle.rec_trace.specs.Traces.{events_refusal};
 
 use rec_events::OutputSpec;
 
@@ -36,9 +38,8 @@ pub fn slices()
 {}
 
 /// States that the marks of a history of events that has a trace are a timeline.
-pub fn timeline<S: OutputSpec>()
-    ensures { (group : group_by.ChromeTraceGroupBy) (events : List (TestEventSummary S S.ChildOutput)) → let history = kinds.history group events in
-        history_refusal history ≡ None → IsTimeline history }
+pub fn timeline()
+    ensures { (group : group_by.ChromeTraceGroupBy) (events : List PlainEvent) → events_refusal group events ≡ None → IsTimeline (kinds.history group events) }
 {}
 
 /// States that each prefix of a history that has a trace has one too, and that its marks are the first of those
@@ -48,9 +49,7 @@ pub fn prefixes()
     ensures marks { (history more : List TraceInput) → trace_marks (history ++ more) ≡ trace_marks history ++ marks_after (after [] history) more }
 {}
 
-/// States that the outputs of events are not drawn: events have the same history whatever becomes of their
-/// outputs.
+/// States that the outputs of events are not drawn: an event is plain whatever becomes of its outputs.
 pub fn outputs_are_not_drawn<S: OutputSpec, T: OutputSpec>()
-    ensures { (group : group_by.ChromeTraceGroupBy) (becomes : S.ChildOutput → T.ChildOutput) (events : List (TestEventSummary S S.ChildOutput))
-        → kinds.history group (map (event_with {T = T} becomes) events) ≡ kinds.history group events }
+    ensures { (becomes : S.ChildOutput → T.ChildOutput) (event : TestEventSummary S S.ChildOutput) → plain (event_with {T = T} becomes event) ≡ plain event }
 {}

@@ -1,12 +1,17 @@
 //! The spans that are open at once.
-ghost use Rattle.std.specs.Prelude.{◌≡◌, ℕ, [], Some, OnOk, OnErr, option_copied, option_to_list};
+ghost use Rattle.std.specs.Prelude.{◌≡◌, ℕ, [], Some, not, map, IfOk, OnOk, OnErr, option_copied, option_to_list};
+ghost use Rattle.serde_json.specs.View.{view};
 ghost use Rattle.rec_trace.specs.declared.spans.Place.TheVariants as places;
 ghost use Rattle.rec_trace.specs.declared.spans.SpanKey.TheVariants as keys;
-ghost use Rattle.rec_trace.specs.Past.{in_place, of_key, put_in, without};
+ghost use Rattle.rec_trace.specs.Drawing.{mark_value};
+ghost use Rattle.rec_trace.specs.Past.{in_place, marks, of_key, put_in, without};
+ghost use Rattle.rec_trace.specs.Refusals.{is_none_open, is_script, scripts_in, under};
 ghost use Rattle.rec_trace.specs.Tied.{place_of};
 
-use crate::spans::{Place, Span};
-use rec_events::{OwnedTestInstanceId, TryClone};
+use crate::drawing::mark_value;
+use crate::spans::{Phase, Place, Span, SpanKey};
+use rec_events::{OwnedTestInstanceId, ScriptId, TryClone};
+use serde_json::Value;
 use std::alloc::{AllocError, Global};
 use std::collections::BTreeMap;
 use std::marker::Model;
@@ -46,10 +51,45 @@ impl OpenSpans {
 
     /// Returns the span of the run, where it is open.
     pub fn run(&self) -> Option<&Span>
-        ensures key { option_to_list (option_copied result) ≡ of_key keys.Run self.now }
-        ensures place { option_to_list (option_copied result) ≡ in_place places.Run self.now }
+        ensures { option_to_list (option_copied result) ≡ of_key keys.Run self.now }
     {
         self.spans.get(&Place::Run)
+    }
+
+    /// Returns the span of the sub-run, where it is open.
+    pub fn sub_run(&self) -> Option<&Span>
+        ensures { option_to_list (option_copied result) ≡ of_key keys.SubRun self.now }
+    {
+        self.spans.get(&Place::SubRun)
+    }
+
+    /// Returns the span of the setup script of an index, where it is open.
+    pub fn script(&self, index: usize) -> Option<&Span>
+        ensures { option_to_list (option_copied result) ≡ of_key (keys.Script index) self.now }
+    {
+        self.spans.get(&Place::Script(index))
+    }
+
+    /// Returns whether the setup script of an index is open under an id.
+    pub fn is_script_under(&self, index: usize, id: &ScriptId) -> bool
+        ensures { result ≡ not (is_none_open (under id.now (of_key (keys.Script index) self.now))) }
+    {
+        match self.script(index) {
+            Some(span) => span.name.as_str() == id.as_str(),
+            None => false,
+        }
+    }
+
+    /// Returns whether some setup script is open under an id.
+    pub fn is_some_script(&self, id: &ScriptId) -> bool
+        ensures { result ≡ not (is_none_open (under id.now (scripts_in self.now))) }
+    {
+        for span in self.spans.values() {
+            if is_script(&span.key) && span.name.as_str() == id.as_str() {
+                return true;
+            }
+        }
+        false
     }
 
     /// Returns the span of the open attempt of a test, where there is one.
@@ -75,7 +115,6 @@ impl OpenSpans {
     pub fn open(&mut self, span: Span) -> Result<(), AllocError>
         requires place { place_of [] span.key ≡ Some span.place }
         requires key_free { of_key span.key self.old ≡ [] }
-        requires place_free { in_place span.place self.old ≡ [] }
         ensures ok { OnOk result (self.new ≡ put_in span self.old) }
         ensures err { OnErr result (self.new ≡ self.old) }
     {
@@ -119,5 +158,51 @@ impl OpenSpans {
     {
         let slot = self.slots.remove(test)?;
         self.spans.remove(&Place::Slot(slot))
+    }
+
+    /// Closes the span of the run, if it is open.
+    pub fn close_run(&mut self)
+        ensures { self.new ≡ without keys.Run self.old }
+    {
+        self.spans.remove(&Place::Run);
+    }
+
+    /// Closes the span of the sub-run, if it is open.
+    pub fn close_sub_run(&mut self)
+        ensures { self.new ≡ without keys.SubRun self.old }
+    {
+        self.spans.remove(&Place::SubRun);
+    }
+
+    /// Closes the span of the setup script of an index, if it is open.
+    pub fn close_script(&mut self, index: usize)
+        ensures { self.new ≡ without (keys.Script index) self.old }
+    {
+        self.spans.remove(&Place::Script(index));
+    }
+
+    /// Draws the begins, or the ends, of slices of all spans, in the order of their places.
+    ///
+    /// # Errors
+    ///
+    /// Fails only where memory ran out.
+    pub fn marks(&self, alloc: Global, phase: Phase, at: i64) -> Result<Vec<Value>, AllocError>
+        ensures { IfOk result (λ events. map view events.items ≡ map mark_value (marks phase at self.now)) }
+    {
+        let mut events = Vec::new(alloc);
+        for span in self.spans.values() {
+            events.push(mark_value(alloc, phase, span, at)?)?;
+        }
+        Ok(events)
+    }
+}
+
+/// Returns whether a span of this key is of a setup script.
+fn is_script(key: &SpanKey) -> bool
+    ensures { result ≡ is_script key.now }
+{
+    match key {
+        SpanKey::Script(_) => true,
+        SpanKey::Run | SpanKey::SubRun | SpanKey::Test(_) => false,
     }
 }

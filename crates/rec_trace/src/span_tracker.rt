@@ -1,48 +1,56 @@
 //! Tracks the spans of a run, event by event, and answers the trace events of each.
-ghost use Rattle.std.specs.Prelude.{◌≡◌, ◌^◌, ◌⊎◌, suc, [], ◌∷◌, false, true, map, nat_lt, IfOk, OnOk, OnErr, MatchOption};
-ghost use Rattle.serde_json.specs.View.{view};
-ghost use Rattle.rec_events.specs.Stats as stats;
+ghost use Rattle.std.specs.Prelude.{◌≡◌, suc, IfOk, OnOk, OnErr};
 ghost use Rattle.rec_events.specs.Times.{micros};
-ghost use Rattle.rec_trace.specs.declared.spans.Phase.TheVariants as phases;
-ghost use Rattle.rec_trace.specs.declared.spans.Place.TheVariants as places;
-ghost use Rattle.rec_trace.specs.declared.spans.SpanKey.TheVariants as keys;
-ghost use Rattle.rec_trace.specs.Drawing.{mark_value};
-ghost use Rattle.rec_trace.specs.History.{initial_state};
-ghost use Rattle.rec_trace.specs.Kinds.{core_trace_input, output_trace_input, run_span, test_name, test_row, test_span, trace_input};
-ghost use Rattle.rec_trace.specs.Past.Change.{Start, Stop};
-ghost use Rattle.rec_trace.specs.Past.{in_place, mark, marks, of_key};
-ghost use Rattle.rec_trace.specs.Refusals.{Judges, change_refusal, count_refusal, event_refusal, instant_refusal, next_refusal, number_refusal};
+ghost use Rattle.rec_trace.specs.declared.settings.ChromeTraceGroupBy.{ChromeTraceGroupBy};
+ghost use Rattle.rec_trace.specs.History.{initial_state, next_state};
+ghost use Rattle.rec_trace.specs.Kinds.{act_input, change_of, trace_input};
+ghost use Rattle.rec_trace.specs.Plain.{plain};
+ghost use Rattle.rec_trace.specs.Refusals.{Judges, act_refusal, instant_refusal, next_refusal, number_refusal};
+ghost use Rattle.rec_trace.specs.Seen.{seen};
 ghost use Rattle.rec_trace.specs.Tracking.{Tracks};
 
-use crate::drawing::mark_value;
+use crate::acts::{Act, act_of};
+use crate::binaries::Binaries;
 use crate::errors::ChromeTraceError;
 use crate::open_spans::OpenSpans;
 use crate::settings::ChromeTraceGroupBy;
-use crate::spans::{Phase, Place, Row, Span, SpanKey};
-use rec_events::{
-    CoreEventKind, OutputEventKind, OutputSpec, OwnedTestInstanceId, RunStats, Stamp,
-    TestEventKindSummary, TestEventSummary, Text, TryClone,
-};
+use crate::spans::Span;
+use rec_events::{OutputSpec, OwnedTestInstanceId, Stamp, TestEventSummary};
 use serde_json::Value;
 use std::alloc::{AllocError, Global};
 use std::marker::Model;
 
-/// Keeps what the next event needs of those before it: how many there were, and which spans are open. No
-/// kind of event that is drawn yet pauses a run.
+/// Keeps what the next event needs of those before it.
 #[derive(Drop)]
 pub struct SpanTracker {
     /// How many events there were.
-    number: u64,
-    open_spans: OpenSpans,
+    pub(crate) number: u64,
+    /// Whether the run is in a pause.
+    pub(crate) in_pause: bool,
+    pub(crate) open_spans: OpenSpans,
+    pub(crate) binaries: Binaries,
+    /// How many setup scripts run.
+    pub(crate) scripts: usize,
+    /// How many attempts failed. There are no more than events, so it is a u64.
+    pub(crate) next_flow: u64,
 }
 
 impl Model for SpanTracker {
-    ghost use Rattle.std.specs.Prelude.{false};
+    ghost use Rattle.std.specs.Prelude.{◌≤◌};
     ghost use Rattle.rec_trace.specs.History.{TraceState};
 
     ghost Value = { TraceState };
 
-    ghost view = { λ tracker. record { number = tracker.number; in_pause = false; spans = tracker.open_spans } };
+    ghost view = { λ tracker. record {
+      number = tracker.number;
+      in_pause = tracker.in_pause;
+      spans = tracker.open_spans;
+      binaries = tracker.binaries;
+      scripts = tracker.scripts;
+      next_flow = tracker.next_flow;
+    } };
+
+    ghost invariant = { λ tracker. tracker.next_flow ≤ tracker.number };
 }
 
 impl SpanTracker {
@@ -52,32 +60,33 @@ impl SpanTracker {
     {
         SpanTracker {
             number: 0,
+            in_pause: false,
             open_spans: OpenSpans::new(alloc),
+            binaries: Binaries::new(alloc),
+            scripts: 0,
+            next_flow: 0,
         }
     }
 
-    /// Tracks an event, and answers its trace events.
+    /// Tracks an event, and puts its trace events after those so far.
     ///
     /// # Errors
     ///
     /// Answers the first cause for which the event is refused, in the order that `ChromeTraceError` gives,
-    /// or `OutOfMemory`. The tracker then stays as it was.
+    /// or `OutOfMemory`. The tracker and the trace events then stay as they were.
     pub fn step<S: OutputSpec>(
         &mut self,
         alloc: Global,
         group_by: ChromeTraceGroupBy,
         event: &TestEventSummary<S>,
-    ) -> Result<Vec<Value>, ChromeTraceError>
-        ensures { Tracks (next_refusal self.old (trace_input group_by event.now)) (trace_input group_by event.now) self.old self.new result }
+        events: &mut Vec<Value>,
+    ) -> Result<(), ChromeTraceError>
+        ensures { Tracks (next_refusal self.old (trace_input group_by self.old.binaries (plain event.now)))
+            (trace_input group_by self.old.binaries (plain event.now)) self.old self.new events.old.items events.new.items result }
     {
         let number = self.next_number()?;
-        let timestamp = &event.timestamp;
-        match &event.kind {
-            TestEventKindSummary::Core(kind) => {
-                self.track_core(alloc, group_by, number, timestamp, kind)
-            }
-            TestEventKindSummary::Output(kind) => self.track_output(alloc, number, timestamp, kind),
-        }
+        let at = instant(number, &event.timestamp)?;
+        self.track(alloc, group_by, number, at, act_of(&event.kind), events)
     }
 
     /// Returns the number of the next event.
@@ -90,6 +99,32 @@ impl SpanTracker {
             None => Err(ChromeTraceError::CountOutOfRange { event: u64::MAX }),
         }
     }
+
+    /// Tracks an event at an instant. All memory is there before anything changes.
+    fn track(
+        &mut self,
+        alloc: Global,
+        group_by: ChromeTraceGroupBy,
+        number: u64,
+        at: i64,
+        act: Act<'_>,
+        events: &mut Vec<Value>,
+    ) -> Result<(), ChromeTraceError>
+        requires { number ≡ suc self.old.number }
+        ensures { Tracks (act_refusal number self.old (seen act.entry) (change_of group_by self.old.binaries (seen act.entry)))
+            (act_input group_by self.old.binaries at (seen act.entry)) self.old self.new events.old.items events.new.items result }
+    {
+        self.judge(alloc, group_by, number, act)?;
+        let started = self.started(alloc, group_by, number, act)?;
+        let mut marks = self.marks(alloc, at, act, &started)?;
+        events.reserve(marks.len())?;
+        self.commit(alloc, group_by, number, act, started)?;
+        match events.append(&mut marks) {
+            Ok(()) => Ok(()),
+            // there is room for them
+            Err(AllocError) => unreachable!(),
+        }
+    }
 }
 
 /// Returns the instant of an event, in microseconds since the epoch.
@@ -100,274 +135,5 @@ fn instant(number: u64, timestamp: &Stamp) -> Result<i64, ChromeTraceError>
     match timestamp.microseconds() {
         Some(at) => Ok(at),
         None => Err(ChromeTraceError::TimestampOutOfRange { event: number }),
-    }
-}
-
-/// Makes the span of the run.
-fn run_span(alloc: Global) -> Result<Span, AllocError>
-    ensures { IfOk result (λ span. span ≡ run_span) }
-{
-    Ok(Span {
-        key: SpanKey::Run,
-        place: Place::Run,
-        row: Row { pid: 0, tid: 1 },
-        name: Text::from_str(alloc, "test run")?,
-    })
-}
-
-/// Makes the span of an attempt of a test, on its slot and its row.
-fn test_span(
-    alloc: Global,
-    group_by: ChromeTraceGroupBy,
-    test: &OwnedTestInstanceId,
-    slot: u64,
-    row: Row,
-) -> Result<Span, AllocError>
-    requires { row ≡ test_row group_by slot }
-    ensures { IfOk result (λ span. span ≡ test_span group_by test.now slot) }
-{
-    Ok(Span {
-        key: SpanKey::Test(test.try_clone(alloc)?),
-        place: Place::Slot(slot),
-        row,
-        name: test_name(alloc, group_by, test)?,
-    })
-}
-
-/// Returns the row of a test on a slot, where its number is a u64.
-fn test_row(group_by: ChromeTraceGroupBy, slot: u64) -> Option<Row>
-    ensures { MatchOption result (nat_lt (test_row group_by slot).tid (2 ^ 64) ≡ false)
-        (λ row. (row ≡ test_row group_by slot) × (nat_lt (test_row group_by slot).tid (2 ^ 64) ≡ true)) }
-{
-    match group_by {
-        ChromeTraceGroupBy::Slot => Some(Row {
-            pid: 2,
-            tid: slot.checked_add(10000)?,
-        }),
-    }
-}
-
-/// Makes the name of the span of a test.
-fn test_name(
-    alloc: Global,
-    group_by: ChromeTraceGroupBy,
-    test: &OwnedTestInstanceId,
-) -> Result<Text, AllocError>
-    ensures { IfOk result (λ name. name ≡ test_name group_by test.now) }
-{
-    match group_by {
-        ChromeTraceGroupBy::Slot => {
-            let binary_id = test.binary_id.as_str();
-            let test_name = test.test_name.as_str();
-            Ok(Text::new(format!(in alloc; "{binary_id} {test_name}")?))
-        }
-    }
-}
-
-/// Draws one end of a slice.
-fn one_event(alloc: Global, phase: Phase, span: &Span, at: i64) -> Result<Vec<Value>, AllocError>
-    ensures { IfOk result (λ events. map view events.items ≡ mark_value (mark phase at span.now) ∷ []) }
-{
-    let mut events = Vec::new(alloc);
-    events.push(mark_value(alloc, phase, span, at)?)?;
-    Ok(events)
-}
-
-impl SpanTracker {
-    /// Tracks an event without outputs. Its kind is judged before its instant.
-    fn track_core(
-        &mut self,
-        alloc: Global,
-        group_by: ChromeTraceGroupBy,
-        number: u64,
-        timestamp: &Stamp,
-        kind: &CoreEventKind,
-    ) -> Result<Vec<Value>, ChromeTraceError>
-        requires { number ≡ suc self.old.number }
-        ensures { Tracks (event_refusal number self.old.spans (core_trace_input group_by (micros timestamp.now) kind.now))
-            (core_trace_input group_by (micros timestamp.now) kind.now) self.old self.new result }
-    {
-        match kind {
-            CoreEventKind::RunStarted { .. } => {
-                let at = instant(number, timestamp)?;
-                self.start_run(alloc, number, at)
-            }
-            CoreEventKind::TestStarted {
-                test_instance,
-                slot_assignment,
-                ..
-            } => {
-                let at = instant(number, timestamp)?;
-                let slot = slot_assignment.global_slot;
-                self.start_test(alloc, group_by, number, at, test_instance, slot)
-            }
-            CoreEventKind::StressSubRunStarted { .. }
-            | CoreEventKind::SetupScriptStarted { .. }
-            | CoreEventKind::SetupScriptSlow { .. }
-            | CoreEventKind::TestSlow { .. }
-            | CoreEventKind::TestRetryStarted { .. }
-            | CoreEventKind::TestSkipped { .. }
-            | CoreEventKind::RunBeginCancel { .. }
-            | CoreEventKind::RunContinued { .. }
-            | CoreEventKind::StressSubRunFinished { .. }
-            | CoreEventKind::RunFinished { .. }
-            | CoreEventKind::RunPaused { .. } => {
-                Err(ChromeTraceError::KindNotBuilt { event: number })
-            }
-        }
-    }
-
-    /// Tracks an event with outputs. Its kind is judged before its instant.
-    fn track_output<S: OutputSpec>(
-        &mut self,
-        alloc: Global,
-        number: u64,
-        timestamp: &Stamp,
-        kind: &OutputEventKind<S>,
-    ) -> Result<Vec<Value>, ChromeTraceError>
-        requires { number ≡ suc self.old.number }
-        ensures { Tracks (event_refusal number self.old.spans (output_trace_input (micros timestamp.now) kind.now))
-            (output_trace_input (micros timestamp.now) kind.now) self.old self.new result }
-    {
-        match kind {
-            OutputEventKind::TestFinished {
-                test_instance,
-                current_stats,
-                ..
-            } => {
-                let at = instant(number, timestamp)?;
-                self.finish_test(alloc, number, at, test_instance, current_stats)
-            }
-            OutputEventKind::SetupScriptFinished { .. }
-            | OutputEventKind::TestAttemptFailedWillRetry { .. } => {
-                Err(ChromeTraceError::KindNotBuilt { event: number })
-            }
-        }
-    }
-
-    /// Starts the span of the run.
-    fn start_run(
-        &mut self,
-        alloc: Global,
-        number: u64,
-        at: i64,
-    ) -> Result<Vec<Value>, ChromeTraceError>
-        requires { number ≡ suc self.old.number }
-        ensures { Tracks (change_refusal number self.old.spans (Start run_span) 0)
-            (record { at = at; drawn = true; change = Start run_span; failures = 0 }) self.old self.new result }
-    {
-        if self.open_spans.run().is_some() {
-            return Err(ChromeTraceError::SpanAlreadyOpen {
-                event: number,
-                span: SpanKey::Run,
-            });
-        }
-        let span = run_span(alloc)?;
-        let events = one_event(alloc, Phase::Begin, &span, at)?;
-        self.open_spans.open(span)?;
-        self.number = number;
-        Ok(events)
-    }
-
-    /// Starts the span of an attempt of a test.
-    fn start_test(
-        &mut self,
-        alloc: Global,
-        group_by: ChromeTraceGroupBy,
-        number: u64,
-        at: i64,
-        test: &OwnedTestInstanceId,
-        slot: u64,
-    ) -> Result<Vec<Value>, ChromeTraceError>
-        requires { number ≡ suc self.old.number }
-        ensures { Tracks (change_refusal number self.old.spans (Start (test_span group_by test.now slot)) 0)
-            (record { at = at; drawn = true; change = Start (test_span group_by test.now slot); failures = 0 }) self.old self.new result }
-    {
-        let row = self.row_of_start(alloc, group_by, number, test, slot)?;
-        let span = test_span(alloc, group_by, test, slot, row)?;
-        let events = one_event(alloc, Phase::Begin, &span, at)?;
-        self.open_spans.open_test(alloc, test, slot, span)?;
-        self.number = number;
-        Ok(events)
-    }
-
-    /// Judges whether an attempt of a test may start on a slot, and returns its row.
-    fn row_of_start(
-        &self,
-        alloc: Global,
-        group_by: ChromeTraceGroupBy,
-        number: u64,
-        test: &OwnedTestInstanceId,
-        slot: u64,
-    ) -> Result<Row, ChromeTraceError>
-        ensures row { IfOk result (λ row. row ≡ test_row group_by slot) }
-        ensures key_free { OnOk result (of_key (keys.Test test.now) self.now.spans ≡ []) }
-        ensures place_free { OnOk result (in_place (places.Slot slot) self.now.spans ≡ []) }
-        ensures judged { Judges result (change_refusal number self.now.spans (Start (test_span group_by test.now slot)) 0) }
-    {
-        if self.open_spans.test(test).is_some() {
-            return Err(ChromeTraceError::SpanAlreadyOpen {
-                event: number,
-                span: SpanKey::Test(test.try_clone(alloc)?),
-            });
-        }
-        if self.open_spans.on_slot(slot).is_some() {
-            return Err(ChromeTraceError::SlotBusy {
-                event: number,
-                slot,
-            });
-        }
-        match test_row(group_by, slot) {
-            Some(row) => Ok(row),
-            None => Err(ChromeTraceError::RowOutOfRange {
-                event: number,
-                number: slot,
-            }),
-        }
-    }
-
-    /// Ends the span of the open attempt of a test.
-    fn finish_test(
-        &mut self,
-        alloc: Global,
-        number: u64,
-        at: i64,
-        test: &OwnedTestInstanceId,
-        current_stats: &RunStats,
-    ) -> Result<Vec<Value>, ChromeTraceError>
-        requires { number ≡ suc self.old.number }
-        ensures { Tracks (change_refusal number self.old.spans (Stop (keys.Test test.now)) (stats.failures current_stats.now))
-            (record { at = at; drawn = true; change = Stop (keys.Test test.now); failures = stats.failures current_stats.now }) self.old self.new result }
-    {
-        let events = self.end_of_test(alloc, number, at, test, current_stats)?;
-        let _closed = self.open_spans.close_test(test);
-        self.number = number;
-        Ok(events)
-    }
-
-    /// Draws the end of the span of a test, where an attempt of it is open.
-    fn end_of_test(
-        &self,
-        alloc: Global,
-        number: u64,
-        at: i64,
-        test: &OwnedTestInstanceId,
-        current_stats: &RunStats,
-    ) -> Result<Vec<Value>, ChromeTraceError>
-        ensures events { IfOk result (λ events. map view events.items
-            ≡ map mark_value (marks phases.End at (of_key (keys.Test test.now) self.now.spans))) }
-        ensures judged { Judges result (change_refusal number self.now.spans (Stop (keys.Test test.now)) (stats.failures current_stats.now)) }
-    {
-        let Some(span) = self.open_spans.test(test) else {
-            return Err(ChromeTraceError::MissingTestStart {
-                event: number,
-                binary_id: test.binary_id.try_clone(alloc)?,
-                test_name: test.test_name.try_clone(alloc)?,
-            });
-        };
-        if current_stats.failed_count().is_none() {
-            return Err(ChromeTraceError::CountOutOfRange { event: number });
-        }
-        Ok(one_event(alloc, Phase::End, span, at)?)
     }
 }

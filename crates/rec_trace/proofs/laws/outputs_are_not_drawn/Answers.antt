@@ -1,5 +1,5 @@
 use Rattle.rec_trace.proofs.laws.outputs_are_not_drawn.Goals as goal
-use Rattle.rec_trace.proofs.OutputsNotDrawn.{same-history}
+use Rattle.rec_trace.proofs.Plains.{event-plain}
 
 pub returns : goal.returns
-returns g c = same-history g.row.T.Denot
+returns g c = event-plain g.row.T.Denot

@@ -2,4 +2,4 @@ use Rattle.rec_trace.proofs.laws.timeline.Goals as goal
 use Rattle.rec_trace.proofs.Timelines.{timeline}
 
 pub returns : goal.returns
-returns g c = timeline
+returns c = timeline

@@ -1,7 +1,7 @@
 use Rattle.std.proofs.Common.{string_bytes}
 use Rattle.std.proofs.lemmas.Result.{IfOk-weaker}
 use Rattle.serde_json.specs.View.{view}
-use Rattle.rec_trace.proofs.drawing.trace_text.Goals as goal
+use Rattle.rec_trace.proofs.drawing.text_of_events.Goals as goal
 use Rattle.rec_trace.proofs.TraceTexts.{text-is}
 
 pub returns : goal.returns

@@ -1,0 +1,208 @@
+//! Takes an event into what is kept, after it was judged.
+ghost use Rattle.std.specs.Prelude.{◌≡◌, ◌<◌, ◌≤◌, ℕ, ℤ, List, suc, [], None, Some, IfOk, OnOk, OnErr};
+ghost use Rattle.rec_trace.specs.declared.settings.ChromeTraceGroupBy.{ChromeTraceGroupBy};
+ghost use Rattle.rec_trace.specs.declared.spans.Place.TheVariants as places;
+ghost use Rattle.rec_trace.specs.declared.spans.Span.{Span};
+ghost use Rattle.rec_trace.specs.declared.spans.SpanKey.TheVariants as keys;
+ghost use Rattle.rec_trace.specs.History.{next_state};
+ghost use Rattle.rec_trace.specs.Kinds.{act_input, change_of};
+ghost use Rattle.rec_trace.specs.Past.{binaries_after, flow_after, in_place, of_key, open_after, pause_after, put_in, scripts_after, with_binary};
+ghost use Rattle.rec_trace.specs.Refusals.{act_refusal, open_refusal, scripts_refusal, slot_refusal};
+ghost use Rattle.rec_trace.specs.Seen.{seen};
+ghost use Rattle.rec_trace.specs.Starts.{started};
+ghost use Rattle.rec_trace.specs.Tied.{place_of};
+
+use crate::acts::Act;
+use crate::binaries::Binaries;
+use crate::open_spans::OpenSpans;
+use crate::settings::ChromeTraceGroupBy;
+use crate::span_tracker::SpanTracker;
+use crate::spans::Span;
+use crate::starts::{run_span, script_span, sub_run_span, test_span};
+use rec_events::OwnedTestInstanceId;
+use std::alloc::{AllocError, Global};
+
+impl SpanTracker {
+    /// Makes the span that an event starts, if it starts one.
+    pub(crate) fn started(
+        &self,
+        alloc: Global,
+        group_by: ChromeTraceGroupBy,
+        number: u64,
+        act: Act<'_>,
+    ) -> Result<Option<Span>, AllocError>
+        requires { act_refusal number self.now (seen act.entry) (change_of group_by self.now.binaries (seen act.entry)) ≡ None }
+        ensures { IfOk result (λ span. span ≡ started (change_of group_by self.now.binaries (seen act.entry))) }
+    {
+        match act {
+            Act::RunStarts => Ok(Some(run_span(alloc)?)),
+            Act::SubRunStarts => Ok(Some(sub_run_span(alloc)?)),
+            Act::ScriptStarts { index, id } => Ok(Some(script_span(alloc, index, id)?)),
+            Act::AttemptStarts { test, slot } => {
+                let span = test_span(alloc, group_by, &self.binaries, test, slot)?;
+                Ok(Some(span))
+            }
+            _ => Ok(None),
+        }
+    }
+
+    /// Takes an event, which starts this span, if it starts one. Where memory is short, nothing changes.
+    pub(crate) fn commit(
+        &mut self,
+        alloc: Global,
+        group_by: ChromeTraceGroupBy,
+        number: u64,
+        act: Act<'_>,
+        span: Option<Span>,
+    ) -> Result<(), AllocError>
+        requires number { number ≡ suc self.old.number }
+        requires judged { act_refusal number self.old (seen act.entry) (change_of group_by self.old.binaries (seen act.entry)) ≡ None }
+        requires span { span ≡ started (change_of group_by self.old.binaries (seen act.entry)) }
+        ensures ok { (t : ℤ) → OnOk result (self.new ≡ next_state (act_input group_by self.old.binaries t (seen act.entry)) self.old) }
+        ensures err { OnErr result (self.new ≡ self.old) }
+    {
+        change_spans(
+            alloc,
+            group_by,
+            act,
+            span,
+            &mut self.open_spans,
+            &mut self.binaries,
+        )?;
+        self.number = number;
+        self.in_pause = pause_after(act, self.in_pause);
+        self.scripts = scripts_after(number, act, self.scripts);
+        self.next_flow = flow_after(number, act, self.next_flow);
+        Ok(())
+    }
+}
+
+/// Opens or closes what the event starts or ends, and adds the binary of an attempt. Where memory is short,
+/// nothing changes.
+fn change_spans(
+    alloc: Global,
+    group_by: ChromeTraceGroupBy,
+    act: Act<'_>,
+    span: Option<Span>,
+    open_spans: &mut OpenSpans,
+    binaries: &mut Binaries,
+) -> Result<(), AllocError>
+    requires open { open_refusal 0 open_spans.old (change_of group_by binaries.old (seen act.entry)) ≡ None }
+    requires slot { slot_refusal 0 open_spans.old (change_of group_by binaries.old (seen act.entry)) ≡ None }
+    requires span { span ≡ started (change_of group_by binaries.old (seen act.entry)) }
+    ensures spans { OnOk result (open_spans.new ≡ open_after (change_of group_by binaries.old (seen act.entry)) open_spans.old) }
+    ensures binaries { OnOk result (binaries.new ≡ binaries_after (change_of group_by binaries.old (seen act.entry)) binaries.old) }
+    ensures err_spans { OnErr result (open_spans.new ≡ open_spans.old) }
+    ensures err_binaries { OnErr result (binaries.new ≡ binaries.old) }
+{
+    match act {
+        Act::RunStarts => open_fixed(span, open_spans),
+        Act::SubRunStarts => open_fixed(span, open_spans),
+        Act::ScriptStarts { .. } => open_fixed(span, open_spans),
+        Act::AttemptStarts { test, slot } => {
+            open_attempt(alloc, test, slot, span, open_spans, binaries)
+        }
+        Act::RunEnds => {
+            open_spans.close_run();
+            Ok(())
+        }
+        Act::SubRunEnds => {
+            open_spans.close_sub_run();
+            Ok(())
+        }
+        Act::ScriptEnds { index, .. } => {
+            open_spans.close_script(index);
+            Ok(())
+        }
+        Act::AttemptFails { test } => {
+            open_spans.close_test(test);
+            Ok(())
+        }
+        Act::TestEnds { test, .. } => {
+            open_spans.close_test(test);
+            Ok(())
+        }
+        _ => Ok(()),
+    }
+}
+
+/// Opens a span that is not of a test, if there is one.
+fn open_fixed(span: Option<Span>, open_spans: &mut OpenSpans) -> Result<(), AllocError>
+    requires place { (s : Span) → span ≡ Some s → place_of [] s.key ≡ Some s.place }
+    requires key_free { (s : Span) → span ≡ Some s → of_key s.key open_spans.old ≡ [] }
+    ensures ok { OnOk result ((s : Span) → span ≡ Some s → open_spans.new ≡ put_in s open_spans.old) }
+    ensures err { OnErr result (open_spans.new ≡ open_spans.old) }
+{
+    match span {
+        Some(span) => open_spans.open(span),
+        None => Ok(()),
+    }
+}
+
+/// Opens the span of an attempt of a test on a slot, if there is one, and adds the test's binary.
+fn open_attempt(
+    alloc: Global,
+    test: &OwnedTestInstanceId,
+    slot: u64,
+    span: Option<Span>,
+    open_spans: &mut OpenSpans,
+    binaries: &mut Binaries,
+) -> Result<(), AllocError>
+    requires key { (s : Span) → span ≡ Some s → s.key ≡ keys.Test test.now }
+    requires place { (s : Span) → span ≡ Some s → s.place ≡ places.Slot slot }
+    requires key_free { of_key (keys.Test test.now) open_spans.old ≡ [] }
+    requires place_free { in_place (places.Slot slot) open_spans.old ≡ [] }
+    ensures spans { OnOk result ((s : Span) → span ≡ Some s → open_spans.new ≡ put_in s open_spans.old) }
+    ensures binaries { OnOk result (binaries.new ≡ with_binary test.now.binary_id binaries.old) }
+    ensures err_spans { OnErr result (open_spans.new ≡ open_spans.old) }
+    ensures err_binaries { OnErr result (binaries.new ≡ binaries.old) }
+{
+    if let Some(span) = span {
+        open_spans.open_test(alloc, test, slot, span)?;
+    }
+    match binaries.add(alloc, &test.binary_id) {
+        Ok(()) => Ok(()),
+        Err(AllocError) => {
+            open_spans.close_test(test);
+            Err(AllocError)
+        }
+    }
+}
+
+/// Returns whether the run is in a pause after the event, by whether it was before.
+fn pause_after(act: Act<'_>, before: bool) -> bool
+    ensures { (g : ChromeTraceGroupBy) (known : List (List ℕ × ℕ)) → result ≡ pause_after (change_of g known (seen act.entry)) before }
+{
+    match act {
+        Act::Pauses { .. } => true,
+        Act::Continues { .. } => false,
+        _ => before,
+    }
+}
+
+/// Returns how many setup scripts run after the event, by how many did before.
+fn scripts_after(number: u64, act: Act<'_>, before: usize) -> usize
+    requires { scripts_refusal number (seen act.entry) before ≡ None }
+    ensures { result ≡ scripts_after (seen act.entry) before }
+{
+    match act {
+        Act::ScriptStarts { .. } => before + 1,
+        Act::ScriptEnds { .. } => before.saturating_sub(1),
+        Act::Pauses { scripts } => scripts,
+        Act::Continues { scripts } => scripts,
+        Act::Cancels { scripts } => scripts,
+        _ => before,
+    }
+}
+
+/// Returns how many attempts have failed after the event with this number, by how many had before.
+fn flow_after(number: u64, act: Act<'_>, before: u64) -> u64
+    requires { before < number }
+    ensures value { result ≡ flow_after (seen act.entry) before }
+    ensures bound { result ≤ number }
+{
+    match act {
+        Act::AttemptFails { .. } => before + 1,
+        _ => before,
+    }
+}
