@@ -3,6 +3,7 @@ pub mod Converting
 pub mod EventMarks
 pub mod Filters
 pub mod Fits
+pub mod Groupings
 pub mod Histories
 pub mod Keys
 pub mod Maps
@@ -10,6 +11,7 @@ pub mod Once
 pub mod OpenTests
 pub mod Orders
 pub mod Plains
+pub mod Pids
 pub mod PlacesOfHistory
 pub mod Prefixes
 pub mod Rows

@@ -15,5 +15,7 @@ pub mod Starts
 pub mod Tracking
 pub mod Traces
 pub mod Timeline
+pub mod Times
+pub mod Groupings
 pub mod SpanTexts
 pub mod Converting

@@ -5,6 +5,7 @@ ghost use Rattle.rec_events.specs.EventMaps.{event_with};
 ghost use Rattle.rec_trace.specs.declared.settings.ChromeTraceGroupBy as group_by;
 ghost use Rattle.rec_trace.specs.declared.spans.Phase.TheVariants as phases;
 ghost use Rattle.rec_trace.specs.declared.spans.Span as spans;
+ghost use Rattle.rec_trace.specs.Groupings.{GroupingsAgree};
 ghost use Rattle.rec_trace.specs.History.{after, marks_after, trace_marks};
 ghost use Rattle.rec_trace.specs.Kinds as kinds;
 ghost use Rattle.rec_trace.specs.Past.{TraceInput, event_marks, is_paused, mark, open_spans};
@@ -47,6 +48,12 @@ pub fn timeline()
 pub fn prefixes()
     ensures accepted { (history more : List TraceInput) → history_refusal (history ++ more) ≡ None → history_refusal history ≡ None }
     ensures marks { (history more : List TraceInput) → trace_marks (history ++ more) ≡ trace_marks history ++ marks_after (after [] history) more }
+{}
+
+/// States that both groupings give the same marks of events but for the pids and the names of tests, and refuse
+/// alike fewer than 2^63 events.
+pub fn groupings()
+    ensures { (events : List PlainEvent) → GroupingsAgree events }
 {}
 
 /// States that the outputs of events are not drawn: an event is plain whatever becomes of its outputs.
