@@ -18,7 +18,10 @@ pub mod Rows
 pub mod Slices
 pub mod SlicesOfHistory
 pub mod Timelines
+pub mod Times
+pub mod TimesOfHistory
 pub mod TraceTexts
 pub mod Tracing
 pub mod TurnsOfHistory
 pub mod Unique
+pub mod Windows

@@ -60,11 +60,13 @@ window_time history w = instant history w.to -ℤ instant history w.from
 
 -- ---- the law
 
--- the ends less the begins on the row of a span, from its start at a to its end at b, are its time less that of its pause windows
+-- From the start of a span at a to its end at b, the marks on its row are its own, and the ends less the begins are its time less that of its
+-- pause windows
 pub record AddsUp (history : List TraceInput) (a b : ℕ) (s : Span) : Type 0 where
   pub windows : List Window
   pub each : (w : Window) → Has windows w ↔ IsWindow history a b w
   pub once : IsOnce windows
+  pub own : (m : Mark) → Has (on_row s.row (marks_between history a b)) m → m.span ≡ s
   pub adds : marked_time (on_row s.row (marks_between history a b)) ≡ (instant history b -ℤ instant history a) -ℤ total (map (window_time history) windows)
 
 -- the marks of each span that ends add up, whether instants rise or fall

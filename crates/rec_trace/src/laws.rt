@@ -13,6 +13,7 @@ ghost use Rattle.rec_trace.specs.Plain.{PlainEvent, plain};
 ghost use Rattle.rec_trace.specs.Positions.{Has, IsInPause, IsOpen, SliceBegins, SliceEnds, past_at};
 ghost use Rattle.rec_trace.specs.Refusals.{history_refusal};
 ghost use Rattle.rec_trace.specs.Timeline.{IsTimeline};
+ghost use Rattle.rec_trace.specs.Times.{TimesAddUp};
 ghost use Rattle.rec_trace.specs.Traces.{events_refusal};
 
 use rec_events::OutputSpec;
@@ -48,6 +49,12 @@ pub fn timeline()
 pub fn prefixes()
     ensures accepted { (history more : List TraceInput) → history_refusal (history ++ more) ≡ None → history_refusal history ≡ None }
     ensures marks { (history more : List TraceInput) → trace_marks (history ++ more) ≡ trace_marks history ++ marks_after (after [] history) more }
+{}
+
+/// States that the marks of each span that ends add up to its time less that of its pause windows, whether
+/// instants rise or fall.
+pub fn times()
+    ensures { (group : group_by.ChromeTraceGroupBy) (events : List PlainEvent) → events_refusal group events ≡ None → TimesAddUp (kinds.history group events) }
 {}
 
 /// States that both groupings give the same marks of events but for the pids and the names of tests, and refuse
