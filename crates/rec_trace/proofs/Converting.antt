@@ -7,9 +7,11 @@ use Rattle.rec_codec.specs.declared.line_events.LineError.TheVariants as faults
 use Rattle.rec_codec.specs.declared.line_events.LineError.{LineError}
 use Rattle.rec_codec.specs.Event.{RecordedEvent}
 use Rattle.rec_trace.proofs.Acceptance.{accepted-prefix}
+use Rattle.rec_trace.proofs.Groupings.{groupings-agree}
 use Rattle.rec_trace.proofs.Histories.{history-append}
 use Rattle.rec_trace.proofs.Prefixes.{marks_after-append}
 use Rattle.rec_trace.proofs.Timelines.{timeline}
+use Rattle.rec_trace.proofs.TimesOfHistory.{times-add_up}
 use Rattle.rec_trace.specs.Converting.{Converts, HasNoTrace, KeepsPrefixes, fault_error}
 use Rattle.rec_trace.specs.declared.builder.TraceBuilder.{TraceBuilder}
 use Rattle.rec_trace.specs.declared.errors.ChromeTraceError.TheVariants.{OutOfMemory, ReadError}
@@ -123,5 +125,7 @@ module _ (g : ChromeTraceGroupBy) (b : TraceBuilder) (items : List (Result Recor
           accepted = has.accepted;
           written = written g (map plain events) has;
           timeline = timeline g (map plain events) has.accepted;
+          times = times-add_up g (map plain events) has.accepted;
+          groupings = groupings-agree (map plain events);
           prefixes = keeps-prefixes g (map plain events) has.accepted;
         }

@@ -9,11 +9,13 @@ use Rattle.rec_trace.specs.declared.errors.ChromeTraceError.TheVariants.{OutOfMe
 use Rattle.rec_trace.specs.declared.errors.ChromeTraceError.{ChromeTraceError}
 use Rattle.rec_trace.specs.declared.settings.ChromeTraceGroupBy.{ChromeTraceGroupBy}
 use Rattle.rec_trace.specs.declared.settings.ChromeTraceMessageFormat.{ChromeTraceMessageFormat}
+use Rattle.rec_trace.specs.Groupings.{GroupingsAgree}
 use Rattle.rec_trace.specs.History.{trace_marks}
 use Rattle.rec_trace.specs.Kinds.{history}
 use Rattle.rec_trace.specs.Past.{Mark}
 use Rattle.rec_trace.specs.Plain.{PlainEvent, plain}
 use Rattle.rec_trace.specs.Timeline.{IsTimeline}
+use Rattle.rec_trace.specs.Times.{TimesAddUp}
 use Rattle.rec_trace.specs.Traces.{events_refusal, trace_text}
 
 -- what a fault of the history is answered as: want of memory as such, every other as a history that can't be read
@@ -27,13 +29,15 @@ abbrev pub KeepsPrefixes : ChromeTraceGroupBy → List PlainEvent → Type 0
 KeepsPrefixes g events = (xs ys : List PlainEvent) → events ≡ xs ++ ys →
     (events_refusal g xs ≡ None) × ((more : List Mark) × (trace_marks (history g events) ≡ trace_marks (history g xs) ++ more))
 
--- the iterator gave events and ended, and the text is that of their trace, whose marks are their timeline
+-- the iterator gave events and ended, and the text is that of their trace, whose marks are their timeline and keep its laws
 pub record Converts {S : Type 0} (steps : S → Option (Result RecordedEvent LineError) → S → Type 0) (s : S) (g : ChromeTraceGroupBy) (format : ChromeTraceMessageFormat) (version : Parts) (text : List ℕ) : Type 0 where
   pub events : List RecordedEvent
   pub drained : Drains steps s (map Ok events)
   pub accepted : events_refusal g (map plain events) ≡ None
   pub written : text ≡ trace_text format g version (map plain events)
   pub timeline : IsTimeline (history g (map plain events))
+  pub times : TimesAddUp (history g (map plain events))
+  pub groupings : GroupingsAgree (map plain events)
   pub prefixes : KeepsPrefixes g (map plain events)
 
 -- the iterator gave events without a cause to be refused, and then a fault, which is the error

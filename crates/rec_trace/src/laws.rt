@@ -2,6 +2,7 @@
 ghost use Rattle.std.specs.Prelude.{◌≡◌, ◌↔◌, ◌≤◌, ℕ, ℤ, true, List, [], ◌++◌, length, map, slice_get, Some, None};
 ghost use Rattle.rec_events.specs.declared.events.TestEventSummary.{TestEventSummary};
 ghost use Rattle.rec_events.specs.EventMaps.{event_with};
+ghost use Rattle.rec_trace.specs.Converting.{KeepsPrefixes};
 ghost use Rattle.rec_trace.specs.declared.settings.ChromeTraceGroupBy as group_by;
 ghost use Rattle.rec_trace.specs.declared.spans.Phase.TheVariants as phases;
 ghost use Rattle.rec_trace.specs.declared.spans.Span as spans;
@@ -47,6 +48,7 @@ pub fn timeline()
 /// States that each prefix of a history that has a trace has one too, and that its marks are the first of those
 /// of the whole.
 pub fn prefixes()
+    ensures events { (group : group_by.ChromeTraceGroupBy) (events : List PlainEvent) → events_refusal group events ≡ None → KeepsPrefixes group events }
     ensures accepted { (history more : List TraceInput) → history_refusal (history ++ more) ≡ None → history_refusal history ≡ None }
     ensures marks { (history more : List TraceInput) → trace_marks (history ++ more) ≡ trace_marks history ++ marks_after (after [] history) more }
 {}
