@@ -77,8 +77,8 @@ impl SpanTracker {
     }
 }
 
-/// Opens or closes what the event starts or ends, and adds the binary of an attempt. Where memory is short,
-/// nothing changes.
+/// Opens this span, which the event starts, or closes what it ends, and adds the binary of an attempt. Where
+/// memory is short, nothing changes.
 fn change_spans(
     alloc: Global,
     group_by: ChromeTraceGroupBy,
@@ -95,48 +95,65 @@ fn change_spans(
     ensures err_spans { OnErr result (open_spans.new ≡ open_spans.old) }
     ensures err_binaries { OnErr result (binaries.new ≡ binaries.old) }
 {
-    match act {
-        Act::RunStarts => open_fixed(span, open_spans),
-        Act::SubRunStarts => open_fixed(span, open_spans),
-        Act::ScriptStarts { .. } => open_fixed(span, open_spans),
-        Act::AttemptStarts { test, slot } => match span {
-            Some(span) => open_attempt(alloc, test, slot, span, open_spans, binaries),
-            None => unreachable!(),
-        },
-        Act::RunEnds => {
-            open_spans.close_run();
+    match span {
+        Some(span) => open_started(alloc, group_by, act, span, open_spans, binaries),
+        None => {
+            close_stopped(group_by, act, open_spans, binaries);
             Ok(())
         }
-        Act::SubRunEnds => {
-            open_spans.close_sub_run();
-            Ok(())
-        }
-        Act::ScriptEnds { index, .. } => {
-            open_spans.close_script(index);
-            Ok(())
-        }
-        Act::AttemptFails { test } => {
-            open_spans.close_test(test);
-            Ok(())
-        }
-        Act::TestEnds { test, .. } => {
-            open_spans.close_test(test);
-            Ok(())
-        }
-        _ => Ok(()),
     }
 }
 
-/// Opens a span that is not of a test, if there is one.
-fn open_fixed(span: Option<Span>, open_spans: &mut OpenSpans) -> Result<(), AllocError>
-    requires place { (s : Span) → span ≡ Some s → place_of [] s.key ≡ Some s.place }
-    requires key_free { (s : Span) → span ≡ Some s → of_key s.key open_spans.old ≡ [] }
-    ensures ok { OnOk result ((s : Span) → span ≡ Some s → open_spans.new ≡ put_in s open_spans.old) }
-    ensures err { OnErr result (open_spans.new ≡ open_spans.old) }
+/// Opens this span, which the event starts, and adds the binary of an attempt.
+fn open_started(
+    alloc: Global,
+    group_by: ChromeTraceGroupBy,
+    act: Act<'_>,
+    span: Span,
+    open_spans: &mut OpenSpans,
+    binaries: &mut Binaries,
+) -> Result<(), AllocError>
+    requires open { open_refusal 0 open_spans.old (change_of group_by binaries.old (seen act)) ≡ None }
+    requires slot { slot_refusal 0 open_spans.old (change_of group_by binaries.old (seen act)) ≡ None }
+    requires span { Some span ≡ started (change_of group_by binaries.old (seen act)) }
+    ensures spans { OnOk result (open_spans.new ≡ open_after (change_of group_by binaries.old (seen act.entry)) open_spans.old) }
+    ensures binaries { OnOk result (binaries.new ≡ binaries_after (change_of group_by binaries.old (seen act.entry)) binaries.old) }
+    ensures err_spans { OnErr result (open_spans.new ≡ open_spans.old) }
+    ensures err_binaries { OnErr result (binaries.new ≡ binaries.old) }
 {
-    match span {
-        Some(span) => open_spans.open(span),
-        None => Ok(()),
+    match act {
+        Act::AttemptStarts { test, slot } => {
+            open_attempt(alloc, test, slot, span, open_spans, binaries)
+        }
+        Act::RunStarts => open_spans.open(span),
+        Act::SubRunStarts => open_spans.open(span),
+        Act::ScriptStarts { .. } => open_spans.open(span),
+        // no other event starts a span
+        _ => unreachable!(),
+    }
+}
+
+/// Closes the span that the event ends, if it ends one that is open.
+fn close_stopped(
+    group_by: ChromeTraceGroupBy,
+    act: Act<'_>,
+    open_spans: &mut OpenSpans,
+    binaries: &Binaries,
+)
+    requires { started (change_of group_by binaries.now (seen act)) ≡ None }
+    ensures { open_spans.new ≡ open_after (change_of group_by binaries.now (seen act.entry)) open_spans.old }
+{
+    match act {
+        Act::RunEnds => open_spans.close_run(),
+        Act::SubRunEnds => open_spans.close_sub_run(),
+        Act::ScriptEnds { index, .. } => open_spans.close_script(index),
+        Act::AttemptFails { test } => {
+            open_spans.close_test(test);
+        }
+        Act::TestEnds { test, .. } => {
+            open_spans.close_test(test);
+        }
+        _ => (),
     }
 }
 
