@@ -29,7 +29,7 @@ pub fn bundle_text(
     // What is no u64 fits no memory.
     let length = bundle_length(&manifest, log, store).ok_or(AllocError)?;
     let mut bundle = GrowingSink::with_capacity(alloc, length as usize)?;
-    // A growing sink fails only for want of memory.
+    // The write fails only where the sink does, and a growing sink only for want of memory.
     write_bundle(&mut bundle, &manifest, log, store).map_err(|_| AllocError)?;
     Ok(bundle.into_bytes())
 }

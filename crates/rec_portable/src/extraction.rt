@@ -1,14 +1,13 @@
 //! Entries of a bundle, written elsewhere as they are.
 ghost use Rattle.std.specs.Option.{option_map};
-ghost use Rattle.std.specs.Prelude.{◌≡◌, ◌&&◌, List, Some, None, nat_lt, if◌then◌else◌, IfErr, MatchResult};
+ghost use Rattle.std.specs.Prelude.{◌≡◌, ◌&&◌, List, Some, None, nat_lt, if◌then◌else◌, IfOk};
 ghost use Rattle.rec_container.specs.Container.{Entry, IsContainer, content_of};
-ghost use Rattle.rec_portable.specs.declared.errors.PortableRecordingReadError.TheVariants.{OutOfMemory};
 ghost use Rattle.rec_portable.specs.OuterEntries.{ExtractsOuter, OuterCause, exceeded_limit};
 
 use crate::errors::PortableRecordingReadError;
-use rec_container::{Container, Sink, write_all_dyn};
+use rec_container::{Container, ContainerError, Sink, write_all_dyn};
 use rec_events::Text;
-use std::alloc::Global;
+use std::alloc::{AllocError, Global};
 
 /// Says what was written of an entry of a bundle.
 #[derive(Clone, Copy, Debug, PartialEq, Eq)]
@@ -28,26 +27,25 @@ pub(crate) fn extract(
     out: &mut dyn Sink,
     check_limit: bool,
 ) -> Result<ExtractOuterFileResult, PortableRecordingReadError>
+    requires { (es : List Entry) × IsContainer bytes.now es }
     ensures answer { (es : List Entry) → IsContainer bytes.now es
         → ExtractsOuter (taken out.old) (taken out.new) limit check_limit file_name.now (content_of es file_name.now) result }
     ensures sink { OuterCause (faults out.old) (faults out.new) result }
 {
-    let entries = parse_again(alloc, bytes)?;
+    let entries = entries_of(alloc, bytes)?;
     let name = Text::from_str(alloc, file_name)?;
     write_entry(limit, name, entries.get(file_name), out, check_limit)
 }
 
-/// Lends the entries of bytes that are known to be a container.
-fn parse_again<'a>(
-    alloc: Global,
-    bytes: &'a [u8],
-) -> Result<Container<'a>, PortableRecordingReadError>
-    ensures known { (es : List Entry) → IsContainer bytes.now es → MatchResult result (λ c. c.entries ≡ es) (λ e. e ≡ OutOfMemory) }
-    ensures memory { IfErr result (λ e. e ≡ OutOfMemory) }
+/// Lends the entries of bytes that are a container, so that only memory can be wanting.
+fn entries_of<'a>(alloc: Global, bytes: &'a [u8]) -> Result<Container<'a>, AllocError>
+    requires { (es : List Entry) × IsContainer bytes.now es }
+    ensures { (es : List Entry) → IsContainer bytes.now es → IfOk result (λ c. c.entries ≡ es) }
 {
     match Container::parse(alloc, bytes) {
         Ok(entries) => Ok(entries),
-        Err(_) => Err(PortableRecordingReadError::OutOfMemory),
+        Err(ContainerError::OutOfMemory) => Err(AllocError),
+        Err(_) => unreachable!(),
     }
 }
 

@@ -14,3 +14,8 @@ pub mod RecordedLines
 pub mod RecorderFaults
 pub mod SessionReads
 pub mod SessionTraced
+pub mod ShortLines
+pub mod ShortOutputs
+pub mod ShortTexts
+pub mod ShortTokens
+pub mod ShortValues

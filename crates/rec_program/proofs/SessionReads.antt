@@ -1,7 +1,7 @@
 -- The bundle of a session that is accepted is read as what was recorded of it.
-use Rattle.std.proofs.Common.{◌≡◌, ℕ, ◌<◌, ◌^◌, List, [], ◌∷◌, ◌++◌, nat_lt, Bool, true, false, Option, Some, None, IfSome, refl, sym, ap, subst, ◌∙◌, arith, append-nil, if◌then◌else◌}
+use Rattle.std.proofs.Common.{◌≡◌, ℕ, ◌<◌, ◌^◌, List, [], ◌∷◌, ◌++◌, nat_lt, Bool, true, false, Option, Some, None, IfSome, refl, sym, ap, subst, ◌∙◌, arith, append-nil, if◌then◌else◌, length}
 use Rattle.std.proofs.lemmas.Bool.Decides.{nat_tests}
-use Rattle.std.specs.List.{AllByRecursion, cons_option, flat_map}
+use Rattle.std.specs.List.{AllByRecursion, cons_option}
 use Rattle.std.specs.Option.{option_and_then, option_map, option_or, option_to_list}
 use Rattle.serde_json.specs.Data.{Data}
 use Rattle.rec_container.specs.Container.{Entry}
@@ -11,9 +11,7 @@ use Rattle.rec_format.specs.declared.head.SessionHead.{SessionHead}
 use Rattle.rec_format.specs.HeadForms.{head_form, IsHead}
 use Rattle.rec_codec.proofs.ReadEventLaws.{live_event_well_formed}
 use Rattle.rec_codec.specs.Event.{LiveEvent, live_event, live_event_of}
-use Rattle.rec_codec.specs.EventForms.{IsEvent}
 use Rattle.rec_codec.specs.Lines.{NumberedLine, is_blank, text_of}
-use Rattle.rec_codec.specs.Live.{IsLive}
 use Rattle.rec_store.proofs.OutputLaws.{clash_push}
 use Rattle.rec_store.proofs.ReadLaws.{bundle_reads_spec}
 use Rattle.rec_store.specs.Bundle.{outputs_stored, run_bundle, run_outputs}
@@ -23,6 +21,9 @@ use Rattle.rec_store.specs.Reading.{IsReading, recorded}
 use Rattle.rec_store.specs.Recordable.{HasLength, IsRecordable, event_outputs}
 use Rattle.rec_program.proofs.Judging.{after_head, after_count, after_lines, events_after}
 use Rattle.rec_program.proofs.RecordedLines.{events_next, refusal_next}
+use Rattle.rec_program.proofs.ShortLines.{AreWithin, numbered_lines_short, text_of_short}
+use Rattle.rec_program.proofs.ShortOutputs.{outputs_short}
+use Rattle.rec_program.proofs.ShortTexts.{AllAtMost, AtMost, all_longer, longer}
 use Rattle.rec_program.specs.Bundle.{count_refusal, head_in, refusal_after, session_events, session_head, session_refusal}
 use Rattle.rec_program.specs.declared.refusal.RecordExportError.TheVariants.{CountOutOfRange, NameCollision}
 use Rattle.rec_program.specs.declared.settings.Settings.{Settings}
@@ -59,7 +60,7 @@ read_head : (text : Option (List ℕ)) (head : SessionHead) → head_in text ≡
 read_head None head h = absurd cc
 read_head (Some text) head h = read_value (value_in text) head h
 
--- ---- events of lines that aren't refused are well-formed, and their outputs don't clash
+-- ---- events of lines that aren't refused can be recorded, and their outputs don't clash
 
 given_by : {T : Type 0} (P : T → Type 0) (o : Option T) → ((x : T) → o ≡ Some x → P x) → IfSome o P
 given_by P None f = tt
@@ -69,30 +70,38 @@ given_unless : {T : Type 0} (P : T → Type 0) (b : Bool) (o : Option T) → IfS
 given_unless P true o h = tt
 given_unless P false o h = h
 
-event_well_formed : (text : Option (List ℕ)) → IfSome (live_event text) (IsEvent IsLive)
-event_well_formed None = tt
-event_well_formed (Some text) = given_unless (IsEvent IsLive) (is_blank text) (live_event_of text) (given_by (IsEvent IsLive) (live_event_of text) (live_event_well_formed text))
+has_length : (n : ℕ) (bs : List (List ℕ)) → n < 2 ^ 64 → AllAtMost n bs → AllByRecursion HasLength bs
+has_length n [] small h = tt
+has_length n (b ∷ bs) small h = (let first = h.0 in omega (arith, small, first), has_length n bs small h.1)
 
-all_before : {A : Type 0} (P : A → Type 0) (xs ys : List A) → AllByRecursion P (xs ++ ys) → AllByRecursion P xs
-all_before P [] ys h = tt
-all_before P (x ∷ xs) ys h = (h.0, all_before P xs ys h.1)
+-- the outputs of a line's event are no longer than its text
+text_recordable : (n : ℕ) (text : Option (List ℕ)) → n < 2 ^ 64 → AtMost n text → IfSome (live_event text) IsRecordable
+text_recordable n None small h = tt
+text_recordable n (Some text) small h =
+    given_unless IsRecordable (is_blank text) (live_event_of text) (given_by IsRecordable (live_event_of text) (λ e is. record {
+      event = live_event_well_formed text e is;
+      outputs = has_length n (event_outputs e) small (all_longer n (length text) (event_outputs e) (outputs_short text e is) h);
+    }))
 
-all_after : {A : Type 0} (P : A → Type 0) (xs ys : List A) → AllByRecursion P (xs ++ ys) → AllByRecursion P ys
-all_after P [] ys h = h
-all_after P (x ∷ xs) ys h = all_after P xs ys h.1
+one_more : (o : Option LiveEvent) (events : List LiveEvent) → IfSome o IsRecordable → AllByRecursion IsRecordable events → AllByRecursion IsRecordable (cons_option o events)
+one_more None events is others = others
+one_more (Some e) events is others = (is, others)
 
--- the outputs of one more event, and of those after it
-first_recordable : (o : Option LiveEvent) (events : List LiveEvent) → IfSome o (IsEvent IsLive) → (AllByRecursion HasLength (flat_map event_outputs events) → AllByRecursion IsRecordable events)
-    → AllByRecursion HasLength (flat_map event_outputs (cons_option o events)) → AllByRecursion IsRecordable (cons_option o events)
-first_recordable None events is others sizes = others sizes
-first_recordable (Some e) events is others sizes = (
-  record { event = is; outputs = all_before HasLength (event_outputs e) (flat_map event_outputs events) sizes },
-  others (all_after HasLength (event_outputs e) (flat_map event_outputs events) sizes),
-)
+all_recordable : (n : ℕ) (lines : List NumberedLine) → n < 2 ^ 64 → AreWithin n lines → AllByRecursion IsRecordable (events_of lines)
+all_recordable n [] small h = tt
+all_recordable n (line ∷ lines) small h =
+    one_more (event_at line) (events_of lines)
+    (text_recordable n (text_of line.bytes) small (longer n (length line.bytes) (text_of line.bytes) (text_of_short line.bytes) h.0))
+    (all_recordable n lines small h.1)
 
-all_recordable : (lines : List NumberedLine) → AllByRecursion HasLength (flat_map event_outputs (events_of lines)) → AllByRecursion IsRecordable (events_of lines)
-all_recordable [] sizes = tt
-all_recordable (line ∷ lines) sizes = first_recordable (event_at line) (events_of lines) (event_well_formed (text_of line.bytes)) (all_recordable lines) sizes
+after_first : (n : ℕ) (lines : List NumberedLine) → AreWithin n lines → AreWithin n (event_lines lines)
+after_first n [] h = tt
+after_first n (line ∷ lines) h = h.1
+
+session_recordable : (session : List ℕ) → length session < 2 ^ 64 → AllByRecursion IsRecordable (events_of (event_lines (session_lines session)))
+session_recordable session small =
+    let n = length session in
+    all_recordable n (event_lines (session_lines session)) small (after_first n (session_lines session) (numbered_lines_short 1 session))
 
 module _ (number : List ℕ → ℕ) (m : ℕ) where
   event_clean : (stored : List Entry) (n : ℕ) (b : Bool) (o : Option LiveEvent) → (if b then None else event_refusal number m stored n o) ≡ None
@@ -124,23 +133,23 @@ module _ (number : List ℕ → ℕ) (m : ℕ) where
 
 module _ (number : List ℕ → ℕ) (settings : Settings) (head : SessionHead) where
   reads_after : (lines : List NumberedLine) → IsHead head → ((bytes : List ℕ) → number bytes < 2 ^ 64) → refusal_after number settings (Some head) lines ≡ None
-      → AllByRecursion HasLength (flat_map event_outputs (events_of lines))
+      → AllByRecursion IsRecordable (events_of lines)
       → IsReading (run_bundle number settings.max_output head (events_of lines)) (recorded number settings.max_output head (events_of lines))
-  reads_after lines is in_range accepted sizes =
+  reads_after lines is in_range accepted recordable =
       let m = settings.max_output in
       let events = events_of lines in
       let clean = first_none (lines_refusal number m [] lines) (after_lines number settings head lines) accepted in
       let counted = second_none (lines_refusal number m [] lines) (after_lines number settings head lines) accepted in
       let short = passed _ (CountOutOfRange None) (first_none (count_refusal number settings head events) (after_count number settings head lines) counted) in
-      bundle_reads_spec number m head events is (all_recordable lines sizes) in_range (lines_clean number m lines [] clean refl) (below _ short)
+      bundle_reads_spec number m head events is recordable in_range (lines_clean number m lines [] clean refl) (below _ short)
 
 pub bundles_of_sessions_read_spec : (number : List ℕ → ℕ) (settings : Settings) (session : List ℕ) (head : SessionHead) → ((bytes : List ℕ) → number bytes < 2 ^ 64)
-    → session_head session ≡ Some head → session_refusal number settings session ≡ None → AllByRecursion HasLength (flat_map event_outputs (session_events session))
+    → session_head session ≡ Some head → session_refusal number settings session ≡ None → length session < 2 ^ 64
     → IsReading (run_bundle number settings.max_output head (session_events session)) (recorded number settings.max_output head (session_events session))
-bundles_of_sessions_read_spec number settings session head in_range has_head accepted sizes =
+bundles_of_sessions_read_spec number settings session head in_range has_head accepted small =
     let lines = event_lines (session_lines session) in
     let m = settings.max_output in
     subst (λ (es : List LiveEvent). IsReading (run_bundle number m head es) (recorded number m head es)) (events_after session) (
     reads_after number settings head lines (read_head (head_text (session_lines session)) head has_head) in_range (sym (after_head number settings session head has_head) ∙ accepted)
-    (subst (λ (es : List LiveEvent). AllByRecursion HasLength (flat_map event_outputs es)) (sym (events_after session)) sizes)
+    (session_recordable session small)
     )

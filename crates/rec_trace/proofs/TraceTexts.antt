@@ -10,7 +10,7 @@ use Rattle.serde_json.specs.Written.{compact_text, has_float, items_have_float, 
 use Rattle.rec_forms.specs.Shape.{Field, integer, with_member, with_members, members_of, struct}
 use Rattle.rec_trace.specs.declared.settings.ChromeTraceMessageFormat.TheVariants.{Json}
 use Rattle.rec_trace.specs.declared.settings.ChromeTraceMessageFormat.{ChromeTraceMessageFormat}
-use Rattle.rec_trace.specs.Drawing.{mark_value, other_data, trace_text, trace_value}
+use Rattle.rec_trace.specs.Drawing.{mark_value, other_data, text_in, trace_value}
 use Rattle.rec_trace.specs.Past.{Mark}
 
 or_left : (a b : Bool) → (a || b) ≡ false → a ≡ false
@@ -70,5 +70,5 @@ trace_whole version marks = struct_whole _ (refl, (struct_whole _ (refl, tt), (m
 
 -- the text of what is the value of a trace
 pub text-is : (format : ChromeTraceMessageFormat) (version : Parts) (marks : List Mark) (d : Data) (text : List ℕ) → (has_float d ≡ false → text ≡ compact_text d)
-    → d ≡ trace_value version marks → text ≡ trace_text format version marks
+    → d ≡ trace_value version marks → text ≡ text_in format (trace_value version marks)
 text-is Json version marks d text writes is = writes (ap has_float is ∙ trace_whole version marks) ∙ ap compact_text is

@@ -42,7 +42,7 @@ marks-push history h =
 -- ---- events with one more
 
 module _ (g : ChromeTraceGroupBy) (events : List PlainEvent) (event : PlainEvent) (old : TraceBuilder) (has : HasTraced g events old) where
-  input : TraceInput
+  abbrev pub input : TraceInput
   input = next_input g (history g events) event
 
   -- the event as the builder sees it

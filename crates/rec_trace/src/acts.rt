@@ -62,7 +62,9 @@ fn core_act(kind: &CoreEventKind) -> Act<'_>
         CoreEventKind::RunStarted { .. } => Act::RunStarts,
         CoreEventKind::StressSubRunStarted { .. } => Act::SubRunStarts,
         CoreEventKind::SetupScriptStarted {
-            index, script_id, ..
+            index,
+            script_id,
+            ..
         } => Act::ScriptStarts {
             index: *index,
             id: script_id,
@@ -117,7 +119,9 @@ fn output_act<S: OutputSpec>(kind: &OutputEventKind<S>) -> Act<'_>
 {
     match kind {
         OutputEventKind::SetupScriptFinished {
-            index, script_id, ..
+            index,
+            script_id,
+            ..
         } => Act::ScriptEnds {
             index: *index,
             id: script_id,

@@ -46,7 +46,8 @@ impl TraceBuilder {
         ensures { (events : List PlainEvent) → HasTraced self.old.group_by events self.old
             → Traces self.old.group_by events (plain event.now) self.new result }
     {
-        self.tracker.step(alloc, self.group_by, event, &mut self.events)
+        self.tracker
+            .step(alloc, self.group_by, event, &mut self.events)
     }
 
     /// Writes the text of the trace, of a run by this version of the runner.

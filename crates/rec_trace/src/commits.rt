@@ -31,7 +31,7 @@ impl SpanTracker {
         number: u64,
         act: Act<'_>,
     ) -> Result<Option<Span>, AllocError>
-        requires { act_refusal number self.now (seen act.entry) (change_of group_by self.now.binaries (seen act.entry)) ≡ None }
+        requires { act_refusal number self.now (seen act) (change_of group_by self.now.binaries (seen act)) ≡ None }
         ensures { IfOk result (λ span. span ≡ started (change_of group_by self.now.binaries (seen act.entry))) }
     {
         match act {
@@ -56,8 +56,8 @@ impl SpanTracker {
         span: Option<Span>,
     ) -> Result<(), AllocError>
         requires number { number ≡ suc self.old.number }
-        requires judged { act_refusal number self.old (seen act.entry) (change_of group_by self.old.binaries (seen act.entry)) ≡ None }
-        requires span { span ≡ started (change_of group_by self.old.binaries (seen act.entry)) }
+        requires judged { act_refusal number self.old (seen act) (change_of group_by self.old.binaries (seen act)) ≡ None }
+        requires span { span ≡ started (change_of group_by self.old.binaries (seen act)) }
         ensures ok { (t : ℤ) → OnOk result (self.new ≡ next_state (act_input group_by self.old.binaries t (seen act.entry)) self.old) }
         ensures err { OnErr result (self.new ≡ self.old) }
     {
@@ -77,8 +77,8 @@ impl SpanTracker {
     }
 }
 
-/// Opens or closes what the event starts or ends, and adds the binary of an attempt. Where memory is short,
-/// nothing changes.
+/// Opens this span, which the event starts, or closes what it ends, and adds the binary of an attempt. Where
+/// memory is short, nothing changes.
 fn change_spans(
     alloc: Global,
     group_by: ChromeTraceGroupBy,
@@ -87,79 +87,95 @@ fn change_spans(
     open_spans: &mut OpenSpans,
     binaries: &mut Binaries,
 ) -> Result<(), AllocError>
-    requires open { open_refusal 0 open_spans.old (change_of group_by binaries.old (seen act.entry)) ≡ None }
-    requires slot { slot_refusal 0 open_spans.old (change_of group_by binaries.old (seen act.entry)) ≡ None }
-    requires span { span ≡ started (change_of group_by binaries.old (seen act.entry)) }
+    requires open { open_refusal 0 open_spans.old (change_of group_by binaries.old (seen act)) ≡ None }
+    requires slot { slot_refusal 0 open_spans.old (change_of group_by binaries.old (seen act)) ≡ None }
+    requires span { span ≡ started (change_of group_by binaries.old (seen act)) }
+    ensures spans { OnOk result (open_spans.new ≡ open_after (change_of group_by binaries.old (seen act.entry)) open_spans.old) }
+    ensures binaries { OnOk result (binaries.new ≡ binaries_after (change_of group_by binaries.old (seen act.entry)) binaries.old) }
+    ensures err_spans { OnErr result (open_spans.new ≡ open_spans.old) }
+    ensures err_binaries { OnErr result (binaries.new ≡ binaries.old) }
+{
+    match span {
+        Some(span) => open_started(alloc, group_by, act, span, open_spans, binaries),
+        None => {
+            close_stopped(group_by, act, open_spans, binaries);
+            Ok(())
+        }
+    }
+}
+
+/// Opens this span, which the event starts, and adds the binary of an attempt.
+fn open_started(
+    alloc: Global,
+    group_by: ChromeTraceGroupBy,
+    act: Act<'_>,
+    span: Span,
+    open_spans: &mut OpenSpans,
+    binaries: &mut Binaries,
+) -> Result<(), AllocError>
+    requires open { open_refusal 0 open_spans.old (change_of group_by binaries.old (seen act)) ≡ None }
+    requires slot { slot_refusal 0 open_spans.old (change_of group_by binaries.old (seen act)) ≡ None }
+    requires span { Some span ≡ started (change_of group_by binaries.old (seen act)) }
     ensures spans { OnOk result (open_spans.new ≡ open_after (change_of group_by binaries.old (seen act.entry)) open_spans.old) }
     ensures binaries { OnOk result (binaries.new ≡ binaries_after (change_of group_by binaries.old (seen act.entry)) binaries.old) }
     ensures err_spans { OnErr result (open_spans.new ≡ open_spans.old) }
     ensures err_binaries { OnErr result (binaries.new ≡ binaries.old) }
 {
     match act {
-        Act::RunStarts => open_fixed(span, open_spans),
-        Act::SubRunStarts => open_fixed(span, open_spans),
-        Act::ScriptStarts { .. } => open_fixed(span, open_spans),
         Act::AttemptStarts { test, slot } => {
             open_attempt(alloc, test, slot, span, open_spans, binaries)
         }
-        Act::RunEnds => {
-            open_spans.close_run();
-            Ok(())
-        }
-        Act::SubRunEnds => {
-            open_spans.close_sub_run();
-            Ok(())
-        }
-        Act::ScriptEnds { index, .. } => {
-            open_spans.close_script(index);
-            Ok(())
-        }
+        Act::RunStarts => open_spans.open(span),
+        Act::SubRunStarts => open_spans.open(span),
+        Act::ScriptStarts { .. } => open_spans.open(span),
+        // no other event starts a span
+        _ => unreachable!(),
+    }
+}
+
+/// Closes the span that the event ends, if it ends one that is open.
+fn close_stopped(
+    group_by: ChromeTraceGroupBy,
+    act: Act<'_>,
+    open_spans: &mut OpenSpans,
+    binaries: &Binaries,
+)
+    requires { started (change_of group_by binaries.now (seen act)) ≡ None }
+    ensures { open_spans.new ≡ open_after (change_of group_by binaries.now (seen act.entry)) open_spans.old }
+{
+    match act {
+        Act::RunEnds => open_spans.close_run(),
+        Act::SubRunEnds => open_spans.close_sub_run(),
+        Act::ScriptEnds { index, .. } => open_spans.close_script(index),
         Act::AttemptFails { test } => {
             open_spans.close_test(test);
-            Ok(())
         }
         Act::TestEnds { test, .. } => {
             open_spans.close_test(test);
-            Ok(())
         }
-        _ => Ok(()),
+        _ => (),
     }
 }
 
-/// Opens a span that is not of a test, if there is one.
-fn open_fixed(span: Option<Span>, open_spans: &mut OpenSpans) -> Result<(), AllocError>
-    requires place { (s : Span) → span ≡ Some s → place_of [] s.key ≡ Some s.place }
-    requires key_free { (s : Span) → span ≡ Some s → of_key s.key open_spans.old ≡ [] }
-    ensures ok { OnOk result ((s : Span) → span ≡ Some s → open_spans.new ≡ put_in s open_spans.old) }
-    ensures err { OnErr result (open_spans.new ≡ open_spans.old) }
-{
-    match span {
-        Some(span) => open_spans.open(span),
-        None => Ok(()),
-    }
-}
-
-/// Opens the span of an attempt of a test on a slot, if there is one, and adds the test's binary.
+/// Opens the span of an attempt of a test on a slot, and adds the test's binary.
 fn open_attempt(
     alloc: Global,
     test: &OwnedTestInstanceId,
     slot: u64,
-    span: Option<Span>,
+    span: Span,
     open_spans: &mut OpenSpans,
     binaries: &mut Binaries,
 ) -> Result<(), AllocError>
-    requires key { (s : Span) → span ≡ Some s → s.key ≡ keys.Test test.now }
-    requires place { (s : Span) → span ≡ Some s → s.place ≡ places.Slot slot }
-    requires key_free { of_key (keys.Test test.now) open_spans.old ≡ [] }
-    requires place_free { in_place (places.Slot slot) open_spans.old ≡ [] }
-    ensures spans { OnOk result ((s : Span) → span ≡ Some s → open_spans.new ≡ put_in s open_spans.old) }
+    requires key { span.key ≡ keys.Test test.now }
+    requires place { span.place ≡ places.Slot slot }
+    requires key_free { of_key span.key open_spans.old ≡ [] }
+    requires place_free { in_place span.place open_spans.old ≡ [] }
+    ensures spans { OnOk result (open_spans.new ≡ put_in span open_spans.old) }
     ensures binaries { OnOk result (binaries.new ≡ with_binary test.now.binary_id binaries.old) }
     ensures err_spans { OnErr result (open_spans.new ≡ open_spans.old) }
     ensures err_binaries { OnErr result (binaries.new ≡ binaries.old) }
 {
-    if let Some(span) = span {
-        open_spans.open_test(alloc, test, slot, span)?;
-    }
+    open_spans.open_test(alloc, test, slot, span)?;
     match binaries.add(alloc, &test.binary_id) {
         Ok(()) => Ok(()),
         Err(AllocError) => {
@@ -182,7 +198,7 @@ fn pause_after(act: Act<'_>, before: bool) -> bool
 
 /// Returns how many setup scripts run after the event, by how many did before.
 fn scripts_after(number: u64, act: Act<'_>, before: usize) -> usize
-    requires { scripts_refusal number (seen act.entry) before ≡ None }
+    requires { scripts_refusal number (seen act) before ≡ None }
     ensures { result ≡ scripts_after (seen act.entry) before }
 {
     match act {

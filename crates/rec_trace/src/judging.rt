@@ -114,12 +114,7 @@ impl SpanTracker {
     }
 
     /// Judges whether the event starts what is open.
-    fn judge_open(
-        &self,
-        alloc: Global,
-        number: u64,
-        act: Act<'_>,
-    ) -> Result<(), ChromeTraceError>
+    fn judge_open(&self, alloc: Global, number: u64, act: Act<'_>) -> Result<(), ChromeTraceError>
         ensures { (g : ChromeTraceGroupBy) → Judges result (open_refusal number self.now.spans (change_of g self.now.binaries (seen act.entry))) }
     {
         match act {

@@ -4,9 +4,10 @@ ghost use Rattle.serde_json.specs.View.{view};
 ghost use Rattle.rec_trace.specs.declared.settings.ChromeTraceGroupBy.{ChromeTraceGroupBy};
 ghost use Rattle.rec_trace.specs.declared.spans.Phase.TheVariants as phases;
 ghost use Rattle.rec_trace.specs.declared.spans.Span.{Span};
+ghost use Rattle.rec_trace.specs.declared.spans.SpanKey.TheVariants as keys;
 ghost use Rattle.rec_trace.specs.Drawing.{mark_value};
 ghost use Rattle.rec_trace.specs.Kinds.{change_of};
-ghost use Rattle.rec_trace.specs.Past.Change.{Start};
+ghost use Rattle.rec_trace.specs.Past.Change.{Stop};
 ghost use Rattle.rec_trace.specs.Past.{change_marks, marks};
 ghost use Rattle.rec_trace.specs.Seen.{seen};
 ghost use Rattle.rec_trace.specs.Starts.{started};
@@ -15,6 +16,7 @@ use crate::acts::Act;
 use crate::drawing::mark_value;
 use crate::span_tracker::SpanTracker;
 use crate::spans::{Phase, Span};
+use rec_events::OwnedTestInstanceId;
 use serde_json::Value;
 use std::alloc::{AllocError, Global};
 
@@ -40,16 +42,24 @@ impl SpanTracker {
             Act::ScriptEnds { index, .. } => {
                 stop_marks(alloc, self.in_pause, at, self.open_spans.script(index))
             }
-            Act::AttemptFails { test } => {
-                stop_marks(alloc, self.in_pause, at, self.open_spans.test(test))
-            }
-            Act::TestEnds { test, .. } => {
-                stop_marks(alloc, self.in_pause, at, self.open_spans.test(test))
-            }
+            Act::AttemptFails { test } => self.attempt_marks(alloc, at, test),
+            Act::TestEnds { test, .. } => self.attempt_marks(alloc, at, test),
             Act::Pauses { .. } => self.pause_marks(alloc, at),
             Act::Continues { .. } => self.resume_marks(alloc, at),
             _ => Ok(Vec::new(alloc)),
         }
+    }
+
+    /// Draws the end of the open attempt of a test.
+    fn attempt_marks(
+        &self,
+        alloc: Global,
+        at: i64,
+        test: &OwnedTestInstanceId,
+    ) -> Result<Vec<Value>, AllocError>
+        ensures { IfOk result (λ events. map view events.items ≡ map mark_value (change_marks self.now.in_pause self.now.spans at (Stop (keys.Test test.now)))) }
+    {
+        stop_marks(alloc, self.in_pause, at, self.open_spans.test(test))
     }
 
     /// Draws the ends of all open spans, where a pause begins.

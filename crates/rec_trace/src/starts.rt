@@ -43,11 +43,7 @@ pub fn thread(number: u64) -> Option<u64>
 }
 
 /// Returns the process of a binary, where its number is a u64.
-pub fn process(
-    group_by: ChromeTraceGroupBy,
-    binaries: &Binaries,
-    id: &RustBinaryId,
-) -> Option<u64>
+pub fn process(group_by: ChromeTraceGroupBy, binaries: &Binaries, id: &RustBinaryId) -> Option<u64>
     ensures { MatchOption result (nat_lt (pid_of group_by binaries.now id.now) (2 ^ 64) ≡ false)
         (λ pid. (pid ≡ pid_of group_by binaries.now id.now) × (nat_lt (pid_of group_by binaries.now id.now) (2 ^ 64) ≡ true)) }
 {
