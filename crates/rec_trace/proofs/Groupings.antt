@@ -1,13 +1,12 @@
 -- Both groupings refuse alike, and show the same marks but for the pids and the names of tests.
-use Rattle.std.proofs.Common.{◌≡◌, ◌<◌, ◌^◌, ℕ, suc, Bool, true, false, not, cond, List, [], ◌∷◌, ◌++◌, map, filter, length, nat_lt, bytes_eq, ℤ, Option, Some, None, refl, sym, ◌∙◌, ap}
+use Rattle.std.proofs.Common.{◌≡◌, ◌^◌, ℕ, suc, Bool, true, false, not, cond, List, [], ◌∷◌, ◌++◌, map, filter, nat_lt, ℤ, Some, None, refl, sym, ◌∙◌, ap}
 use Rattle.std.proofs.lemmas.List.{map-append, length-map}
 use Rattle.std.specs.Option.{option_or}
 use Rattle.rec_events.specs.declared.instances.OwnedTestInstanceId.{OwnedTestInstanceId}
 use Rattle.rec_trace.proofs.Pids.{PidFits, PidsFit, pids-fit}
 use Rattle.rec_trace.specs.Acts.Act.{RunStarts, RunEnds, SubRunStarts, SubRunEnds, ScriptStarts, ScriptEnds, ScriptIsSlow, AttemptStarts, AttemptFails, TestEnds, TestIsSlow, Pauses, Continues, Cancels, Silent}
 use Rattle.rec_trace.specs.Acts.{Act, act_of}
-use Rattle.rec_trace.specs.declared.errors.ChromeTraceError.TheVariants.{RowOutOfRange, SpanAlreadyOpen, MissingTestStart, MissingStressSubRunStart}
-use Rattle.rec_trace.specs.declared.errors.ChromeTraceError.{ChromeTraceError}
+use Rattle.rec_trace.specs.declared.errors.ChromeTraceError.TheVariants.{SpanAlreadyOpen, MissingTestStart, MissingStressSubRunStart}
 use Rattle.rec_trace.specs.declared.settings.ChromeTraceGroupBy.TheVariants.{Binary, Slot}
 use Rattle.rec_trace.specs.declared.spans.Phase.TheVariants.{Begin, End}
 use Rattle.rec_trace.specs.declared.spans.Phase.{Phase}
@@ -20,10 +19,10 @@ use Rattle.rec_trace.specs.History.{TraceState, marks_after, state_after, trace_
 use Rattle.rec_trace.specs.Keys.{key_eq}
 use Rattle.rec_trace.specs.Kinds.{change_of, history, history_after, trace_input}
 use Rattle.rec_trace.specs.Past.Change.{Start, Stop, Pause, Resume, Other}
-use Rattle.rec_trace.specs.Past.{Change, Mark, TraceInput, binaries, binaries_after, change_marks, event_marks, flow_after, in_place, is_paused, mark, marks, next_flow, of_key, open_after, open_spans, pause_after, put_in, running_scripts, scripts_after, with_key, without}
-use Rattle.rec_trace.specs.Places.{number, place_eq, place_lt}
+use Rattle.rec_trace.specs.Past.{Change, TraceInput, binaries, binaries_after, change_marks, event_marks, flow_after, in_place, is_paused, mark, marks, next_flow, of_key, open_after, open_spans, pause_after, put_in, running_scripts, scripts_after, with_key, without}
+use Rattle.rec_trace.specs.Places.{place_eq, place_lt}
 use Rattle.rec_trace.specs.Plain.{PlainEvent}
-use Rattle.rec_trace.specs.Refusals.{act_refusal, attempt_missing, busy, failures_refusal, flow_refusal, history_refusal, history_refusal_after, instant_refusal, is_none_open, is_script, missing_refusal, next_refusal, number_refusal, open_refusal, row_refusal, script_missing, scripts_in, scripts_refusal, slot_refusal, under}
+use Rattle.rec_trace.specs.Refusals.{act_refusal, attempt_missing, busy, history_refusal, history_refusal_after, instant_refusal, is_none_open, is_script, missing_refusal, next_refusal, number_refusal, open_refusal, row_refusal, script_missing, scripts_in, slot_refusal}
 
 -- ---- spans
 

@@ -10,8 +10,8 @@ pub mod Maps
 pub mod Once
 pub mod OpenTests
 pub mod Orders
-pub mod Plains
 pub mod Pids
+pub mod Plains
 pub mod PlacesOfHistory
 pub mod Prefixes
 pub mod Rows

@@ -9,7 +9,7 @@ use Rattle.rec_trace.proofs.PlacesOfHistory.{change_at-is, event_at, past_at-suc
 use Rattle.rec_trace.proofs.Prefixes.{drop-place, room-append, room-from_place}
 use Rattle.rec_trace.proofs.Rows.{AllFindRoom}
 use Rattle.rec_trace.proofs.Times.{Count, NoStop, all-has, paused_time, span-count}
-use Rattle.rec_trace.proofs.Windows.{IsRun, gaps_time, times_of, windows-each, windows-once, windows-total, windows_from}
+use Rattle.rec_trace.proofs.Windows.{IsRun, gaps_time, windows-each, windows-once, windows-total, windows_from}
 use Rattle.rec_trace.specs.declared.settings.ChromeTraceGroupBy.{ChromeTraceGroupBy}
 use Rattle.rec_trace.specs.declared.spans.Span.{Span}
 use Rattle.rec_trace.specs.declared.spans.SpanKey.{SpanKey}
@@ -18,7 +18,7 @@ use Rattle.rec_trace.specs.Kinds.{history}
 use Rattle.rec_trace.specs.Past.Change.{Start, Stop}
 use Rattle.rec_trace.specs.Past.{TraceInput, is_paused}
 use Rattle.rec_trace.specs.Plain.{PlainEvent}
-use Rattle.rec_trace.specs.Positions.{Has, IsInPause, IsSpan, change_at, past_at}
+use Rattle.rec_trace.specs.Positions.{IsInPause, IsSpan, change_at, past_at}
 use Rattle.rec_trace.specs.Times.{AddsUp, IsWindow, TimesAddUp, Window, instant, marked_time, marks_between, total, window_time}
 use Rattle.rec_trace.specs.Traces.{events_refusal}
 use Rattle.rec_trace.specs.Turns.{on_row}
@@ -70,27 +70,27 @@ paused-gaps hs (suc d) i lt =
 window-run : (hs : List TraceInput) (a b : ℕ) (w : Window) → b < length hs → IsRun (paused_at hs) a b w ↔ IsWindow hs a b w
 window-run hs a b w lt = (
   (λ run.
-    let le = run.before_end in
-    let some = run.some in
-    record {
-      after_start = run.after_start;
-      some = run.some;
-      before_end = run.before_end;
-      hidden = λ j from to. (pause-is hs (suc j) (omega arith)).1 (run.hidden (suc j) (omega arith) (omega arith));
-      shown_before = λ from paused. false≢true (sym (run.shown_before from) ∙ (pause-is hs w.from (omega arith)).0 paused);
-      shown_after = λ to paused. false≢true (sym (run.shown_after to) ∙ (pause-is hs (suc w.to) (omega arith)).0 paused);
-    }),
+      let le = run.before_end in
+      let some = run.some in
+      record {
+        after_start = run.after_start;
+        some = run.some;
+        before_end = run.before_end;
+        hidden = λ j from to. (pause-is hs (suc j) (omega arith)).1 (run.hidden (suc j) (omega arith) (omega arith));
+        shown_before = λ from paused. false≢true (sym (run.shown_before from) ∙ (pause-is hs w.from (omega arith)).0 paused);
+        shown_after = λ to paused. false≢true (sym (run.shown_after to) ∙ (pause-is hs (suc w.to) (omega arith)).0 paused);
+      }),
   (λ is.
-    let le = is.before_end in
-    let some = is.some in
-    record {
-      after_start = is.after_start;
-      some = is.some;
-      before_end = is.before_end;
-      hidden = λ k from to. each is.hidden k from to (omega arith);
-      shown_before = λ from. false_from_ne_true (paused_at hs w.from) (λ t. is.shown_before from ((pause-is hs w.from (omega arith)).1 t));
-      shown_after = λ to. false_from_ne_true (paused_at hs (suc w.to)) (λ t. is.shown_after to ((pause-is hs (suc w.to) (omega arith)).1 t));
-    }),
+      let le = is.before_end in
+      let some = is.some in
+      record {
+        after_start = is.after_start;
+        some = is.some;
+        before_end = is.before_end;
+        hidden = λ k from to. each is.hidden k from to (omega arith);
+        shown_before = λ from. false_from_ne_true (paused_at hs w.from) (λ t. is.shown_before from ((pause-is hs w.from (omega arith)).1 t));
+        shown_after = λ to. false_from_ne_true (paused_at hs (suc w.to)) (λ t. is.shown_after to ((pause-is hs (suc w.to) (omega arith)).1 t));
+      }),
 )
   where
     each : ((j : ℕ) → w.from ≤ j → j < w.to → IsInPause hs (suc j)) → (k : ℕ) → w.from < k → k ≤ w.to → k ≤ length hs → paused_at hs k ≡ true

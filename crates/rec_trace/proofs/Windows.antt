@@ -1,5 +1,5 @@
 -- The longest stretches of gaps that pass a test, each once, and what they add up to.
-use Rattle.std.proofs.Common.{◌≡◌, ◌<◌, ◌≤◌, ◌+◌, ◌⊎◌, ◌↔◌, ℕ, zero, suc, Bool, true, false, cond, if◌then◌else◌, List, [], ◌∷◌, map, Option, Some, None, ℤ, pos, ◌+ℤ◌, ◌-ℤ◌, refl, sym, ◌∙◌, ap, subst, arith, inl, inr}
+use Rattle.std.proofs.Common.{◌≡◌, ◌<◌, ◌≤◌, ◌+◌, ◌⊎◌, ◌↔◌, ℕ, zero, suc, Bool, true, false, cond, if◌then◌else◌, List, [], ◌∷◌, map, Option, Some, None, ℤ, pos, ◌+ℤ◌, ◌-ℤ◌, refl, sym, ◌∙◌, subst, arith, inl, inr}
 use Rattle.std.proofs.lemmas.Bool.{false≢true}
 use Rattle.std.proofs.lemmas.Int.{ints}
 use Rattle.rec_trace.specs.Positions.{Has, IsOnce}
@@ -69,6 +69,13 @@ module _ (q : ℕ → Bool) where
         let f = same-to x i begun within ends w run e in
         sym (λ j. record { from = e j; to = f j })
 
+    -- no window begins where the gap after it does not pass
+    later-from : (i : ℕ) → q (suc i) ≡ false → (w : Window) → IsRun w → i ≤ w.from → suc i ≤ w.from
+    later-from i e w run from =
+        let some = run.some in
+        let two : (w.from ≡ i) ⊎ (suc i ≤ w.from) = grind arith in
+        elim two [ inl same ↦ absurd (false≢true (sym e ∙ run.hidden (suc i) (omega arith) (omega arith))) | inr later ↦ later ]
+
     -- the first position at which one of these windows may begin
     abbrev pub first_at : Option ℕ → ℕ → ℕ
     first_at None i = i
@@ -107,11 +114,7 @@ module _ (q : ℕ → Bool) where
         go false e hidden shown w =
             let ih = shown (begun-none i begun.0 e) w in (
               (λ h. ((ih.0 h).0, (let le = (ih.0 h).1 in omega arith))),
-              (λ p. ih.1 (p.0, (
-                let from = p.1 in
-                let two : (w.from ≡ i) ⊎ (suc i ≤ w.from) = grind arith in
-                elim two [ inl same ↦ absurd (let lt = p.0.some in false≢true (sym e ∙ p.0.hidden (suc i) (omega arith) (omega arith))) | inr later ↦ later ]
-              ))),
+              (λ p. ih.1 (p.0, later-from i e w p.0 p.1)),
             )
     windows-each (Some x) i (suc d) count begun w = go (q (suc i)) refl (windows-each (Some x) (suc i) d (omega arith)) (windows-each None (suc i) d (omega arith)) w
       where
@@ -127,8 +130,8 @@ module _ (q : ℕ → Bool) where
                 | inr later ↦ ((ih.0 later).0, (let le = (ih.0 later).1 in omega arith))
               ]),
               (λ p.
-                let two : (w.from ≤ i) ⊎ (suc i ≤ w.from) = grind arith in
-                elim two [ inl here ↦ inl (same-window x i begun (omega arith) (λ lt. e) w p.0 p.1 here) | inr later ↦ inr (ih.1 (p.0, later)) ]),
+                  let two : (w.from ≤ i) ⊎ (suc i ≤ w.from) = grind arith in
+                  elim two [ inl here ↦ inl (same-window x i begun (omega arith) (λ lt. e) w p.0 p.1 here) | inr later ↦ inr (ih.1 (p.0, later)) ]),
             )
 
     -- none stands twice

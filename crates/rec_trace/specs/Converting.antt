@@ -29,7 +29,8 @@ abbrev pub KeepsPrefixes : ChromeTraceGroupBy → List PlainEvent → Type 0
 KeepsPrefixes g events = (xs ys : List PlainEvent) → events ≡ xs ++ ys →
     (events_refusal g xs ≡ None) × ((more : List Mark) × (trace_marks (history g events) ≡ trace_marks (history g xs) ++ more))
 
--- the iterator gave events and ended, and the text is that of their trace, whose marks are their timeline and keep its laws
+-- the iterator gave events and ended, and the text is that of their trace. Its marks are their timeline and add up, and both groupings give the
+-- same marks but for the pids and the names of tests
 pub record Converts {S : Type 0} (steps : S → Option (Result RecordedEvent LineError) → S → Type 0) (s : S) (g : ChromeTraceGroupBy) (format : ChromeTraceMessageFormat) (version : Parts) (text : List ℕ) : Type 0 where
   pub events : List RecordedEvent
   pub drained : Drains steps s (map Ok events)

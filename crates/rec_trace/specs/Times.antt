@@ -35,7 +35,7 @@ marked_time ms = total (end_times ms) -ℤ total (begin_times ms)
 abbrev pub instant : List TraceInput → ℕ → ℤ
 instant history i = unwrap_or (option_map (λ input. input.at) (slice_get history i)) (pos 0)
 
--- the marks of the events at a to b
+-- the marks of the events from a to b
 abbrev pub marks_between : List TraceInput → ℕ → ℕ → List Mark
 marks_between history a b = marks_after (past_at history a) (slice_range history a (suc b))
 
