@@ -6,6 +6,7 @@ use rec_codec::LineError;
 use rec_events::{RustBinaryId, TestCaseName, Text};
 use rec_trace::{ChromeTraceError, SpanKey};
 use std::alloc::AllocError;
+use std::fmt;
 use thiserror::Error;
 
 /// Says why a session isn't exported. The source is judged first, then the session's length, the head, the
@@ -42,7 +43,7 @@ pub enum RecordExportError {
     },
     /// A size or a number of entries is past u64, or a number of the event with this number is out
     /// of range.
-    #[error("a count is out of range")]
+    #[error("{} is out of range", Counted(*.event))]
     CountOutOfRange {
         event: Option<u64>,
     },
@@ -99,6 +100,19 @@ pub enum RecordExportError {
     /// There was no memory.
     #[error("out of memory")]
     OutOfMemory,
+}
+
+/// Names what is out of range: a number of the event, or a size of the bundle.
+#[derive(Drop)]
+struct Counted(Option<u64>);
+
+impl fmt::Display for Counted {
+    fn fmt<W: fmt::Write>(&self, f: &mut fmt::Formatter<W>) -> fmt::Result {
+        match self.0 {
+            Some(event) => write!(f, "a number of event {event}"),
+            None => f.write_str("a size or a number of entries"),
+        }
+    }
 }
 
 impl From<AllocError> for RecordExportError {

@@ -41,6 +41,22 @@ fn numbers_are_shown_where_there_are_some(rt: HostRuntime) -> Result<(), Fail> {
     Ok(())
 }
 
+/// The message of a count that is out of range.
+fn message(alloc: Global, event: Option<u64>) -> Result<String, AllocError> {
+    let error = RecordExportError::CountOutOfRange { event };
+    format!(in alloc; "{error}")
+}
+
+#[test]
+fn messages_of_counts(rt: HostRuntime) -> Result<(), Fail> {
+    let alloc = rt.alloc();
+    let of_event = message(alloc, Some(4))?;
+    assert!(rt; of_event.as_str() == "a number of event 4 is out of range");
+    let of_size = message(alloc, None)?;
+    assert!(rt; of_size.as_str() == "a size or a number of entries is out of range");
+    Ok(())
+}
+
 #[test]
 fn a_fault_without_fields_is_its_name(rt: HostRuntime) -> Result<(), Fail> {
     let alloc = rt.alloc();
