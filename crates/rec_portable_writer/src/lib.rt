@@ -1,0 +1,11 @@
+//! Makes a bundle of a run's directory.
+#![tactic(auto)]
+
+mod errors;
+mod names;
+mod replacing;
+mod run_files;
+mod writer;
+
+pub use errors::PortableRecordingError;
+pub use writer::{PortableRecordingResult, PortableRecordingWriter};
