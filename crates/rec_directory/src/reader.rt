@@ -1,5 +1,5 @@
 //! The reader of a run's directory.
-ghost use Rattle.std.specs.Prelude.{◌≡◌, List, IfOk, IfErr, IsSome, OnOk, Some, string_bytes};
+ghost use Rattle.std.specs.Prelude.{◌≡◌, List, IfOk, IfErr, IsSome, None, OnErr, OnOk, Some, string_bytes};
 ghost use Rattle.rec_container.specs.Container.{Entry};
 ghost use Rattle.rec_directory.specs.Directories.{Holds, JudgesStore, KeepsRun, LeavesSink, Opens, Unopened, Unread};
 ghost use Rattle.rec_directory.specs.Events.{OpensLog, UnopenedLog, HasLength, LogFault};
@@ -123,11 +123,11 @@ fn measure_log<D: Disk>(
 }
 
 impl<D: Disk> RecordReader<'_, D> {
-    /// Reads the store where it isn't kept yet, and returns its bytes.
+    /// Reads the store where it isn't kept yet.
     fn load(&mut self, alloc: Global) -> Result<(), RecordReadError>
         ensures ok { OnOk result (IsSome self.new.store) }
         ensures err { IfErr result (Unread (D.files self.old.disk.now) (path_of_store self.old.run_dir)) }
-        ensures store { JudgesStore (D.files self.old.disk.now) (path_of_store self.old.run_dir) self.new.store result }
+        ensures unread { OnErr result ((self.old.store ≡ None) × (self.new.store ≡ None)) }
         ensures kept { KeepsRun D.files self.old self.new }
         ensures same { Keeps self.old.limit self.new.limit (Holds D.files self.old) (Holds D.files self.new) }
         ensures cause { DiskCause (D.faults self.old.disk.now) (D.faults self.new.disk.now) result }
