@@ -1,16 +1,16 @@
 -- How many items are left.
 use Rattle.std.proofs.Common.{zero, suc, ◌≡◌, ℕ, ◌+◌, ◌<◌, ◌≤◌, ◌==◌, Bool, true, false, cond, List, [], ◌∷◌, length, Option, Some, None, Result, Ok, Err, refl, sym, ap, subst, arith}
-use Rattle.std.specs.Prelude.{MatchBool, OnSome}
 use Rattle.std.specs.List.{onto_first}
+use Rattle.std.specs.Prelude.{MatchBool, OnSome}
 use Rattle.serde_json.specs.Data.{Data}
+use Rattle.rec_container.specs.Disks.{Files}
+use Rattle.rec_codec.proofs.LineItemLemmas.{length-left_after}
+use Rattle.rec_codec.specs.declared.line_events.LineError.{LineError}
 use Rattle.rec_codec.specs.LineEvents.{blank}
 use Rattle.rec_codec.specs.LineItems.{GivesItem, GivesNext, left_after}
 use Rattle.rec_codec.specs.Lines.{NumberedLine, lines, numbered, text_of}
-use Rattle.rec_codec.specs.declared.line_events.LineError.{LineError}
-use Rattle.rec_container.specs.Disks.{Files}
-use Rattle.rec_directory.specs.Events.{GivesLifted, ReadsLog, lifted}
 use Rattle.rec_store.specs.declared.read_error.RecordReadError.{RecordReadError}
-use Rattle.rec_codec.proofs.LineItemLemmas.{length-left_after}
+use Rattle.rec_directory.specs.Events.{GivesLifted, ReadsLog, lifted}
 
 length-onto_first : (c : ℕ) (ls : List (List ℕ)) (n : ℕ) → length ls ≤ n → length (onto_first c ls) ≤ suc n
 length-onto_first c [] n h = omega arith

@@ -3,10 +3,10 @@ use Rattle.std.proofs.Common.{◌≡◌, ℕ, List, Option, Some, None, Result, 
 use Rattle.std.specs.Prelude.{IfErr, IsSome, ◌↔◌}
 use Rattle.rec_container.specs.Container.{Entry, IsContainer}
 use Rattle.rec_container.specs.Disks.{Files}
-use Rattle.rec_store.specs.Readers.{Answers, Denies, Keeps, Reads}
-use Rattle.rec_store.specs.declared.read_error.RecordReadError.{RecordReadError}
-use Rattle.rec_store.specs.declared.read_error.RecordReadError.TheVariants.{RunNotFound, OpenArchive, ParseArchive, FileNotFound, FileTooLarge, NotUtf8, DeserializeMetadata, UnknownOutputType, ExtractFile, OpenRunLog, DiskFault, ReadRunLog, ParseEvent, OutOfMemory}
 use Rattle.rec_store.proofs.PartRefusals.{answers_part}
+use Rattle.rec_store.specs.declared.read_error.RecordReadError.TheVariants.{RunNotFound, OpenArchive, ParseArchive, FileNotFound, FileTooLarge, NotUtf8, DeserializeMetadata, UnknownOutputType, ExtractFile, OpenRunLog, DiskFault, ReadRunLog, ParseEvent, OutOfMemory}
+use Rattle.rec_store.specs.declared.read_error.RecordReadError.{RecordReadError}
+use Rattle.rec_store.specs.Readers.{Answers, Denies, Extracts, Keeps, Reads}
 use Rattle.rec_directory.specs.Directories.{Directory, HasEntries, Holds, JudgesBytes, JudgesStore, KeepsRun, ReadsOnce, Spells, Unread}
 use Rattle.rec_directory.specs.Files.{IsMissing, IsWhole, IsWholeOf}
 use Rattle.rec_directory.specs.Paths.{path_of_store}
@@ -53,9 +53,9 @@ module _ {D : Type 0} (files : D → Option Files) where
     stays : (store : Option (List ℕ)) (es : List Entry) → HasEntries (files old.disk.now) (path_of_store old.run_dir) store es ↔ HasEntries (files new.disk.now) (path_of_store new.run_dir) store es
     stays store es =
         let there : HasEntries (files old.disk.now) (path_of_store old.run_dir) store es → HasEntries (files new.disk.now) (path_of_store new.run_dir) store es =
-            λ h. subst (λ (p : List ℕ). HasEntries (files new.disk.now) p store es) (sym path_stays) (subst (λ (fs : Option Files). HasEntries fs (path_of_store old.run_dir) store es) (sym k.same) h) in
+        λ h. subst (λ (p : List ℕ). HasEntries (files new.disk.now) p store es) (sym path_stays) (subst (λ (fs : Option Files). HasEntries fs (path_of_store old.run_dir) store es) (sym k.same) h) in
         let back : HasEntries (files new.disk.now) (path_of_store new.run_dir) store es → HasEntries (files old.disk.now) (path_of_store old.run_dir) store es =
-            λ h. subst (λ (fs : Option Files). HasEntries fs (path_of_store old.run_dir) store es) k.same (subst (λ (p : List ℕ). HasEntries (files new.disk.now) p store es) path_stays h) in
+        λ h. subst (λ (fs : Option Files). HasEntries fs (path_of_store old.run_dir) store es) k.same (subst (λ (p : List ℕ). HasEntries (files new.disk.now) p store es) path_stays h) in
         (there, back)
 
     entries_stay : (a b : Option (List ℕ)) (es : List Entry) → old.store ≡ a → new.store ≡ b → ReadsOnce files old new a b → HasEntries (files old.disk.now) (path_of_store old.run_dir) a es ↔ HasEntries (files old.disk.now) (path_of_store old.run_dir) b es
@@ -97,5 +97,9 @@ module _ {D : Type 0} (files : D → Option Files) where
   judges_kept known path dir bytes store r kept same judges =
       subst (λ (o : Option (List ℕ)). JudgesStore known path o r) (sym kept) (subst (λ (p : List ℕ). JudgesBytes p bytes r) same judges)
 
-  pub judges_unread : {X : Type 0} (known : Option Files) (path : List ℕ) (store : Option (List ℕ)) (e : RecordReadError) → store ≡ None → Unread known path e → JudgesStore {X} known path store (Err e)
-  judges_unread {X} known path store e none unread = subst (λ (o : Option (List ℕ)). JudgesStore {X} known path o (Err e)) (sym none) unread
+  pub judges_unread : {X : Type 0} (known : Option Files) (path : List ℕ) (store : Option (List ℕ)) (e : RecordReadError) → store ≡ None → Unread known path e → JudgesStore {X = X} known path store (Err e)
+  judges_unread {X} known path store e none unread = subst (λ (o : Option (List ℕ)). JudgesStore {X = X} known path o (Err e)) (sym none) unread
+
+  pub extracts_kept : (before now : Option (List ℕ)) (name : List ℕ) (old new : Directory D) (bytes : List ℕ) (r : Result ℕ RecordReadError) → Keeps old.limit new.limit (Holds files old) (Holds files new) → new.store ≡ Some bytes
+      → ((es : List Entry) → IsContainer bytes es → Extracts before now name es r) → (es : List Entry) → Holds files old es → Extracts before now name es r
+  extracts_kept before now name old new bytes r keeps kept extracts es holds = extracts es (kept_spells (files new.disk.now) (path_of_store new.run_dir) bytes new.store es kept ((keeps.entries es).0 holds))

@@ -1,10 +1,10 @@
 -- The lines after the first one.
 use Rattle.std.proofs.Common.{zero, suc, ◌≡◌, ℕ, ◌+◌, ◌-◌, ◌≤◌, ◌==◌, Bool, true, false, cond, List, [], ◌∷◌, length, take, drop, min, refl, sym, ap, subst, ◌∙◌, arith}
-use Rattle.std.specs.List.{onto_first}
 use Rattle.std.proofs.lemmas.List.{drop_min, drop-drop, length-drop, take_all}
+use Rattle.std.specs.List.{onto_first}
 use Rattle.rec_codec.specs.Lines.{NumberedLine, lines, numbered}
-use Rattle.rec_directory.specs.Logs.{left_at}
 use Rattle.rec_directory.specs.declared.log.LogPlace.{LogPlace}
+use Rattle.rec_directory.specs.Logs.{left_at}
 
 -- a byte before lines makes some line
 onto_some : (c : ℕ) (ls : List (List ℕ)) → onto_first c ls ≡ [] → ⊥

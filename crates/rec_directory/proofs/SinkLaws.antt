@@ -1,11 +1,11 @@
 -- What a sink took of an entry.
 use Rattle.std.proofs.Common.{◌≡◌, ℕ, List, Option, Some, None, Result, Ok, Err, refl, sym, subst}
 use Rattle.std.specs.Prelude.{IfErr}
-use Rattle.rec_container.specs.Container.{Entry, IsContainer, content_of}
 use Rattle.rec_container.proofs.Unique.{one_reading_spec, no_fault}
-use Rattle.rec_store.specs.Readers.{Extracts, ExtractsContent, IsNoDiskFault}
-use Rattle.rec_store.specs.declared.read_error.RecordReadError.{RecordReadError}
+use Rattle.rec_container.specs.Container.{Entry, IsContainer, content_of}
 use Rattle.rec_store.specs.declared.read_error.RecordReadError.TheVariants.{RunNotFound, OpenArchive, ParseArchive, FileNotFound, FileTooLarge, NotUtf8, DeserializeMetadata, UnknownOutputType, ExtractFile, OpenRunLog, DiskFault, ReadRunLog, ParseEvent, OutOfMemory}
+use Rattle.rec_store.specs.declared.read_error.RecordReadError.{RecordReadError}
+use Rattle.rec_store.specs.Readers.{Extracts, ExtractsContent, IsNoDiskFault}
 use Rattle.rec_directory.specs.Directories.{IsOfBytes, JudgesBytes, LeavesSink, Unparsed}
 
 extracted_of_bytes : (path bytes : List ℕ) (before now : Option (List ℕ)) (name : List ℕ) (found : Option (List ℕ)) (e : RecordReadError) → ExtractsContent before now name found (Err e) → IsNoDiskFault e → IsOfBytes path bytes e

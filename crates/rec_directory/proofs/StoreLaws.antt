@@ -1,15 +1,15 @@
 -- A store that is read once and kept, and what its reader answers.
 use Rattle.std.proofs.Common.{◌≡◌, ℕ, ◌≤◌, List, Option, Some, None, Result, Ok, Err, refl, sym, ap, subst, ◌∙◌, inl, inr, ◌⊎◌}
 use Rattle.std.specs.Prelude.{IfOk, IfErr, IsSome, ◌↔◌, OnOk}
+use Rattle.rec_container.proofs.Unique.{one_reading_spec, no_fault, one_fault}
 use Rattle.rec_container.specs.Container.{Entry, IsContainer}
+use Rattle.rec_container.specs.declared.errors.ContainerError.{ContainerError}
 use Rattle.rec_container.specs.Disks.{Files}
 use Rattle.rec_container.specs.Reading.{IsFault}
-use Rattle.rec_container.specs.declared.errors.ContainerError.{ContainerError}
-use Rattle.rec_container.proofs.Unique.{one_reading_spec, no_fault, one_fault}
-use Rattle.rec_store.specs.Readers.{Answers, Denies, Extracts, ExtractsContent, IsDiskCaused, IsNoDiskFault, Keeps, Reads, Refuses}
-use Rattle.rec_store.specs.declared.read_error.RecordReadError.{RecordReadError}
-use Rattle.rec_store.specs.declared.read_error.RecordReadError.TheVariants.{RunNotFound, OpenArchive, ParseArchive, FileNotFound, FileTooLarge, NotUtf8, DeserializeMetadata, UnknownOutputType, ExtractFile, OpenRunLog, DiskFault, ReadRunLog, ParseEvent, OutOfMemory}
 use Rattle.rec_store.proofs.PartRefusals.{answers_part}
+use Rattle.rec_store.specs.declared.read_error.RecordReadError.TheVariants.{RunNotFound, OpenArchive, ParseArchive, FileNotFound, FileTooLarge, NotUtf8, DeserializeMetadata, UnknownOutputType, ExtractFile, OpenRunLog, DiskFault, ReadRunLog, ParseEvent, OutOfMemory}
+use Rattle.rec_store.specs.declared.read_error.RecordReadError.{RecordReadError}
+use Rattle.rec_store.specs.Readers.{Answers, Denies, Extracts, ExtractsContent, IsDiskCaused, IsNoDiskFault, Keeps, Reads, Refuses}
 use Rattle.rec_directory.specs.Directories.{HasEntries, IsOfBytes, IsRefusedBy, JudgesBytes, LeavesSink, Spells, Unparsed, Unread, kept_or}
 use Rattle.rec_directory.specs.Files.{IsMissing, IsWhole, IsWholeOf}
 
@@ -48,21 +48,21 @@ unparsed_of_bytes path bytes (ReadRunLog n) h = absurd h
 unparsed_of_bytes path bytes (ParseEvent n) h = absurd h
 unparsed_of_bytes path bytes OutOfMemory h = tt
 
-unparsed_is_fault : {X : Type 0} (path bytes : List ℕ) (e : RecordReadError) (fault : ContainerError) → Unparsed path bytes e → IsFault bytes fault → IsRefusedBy {X} (ParseArchive path fault) (Err e)
-unparsed_is_fault path bytes (RunNotFound p) fault h g = absurd h
-unparsed_is_fault path bytes (OpenArchive p) fault h g = absurd h
-unparsed_is_fault path bytes (ParseArchive p f) fault h g = ap (λ q. ParseArchive q f) h.0 ∙ ap (ParseArchive path) (one_fault bytes f fault h.1 g)
-unparsed_is_fault path bytes (FileNotFound p) fault h g = absurd h
-unparsed_is_fault path bytes (FileTooLarge p n m) fault h g = absurd h
-unparsed_is_fault path bytes (NotUtf8 p) fault h g = absurd h
-unparsed_is_fault path bytes (DeserializeMetadata p) fault h g = absurd h
-unparsed_is_fault path bytes (UnknownOutputType p) fault h g = absurd h
-unparsed_is_fault path bytes (ExtractFile p) fault h g = absurd h
-unparsed_is_fault path bytes (OpenRunLog p) fault h g = absurd h
-unparsed_is_fault path bytes (DiskFault p) fault h g = absurd h
-unparsed_is_fault path bytes (ReadRunLog n) fault h g = absurd h
-unparsed_is_fault path bytes (ParseEvent n) fault h g = absurd h
-unparsed_is_fault path bytes OutOfMemory fault h g = tt
+unparsed_is_fault : (X : Type 0) (path bytes : List ℕ) (e : RecordReadError) (fault : ContainerError) → Unparsed path bytes e → IsFault bytes fault → IsRefusedBy {X = X} (ParseArchive path fault) (Err e)
+unparsed_is_fault X path bytes (RunNotFound p) fault h g = absurd h
+unparsed_is_fault X path bytes (OpenArchive p) fault h g = absurd h
+unparsed_is_fault X path bytes (ParseArchive p f) fault h g = ap (λ q. ParseArchive q f) h.0 ∙ ap (ParseArchive path) (one_fault bytes f fault h.1 g)
+unparsed_is_fault X path bytes (FileNotFound p) fault h g = absurd h
+unparsed_is_fault X path bytes (FileTooLarge p n m) fault h g = absurd h
+unparsed_is_fault X path bytes (NotUtf8 p) fault h g = absurd h
+unparsed_is_fault X path bytes (DeserializeMetadata p) fault h g = absurd h
+unparsed_is_fault X path bytes (UnknownOutputType p) fault h g = absurd h
+unparsed_is_fault X path bytes (ExtractFile p) fault h g = absurd h
+unparsed_is_fault X path bytes (OpenRunLog p) fault h g = absurd h
+unparsed_is_fault X path bytes (DiskFault p) fault h g = absurd h
+unparsed_is_fault X path bytes (ReadRunLog n) fault h g = absurd h
+unparsed_is_fault X path bytes (ParseEvent n) fault h g = absurd h
+unparsed_is_fault X path bytes OutOfMemory fault h g = tt
 
 unparsed_no_disk : (path bytes : List ℕ) (e : RecordReadError) → Unparsed path bytes e → IsNoDiskFault e
 unparsed_no_disk path bytes (RunNotFound p) h = tt
@@ -156,5 +156,5 @@ module _ (path bytes : List ℕ) where
       → (es : List Entry) → IsContainer bytes es → Reads show (part es) (Err e)
   unparsed_answers show part e h es g = unparsed_refuses (part es) path bytes es e g h
 
-  pub unparsed_judges : {X : Type 0} (e : RecordReadError) → Unparsed path bytes e → JudgesBytes {X} path bytes (Err e)
-  unparsed_judges e h = record { error = unparsed_of_bytes path bytes e h; fault = λ fault g. unparsed_is_fault path bytes e fault h g }
+  pub unparsed_judges : {X : Type 0} (e : RecordReadError) → Unparsed path bytes e → JudgesBytes {X = X} path bytes (Err e)
+  unparsed_judges {X} e h = record { error = unparsed_of_bytes path bytes e h; fault = λ fault g. unparsed_is_fault X path bytes e fault h g }

@@ -3,20 +3,20 @@ use Rattle.std.specs.Borrow.{MutBor}
 use Rattle.std.specs.Prelude.{◌≡◌, ℕ, ◌+◌, ◌≤◌, List, [], length, Option, Some, None, Result, Ok, Err, ◌⊎◌}
 use Rattle.serde_json.specs.Data.{Data}
 use Rattle.rec_container.specs.Causes.{Rose}
-use Rattle.rec_container.specs.Disks.{Files}
-use Rattle.rec_container.specs.declared.disk.DiskError.{DiskError}
 use Rattle.rec_container.specs.declared.disk.DiskError.TheVariants as disk
+use Rattle.rec_container.specs.declared.disk.DiskError.{DiskError}
+use Rattle.rec_container.specs.Disks.{Files}
+use Rattle.rec_codec.specs.declared.line_events.LineError.TheVariants as line
+use Rattle.rec_codec.specs.declared.line_events.LineError.{LineError}
 use Rattle.rec_codec.specs.LineItems.{GivesNext}
 use Rattle.rec_codec.specs.Lines.{NumberedLine, lines, numbered}
-use Rattle.rec_codec.specs.declared.line_events.LineError.{LineError}
-use Rattle.rec_codec.specs.declared.line_events.LineError.TheVariants as line
-use Rattle.rec_store.specs.declared.read_error.RecordReadError.{RecordReadError}
 use Rattle.rec_store.specs.declared.read_error.RecordReadError.TheVariants.{OpenRunLog, DiskFault, ReadRunLog, ParseEvent, OutOfMemory}
+use Rattle.rec_store.specs.declared.read_error.RecordReadError.{RecordReadError}
+use Rattle.rec_directory.specs.declared.log.LogPlace.{LogPlace}
 use Rattle.rec_directory.specs.Directories.{Directory, HasFailed}
 use Rattle.rec_directory.specs.Files.{IsMissing, IsPrefix}
 use Rattle.rec_directory.specs.Logs.{IsPlace, left_at}
 use Rattle.rec_directory.specs.Paths.{path_of_log}
-use Rattle.rec_directory.specs.declared.log.LogPlace.{LogPlace}
 
 -- ---- errors
 

@@ -1,10 +1,10 @@
 //! The events of a run's log, from a disk.
 ghost use Rattle.std.specs.Prelude.{◌≡◌, ◌≤◌, ◌<◌, None, IfOk, IfErr, OnSome, option_map};
+ghost use Rattle.rec_forms.specs.Outputs.{stored_outputs_form};
 ghost use Rattle.rec_codec.specs.EventForms.{event_form};
 ghost use Rattle.rec_directory.specs.Events as events;
 ghost use Rattle.rec_directory.specs.Events.{Gives, GivesLifted, IsPlaced, LogFault, ReadsLog, error_of_line, left_of, most_of};
 ghost use Rattle.rec_directory.specs.Logs.{IsPlace, left_at};
-ghost use Rattle.rec_forms.specs.Outputs.{stored_outputs_form};
 
 use crate::file::read_prefix;
 use crate::log::{LogPlace, next_event};
@@ -64,9 +64,9 @@ impl<'r, D: Disk> RecordEventIter<'r, D> {
 
 impl<'r, D: Disk> Iterator for RecordEventIter<'r, D> {
     ghost use Rattle.std.specs.Iterator.{at_most};
+    ghost use Rattle.rec_forms.specs.Outputs.{stored_outputs_form};
     ghost use Rattle.rec_codec.specs.EventForms.{event_form};
     ghost use Rattle.rec_directory.specs.Events.{GivesEvent, most_of};
-    ghost use Rattle.rec_forms.specs.Outputs.{stored_outputs_form};
 
     type Item = Result<TestEventSummary<RecordingSpec>, RecordReadError>;
 

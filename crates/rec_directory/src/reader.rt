@@ -1,14 +1,14 @@
 //! The reader of a run's directory.
 ghost use Rattle.std.specs.Prelude.{◌≡◌, List, IfOk, IfErr, IsSome, None, OnErr, OnOk, Some, string_bytes};
 ghost use Rattle.rec_container.specs.Container.{Entry};
-ghost use Rattle.rec_directory.specs.Directories.{Holds, JudgesStore, KeepsRun, LeavesSink, Opens, Unopened, Unread};
-ghost use Rattle.rec_directory.specs.Events.{OpensLog, UnopenedLog, HasLength, LogFault};
-ghost use Rattle.rec_directory.specs.Paths.{path_of_log, path_of_store};
 ghost use Rattle.rec_forms.specs.Recording.{test_list_form, record_opts_form};
 ghost use Rattle.rec_format.specs.ScopeForms.{recorded_scope_form};
 ghost use Rattle.rec_store.specs.Entries.{build_scope_path, cargo_metadata_path, test_list_path, record_opts_path};
 ghost use Rattle.rec_store.specs.Parts.{metadata_part, output_part, rerun_info_part, utf8_part};
 ghost use Rattle.rec_store.specs.Readers.{Answers, DiskCause, Extracts, Keeps, SinkCause};
+ghost use Rattle.rec_directory.specs.Directories.{Holds, JudgesStore, KeepsRun, LeavesSink, Opens, Unopened, Unread};
+ghost use Rattle.rec_directory.specs.Events.{OpensLog, UnopenedLog, HasLength, LogFault};
+ghost use Rattle.rec_directory.specs.Paths.{path_of_log, path_of_store};
 
 use crate::events::{RecordEventIter, log_error};
 use crate::paths::join;
@@ -273,7 +273,11 @@ impl<D: Disk> RecordReader<'_, D> {
     ///   the limit.
     /// - `UnknownOutputType` exactly where the name says no kind of output.
     /// - `OutOfMemory` if memory runs out.
-    pub fn read_output(&mut self, alloc: Global, file_name: &str) -> Result<Vec<u8>, RecordReadError>
+    pub fn read_output(
+        &mut self,
+        alloc: Global,
+        file_name: &str,
+    ) -> Result<Vec<u8>, RecordReadError>
         ensures answer { (es : List Entry) → Holds D.files self.old es → Answers (λ v. v.items) (output_part file_name.now es self.old.limit) result }
         ensures same { Keeps self.old.limit self.new.limit (Holds D.files self.old) (Holds D.files self.new) }
         ensures cause { DiskCause (D.faults self.old.disk.now) (D.faults self.new.disk.now) result }
@@ -305,7 +309,7 @@ impl<D: Disk> RecordReader<'_, D> {
         ensures cause { DiskCause (D.faults self.old.disk.now) (D.faults self.new.disk.now) result }
         ensures store { JudgesStore (D.files self.old.disk.now) (path_of_store self.old.run_dir) self.new.store result }
         ensures kept { KeepsRun D.files self.old self.new }
-        ensures sink { SinkCause (faults out.old) (faults out.new) result }
+        ensures sink { SinkCause ((⟦<dyn Sink as Sink>⟧ out.old.0).faults out.old.1) ((⟦<dyn Sink as Sink>⟧ out.new.0).faults out.new.1) result }
         ensures left { IfErr result (LeavesSink (taken out.old) (taken out.new)) }
     {
         self.load(alloc)?;

@@ -1,10 +1,10 @@
 //! The store of a run's directory, in memory.
 ghost use Rattle.std.specs.Prelude.{◌≡◌, IfOk, IfErr};
 ghost use Rattle.rec_container.specs.Container.{IsContainer};
+ghost use Rattle.rec_store.specs.Readers.{DiskCause};
 ghost use Rattle.rec_directory.specs.Directories.{Unparsed, Unread, archive_error};
 ghost use Rattle.rec_directory.specs.Files.{IsWhole};
 ghost use Rattle.rec_directory.specs.Paths.{path_of_store};
-ghost use Rattle.rec_store.specs.Readers.{DiskCause};
 
 use crate::file::read_file;
 use crate::paths::join;

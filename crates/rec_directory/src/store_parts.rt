@@ -1,10 +1,10 @@
 //! The parts of a store whose bytes are at hand.
 ghost use Rattle.std.specs.Prelude.{◌≡◌, List, IfErr, string_bytes};
 ghost use Rattle.rec_container.specs.Container.{Entry, IsContainer};
-ghost use Rattle.rec_directory.specs.Directories.{JudgesBytes, LeavesSink};
-ghost use Rattle.rec_directory.specs.Paths.{path_of_store};
 ghost use Rattle.rec_store.specs.Parts.{metadata_part, output_part, rerun_info_part, utf8_part};
 ghost use Rattle.rec_store.specs.Readers.{Extracts, NoDiskFault, Reads, SinkCause};
+ghost use Rattle.rec_directory.specs.Directories.{JudgesBytes, LeavesSink};
+ghost use Rattle.rec_directory.specs.Paths.{path_of_store};
 
 use crate::store::parse_store;
 use rec_container::Sink;
@@ -27,11 +27,7 @@ pub(crate) struct StoreBytes<'s> {
 
 impl StoreBytes<'_> {
     /// Reads the item under a path.
-    pub(crate) fn metadata<T: Form>(
-        &self,
-        alloc: Global,
-        path: &str,
-    ) -> Result<T, RecordReadError>
+    pub(crate) fn metadata<T: Form>(&self, alloc: Global, path: &str) -> Result<T, RecordReadError>
         ensures answer { (es : List Entry) → IsContainer self.now.bytes.now es → Reads (λ x. x) (metadata_part T.form_of path.now es self.now.limit) result }
         ensures judged { JudgesBytes (path_of_store self.now.run_dir.now) self.now.bytes.now result }
         ensures disk { NoDiskFault result }
@@ -61,11 +57,7 @@ impl StoreBytes<'_> {
     }
 
     /// Reads the output of a name.
-    pub(crate) fn output(
-        &self,
-        alloc: Global,
-        file_name: &str,
-    ) -> Result<Vec<u8>, RecordReadError>
+    pub(crate) fn output(&self, alloc: Global, file_name: &str) -> Result<Vec<u8>, RecordReadError>
         ensures answer { (es : List Entry) → IsContainer self.now.bytes.now es → Reads (λ v. v.items) (output_part file_name.now es self.now.limit) result }
         ensures judged { JudgesBytes (path_of_store self.now.run_dir.now) self.now.bytes.now result }
         ensures disk { NoDiskFault result }

@@ -158,10 +158,7 @@ pub(crate) fn events_of<D: Disk>(
     }
 }
 
-fn items<D: Disk>(
-    alloc: Global,
-    events: RecordEventIter<'_, D>,
-) -> Result<String, AllocError> {
+fn items<D: Disk>(alloc: Global, events: RecordEventIter<'_, D>) -> Result<String, AllocError> {
     let mut text = String::new(alloc);
     for item in events {
         add_item(&mut text, item.err())?;

@@ -38,9 +38,15 @@ fn what_is_missing_is_said(rt: HostRuntime) -> Result<(), Fail> {
     none.put("rr/store.zip", &store)?;
     assert!(rt; answers(alloc, &mut none)?.as_str() == "there is no run at r");
     let mut log = disk_of(alloc, None, Some(log_text()))?;
-    assert!(rt; answers(alloc, &mut log)?.as_str() == "r\nthere is no store at r/store.zip\nevent. line 3 is no event. event. ");
+    assert!(rt;
+        answers(alloc, &mut log)?.as_str()
+            == "r\nthere is no store at r/store.zip\nevent. line 3 is no event. event. "
+    );
     let mut alone = disk_of(alloc, Some(&store), None)?;
-    assert!(rt; answers(alloc, &mut alone)?.as_str() == "r\n{\"suites\":{}}\nthere is no event log at r/run.log.zst");
+    assert!(rt;
+        answers(alloc, &mut alone)?.as_str()
+            == "r\n{\"suites\":{}}\nthere is no event log at r/run.log.zst"
+    );
     Ok(())
 }
 

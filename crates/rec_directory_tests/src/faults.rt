@@ -26,13 +26,34 @@ fn answers(alloc: Global, store: &[u8], number: u64) -> Result<String, Fail> {
 fn rows() -> [(u64, &'static str); 8] {
     [
         (1, "the disk failed at r"),
-        (2, "the disk failed at r/store.zip\n{}\nevent. line 3 is no event. event. \nevent. line 3 is no event. event. "),
-        (3, "the disk failed at r/store.zip\n{}\nevent. line 3 is no event. event. \nevent. line 3 is no event. event. "),
-        (4, "{}\n{}\nthe disk failed at r/run.log.zst\nevent. line 3 is no event. event. "),
-        (5, "{}\n{}\nthe disk failed at r/run.log.zst. \nevent. line 3 is no event. event. "),
-        (6, "{}\n{}\nevent. line 3 is no event. event. \nthe disk failed at r/run.log.zst"),
-        (7, "{}\n{}\nevent. line 3 is no event. event. \nthe disk failed at r/run.log.zst. "),
-        (8, "{}\n{}\nevent. line 3 is no event. event. \nevent. line 3 is no event. event. "),
+        (
+            2,
+            "the disk failed at r/store.zip\n{}\nevent. line 3 is no event. event. \nevent. line 3 is no event. event. ",
+        ),
+        (
+            3,
+            "the disk failed at r/store.zip\n{}\nevent. line 3 is no event. event. \nevent. line 3 is no event. event. ",
+        ),
+        (
+            4,
+            "{}\n{}\nthe disk failed at r/run.log.zst\nevent. line 3 is no event. event. ",
+        ),
+        (
+            5,
+            "{}\n{}\nthe disk failed at r/run.log.zst. \nevent. line 3 is no event. event. ",
+        ),
+        (
+            6,
+            "{}\n{}\nevent. line 3 is no event. event. \nthe disk failed at r/run.log.zst",
+        ),
+        (
+            7,
+            "{}\n{}\nevent. line 3 is no event. event. \nthe disk failed at r/run.log.zst. ",
+        ),
+        (
+            8,
+            "{}\n{}\nevent. line 3 is no event. event. \nevent. line 3 is no event. event. ",
+        ),
     ]
 }
 

@@ -56,7 +56,11 @@ impl Disk for ChangingDisk {
 fn rows() -> [(u64, Option<&'static [u8]>, &'static str); 5] {
     [
         (2, Some(b"x\ny\nz\n"), "line 1 is no event. "),
-        (5, Some(b"x\ny\nz\n"), "line 1 is no event. line 2 is no event. line 3 is no event. "),
+        (
+            5,
+            Some(b"x\ny\nz\n"),
+            "line 1 is no event. line 2 is no event. line 3 is no event. ",
+        ),
         (9, Some(b"x\ny"), "line 1 is no event. line 2 is no event. "),
         (9, None, "there is no event log at r/run.log.zst. "),
         (0, None, ""),
@@ -64,11 +68,7 @@ fn rows() -> [(u64, Option<&'static [u8]>, &'static str); 5] {
 }
 
 /// The items of the log.
-fn items(
-    alloc: Global,
-    len: u64,
-    bytes: Option<&'static [u8]>,
-) -> Result<String, Fail> {
+fn items(alloc: Global, len: u64, bytes: Option<&'static [u8]>) -> Result<String, Fail> {
     let mut disk = ChangingDisk { len, bytes };
     let mut reader = open(alloc, &mut disk)?;
     events_of(alloc, &mut reader)

@@ -40,7 +40,10 @@ fn outputs() -> [(Part<'static>, &'static str); 5] {
     [
         (Part::Output("ba7816bf8f01cfea-stdout"), "abc"),
         (Part::Output("2cf24dba5fb0a30e-stdout"), "hello"),
-        (Part::Output("x-unknown"), "the store has no entry out/x-unknown"),
+        (
+            Part::Output("x-unknown"),
+            "the store has no entry out/x-unknown",
+        ),
         (Part::Extracted("out/2cf24dba5fb0a30e-stdout"), "5: hello"),
         (Part::Extracted("x"), "the store has no entry x"),
     ]

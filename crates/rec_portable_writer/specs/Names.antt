@@ -1,7 +1,7 @@
 -- The names of a run and of its bundle.
 use Rattle.std.specs.Prelude.{ℕ, List, ◌++◌, codes}
-use Rattle.rec_directory.specs.Paths.{joined}
 use Rattle.rec_format.specs.RunIds.{id_text}
+use Rattle.rec_directory.specs.Paths.{joined}
 
 -- the name of a run's bundle
 abbrev pub bundle_name : List ℕ → List ℕ

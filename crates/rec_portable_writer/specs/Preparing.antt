@@ -2,13 +2,13 @@
 use Rattle.std.specs.Borrow.{MutBor}
 use Rattle.std.specs.Prelude.{◌≡◌, ◌⊎◌, ℕ, ◌≤◌, is_some, IsTrue, List, Option, Some, None}
 use Rattle.rec_container.specs.Disks.{Files}
+use Rattle.rec_format.specs.declared.run.RecordedRunInfo.{RecordedRunInfo}
+use Rattle.rec_store.specs.Entries.{log_name, store_name}
 use Rattle.rec_directory.specs.Directories.{HasFailed, IsNotThere, IsOpened}
 use Rattle.rec_directory.specs.Files.{IsMissing}
 use Rattle.rec_directory.specs.Paths.{joined, path_of_log, path_of_store}
-use Rattle.rec_format.specs.declared.run.RecordedRunInfo.{RecordedRunInfo}
-use Rattle.rec_store.specs.Entries.{log_name, store_name}
-use Rattle.rec_portable_writer.specs.declared.errors.PortableRecordingError.{PortableRecordingError}
 use Rattle.rec_portable_writer.specs.declared.errors.PortableRecordingError.TheVariants.{RunDirNotFound, RequiredFileMissing, DiskFault, OutOfMemory}
+use Rattle.rec_portable_writer.specs.declared.errors.PortableRecordingError.{PortableRecordingError}
 
 -- the disk, the run, and its directory
 pub record Packing (D : Type 0) : Type 0 where

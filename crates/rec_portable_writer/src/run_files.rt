@@ -3,8 +3,8 @@ ghost use Rattle.std.specs.Prelude.{◌≡◌, ◌≤◌, IfOk, IfErr, OnOk, str
 ghost use Rattle.rec_directory.specs.Directories.{IsOpened};
 ghost use Rattle.rec_directory.specs.Files.{IsWhole};
 ghost use Rattle.rec_directory.specs.Paths.{joined};
-ghost use Rattle.rec_portable_writer.specs.Preparing.{HasFiles, HasOne, IsMissingFile, LacksDirectory, LacksOne, Unprepared};
 ghost use Rattle.rec_portable_writer.specs.Packing.{Unread};
+ghost use Rattle.rec_portable_writer.specs.Preparing.{HasFiles, HasOne, IsMissingFile, LacksDirectory, LacksOne, Unprepared};
 
 use crate::errors::PortableRecordingError;
 use rec_container::{Disk, DiskError};
@@ -75,7 +75,10 @@ fn missing(alloc: Global, run_dir: &str, name: &str) -> PortableRecordingError
     ensures { IsMissingFile run_dir.now name.now result }
 {
     match names_of(alloc, run_dir, name) {
-        Ok((run_dir, file_name)) => PortableRecordingError::RequiredFileMissing { run_dir, file_name },
+        Ok((run_dir, file_name)) => PortableRecordingError::RequiredFileMissing {
+            run_dir,
+            file_name,
+        },
         Err(error) => PortableRecordingError::from(error),
     }
 }

@@ -20,7 +20,13 @@ fn a_bundle_is_written(rt: HostRuntime) -> Result<(), Fail> {
     let path = "out/nextest-run-550e8400-e29b-41d4-a716-446655440000.zip";
     assert!(rt; answer == format!(in alloc; "{path} has {size} bytes")?);
     assert!(rt; holds(&disk, path, Some(&want)));
-    assert!(rt; holds(&disk, "out/nextest-run-550e8400-e29b-41d4-a716-446655440000.zip.tmp", None));
+    assert!(rt;
+        holds(
+            &disk,
+            "out/nextest-run-550e8400-e29b-41d4-a716-446655440000.zip.tmp",
+            None
+        )
+    );
     assert!(rt; holds(&disk, log_path(), Some(b"log\n")));
     assert!(rt; holds(&disk, store_path(), Some(b"nxtcont1\0")));
     Ok(())

@@ -103,11 +103,13 @@ fn holds_row(alloc: Global, info: &RecordedRunInfo, whole: &[u8], row: &Row) -> 
     let temporary = row
         .temporary
         .map(|parts| if parts == 0 { &whole[..0] } else { whole });
-    Ok(answer.as_str() == row.answer
-        && holds(&disk, "b", Some(b"old"))
-        && holds(&disk, "b.tmp", temporary)
-        && holds(&disk, log_path(), Some(b"log\n"))
-        && holds(&disk, store_path(), Some(b"nxtcont1\0")))
+    Ok(
+        answer.as_str() == row.answer
+            && holds(&disk, "b", Some(b"old"))
+            && holds(&disk, "b.tmp", temporary)
+            && holds(&disk, log_path(), Some(b"log\n"))
+            && holds(&disk, store_path(), Some(b"nxtcont1\0")),
+    )
 }
 
 #[test]

@@ -3,11 +3,11 @@ use Rattle.std.specs.Prelude.{OnSome, option_map}
 use Rattle.rec_events.specs.declared.outputs.RecordingSpec.{RecordingSpec}
 use Rattle.rec_forms.specs.Outputs.{stored_outputs_form}
 use Rattle.rec_codec.specs.EventForms.{event_form}
+use Rattle.rec_directory.proofs.events.next_item.Goals as goal
+use Rattle.rec_directory.proofs.Fewer.{fewer_lifted, fewer_first}
+use Rattle.rec_directory.specs.declared.log.LogPlace.{LogPlace}
 use Rattle.rec_directory.specs.Events.{most_of, left_of, GivesLifted}
 use Rattle.rec_directory.specs.Logs.{left_at}
-use Rattle.rec_directory.specs.declared.log.LogPlace.{LogPlace}
-use Rattle.rec_directory.proofs.Fewer.{fewer_lifted, fewer_first}
-use Rattle.rec_directory.proofs.events.next_item.Goals as goal
 
 pub returns-in-Some-clause-fewer : goal.returns-in-Some-clause-fewer
 returns-in-Some-clause-fewer g c =

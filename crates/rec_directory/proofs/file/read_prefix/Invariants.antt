@@ -1,6 +1,6 @@
 use Rattle.std.proofs.Common.{◌≡◌, ◌≤◌, ◌-◌, vec_len}
-use Rattle.rec_directory.specs.Files.{IsStart}
 use Rattle.rec_directory.proofs.file.read_prefix.Given as goal
+use Rattle.rec_directory.specs.Files.{IsStart}
 
 abbrev pub invariant-pieces : goal.invariant-pieces
 invariant-pieces g l = record {

@@ -1,7 +1,7 @@
 use Rattle.std.proofs.Common.{◌≡◌, ◌≤◌, ◌-◌, length, take}
 use Rattle.rec_container.specs.Disks.{BothKnown}
-use Rattle.rec_portable_writer.specs.Replacing.{IsPut}
 use Rattle.rec_portable_writer.proofs.replacing.write_file.Given as goal
+use Rattle.rec_portable_writer.specs.Replacing.{IsPut}
 
 abbrev pub invariant-pieces : goal.invariant-pieces
 invariant-pieces g l = record {
