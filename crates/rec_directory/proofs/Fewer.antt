@@ -1,5 +1,5 @@
 -- How many items are left.
-use Rattle.std.proofs.Common.{zero, suc, ◌≡◌, ℕ, ◌+◌, ◌<◌, ◌≤◌, ◌==◌, Bool, true, false, cond, List, [], ◌∷◌, length, Option, Some, None, Result, Ok, Err, refl, sym, ap, subst, arith}
+use Rattle.std.proofs.Common.{zero, suc, ◌≡◌, ℕ, ◌+◌, ◌<◌, ◌≤◌, ◌==◌, Bool, true, false, cond, List, [], ◌∷◌, length, Option, Some, None, Result, refl, sym, ap, subst, arith}
 use Rattle.std.specs.List.{onto_first}
 use Rattle.std.specs.Prelude.{MatchBool, OnSome}
 use Rattle.serde_json.specs.Data.{Data}
@@ -7,7 +7,7 @@ use Rattle.rec_container.specs.Disks.{Files}
 use Rattle.rec_codec.proofs.LineItemLemmas.{length-left_after}
 use Rattle.rec_codec.specs.declared.line_events.LineError.{LineError}
 use Rattle.rec_codec.specs.LineEvents.{blank}
-use Rattle.rec_codec.specs.LineItems.{GivesItem, GivesNext, left_after}
+use Rattle.rec_codec.specs.LineItems.{GivesItem, GivesNext}
 use Rattle.rec_codec.specs.Lines.{NumberedLine, lines, numbered, text_of}
 use Rattle.rec_store.specs.declared.read_error.RecordReadError.{RecordReadError}
 use Rattle.rec_directory.specs.Events.{GivesLifted, ReadsLog, lifted}

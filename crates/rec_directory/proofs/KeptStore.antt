@@ -1,13 +1,13 @@
 -- A store that is read once and kept.
-use Rattle.std.proofs.Common.{◌≡◌, ℕ, List, Option, Some, None, Result, Ok, Err, refl, sym, ap, subst, ◌∙◌}
-use Rattle.std.specs.Prelude.{IfErr, IsSome, ◌↔◌}
+use Rattle.std.proofs.Common.{◌≡◌, ℕ, List, Option, Some, None, Result, Err, refl, sym, ap, subst, ◌∙◌}
+use Rattle.std.specs.Prelude.{◌↔◌}
 use Rattle.rec_container.specs.Container.{Entry, IsContainer}
 use Rattle.rec_container.specs.Disks.{Files}
 use Rattle.rec_store.proofs.PartRefusals.{answers_part}
 use Rattle.rec_store.specs.declared.read_error.RecordReadError.TheVariants.{RunNotFound, OpenArchive, ParseArchive, FileNotFound, FileTooLarge, NotUtf8, DeserializeMetadata, UnknownOutputType, ExtractFile, OpenRunLog, DiskFault, ReadRunLog, ParseEvent, OutOfMemory}
 use Rattle.rec_store.specs.declared.read_error.RecordReadError.{RecordReadError}
 use Rattle.rec_store.specs.Readers.{Answers, Denies, Extracts, Keeps, Reads}
-use Rattle.rec_directory.specs.Directories.{Directory, HasEntries, Holds, JudgesBytes, JudgesStore, KeepsRun, ReadsOnce, Spells, Unread}
+use Rattle.rec_directory.specs.Directories.{Directory, HasEntries, Holds, KeepsRun, ReadsOnce, Spells, Unread}
 use Rattle.rec_directory.specs.Files.{IsMissing, IsWhole, IsWholeOf}
 use Rattle.rec_directory.specs.Paths.{path_of_store}
 
@@ -91,14 +91,6 @@ module _ {D : Type 0} (files : D → Option Files) where
       → (es : List Entry) → Holds files old es → Answers show (part es) (Err e)
   answers_unread show part old e none unread es holds =
       unread_denies (part es) (files old.disk.now) (path_of_store old.run_dir) es e (subst (λ (o : Option (List ℕ)). HasEntries (files old.disk.now) (path_of_store old.run_dir) o es) none holds) unread
-
-  pub judges_kept : {X : Type 0} (known : Option Files) (path dir bytes : List ℕ) (store : Option (List ℕ)) (r : Result X RecordReadError) → store ≡ Some bytes → path_of_store dir ≡ path → JudgesBytes (path_of_store dir) bytes r
-      → JudgesStore known path store r
-  judges_kept known path dir bytes store r kept same judges =
-      subst (λ (o : Option (List ℕ)). JudgesStore known path o r) (sym kept) (subst (λ (p : List ℕ). JudgesBytes p bytes r) same judges)
-
-  pub judges_unread : {X : Type 0} (known : Option Files) (path : List ℕ) (store : Option (List ℕ)) (e : RecordReadError) → store ≡ None → Unread known path e → JudgesStore {X = X} known path store (Err e)
-  judges_unread {X} known path store e none unread = subst (λ (o : Option (List ℕ)). JudgesStore {X = X} known path o (Err e)) (sym none) unread
 
   pub extracts_kept : (before now : Option (List ℕ)) (name : List ℕ) (old new : Directory D) (bytes : List ℕ) (r : Result ℕ RecordReadError) → Keeps old.limit new.limit (Holds files old) (Holds files new) → new.store ≡ Some bytes
       → ((es : List Entry) → IsContainer bytes es → Extracts before now name es r) → (es : List Entry) → Holds files old es → Extracts before now name es r

@@ -1,5 +1,5 @@
 -- The start of a file, read piece by piece.
-use Rattle.std.proofs.Common.{◌≡◌, ℕ, ◌+◌, ◌≤◌, List, ◌++◌, length, take, drop, Option, Some, None, Ok, sym, ap, subst, ◌∙◌, length-append, take-append-drop}
+use Rattle.std.proofs.Common.{◌≡◌, ℕ, ◌+◌, List, ◌++◌, length, take, drop, Option, Some, None, Ok, sym, ap, subst, ◌∙◌, length-append, take-append-drop}
 use Rattle.std.proofs.lemmas.List.{length-take-le}
 use Rattle.std.proofs.Math.Seq.{take-append-add}
 use Rattle.rec_container.specs.Disks.{Files, ReadsAt, ReadsBytes}

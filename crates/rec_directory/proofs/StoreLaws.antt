@@ -1,17 +1,14 @@
 -- A store that is read once and kept, and what its reader answers.
-use Rattle.std.proofs.Common.{◌≡◌, ℕ, ◌≤◌, List, Option, Some, None, Result, Ok, Err, refl, sym, ap, subst, ◌∙◌, inl, inr, ◌⊎◌}
-use Rattle.std.specs.Prelude.{IfOk, IfErr, IsSome, ◌↔◌, OnOk}
+use Rattle.std.proofs.Common.{ℕ, List, Option, Result, Ok, Err, refl, ap, subst, ◌∙◌}
+use Rattle.std.specs.Prelude.{IfErr}
 use Rattle.rec_container.proofs.Unique.{one_reading_spec, no_fault, one_fault}
 use Rattle.rec_container.specs.Container.{Entry, IsContainer}
 use Rattle.rec_container.specs.declared.errors.ContainerError.{ContainerError}
-use Rattle.rec_container.specs.Disks.{Files}
 use Rattle.rec_container.specs.Reading.{IsFault}
-use Rattle.rec_store.proofs.PartRefusals.{answers_part}
 use Rattle.rec_store.specs.declared.read_error.RecordReadError.TheVariants.{RunNotFound, OpenArchive, ParseArchive, FileNotFound, FileTooLarge, NotUtf8, DeserializeMetadata, UnknownOutputType, ExtractFile, OpenRunLog, DiskFault, ReadRunLog, ParseEvent, OutOfMemory}
 use Rattle.rec_store.specs.declared.read_error.RecordReadError.{RecordReadError}
-use Rattle.rec_store.specs.Readers.{Answers, Denies, Extracts, ExtractsContent, IsDiskCaused, IsNoDiskFault, Keeps, Reads, Refuses}
-use Rattle.rec_directory.specs.Directories.{HasEntries, IsOfBytes, IsRefusedBy, JudgesBytes, LeavesSink, Spells, Unparsed, Unread, kept_or}
-use Rattle.rec_directory.specs.Files.{IsMissing, IsWhole, IsWholeOf}
+use Rattle.rec_store.specs.Readers.{IsNoDiskFault, Reads, Refuses}
+use Rattle.rec_directory.specs.Directories.{IsOfBytes, IsRefusedBy, JudgesBytes, LeavesSink, Unparsed}
 
 -- ---- bytes that are parsed
 

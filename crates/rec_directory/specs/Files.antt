@@ -1,5 +1,5 @@
 -- What is read of a file.
-use Rattle.std.specs.Prelude.{◌≡◌, ℕ, ◌≤◌, List, [], length, take, Option, Some, None}
+use Rattle.std.specs.Prelude.{◌≡◌, ℕ, List, [], length, take, Option, Some, None}
 use Rattle.rec_container.specs.declared.disk.DiskError.{DiskError}
 use Rattle.rec_container.specs.Disks.{Files, Refuses}
 

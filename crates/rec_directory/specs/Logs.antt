@@ -1,5 +1,5 @@
 -- What is left of a log from a place on.
-use Rattle.std.specs.Prelude.{◌≡◌, ℕ, ◌+◌, ◌<◌, ◌≤◌, ◌^◌, ◌-◌, List, length, drop}
+use Rattle.std.specs.Prelude.{ℕ, ◌+◌, ◌<◌, ◌≤◌, ◌^◌, ◌-◌, List, length, drop}
 use Rattle.rec_codec.specs.Lines.{NumberedLine, lines, numbered}
 use Rattle.rec_directory.specs.declared.log.LogPlace.{LogPlace}
 

@@ -21,7 +21,7 @@ use rec_format::{
     RecordedBuildScope, RerunInfo, TEST_LIST_JSON_PATH,
 };
 use rec_store::{RecordReadError, StoreReader};
-use std::alloc::Global;
+use std::alloc::{AllocError, Global};
 use std::marker::Model;
 
 /// Reads a run's directory. The store's file is read whole at the first call that needs it, and kept.
@@ -115,11 +115,18 @@ fn measure_log<D: Disk>(
     ensures same { D.files disk.new ≡ D.files disk.old }
     ensures cause { DiskCause (D.faults disk.old) (D.faults disk.new) result }
 {
-    let path = Text::new(join(alloc, run_dir, RUN_LOG_FILE_NAME)?);
+    let path = log_file(alloc, run_dir)?;
     match disk.len(path.as_str()) {
         Ok(len) => Ok((path, len)),
         Err(error) => Err(log_error(path, error)),
     }
+}
+
+/// Returns the path of the log in a directory.
+fn log_file(alloc: Global, run_dir: &str) -> Result<Text, AllocError>
+    ensures { IfOk result (λ path. path ≡ path_of_log run_dir.now) }
+{
+    Ok(Text::new(join(alloc, run_dir, RUN_LOG_FILE_NAME)?))
 }
 
 impl<D: Disk> RecordReader<'_, D> {

@@ -1,4 +1,4 @@
-use Rattle.std.proofs.Common.{◌≡◌, ◌<◌, sym, subst, length, List, ℕ, Vec, Global, Option}
+use Rattle.std.proofs.Common.{◌<◌, sym, subst, length, List, ℕ, Vec, Global, Option}
 use Rattle.std.specs.Prelude.{OnSome, option_map}
 use Rattle.rec_events.specs.declared.outputs.RecordingSpec.{RecordingSpec}
 use Rattle.rec_forms.specs.Outputs.{stored_outputs_form}

@@ -1,7 +1,6 @@
-use Rattle.std.proofs.Common.{rules, ◌≡◌, ◌≤◌, vec_len, ℕ, ◌+◌, ◌++◌, length, take, sym, ◌∙◌}
+use Rattle.std.proofs.Common.{rules}
 use Rattle.rec_directory.proofs.file.read_prefix.Goals as goal
 use Rattle.rec_directory.proofs.Starts.{start_more}
-use Rattle.rec_directory.specs.Files.{IsStart}
 
 pub pieces-preserved : goal.pieces-preserved
 pieces-preserved g c =

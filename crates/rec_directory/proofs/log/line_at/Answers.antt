@@ -1,4 +1,4 @@
-use Rattle.std.proofs.Common.{sym, ◌∙◌, ◌≡◌, arith}
+use Rattle.std.proofs.Common.{sym, ◌∙◌, arith}
 use Rattle.rec_codec.specs.LineView.{line_view}
 use Rattle.rec_directory.proofs.LinesAfter.{next_left}
 use Rattle.rec_directory.proofs.log.line_at.Goals as goal
