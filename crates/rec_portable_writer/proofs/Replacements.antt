@@ -1,12 +1,12 @@
 -- Files that are put on a disk piece by piece, and then renamed.
-use Rattle.std.proofs.Common.{◌≡◌, ℕ, ◌+◌, ◌-◌, ◌≤◌, Bool, true, false, cond, List, ◌++◌, length, take, drop, Option, Some, None, Result, Ok, Err, refl, sym, ap, subst, ◌∙◌, inl, inr, arith, take-append-drop}
+use Rattle.std.proofs.Common.{◌≡◌, ℕ, ◌+◌, ◌-◌, ◌≤◌, Bool, true, false, cond, List, ◌++◌, length, take, drop, Option, Some, None, Result, Ok, Err, refl, sym, ap, subst, ◌∙◌, inr, arith, take-append-drop}
 use Rattle.std.proofs.lemmas.List.{length-take-le, length-drop, take_all}
 use Rattle.std.proofs.lemmas.Slice.Eq.{bytes_eq-Decides}
 use Rattle.std.proofs.Math.Seq.{take-append-add}
 use Rattle.std.specs.Str.{bytes_eq}
 use Rattle.rec_container.specs.declared.disk.DiskError.{DiskError}
-use Rattle.rec_container.specs.Disks.{AppendsBytes, AppendsTo, AreSame, BothKnown, Files, NotMissing, RenamesFile, Renames, renamed, with_file}
-use Rattle.rec_portable_writer.specs.Replacing.{IsBegun, IsPut, Replaces, ReplacesFile, Writes}
+use Rattle.rec_container.specs.Disks.{AppendsBytes, AppendsTo, AreSame, BothKnown, Files, RenamesFile, Renames, renamed}
+use Rattle.rec_portable_writer.specs.Replacing.{IsPut, Replaces, ReplacesFile, Writes}
 
 -- what stands at the path
 pub put_there : (fs gs : Files) (path content : List ℕ) → IsPut fs gs path content → gs path ≡ Some content

@@ -8,10 +8,12 @@ use Rattle.rec_format.specs.declared.run.RecordedRunInfo.{RecordedRunInfo}
 use Rattle.rec_format.specs.RunForms.{manifest_value}
 use Rattle.rec_format.specs.Runs.{manifest_of}
 use Rattle.rec_store.specs.Entries.{bundle_entries, log_name, store_name}
+use Rattle.rec_container.specs.declared.disk.DiskError.{DiskError}
+use Rattle.rec_container.specs.declared.disk.DiskError.TheVariants as disk
 use Rattle.rec_directory.specs.Paths.{joined, path_of_log, path_of_store}
 use Rattle.rec_portable_writer.specs.declared.errors.PortableRecordingError.TheVariants.{ReadFile, WriteFile, OutOfMemory}
 use Rattle.rec_portable_writer.specs.declared.errors.PortableRecordingError.{PortableRecordingError}
-use Rattle.rec_portable_writer.specs.declared.writer.PortableRecordingResult.{PortableRecordingResult}
+use Rattle.rec_portable_writer.specs.declared.packing.PortableRecordingResult.{PortableRecordingResult}
 use Rattle.rec_portable_writer.specs.Names.{temporary_path}
 use Rattle.rec_portable_writer.specs.Preparing.{Packing}
 
@@ -54,6 +56,12 @@ Unwritten before now path (WriteFile p) = (p ≡ path) × Rose before now
 Unwritten before now path OutOfMemory = Unit {0}
 Unwritten before now path e = ⊥
 
+-- the refusal of a disk that fails
+abbrev pub write_error : List ℕ → DiskError → PortableRecordingError
+write_error path disk.Missing = WriteFile path
+write_error path disk.DiskFailed = WriteFile path
+write_error path disk.OutOfMemory = OutOfMemory
+
 -- ---- the files
 
 -- the path holds the run's bundle, the temporary one nothing, and every other file is as it was
@@ -86,14 +94,6 @@ PacksIn fs gs before now info dir path (Ok result) = Packed fs gs info dir path 
 PacksIn fs gs before now info dir path (Err e) = Unpacked fs gs info dir path × (Unbundled (Some fs) before now dir e ⊎ Unwritten before now path e)
 
 module _ {D : Type 0} (files : D → Option Files) (faults : D → ℕ) where
-  -- the run and the disk stay the same ones, and the files as they were
-  pub record KeepsRun (old new : Packing D) : Type 0 where
-    pub reference : new.disk.ghost_name ≡ old.disk.ghost_name
-    pub run_info : new.run_info ≡ old.run_info
-    pub run_dir : new.run_dir ≡ old.run_dir
-    pub same : files new.disk.now ≡ files old.disk.now
-    pub later : faults old.disk.now ≤ faults new.disk.now
-
   -- a bundle of the run is written to a path, or why not
   pub record PacksRun (old new : Packing D) (path : List ℕ) (result : Result PortableRecordingResult PortableRecordingError) : Type 0 where
     pub reference : new.disk.ghost_name ≡ old.disk.ghost_name

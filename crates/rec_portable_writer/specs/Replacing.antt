@@ -1,5 +1,5 @@
 -- A file that is written under a temporary path, and then takes the place of another.
-use Rattle.std.specs.Prelude.{◌≡◌, ℕ, ◌⊎◌, List, take, Option, Some, None, Result, Ok, Err}
+use Rattle.std.specs.Prelude.{ℕ, ◌⊎◌, List, take, Option, Some, Result, Ok, Err}
 use Rattle.rec_container.specs.declared.disk.DiskError.{DiskError}
 use Rattle.rec_container.specs.Disks.{AreSame, BothKnown, Files, NotMissing, renamed, with_file}
 

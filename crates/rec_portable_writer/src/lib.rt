@@ -3,9 +3,11 @@
 
 mod errors;
 mod names;
+mod packing;
 mod replacing;
 mod run_files;
 mod writer;
 
 pub use errors::PortableRecordingError;
-pub use writer::{PortableRecordingResult, PortableRecordingWriter};
+pub use packing::PortableRecordingResult;
+pub use writer::PortableRecordingWriter;

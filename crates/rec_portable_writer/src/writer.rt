@@ -1,30 +1,19 @@
 //! The writer of bundles.
-ghost use Rattle.std.specs.Prelude.{◌≡◌, ◌≤◌, IfOk, IfErr, string_bytes};
+ghost use Rattle.std.specs.Prelude.{◌≡◌, IfOk, IfErr, string_bytes};
 ghost use Rattle.rec_directory.specs.Paths.{joined};
 ghost use Rattle.rec_portable_writer.specs.Names.{bundle_name, run_path};
-ghost use Rattle.rec_portable_writer.specs.Packing.{Bundles, KeepsRun, PacksRun, Unbundled};
+ghost use Rattle.rec_portable_writer.specs.Packing.{PacksRun};
 ghost use Rattle.rec_portable_writer.specs.Preparing.{Prepares, Unprepared};
 
 use crate::errors::PortableRecordingError;
-use crate::names::{default_name, run_dir, temporary_path};
-use crate::replacing::replace_file;
-use crate::run_files::{check_run, read_run_file};
-use rec_container::{Disk, DiskError};
+use crate::names::{default_name, run_dir};
+use crate::packing::{PortableRecordingResult, write_bundle};
+use crate::run_files::check_run;
+use rec_container::Disk;
 use rec_directory::join;
-use rec_events::Text;
-use rec_format::{PortableManifest, RUN_LOG_FILE_NAME, RecordedRunInfo, STORE_ZIP_FILE_NAME};
-use rec_portable::bundle_text;
+use rec_format::RecordedRunInfo;
 use std::alloc::{AllocError, Global};
 use std::marker::Model;
-
-/// Says where a bundle was written, and how long it is.
-#[derive(Debug, PartialEq, Drop)]
-pub struct PortableRecordingResult {
-    /// The bundle's path.
-    pub path: Text,
-    /// Its length in bytes.
-    pub size: u64,
-}
 
 /// Makes a bundle of a run's directory. The directory's log and store stand in it as they are.
 #[derive(Drop)]
@@ -118,29 +107,12 @@ impl<'a, D: Disk> PortableRecordingWriter<'a, D> {
     ) -> Result<PortableRecordingResult, PortableRecordingError>
         ensures { PacksRun D.files D.faults self.old self.new output_path.now result }
     {
-        let bundle = self.bundle(alloc)?;
-        let temporary = temporary_path(alloc, output_path)?;
-        let path = Text::from_str(alloc, output_path)?;
-        match replace_file(self.disk, temporary.as_str(), output_path, &bundle) {
-            Ok(()) => Ok(PortableRecordingResult {
-                path,
-                size: bundle.len() as u64,
-            }),
-            Err(DiskError::OutOfMemory) => Err(PortableRecordingError::OutOfMemory),
-            Err(_) => Err(PortableRecordingError::WriteFile { path }),
-        }
-    }
-
-    /// Returns the bytes of the bundle.
-    fn bundle(&mut self, alloc: Global) -> Result<Vec<u8>, PortableRecordingError>
-        ensures ok { IfOk result (λ bundle. Bundles (D.files self.old.disk.now) self.old.run_info self.old.run_dir bundle.items) }
-        ensures err { IfErr result (Unbundled (D.files self.old.disk.now) (D.faults self.old.disk.now) (D.faults self.new.disk.now) self.old.run_dir) }
-        ensures same { KeepsRun D.files D.faults self.old self.new }
-    {
-        let run_dir = self.run_dir.as_str();
-        let log = read_run_file(alloc, self.disk, run_dir, RUN_LOG_FILE_NAME)?;
-        let store = read_run_file(alloc, self.disk, run_dir, STORE_ZIP_FILE_NAME)?;
-        let manifest = PortableManifest::new(alloc, self.run_info)?;
-        Ok(bundle_text(alloc, &manifest, &log, &store)?)
+        write_bundle(
+            alloc,
+            self.disk,
+            self.run_info,
+            self.run_dir.as_str(),
+            output_path,
+        )
     }
 }

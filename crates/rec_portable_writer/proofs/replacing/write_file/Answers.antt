@@ -1,4 +1,4 @@
-use Rattle.std.proofs.Common.{rules, ◌≡◌, ◌≤◌, ◌+◌, length}
+use Rattle.std.proofs.Common.{rules}
 use Rattle.rec_portable_writer.proofs.Replacements.{put_more}
 use Rattle.rec_portable_writer.proofs.replacing.write_file.Goals as goal
 
