@@ -1,6 +1,6 @@
 //! Directories that lack something.
 
-use crate::asking::{Part, events_of, open, part_of, part_read, store_of};
+use crate::asking::{Part, events_of, fault_text, open, part_of, part_read, store_of};
 use crate::texts::{log_text, scope_text};
 use rec_container::MemoryDisk;
 use std::alloc::Global;
@@ -19,14 +19,15 @@ fn disk_of(alloc: Global, store: Option<&[u8]>, log: Option<&str>) -> Result<Mem
 }
 
 /// What a reader says of the directory, its test list and its events.
-fn answers(alloc: Global, disk: &mut MemoryDisk) -> Result<String, Fail> {
-    match open(alloc, disk) {
+fn answers(alloc: Global, mut disk: MemoryDisk) -> Result<String, Fail> {
+    match open(alloc, &mut disk) {
         Ok(mut reader) => {
             let list = part_read(alloc, &mut reader, Part::TestList)?;
             let events = events_of(alloc, &mut reader)?;
-            Ok(format!(in alloc; "{}\n{list}\n{events}", reader.run_dir())?)
+            let run_dir = String::from_str(alloc, reader.run_dir())?;
+            Ok(format!(in alloc; "{run_dir}\n{list}\n{events}")?)
         }
-        Err(fault) => crate::asking::fault_text(alloc, fault),
+        Err(fault) => fault_text(alloc, fault),
     }
 }
 
@@ -36,15 +37,15 @@ fn what_is_missing_is_said(rt: HostRuntime) -> Result<(), Fail> {
     let store = store_of(alloc, scope_text())?;
     let mut none = disk_of(alloc, None, None)?;
     none.put("rr/store.zip", &store)?;
-    assert!(rt; answers(alloc, &mut none)?.as_str() == "there is no run at r");
-    let mut log = disk_of(alloc, None, Some(log_text()))?;
+    assert!(rt; answers(alloc, none)?.as_str() == "there is no run at r");
+    let log = disk_of(alloc, None, Some(log_text()))?;
     assert!(rt;
-        answers(alloc, &mut log)?.as_str()
+        answers(alloc, log)?.as_str()
             == "r\nthere is no store at r/store.zip\nevent. line 3 is no event. event. "
     );
-    let mut alone = disk_of(alloc, Some(&store), None)?;
+    let alone = disk_of(alloc, Some(&store), None)?;
     assert!(rt;
-        answers(alloc, &mut alone)?.as_str()
+        answers(alloc, alone)?.as_str()
             == "r\n{\"suites\":{}}\nthere is no event log at r/run.log.zst"
     );
     Ok(())
