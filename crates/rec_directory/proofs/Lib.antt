@@ -1,0 +1,6 @@
+pub mod Fewer
+pub mod KeptStore
+pub mod LinesAfter
+pub mod SinkLaws
+pub mod Starts
+pub mod StoreLaws

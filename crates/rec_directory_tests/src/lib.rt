@@ -1,0 +1,15 @@
+//! The tests of `rec_directory`.
+#![tactic(auto)]
+
+#[cfg(test)]
+mod asking;
+#[cfg(test)]
+mod directories;
+#[cfg(test)]
+mod faults;
+#[cfg(test)]
+mod logs;
+#[cfg(test)]
+mod stores;
+#[cfg(test)]
+mod texts;

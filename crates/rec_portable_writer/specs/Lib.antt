@@ -1,0 +1,4 @@
+pub mod Names
+pub mod Packing
+pub mod Preparing
+pub mod Replacing

@@ -1,0 +1,13 @@
+//! Makes a bundle of a run's directory.
+#![tactic(auto)]
+
+mod errors;
+mod names;
+mod packing;
+mod replacing;
+mod run_files;
+mod writer;
+
+pub use errors::PortableRecordingError;
+pub use packing::PortableRecordingResult;
+pub use writer::PortableRecordingWriter;

@@ -1,0 +1,44 @@
+//! The names of a run and of its bundle.
+ghost use Rattle.std.specs.Prelude.{◌≡◌, IfOk, string_bytes};
+ghost use Rattle.rec_portable_writer.specs.Names.{bundle_name, run_path, temporary_path as temporary_of};
+
+use rec_directory::join;
+use rec_events::ReportUuid;
+use std::alloc::{AllocError, Global};
+use uuid::Uuid;
+
+/// Returns the name that the bundle of a run has by default.
+pub(crate) fn default_name(alloc: Global, run_id: ReportUuid) -> Result<String, AllocError>
+    ensures { IfOk result (λ name. string_bytes name ≡ bundle_name run_id) }
+{
+    let mut buffer = Uuid::encode_buffer();
+    let mut name = String::from_str(alloc, "nextest-run-")?;
+    name.push_str(run_id.uuid().hyphenated().encode_lower(&mut buffer))?;
+    name.push_str(".zip")?;
+    Ok(name)
+}
+
+/// Returns the path of a run's directory.
+pub(crate) fn run_dir(
+    alloc: Global,
+    runs_dir: &str,
+    run_id: ReportUuid,
+) -> Result<String, AllocError>
+    ensures { IfOk result (λ path. string_bytes path ≡ run_path runs_dir.now run_id) }
+{
+    let mut buffer = Uuid::encode_buffer();
+    join(
+        alloc,
+        runs_dir,
+        run_id.uuid().hyphenated().encode_lower(&mut buffer),
+    )
+}
+
+/// Returns the path under which a file is written until it is whole.
+pub(crate) fn temporary_path(alloc: Global, path: &str) -> Result<String, AllocError>
+    ensures { IfOk result (λ temporary. string_bytes temporary ≡ temporary_of path.now) }
+{
+    let mut temporary = String::from_str(alloc, path)?;
+    temporary.push_str(".tmp")?;
+    Ok(temporary)
+}
