@@ -1,0 +1,3 @@
+pub mod Converted
+pub mod Loaded
+pub mod LoadedEach

@@ -2,12 +2,12 @@
 ghost use Rattle.std.specs.Prelude.{◌≡◌, ◌<◌, [], IsSome, List, None, length, true};
 ghost use Rattle.rec_container.specs.Container.{Entry};
 ghost use Rattle.rec_events.specs.EventMaps.{of_event, of_kind, of_output_kind};
-ghost use Rattle.rec_store.specs.Readers.{Keeps};
 ghost use Rattle.rec_replay.specs.Conversions.{ConversionCause, Converts, ConvertsAs, Judges, Replays, event_refusal, is_failed_attempt, is_finished, is_script_finished, kind_refusal, output_refusal};
 ghost use Rattle.rec_replay.specs.declared.output_load.LoadOutput.TheVariants.{Skip};
 ghost use Rattle.rec_replay.specs.Loading.{description_loaded, description_names, event_names, first_refusal};
 ghost use Rattle.rec_replay.specs.Registration.{is_registered};
 ghost use Rattle.rec_replay.specs.Replaying.{event_replayed, kind_replayed, output_replayed, replayed};
+ghost use Rattle.rec_store.specs.Readers.{Keeps};
 
 use crate::context::ReplayContext;
 use crate::conversion_error::ReplayConversionError;
@@ -65,7 +65,7 @@ impl<'a> ReplayContext<'a> {
     ) -> Result<TestEvent<'cx>, ReplayConversionError>
         ensures replays { Replays (limit reader.old) (limit reader.new) (failures reader.old) (failures reader.new) (holds reader.old) (holds reader.new)
             (event_refusal (is_registered self.now.tests) summary.now) (event_names load summary.now) (λ es. replayed load self.now.test_list es summary.now) result }
-        ensures unread { length (event_names load summary.now) ≡ 0 → reader.new ≡ reader.old }
+        ensures skipped { load ≡ Skip → reader.new ≡ reader.old }
     {
         let kind = self.convert_kind(alloc, &summary.kind, reader, load)?;
         Ok(TestEvent {
@@ -85,7 +85,7 @@ impl<'a> ReplayContext<'a> {
     ) -> Result<TestEventKind<'cx>, ReplayConversionError>
         ensures replays { Replays (limit reader.old) (limit reader.new) (failures reader.old) (failures reader.new) (holds reader.old) (holds reader.new)
             (kind_refusal (is_registered self.now.tests) kind.now) (of_kind (description_names load) kind.now) (λ es. kind_replayed (description_loaded load es) self.now.test_list kind.now) result }
-        ensures unread { length (of_kind (description_names load) kind.now) ≡ 0 → reader.new ≡ reader.old }
+        ensures skipped { load ≡ Skip → reader.new ≡ reader.old }
     {
         match kind {
             TestEventKindSummary::Core(kind) => self.convert_core(alloc, kind),
@@ -103,7 +103,7 @@ impl<'a> ReplayContext<'a> {
     ) -> Result<TestEventKind<'cx>, ReplayConversionError>
         ensures replays { Replays (limit reader.old) (limit reader.new) (failures reader.old) (failures reader.new) (holds reader.old) (holds reader.new)
             (output_refusal (is_registered self.now.tests) kind.now) (of_output_kind (description_names load) kind.now) (λ es. output_replayed (description_loaded load es) kind.now) result }
-        ensures unread { length (of_output_kind (description_names load) kind.now) ≡ 0 → reader.new ≡ reader.old }
+        ensures skipped { load ≡ Skip → reader.new ≡ reader.old }
     {
         match kind {
             OutputEventKind::SetupScriptFinished { .. } => {
@@ -127,7 +127,7 @@ impl<'a> ReplayContext<'a> {
         requires kind { is_failed_attempt kind.now ≡ true }
         ensures replays { Replays (limit reader.old) (limit reader.new) (failures reader.old) (failures reader.new) (holds reader.old) (holds reader.new)
             (output_refusal (is_registered self.now.tests) kind.now) (of_output_kind (description_names load) kind.now) (λ es. output_replayed (description_loaded load es) kind.now) result }
-        ensures unread { length (of_output_kind (description_names load) kind.now) ≡ 0 → reader.new ≡ reader.old }
+        ensures skipped { load ≡ Skip → reader.new ≡ reader.old }
     {
         let OutputEventKind::TestAttemptFailedWillRetry {
             stress_index,
@@ -163,7 +163,7 @@ impl<'a> ReplayContext<'a> {
         requires kind { is_finished kind.now ≡ true }
         ensures replays { Replays (limit reader.old) (limit reader.new) (failures reader.old) (failures reader.new) (holds reader.old) (holds reader.new)
             (output_refusal (is_registered self.now.tests) kind.now) (of_output_kind (description_names load) kind.now) (λ es. output_replayed (description_loaded load es) kind.now) result }
-        ensures unread { length (of_output_kind (description_names load) kind.now) ≡ 0 → reader.new ≡ reader.old }
+        ensures skipped { load ≡ Skip → reader.new ≡ reader.old }
     {
         let OutputEventKind::TestFinished {
             stress_index,
@@ -207,7 +207,7 @@ fn script_finished<'cx>(
     requires kind { is_script_finished kind.now ≡ true }
     ensures replays { Replays (limit reader.old) (limit reader.new) (failures reader.old) (failures reader.new) (holds reader.old) (holds reader.new)
         None (of_output_kind (description_names load) kind.now) (λ es. output_replayed (description_loaded load es) kind.now) result }
-    ensures unread { length (of_output_kind (description_names load) kind.now) ≡ 0 → reader.new ≡ reader.old }
+    ensures skipped { load ≡ Skip → reader.new ≡ reader.old }
 {
     let OutputEventKind::SetupScriptFinished {
         stress_index,

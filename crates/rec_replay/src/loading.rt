@@ -3,7 +3,7 @@ ghost use Rattle.std.specs.List.{flat_map};
 ghost use Rattle.std.specs.Prelude.{◌≡◌, ◌∷◌, [], length, map, option_map, IfOk};
 ghost use Rattle.rec_events.specs.EventMaps.{of_execution, execution_with, of_status, status_with, script_status_with, statuses_with};
 ghost use Rattle.rec_store.specs.Kept.{bytes_under};
-ghost use Rattle.rec_replay.specs.declared.output_load.LoadOutput.TheVariants.{Load};
+ghost use Rattle.rec_replay.specs.declared.output_load.LoadOutput.TheVariants.{Load, Skip};
 ghost use Rattle.rec_replay.specs.Loading.{Loads, output_names, output_loaded, captured_names, description_names, description_loaded};
 
 use crate::output_load::LoadOutput;
@@ -21,7 +21,7 @@ fn load_named(
     reader: &mut dyn StoreReader,
     name: OutputFileName,
 ) -> Result<ChildSingleOutput, RecordReadError>
-    ensures loads { Loads (limit reader.old) (limit reader.new) (failures reader.old) (failures reader.new) (holds reader.old) (holds reader.new)
+    ensures { Loads (limit reader.old) (limit reader.new) (failures reader.old) (failures reader.new) (holds reader.old) (holds reader.new)
         (name ∷ []) (λ es. bytes_under es name) result }
 {
     let text = name.text(alloc)?;
@@ -35,9 +35,8 @@ fn load_output(
     reader: &mut dyn StoreReader,
     output: ZipStoreOutput,
 ) -> Result<ChildSingleOutput, RecordReadError>
-    ensures loads { Loads (limit reader.old) (limit reader.new) (failures reader.old) (failures reader.new) (holds reader.old) (holds reader.new)
+    ensures { Loads (limit reader.old) (limit reader.new) (failures reader.old) (failures reader.new) (holds reader.old) (holds reader.new)
         (output_names output) (λ es. output_loaded es output) result }
-    ensures unread { length (output_names output) ≡ 0 → reader.new ≡ reader.old }
 {
     match output {
         ZipStoreOutput::Empty => Ok(ChildSingleOutput::new(Vec::new(alloc))),
@@ -52,9 +51,8 @@ fn load_captured(
     reader: &mut dyn StoreReader,
     output: Option<ZipStoreOutput>,
 ) -> Result<Option<ChildSingleOutput>, RecordReadError>
-    ensures loads { Loads (limit reader.old) (limit reader.new) (failures reader.old) (failures reader.new) (holds reader.old) (holds reader.new)
+    ensures { Loads (limit reader.old) (limit reader.new) (failures reader.old) (failures reader.new) (holds reader.old) (holds reader.new)
         (captured_names output) (λ es. option_map (output_loaded es) output) result }
-    ensures unread { length (captured_names output) ≡ 0 → reader.new ≡ reader.old }
 {
     match output {
         Some(output) => Ok(Some(load_output(alloc, reader, output)?)),
@@ -71,7 +69,7 @@ fn load_description(
 ) -> Result<ChildOutputDescription, RecordReadError>
     ensures loads { Loads (limit reader.old) (limit reader.new) (failures reader.old) (failures reader.new) (holds reader.old) (holds reader.new)
         (description_names load output.now) (λ es. description_loaded load es output.now) result }
-    ensures unread { length (description_names load output.now) ≡ 0 → reader.new ≡ reader.old }
+    ensures skipped { load ≡ Skip → reader.new ≡ reader.old }
 {
     match load {
         LoadOutput::Load => load_described(alloc, reader, output),
@@ -85,9 +83,8 @@ fn load_described(
     reader: &mut dyn StoreReader,
     output: &ZipStoreOutputDescription,
 ) -> Result<ChildOutputDescription, RecordReadError>
-    ensures loads { Loads (limit reader.old) (limit reader.new) (failures reader.old) (failures reader.new) (holds reader.old) (holds reader.new)
+    ensures { Loads (limit reader.old) (limit reader.new) (failures reader.old) (failures reader.new) (holds reader.old) (holds reader.new)
         (description_names Load output.now) (λ es. description_loaded Load es output.now) result }
-    ensures unread { length (description_names Load output.now) ≡ 0 → reader.new ≡ reader.old }
 {
     match output {
         ZipStoreOutputDescription::Split { stdout, stderr } => {
@@ -111,7 +108,7 @@ fn load_execution(
 ) -> Result<ChildExecutionOutputDescription<LiveSpec>, RecordReadError>
     ensures loads { Loads (limit reader.old) (limit reader.new) (failures reader.old) (failures reader.new) (holds reader.old) (holds reader.new)
         (of_execution (description_names load) output.now) (λ es. execution_with (description_loaded load es) output.now) result }
-    ensures unread { length (of_execution (description_names load) output.now) ≡ 0 → reader.new ≡ reader.old }
+    ensures skipped { load ≡ Skip → reader.new ≡ reader.old }
 {
     match output {
         ChildExecutionOutputDescription::Output {
@@ -144,7 +141,7 @@ pub(crate) fn load_status(
 ) -> Result<ExecuteStatus<LiveSpec>, RecordReadError>
     ensures loads { Loads (limit reader.old) (limit reader.new) (failures reader.old) (failures reader.new) (holds reader.old) (holds reader.new)
         (of_status (description_names load) status.now) (λ es. status_with (description_loaded load es) status.now) result }
-    ensures unread { length (of_status (description_names load) status.now) ≡ 0 → reader.new ≡ reader.old }
+    ensures skipped { load ≡ Skip → reader.new ≡ reader.old }
 {
     let result = status.result.try_clone(alloc)?;
     let error_summary = status.error_summary.try_clone(alloc)?;
@@ -172,7 +169,7 @@ pub(crate) fn load_script_status(
 ) -> Result<SetupScriptExecuteStatus<LiveSpec>, RecordReadError>
     ensures loads { Loads (limit reader.old) (limit reader.new) (failures reader.old) (failures reader.new) (holds reader.old) (holds reader.new)
         (of_execution (description_names load) status.now.output) (λ es. script_status_with (description_loaded load es) status.now) result }
-    ensures unread { length (of_execution (description_names load) status.now.output) ≡ 0 → reader.new ≡ reader.old }
+    ensures skipped { load ≡ Skip → reader.new ≡ reader.old }
 {
     let result = status.result.try_clone(alloc)?;
     let env_map = status.env_map.try_clone(alloc)?;
@@ -198,7 +195,7 @@ pub(crate) fn load_statuses(
 ) -> Result<ExecutionStatuses<LiveSpec>, RecordReadError>
     ensures loads { Loads (limit reader.old) (limit reader.new) (failures reader.old) (failures reader.new) (holds reader.old) (holds reader.new)
         (flat_map (of_status (description_names load)) statuses.now.statuses) (λ es. statuses_with (description_loaded load es) statuses.now) result }
-    ensures unread { length (flat_map (of_status (description_names load)) statuses.now.statuses) ≡ 0 → reader.new ≡ reader.old }
+    ensures skipped { load ≡ Skip → reader.new ≡ reader.old }
 {
     let loaded = load_each(alloc, reader, load, statuses.statuses.as_slice())?;
     Ok(ExecutionStatuses::new(loaded.into_vec(), statuses.flaky_result))
@@ -213,7 +210,7 @@ fn load_each(
 ) -> Result<Items<ExecuteStatus<LiveSpec>>, RecordReadError>
     ensures loads { Loads (limit reader.old) (limit reader.new) (failures reader.old) (failures reader.new) (holds reader.old) (holds reader.new)
         (flat_map (of_status (description_names load)) statuses.now) (λ es. map (status_with (description_loaded load es)) statuses.now) result }
-    ensures unread { length (flat_map (of_status (description_names load)) statuses.now) ≡ 0 → reader.new ≡ reader.old }
+    ensures skipped { load ≡ Skip → reader.new ≡ reader.old }
     ensures as_many { IfOk result (λ loaded. length loaded ≡ length statuses.now) }
 {
     let mut loaded = Vec::new(alloc);
