@@ -1,22 +1,27 @@
 -- What conversions of events answer.
-use Rattle.std.proofs.Common.{◌≡◌, ℕ, ◌<◌, List, [], ◌∷◌, ◌++◌, length, Option, Some, None, Ok, Err, refl, sym, ◌∙◌, ap, subst, arith}
+use Rattle.std.proofs.Common.{◌≡◌, inl, inr, ℕ, ◌<◌, List, [], ◌∷◌, ◌++◌, length, Option, Some, None, Ok, Err, refl, sym, ◌∙◌, ap, subst, arith}
+use Rattle.std.specs.Borrow.{Bor}
 use Rattle.std.specs.List.{flat_map}
-use Rattle.std.specs.Prelude.{Result, ◌⊎◌, inl, inr}
+use Rattle.std.specs.Prelude.{Result, ◌⊎◌}
 use Rattle.rec_container.specs.Container.{Entry}
 use Rattle.rec_events.specs.declared.events.OutputEventKind.TheVariants.{SetupScriptFinished, TestAttemptFailedWillRetry, TestFinished}
 use Rattle.rec_events.specs.declared.events.TestEventKindSummary.TheVariants as event
 use Rattle.rec_events.specs.declared.events.TestEventKindSummary.{TestEventKindSummary}
 use Rattle.rec_events.specs.declared.events.TestEventSummary.{TestEventSummary}
 use Rattle.rec_events.specs.declared.output_names.OutputFileName.{OutputFileName}
+use Rattle.rec_events.specs.declared.live_events.TestEvent.{TestEvent}
 use Rattle.rec_events.specs.declared.outputs.ChildExecutionOutputDescription.TheVariants.{Output, StartError}
 use Rattle.rec_events.specs.declared.outputs.ChildExecutionOutputDescription.{ChildExecutionOutputDescription}
 use Rattle.rec_events.specs.declared.statuses.ExecuteStatus.{ExecuteStatus}
 use Rattle.rec_events.specs.EventMaps.{of_execution, of_status, of_kind}
+use Rattle.rec_events.specs.TestLists.{Tests}
 use Rattle.rec_replay.specs.Conversions.{Converts, ConvertsAs, Judges, Replays, conversion_error}
 use Rattle.rec_replay.specs.declared.conversion_error.ReplayConversionError.TheVariants.{TestNotFound, RecordRead, InvalidStressCount, OutOfMemory}
 use Rattle.rec_replay.specs.declared.conversion_error.ReplayConversionError.{ReplayConversionError}
 use Rattle.rec_replay.specs.declared.output_load.LoadOutput.TheVariants.{Skip}
+use Rattle.rec_replay.specs.declared.output_load.LoadOutput.{LoadOutput}
 use Rattle.rec_replay.specs.Loading.{Loads, description_names, event_names, first_refusal}
+use Rattle.rec_replay.specs.Replaying.{replayed}
 use Rattle.rec_store.specs.declared.read_error.RecordReadError.TheVariants as reading
 use Rattle.rec_store.specs.declared.read_error.RecordReadError.{RecordReadError}
 use Rattle.rec_store.specs.EventOutputs.{Recorded}
@@ -62,7 +67,7 @@ module _ {T U : Type 0} (l m f g : ℕ) (O N : List Entry → Type 0) (refusal :
       by : ((e ≡ reading.OutOfMemory) ⊎ ((e ≡ reading.OutOfMemory → ⊥) × (conversion_error e ≡ RecordRead e))) → Replays l m f g O N refusal ns y (Err (conversion_error e))
       by (inl p) = rw p (record { judged = tt; answer = λ es w. tt; same = h.same; cause = record { later = h.cause.later; failed = tt } })
       by (inr p) = rw p.1 (record {
-        judged = (none, (some_named ns e p.0 h.named, p.0));
+        judged = (none, some_named ns e p.0 h.named, p.0);
         answer = h.answer;
         same = h.same;
         cause = record { later = h.cause.later; failed = h.cause.failed };
@@ -115,3 +120,15 @@ skips limit refusal holds e x (Err OutOfMemory) judged answer = tt
 skips limit refusal holds e x (Err (TestNotFound b t)) judged answer = judged
 skips limit refusal holds e x (Err InvalidStressCount) judged answer = judged
 skips limit refusal holds e x (Err (RecordRead error)) judged answer = nothing_named e judged.1
+
+pub converts_skipped : (load : LoadOutput) → load ≡ Skip → (l m f g : ℕ) (O N : List Entry → Type 0) (refusal : Option ReplayConversionError) (tests : Bor Tests) (e : Recorded TestEventSummary)
+    (r : Result TestEvent ReplayConversionError) → Replays l m f g O N refusal (event_names load e) (λ es. replayed load tests es e) r → Converts refusal (replayed Skip tests [] e) r
+converts_skipped asked skip l m f g O N refusal tests e r h =
+    skips l refusal O e (replayed Skip tests [] e) r
+    (subst (λ (load : LoadOutput). Judges refusal (event_names load e) r) skip h.judged)
+    (subst (λ (load : LoadOutput). (0 < length (event_names load e) → O []) → ConvertsAs (first_refusal [] l (event_names load e)) (replayed load tests [] e) r) skip (h.answer []))
+
+-- ---- refusals
+
+pub not_refused : (refusal : Option ReplayConversionError) (e : ReplayConversionError) → refusal ≡ None → refusal ≡ Some e → ⊥
+not_refused refusal e p q = cc

@@ -1,3 +1,4 @@
 pub mod Converted
 pub mod Loaded
 pub mod LoadedEach
+pub mod Registered

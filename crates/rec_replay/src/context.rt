@@ -43,7 +43,7 @@ impl<'a> ReplayContext<'a> {
     ///
     /// `AllocError` where memory is short. The context is as it was.
     pub fn register_test(&mut self, test_instance: OwnedTestInstanceId) -> Result<(), AllocError>
-        ensures registered { OnOk result ((t : OwnedTestInstanceId) → is_registered self.new.tests t ≡ (test_eq t test_instance || is_registered self.old.tests t)) }
+        ensures registered { OnOk result ((t : OwnedTestInstanceId) → is_registered self.new.tests t ≡ (test_eq test_instance t || is_registered self.old.tests t)) }
         ensures unchanged { OnErr result (self.new.tests.keys ≡ self.old.tests.keys) }
         ensures list { self.new.test_list ≡ self.old.test_list }
     {

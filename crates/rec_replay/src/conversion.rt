@@ -1,8 +1,9 @@
 //! Recorded events, as they are replayed.
-ghost use Rattle.std.specs.Prelude.{◌≡◌, ◌<◌, [], IsSome, List, None, length, true};
+ghost use Rattle.std.specs.Prelude.{◌≡◌, ◌<◌, [], List, None, Some, length, true};
 ghost use Rattle.rec_container.specs.Container.{Entry};
 ghost use Rattle.rec_events.specs.EventMaps.{of_event, of_kind, of_output_kind};
 ghost use Rattle.rec_replay.specs.Conversions.{ConversionCause, Converts, ConvertsAs, Judges, Replays, event_refusal, is_failed_attempt, is_finished, is_script_finished, kind_refusal, output_refusal};
+ghost use Rattle.rec_replay.specs.declared.conversion_error.ReplayConversionError.{ReplayConversionError};
 ghost use Rattle.rec_replay.specs.declared.output_load.LoadOutput.TheVariants.{Skip};
 ghost use Rattle.rec_replay.specs.Loading.{description_loaded, description_names, event_names, first_refusal};
 ghost use Rattle.rec_replay.specs.Registration.{is_registered};
@@ -48,7 +49,7 @@ impl<'a> ReplayContext<'a> {
             → ConvertsAs (first_refusal es (limit reader.old) (event_names load_output summary.now)) (replayed load_output self.now.test_list es summary.now) result }
         ensures same { Keeps (limit reader.old) (limit reader.new) (holds reader.old) (holds reader.new) }
         ensures cause { ConversionCause (failures reader.old) (failures reader.new) result }
-        ensures refused { IsSome (event_refusal (is_registered self.now.tests) summary.now) → reader.new ≡ reader.old }
+        ensures refused { (e : ReplayConversionError) → event_refusal (is_registered self.now.tests) summary.now ≡ Some e → reader.new ≡ reader.old }
         ensures skipped { load_output ≡ Skip → (reader.new ≡ reader.old)
             × Converts (event_refusal (is_registered self.now.tests) summary.now) (replayed Skip self.now.test_list [] summary.now) result }
     {
@@ -66,6 +67,7 @@ impl<'a> ReplayContext<'a> {
         ensures replays { Replays (limit reader.old) (limit reader.new) (failures reader.old) (failures reader.new) (holds reader.old) (holds reader.new)
             (event_refusal (is_registered self.now.tests) summary.now) (event_names load summary.now) (λ es. replayed load self.now.test_list es summary.now) result }
         ensures skipped { load ≡ Skip → reader.new ≡ reader.old }
+        ensures refused { (e : ReplayConversionError) → event_refusal (is_registered self.now.tests) summary.now ≡ Some e → reader.new ≡ reader.old }
     {
         let kind = self.convert_kind(alloc, &summary.kind, reader, load)?;
         Ok(TestEvent {
@@ -86,6 +88,7 @@ impl<'a> ReplayContext<'a> {
         ensures replays { Replays (limit reader.old) (limit reader.new) (failures reader.old) (failures reader.new) (holds reader.old) (holds reader.new)
             (kind_refusal (is_registered self.now.tests) kind.now) (of_kind (description_names load) kind.now) (λ es. kind_replayed (description_loaded load es) self.now.test_list kind.now) result }
         ensures skipped { load ≡ Skip → reader.new ≡ reader.old }
+        ensures refused { (e : ReplayConversionError) → kind_refusal (is_registered self.now.tests) kind.now ≡ Some e → reader.new ≡ reader.old }
     {
         match kind {
             TestEventKindSummary::Core(kind) => self.convert_core(alloc, kind),
@@ -104,6 +107,7 @@ impl<'a> ReplayContext<'a> {
         ensures replays { Replays (limit reader.old) (limit reader.new) (failures reader.old) (failures reader.new) (holds reader.old) (holds reader.new)
             (output_refusal (is_registered self.now.tests) kind.now) (of_output_kind (description_names load) kind.now) (λ es. output_replayed (description_loaded load es) kind.now) result }
         ensures skipped { load ≡ Skip → reader.new ≡ reader.old }
+        ensures refused { (e : ReplayConversionError) → output_refusal (is_registered self.now.tests) kind.now ≡ Some e → reader.new ≡ reader.old }
     {
         match kind {
             OutputEventKind::SetupScriptFinished { .. } => {
@@ -128,6 +132,7 @@ impl<'a> ReplayContext<'a> {
         ensures replays { Replays (limit reader.old) (limit reader.new) (failures reader.old) (failures reader.new) (holds reader.old) (holds reader.new)
             (output_refusal (is_registered self.now.tests) kind.now) (of_output_kind (description_names load) kind.now) (λ es. output_replayed (description_loaded load es) kind.now) result }
         ensures skipped { load ≡ Skip → reader.new ≡ reader.old }
+        ensures refused { (e : ReplayConversionError) → output_refusal (is_registered self.now.tests) kind.now ≡ Some e → reader.new ≡ reader.old }
     {
         let OutputEventKind::TestAttemptFailedWillRetry {
             stress_index,
@@ -164,6 +169,7 @@ impl<'a> ReplayContext<'a> {
         ensures replays { Replays (limit reader.old) (limit reader.new) (failures reader.old) (failures reader.new) (holds reader.old) (holds reader.new)
             (output_refusal (is_registered self.now.tests) kind.now) (of_output_kind (description_names load) kind.now) (λ es. output_replayed (description_loaded load es) kind.now) result }
         ensures skipped { load ≡ Skip → reader.new ≡ reader.old }
+        ensures refused { (e : ReplayConversionError) → output_refusal (is_registered self.now.tests) kind.now ≡ Some e → reader.new ≡ reader.old }
     {
         let OutputEventKind::TestFinished {
             stress_index,
