@@ -2,14 +2,17 @@
 use Rattle.std.proofs.Common.{◌≡◌, inl, inr, ℕ, ◌<◌, List, [], ◌∷◌, ◌++◌, length, Option, Some, None, Ok, Err, refl, sym, ◌∙◌, ap, subst, arith}
 use Rattle.std.specs.Borrow.{Bor}
 use Rattle.std.specs.List.{flat_map}
-use Rattle.std.specs.Prelude.{Result, ◌⊎◌}
+use Rattle.std.specs.Prelude.{Result, ◌⊎◌, IfOk}
 use Rattle.rec_container.specs.Container.{Entry}
+use Rattle.rec_events.specs.declared.events.CoreEventKind.TheVariants as core
+use Rattle.rec_events.specs.declared.events.CoreEventKind.{CoreEventKind}
 use Rattle.rec_events.specs.declared.events.OutputEventKind.TheVariants.{SetupScriptFinished, TestAttemptFailedWillRetry, TestFinished}
 use Rattle.rec_events.specs.declared.events.TestEventKindSummary.TheVariants as event
 use Rattle.rec_events.specs.declared.events.TestEventKindSummary.{TestEventKindSummary}
 use Rattle.rec_events.specs.declared.events.TestEventSummary.{TestEventSummary}
 use Rattle.rec_events.specs.declared.output_names.OutputFileName.{OutputFileName}
 use Rattle.rec_events.specs.declared.live_events.TestEvent.{TestEvent}
+use Rattle.rec_events.specs.declared.live_events.TestEventKind.{TestEventKind}
 use Rattle.rec_events.specs.declared.outputs.ChildExecutionOutputDescription.TheVariants.{Output, StartError}
 use Rattle.rec_events.specs.declared.outputs.ChildExecutionOutputDescription.{ChildExecutionOutputDescription}
 use Rattle.rec_events.specs.declared.statuses.ExecuteStatus.{ExecuteStatus}
@@ -21,7 +24,7 @@ use Rattle.rec_replay.specs.declared.conversion_error.ReplayConversionError.{Rep
 use Rattle.rec_replay.specs.declared.output_load.LoadOutput.TheVariants.{Skip}
 use Rattle.rec_replay.specs.declared.output_load.LoadOutput.{LoadOutput}
 use Rattle.rec_replay.specs.Loading.{Loads, description_names, event_names, first_refusal}
-use Rattle.rec_replay.specs.Replaying.{replayed}
+use Rattle.rec_replay.specs.Replaying.{core_replayed, kind_unloaded, replayed}
 use Rattle.rec_store.specs.declared.read_error.RecordReadError.TheVariants as reading
 use Rattle.rec_store.specs.declared.read_error.RecordReadError.{RecordReadError}
 use Rattle.rec_store.specs.EventOutputs.{Recorded}
@@ -132,3 +135,26 @@ converts_skipped asked skip l m f g O N refusal tests e r h =
 
 pub not_refused : (refusal : Option ReplayConversionError) (e : ReplayConversionError) → refusal ≡ None → refusal ≡ Some e → ⊥
 not_refused refusal e p q = cc
+
+-- ---- without outputs
+
+core_unloaded : (tests : Bor Tests) (c : CoreEventKind) → kind_unloaded (core_replayed tests c) ≡ core_replayed tests c
+core_unloaded tests (core.RunStarted run profile args condition) = refl
+core_unloaded tests (core.StressSubRunStarted progress) = refl
+core_unloaded tests (core.SetupScriptStarted stress index total script program args no_capture) = refl
+core_unloaded tests (core.SetupScriptSlow stress script program args elapsed terminates) = refl
+core_unloaded tests (core.TestStarted stress test slot stats running command) = refl
+core_unloaded tests (core.TestSlow stress test retry elapsed terminates) = refl
+core_unloaded tests (core.TestRetryStarted stress test slot retry running command) = refl
+core_unloaded tests (core.TestSkipped stress test reason report) = refl
+core_unloaded tests (core.RunBeginCancel scripts running reason) = refl
+core_unloaded tests (core.RunPaused scripts running) = refl
+core_unloaded tests (core.RunContinued scripts running) = refl
+core_unloaded tests (core.StressSubRunFinished progress elapsed stats) = refl
+core_unloaded tests (core.RunFinished run start elapsed stats not_seen) = refl
+
+-- what happened without outputs is the same without them
+pub core_apart : (tests : Bor Tests) (c : CoreEventKind) (refusal : Option ReplayConversionError) (r : Result TestEventKind ReplayConversionError) → Converts refusal (core_replayed tests c) r
+    → IfOk r (λ k. kind_unloaded k ≡ core_replayed tests c)
+core_apart tests c refusal (Ok k) h = ap kind_unloaded h.1 ∙ core_unloaded tests c
+core_apart tests c refusal (Err e) h = tt

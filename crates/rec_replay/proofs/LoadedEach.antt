@@ -50,3 +50,10 @@ module _ {A B : Type 0} (names : A → List OutputFileName) (made : List Entry �
       (names_parted names (take i ss) (drop (i + 1) ss) s ∙ ap (flat_map names) (parted ss i s below here))
       (loads_before l n f k O N (flat_map names (take i ss) ++ names s) (flat_map names (drop (i + 1) ss)) z z e
       (loads_after l m n f g k O M N (flat_map names (take i ss)) (names s) (λ es. map (made es) (take i ss)) (λ es. made es s) z done p e q))
+
+-- one more is the same, in one respect
+pub same_more : {A B C : Type 0} (f : A → C) (g : B → C) (ss : List A) (i : ℕ) (s : A) (done items : List B) (b : B) → i < length ss → s ≡ get_or ss i s → items ≡ done ++ (b ∷ [])
+    → map g done ≡ map f (take i ss) → g b ≡ f s → map g items ≡ map f (take (i + 1) ss)
+same_more f g ss i s done items b below here pushed p q =
+    ap (map g) pushed ∙ map-append g done (b ∷ []) ∙ ap (λ l. l ++ (g b ∷ [])) p ∙ ap (λ c. map f (take i ss) ++ (c ∷ [])) q ∙ sym (map-append f (take i ss) (s ∷ []))
+    ∙ ap (map f) (sym (take_next ss i s below here))

@@ -1,5 +1,6 @@
 -- What was recorded of a live event is replayed as what is kept of it.
-use Rattle.std.proofs.Common.{◌≡◌, ℕ, List, [], ◌∷◌, ◌++◌, length, nat_le, Bool, true, false, ◌||◌, Option, Some, None, option_map, unwrap_or, refl, sym, ap, subst, ◌∙◌, if◌then◌else◌, ◌==◌}
+use Rattle.std.proofs.Common.{◌≡◌, arith, eqb-true, ℕ, List, [], ◌∷◌, ◌++◌, length, nat_le, Bool, true, false, ◌||◌, Option, Some, None, option_map, unwrap_or, refl, sym, ap, subst, ◌∙◌, if◌then◌else◌, ◌==◌}
+use Rattle.std.proofs.Math.Dec.{leb-zero}
 use Rattle.std.specs.Borrow.{Bor}
 use Rattle.std.specs.List.{AllByRecursion}
 use Rattle.std.specs.Option.{option_or}
@@ -31,7 +32,7 @@ use Rattle.rec_events.specs.LiveEvents.{core_kind, output_kind, kind_summary, ev
 use Rattle.rec_events.specs.LiveStress.{condition_summary, index_summary}
 use Rattle.rec_events.specs.TestLists.{Tests}
 use Rattle.rec_replay.specs.declared.output_load.LoadOutput.TheVariants.{Load}
-use Rattle.rec_replay.specs.Kept.{outputs_cut, kind_kept, event_kept}
+use Rattle.rec_replay.specs.LiveKept.{outputs_cut, live_kind_kept, live_event_kept}
 use Rattle.rec_replay.specs.Loading.{output_loaded, description_loaded}
 use Rattle.rec_replay.specs.Replaying.{condition_replayed, index_replayed, core_replayed, output_live, kind_live, event_live, replayed}
 use Rattle.rec_store.proofs.Clashing.{clash_none}
@@ -46,14 +47,18 @@ use Rattle.rec_store.specs.Recording.{Recording, AddsEach}
 
 -- ---- outputs
 
+whole : (b : List ℕ) (s : Bool) (t : List ℕ) → s ≡ true → (if s then b else t) ≡ b
+whole b true t h = refl
+whole b false t h = absurd cc
+
 module _ (number : List ℕ → ℕ) (m : ℕ) (es : List Entry) where
   bytes_held : (f : OutputFileName) (content : List ℕ) → content_of es (output_path f) ≡ Some content → bytes_under es f ≡ content
   bytes_held f content h = ap (λ o. unwrap_or o []) h
 
   -- a cut of nothing is nothing
   cut_of_none : (b : List ℕ) → (length b == 0) ≡ true → [] ≡ cut b m
-  cut_of_none [] h = refl
-  cut_of_none (x ∷ b) h = absurd cc
+  cut_of_none [] h = sym (whole [] (nat_le (length {A = ℕ} []) m) _ (leb-zero m))
+  cut_of_none (x ∷ b) h = let zero = eqb-true (length (x ∷ b)) 0 h in absurd (omega arith)
 
   loaded_unless : (z l : Bool) (f : OutputFileName) (content : List ℕ) (n : ℕ) → (z ≡ true → [] ≡ content) → AllByRecursion (IsHeld es) (if z then [] else entry_named (output_path f) content ∷ [])
       → output_loaded es (if z then Empty else if l then Full f else Truncated f n) ≡ content
@@ -99,11 +104,11 @@ conditions_back : (c : Option StressCondition) → option_map condition_replayed
 conditions_back None = refl
 conditions_back (Some c) = ap Some (condition_back c)
 
-the_same : {A : Type 0} (x y : A) → Some x ≡ Some y → x ≡ y
+pub the_same : {A : Type 0} (x y : A) → Some x ≡ Some y → x ≡ y
 the_same x y h = cc
 
 module _ (m : ℕ) (tests : Bor Tests) where
-  core_back : (k : TestEventKind) (c : CoreEventKind) → core_kind k ≡ Some c → core_replayed tests c ≡ kind_kept m tests k
+  core_back : (k : TestEventKind) (c : CoreEventKind) → core_kind k ≡ Some c → core_replayed tests c ≡ live_kind_kept m tests k
   core_back (live.RunStarted list run profile args condition) c h = ap (core_replayed tests) (sym (the_same _ _ h)) ∙ ap (λ condition. live.RunStarted tests run profile args condition) (conditions_back condition)
   core_back (live.StressSubRunStarted progress) c h = ap (core_replayed tests) (sym (the_same _ _ h))
   core_back (live.SetupScriptStarted stress index total script program args no_capture) c h = ap (core_replayed tests) (sym (the_same _ _ h)) ∙ ap (λ stress. live.SetupScriptStarted stress index total script program args no_capture) (index_back stress)
@@ -126,7 +131,7 @@ module _ (m : ℕ) (tests : Bor Tests) where
   core_back live.InputEnter c h = absurd cc
   core_back live.RunBeginKill c h = absurd cc
 
-  output_back : (k : TestEventKind) (o : Live OutputEventKind) → output_kind k ≡ Some o → output_live (output_kind_with {T = LiveSpec} (outputs_cut m) o) ≡ kind_kept m tests k
+  output_back : (k : TestEventKind) (o : Live OutputEventKind) → output_kind k ≡ Some o → output_live (output_kind_with {T = LiveSpec} (outputs_cut m) o) ≡ live_kind_kept m tests k
   output_back (live.RunStarted list run profile args condition) o h = absurd cc
   output_back (live.StressSubRunStarted progress) o h = absurd cc
   output_back (live.SetupScriptStarted stress index total script program args no_capture) o h = absurd cc
@@ -149,20 +154,20 @@ module _ (m : ℕ) (tests : Bor Tests) where
   output_back live.InputEnter o h = absurd cc
   output_back live.RunBeginKill o h = absurd cc
 
-  kind_back : (k : TestEventKind) (s : Live TestEventKindSummary) → kind_summary k ≡ Some s → kind_live tests (kind_with {T = LiveSpec} (outputs_cut m) s) ≡ kind_kept m tests k
+  kind_back : (k : TestEventKind) (s : Live TestEventKindSummary) → kind_summary k ≡ Some s → kind_live tests (kind_with {T = LiveSpec} (outputs_cut m) s) ≡ live_kind_kept m tests k
   kind_back k s h = by (core_kind k) (output_kind k) refl refl h
     where
       by : (c : Option CoreEventKind) (o : Option (Live OutputEventKind)) → core_kind k ≡ c → output_kind k ≡ o → option_or (option_map Core c) (option_map Output o) ≡ Some s
-          → kind_live tests (kind_with {T = LiveSpec} (outputs_cut m) s) ≡ kind_kept m tests k
+          → kind_live tests (kind_with {T = LiveSpec} (outputs_cut m) s) ≡ live_kind_kept m tests k
       by (Some c) o p q h = ap (λ s. kind_live tests (kind_with {T = LiveSpec} (outputs_cut m) s)) (sym (the_same _ _ h)) ∙ core_back k c p
       by None (Some o) p q h = ap (λ s. kind_live tests (kind_with {T = LiveSpec} (outputs_cut m) s)) (sym (the_same _ _ h)) ∙ output_back k o q
       by None None p q h = absurd cc
 
-  event_back : (e : TestEvent) (s : Live TestEventSummary) → event_summary e ≡ Some s → event_live tests (event_with {T = LiveSpec} (outputs_cut m) s) ≡ event_kept m tests e
+  event_back : (e : TestEvent) (s : Live TestEventSummary) → event_summary e ≡ Some s → event_live tests (event_with {T = LiveSpec} (outputs_cut m) s) ≡ live_event_kept m tests e
   event_back e s h = by (kind_summary e.kind) refl h
     where
       by : (k : Option (Live TestEventKindSummary)) → kind_summary e.kind ≡ k → option_map (λ (kind : Live TestEventKindSummary). record { timestamp = e.timestamp; elapsed = e.elapsed; kind = kind }) k ≡ Some s
-          → event_live tests (event_with {T = LiveSpec} (outputs_cut m) s) ≡ event_kept m tests e
+          → event_live tests (event_with {T = LiveSpec} (outputs_cut m) s) ≡ live_event_kept m tests e
       by None p h = absurd cc
       by (Some k) p h =
           ap (λ s. event_live tests (event_with {T = LiveSpec} (outputs_cut m) s)) (sym (the_same _ _ h))
@@ -185,7 +190,7 @@ module _ {S L N : Type 0} (taken : S → Option (List ℕ)) (faults : S → ℕ)
 
   pub replays_kept : (old new : Recording S L N) (more : List Entry) (e : TestEvent) (event : Live TestEventSummary) (tests : Bor Tests) → event_summary e ≡ Some event
       → Logs taken faults log_taken log_faults number old new event
-      → replayed Load tests (new.store.entries ++ more) (event_recorded (number old.namer) old.max_output event) ≡ event_kept old.max_output tests e
+      → replayed Load tests (new.store.entries ++ more) (event_recorded (number old.namer) old.max_output event) ≡ live_event_kept old.max_output tests e
   replays_kept old new more e event tests summary logged =
       ap (event_live tests) (loaded_event (number old.namer) old.max_output (new.store.entries ++ more) event (held_after old new more event logged))
       ∙ event_back old.max_output tests e event summary

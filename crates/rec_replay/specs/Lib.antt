@@ -7,3 +7,4 @@ pub mod Loading
 pub mod Replaying
 pub mod Conversions
 pub mod Lines
+pub mod LiveKept

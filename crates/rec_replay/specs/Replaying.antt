@@ -17,14 +17,15 @@ use Rattle.rec_events.specs.declared.live_stress.StressCondition.TheVariants as 
 use Rattle.rec_events.specs.declared.live_stress.StressCondition.{StressCondition}
 use Rattle.rec_events.specs.declared.live_stress.StressCount.TheVariants as count
 use Rattle.rec_events.specs.declared.live_stress.StressIndex.{StressIndex}
+use Rattle.rec_events.specs.declared.outputs.ChildOutputDescription.TheVariants.{NotLoaded}
 use Rattle.rec_events.specs.declared.outputs.ChildOutputDescription.{ChildOutputDescription}
 use Rattle.rec_events.specs.declared.outputs.ZipStoreOutputDescription.{ZipStoreOutputDescription}
 use Rattle.rec_events.specs.declared.stress.StressConditionSummary.TheVariants as recorded
 use Rattle.rec_events.specs.declared.stress.StressConditionSummary.{StressConditionSummary}
-use Rattle.rec_events.specs.EventMaps.{status_with, statuses_with, script_status_with}
+use Rattle.rec_events.specs.EventMaps.{status_with, statuses_with, script_status_with, output_kind_with, kind_with, event_with}
 use Rattle.rec_events.specs.Stats.{no_stats}
 use Rattle.rec_events.specs.TestLists.{Tests}
-use Rattle.rec_store.specs.EventOutputs.{Recorded}
+use Rattle.rec_store.specs.EventOutputs.{Live, Recorded}
 use Rattle.rec_replay.specs.declared.output_load.LoadOutput.{LoadOutput}
 use Rattle.rec_replay.specs.Loading.{description_loaded}
 
@@ -56,24 +57,56 @@ core_replayed tests (core.RunContinued scripts running) = live.RunContinued scri
 core_replayed tests (core.StressSubRunFinished progress elapsed stats) = live.StressSubRunFinished progress elapsed stats
 core_replayed tests (core.RunFinished run start elapsed stats not_seen) = live.RunFinished run start elapsed stats not_seen
 
+-- a setup script has lost its flags for reports
+abbrev pub output_live : Live OutputEventKind → TestEventKind
+output_live (ended.SetupScriptFinished stress index total script program args no_capture status) =
+    live.SetupScriptFinished (index_replayed stress) index total script program args no_capture false false status
+output_live (ended.TestAttemptFailedWillRetry stress test status delay failure running) =
+    live.TestAttemptFailedWillRetry (index_replayed stress) test status delay failure running
+output_live (ended.TestFinished stress test success failure store_success store_failure flaky statuses stats running) =
+    live.TestFinished (index_replayed stress) test success failure store_success store_failure flaky statuses stats running
+
+abbrev pub kind_live : Bor Tests → Live TestEventKindSummary → TestEventKind
+kind_live tests (Core kind) = core_replayed tests kind
+kind_live tests (Output kind) = output_live kind
+
+-- an event whose outputs are loaded, as it was when it happened
+abbrev pub event_live : Bor Tests → Live TestEventSummary → TestEvent
+event_live tests e = record { timestamp = e.timestamp; elapsed = e.elapsed; kind = kind_live tests e.kind }
+
 -- f gives what is loaded of each output
 module _ (f : ZipStoreOutputDescription → ChildOutputDescription) where
-  -- a setup script has lost its flags for reports
   abbrev pub output_replayed : Recorded OutputEventKind → TestEventKind
-  output_replayed (ended.SetupScriptFinished stress index total script program args no_capture status) =
-      live.SetupScriptFinished (index_replayed stress) index total script program args no_capture false false (script_status_with f status)
-  output_replayed (ended.TestAttemptFailedWillRetry stress test status delay failure running) =
-      live.TestAttemptFailedWillRetry (index_replayed stress) test (status_with f status) delay failure running
-  output_replayed (ended.TestFinished stress test success failure store_success store_failure flaky statuses stats running) =
-      live.TestFinished (index_replayed stress) test success failure store_success store_failure flaky (statuses_with f statuses) stats running
+  output_replayed kind = output_live (output_kind_with f kind)
 
   abbrev pub kind_replayed : Bor Tests → Recorded TestEventKindSummary → TestEventKind
-  kind_replayed tests (Core kind) = core_replayed tests kind
-  kind_replayed tests (Output kind) = output_replayed kind
+  kind_replayed tests kind = kind_live tests (kind_with f kind)
 
   abbrev pub event_replayed : Bor Tests → Recorded TestEventSummary → TestEvent
-  event_replayed tests e = record { timestamp = e.timestamp; elapsed = e.elapsed; kind = kind_replayed tests e.kind }
+  event_replayed tests e = event_live tests (event_with f e)
 
 -- the live event that a recorded event stands for, by the entries of a store and a test list
 abbrev pub replayed : LoadOutput → Bor Tests → List Entry → Recorded TestEventSummary → TestEvent
 replayed load tests es e = event_replayed (description_loaded load es) tests e
+
+-- ---- without outputs
+
+-- an output that was not loaded, in place of one that was and of one that was recorded
+abbrev pub unloaded : ChildOutputDescription → ChildOutputDescription
+unloaded outputs = NotLoaded
+
+abbrev pub left_out : ZipStoreOutputDescription → ChildOutputDescription
+left_out outputs = NotLoaded
+
+-- the same with each output not loaded
+abbrev pub kind_unloaded : TestEventKind → TestEventKind
+kind_unloaded (live.SetupScriptFinished stress index total script program args no_capture store_success store_failure status) =
+    live.SetupScriptFinished stress index total script program args no_capture store_success store_failure (script_status_with unloaded status)
+kind_unloaded (live.TestAttemptFailedWillRetry stress test status delay failure running) =
+    live.TestAttemptFailedWillRetry stress test (status_with unloaded status) delay failure running
+kind_unloaded (live.TestFinished stress test success failure store_success store_failure flaky statuses stats running) =
+    live.TestFinished stress test success failure store_success store_failure flaky (statuses_with unloaded statuses) stats running
+kind_unloaded kind = kind
+
+abbrev pub event_unloaded : TestEvent → TestEvent
+event_unloaded e = record { timestamp = e.timestamp; elapsed = e.elapsed; kind = kind_unloaded e.kind }

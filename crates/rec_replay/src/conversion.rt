@@ -1,5 +1,5 @@
 //! Recorded events, as they are replayed.
-ghost use Rattle.std.specs.Prelude.{◌≡◌, ◌<◌, [], List, None, Some, length, true};
+ghost use Rattle.std.specs.Prelude.{◌≡◌, ◌<◌, [], IfOk, List, None, Some, length, true};
 ghost use Rattle.rec_container.specs.Container.{Entry};
 ghost use Rattle.rec_events.specs.EventMaps.{of_event, of_kind, of_output_kind};
 ghost use Rattle.rec_replay.specs.Conversions.{ConversionCause, Converts, ConvertsAs, Judges, Replays, event_refusal, is_failed_attempt, is_finished, is_script_finished, kind_refusal, output_refusal};
@@ -7,7 +7,7 @@ ghost use Rattle.rec_replay.specs.declared.conversion_error.ReplayConversionErro
 ghost use Rattle.rec_replay.specs.declared.output_load.LoadOutput.TheVariants.{Skip};
 ghost use Rattle.rec_replay.specs.Loading.{description_loaded, description_names, event_names, first_refusal};
 ghost use Rattle.rec_replay.specs.Registration.{is_registered};
-ghost use Rattle.rec_replay.specs.Replaying.{event_replayed, kind_replayed, output_replayed, replayed};
+ghost use Rattle.rec_replay.specs.Replaying.{event_unloaded, kind_replayed, kind_unloaded, output_replayed, replayed, left_out};
 ghost use Rattle.rec_store.specs.Readers.{Keeps};
 
 use crate::context::ReplayContext;
@@ -52,6 +52,7 @@ impl<'a> ReplayContext<'a> {
         ensures refused { (e : ReplayConversionError) → event_refusal (is_registered self.now.tests) summary.now ≡ Some e → reader.new ≡ reader.old }
         ensures skipped { load_output ≡ Skip → (reader.new ≡ reader.old)
             × Converts (event_refusal (is_registered self.now.tests) summary.now) (replayed Skip self.now.test_list [] summary.now) result }
+        ensures apart { IfOk result (λ event. event_unloaded event ≡ replayed Skip self.now.test_list [] summary.now) }
     {
         self.replay(alloc, summary, reader, load_output)
     }
@@ -67,6 +68,7 @@ impl<'a> ReplayContext<'a> {
         ensures replays { Replays (limit reader.old) (limit reader.new) (failures reader.old) (failures reader.new) (holds reader.old) (holds reader.new)
             (event_refusal (is_registered self.now.tests) summary.now) (event_names load summary.now) (λ es. replayed load self.now.test_list es summary.now) result }
         ensures skipped { load ≡ Skip → reader.new ≡ reader.old }
+        ensures apart { IfOk result (λ event. event_unloaded event ≡ replayed Skip self.now.test_list [] summary.now) }
         ensures refused { (e : ReplayConversionError) → event_refusal (is_registered self.now.tests) summary.now ≡ Some e → reader.new ≡ reader.old }
     {
         let kind = self.convert_kind(alloc, &summary.kind, reader, load)?;
@@ -88,6 +90,7 @@ impl<'a> ReplayContext<'a> {
         ensures replays { Replays (limit reader.old) (limit reader.new) (failures reader.old) (failures reader.new) (holds reader.old) (holds reader.new)
             (kind_refusal (is_registered self.now.tests) kind.now) (of_kind (description_names load) kind.now) (λ es. kind_replayed (description_loaded load es) self.now.test_list kind.now) result }
         ensures skipped { load ≡ Skip → reader.new ≡ reader.old }
+        ensures apart { IfOk result (λ k. kind_unloaded k ≡ kind_replayed left_out self.now.test_list kind.now) }
         ensures refused { (e : ReplayConversionError) → kind_refusal (is_registered self.now.tests) kind.now ≡ Some e → reader.new ≡ reader.old }
     {
         match kind {
@@ -107,6 +110,7 @@ impl<'a> ReplayContext<'a> {
         ensures replays { Replays (limit reader.old) (limit reader.new) (failures reader.old) (failures reader.new) (holds reader.old) (holds reader.new)
             (output_refusal (is_registered self.now.tests) kind.now) (of_output_kind (description_names load) kind.now) (λ es. output_replayed (description_loaded load es) kind.now) result }
         ensures skipped { load ≡ Skip → reader.new ≡ reader.old }
+        ensures apart { IfOk result (λ k. kind_unloaded k ≡ output_replayed left_out kind.now) }
         ensures refused { (e : ReplayConversionError) → output_refusal (is_registered self.now.tests) kind.now ≡ Some e → reader.new ≡ reader.old }
     {
         match kind {
@@ -132,6 +136,7 @@ impl<'a> ReplayContext<'a> {
         ensures replays { Replays (limit reader.old) (limit reader.new) (failures reader.old) (failures reader.new) (holds reader.old) (holds reader.new)
             (output_refusal (is_registered self.now.tests) kind.now) (of_output_kind (description_names load) kind.now) (λ es. output_replayed (description_loaded load es) kind.now) result }
         ensures skipped { load ≡ Skip → reader.new ≡ reader.old }
+        ensures apart { IfOk result (λ k. kind_unloaded k ≡ output_replayed left_out kind.now) }
         ensures refused { (e : ReplayConversionError) → output_refusal (is_registered self.now.tests) kind.now ≡ Some e → reader.new ≡ reader.old }
     {
         let OutputEventKind::TestAttemptFailedWillRetry {
@@ -169,6 +174,7 @@ impl<'a> ReplayContext<'a> {
         ensures replays { Replays (limit reader.old) (limit reader.new) (failures reader.old) (failures reader.new) (holds reader.old) (holds reader.new)
             (output_refusal (is_registered self.now.tests) kind.now) (of_output_kind (description_names load) kind.now) (λ es. output_replayed (description_loaded load es) kind.now) result }
         ensures skipped { load ≡ Skip → reader.new ≡ reader.old }
+        ensures apart { IfOk result (λ k. kind_unloaded k ≡ output_replayed left_out kind.now) }
         ensures refused { (e : ReplayConversionError) → output_refusal (is_registered self.now.tests) kind.now ≡ Some e → reader.new ≡ reader.old }
     {
         let OutputEventKind::TestFinished {
@@ -214,6 +220,7 @@ fn script_finished<'cx>(
     ensures replays { Replays (limit reader.old) (limit reader.new) (failures reader.old) (failures reader.new) (holds reader.old) (holds reader.new)
         None (of_output_kind (description_names load) kind.now) (λ es. output_replayed (description_loaded load es) kind.now) result }
     ensures skipped { load ≡ Skip → reader.new ≡ reader.old }
+    ensures apart { IfOk result (λ k. kind_unloaded k ≡ output_replayed left_out kind.now) }
 {
     let OutputEventKind::SetupScriptFinished {
         stress_index,

@@ -7,6 +7,7 @@ mod conversion_error;
 mod core_conversion;
 mod event_reporter;
 mod header;
+pub mod laws;
 mod line_reporter;
 mod lines;
 mod loading;

@@ -1,10 +1,12 @@
 //! The outputs of recorded events, read from a store.
 ghost use Rattle.std.specs.List.{flat_map};
 ghost use Rattle.std.specs.Prelude.{◌≡◌, ◌∷◌, [], length, map, option_map, IfOk};
+ghost use Rattle.rec_events.specs.declared.outputs.LiveSpec.{LiveSpec};
 ghost use Rattle.rec_events.specs.EventMaps.{of_execution, execution_with, of_status, status_with, script_status_with, statuses_with};
 ghost use Rattle.rec_store.specs.Kept.{bytes_under};
 ghost use Rattle.rec_replay.specs.declared.output_load.LoadOutput.TheVariants.{Load, Skip};
 ghost use Rattle.rec_replay.specs.Loading.{Loads, output_names, output_loaded, captured_names, description_names, description_loaded};
+ghost use Rattle.rec_replay.specs.Replaying.{left_out, unloaded};
 
 use crate::output_load::LoadOutput;
 use rec_events::{
@@ -109,6 +111,7 @@ fn load_execution(
     ensures loads { Loads (limit reader.old) (limit reader.new) (failures reader.old) (failures reader.new) (holds reader.old) (holds reader.new)
         (of_execution (description_names load) output.now) (λ es. execution_with (description_loaded load es) output.now) result }
     ensures skipped { load ≡ Skip → reader.new ≡ reader.old }
+    ensures apart { IfOk result (λ y. execution_with {T = LiveSpec} unloaded y ≡ execution_with left_out output.now) }
 {
     match output {
         ChildExecutionOutputDescription::Output {
@@ -142,6 +145,7 @@ pub(crate) fn load_status(
     ensures loads { Loads (limit reader.old) (limit reader.new) (failures reader.old) (failures reader.new) (holds reader.old) (holds reader.new)
         (of_status (description_names load) status.now) (λ es. status_with (description_loaded load es) status.now) result }
     ensures skipped { load ≡ Skip → reader.new ≡ reader.old }
+    ensures apart { IfOk result (λ y. status_with {T = LiveSpec} unloaded y ≡ status_with left_out status.now) }
 {
     let result = status.result.try_clone(alloc)?;
     let error_summary = status.error_summary.try_clone(alloc)?;
@@ -170,6 +174,7 @@ pub(crate) fn load_script_status(
     ensures loads { Loads (limit reader.old) (limit reader.new) (failures reader.old) (failures reader.new) (holds reader.old) (holds reader.new)
         (of_execution (description_names load) status.now.output) (λ es. script_status_with (description_loaded load es) status.now) result }
     ensures skipped { load ≡ Skip → reader.new ≡ reader.old }
+    ensures apart { IfOk result (λ y. script_status_with {T = LiveSpec} unloaded y ≡ script_status_with left_out status.now) }
 {
     let result = status.result.try_clone(alloc)?;
     let env_map = status.env_map.try_clone(alloc)?;
@@ -196,6 +201,7 @@ pub(crate) fn load_statuses(
     ensures loads { Loads (limit reader.old) (limit reader.new) (failures reader.old) (failures reader.new) (holds reader.old) (holds reader.new)
         (flat_map (of_status (description_names load)) statuses.now.statuses) (λ es. statuses_with (description_loaded load es) statuses.now) result }
     ensures skipped { load ≡ Skip → reader.new ≡ reader.old }
+    ensures apart { IfOk result (λ y. statuses_with {T = LiveSpec} unloaded y ≡ statuses_with left_out statuses.now) }
 {
     let loaded = load_each(alloc, reader, load, statuses.statuses.as_slice())?;
     Ok(ExecutionStatuses::new(loaded.into_vec(), statuses.flaky_result))
@@ -211,6 +217,7 @@ fn load_each(
     ensures loads { Loads (limit reader.old) (limit reader.new) (failures reader.old) (failures reader.new) (holds reader.old) (holds reader.new)
         (flat_map (of_status (description_names load)) statuses.now) (λ es. map (status_with (description_loaded load es)) statuses.now) result }
     ensures skipped { load ≡ Skip → reader.new ≡ reader.old }
+    ensures apart { IfOk result (λ y. map (status_with {T = LiveSpec} unloaded) y ≡ map (status_with left_out) statuses.now) }
     ensures as_many { IfOk result (λ loaded. length loaded ≡ length statuses.now) }
 {
     let mut loaded = Vec::new(alloc);

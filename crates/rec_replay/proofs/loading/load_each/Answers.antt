@@ -1,10 +1,12 @@
 use Rattle.std.proofs.Common.{◌∙◌, rules}
 use Rattle.std.proofs.lemmas.Result.{err_from_is_err_and}
+use Rattle.rec_events.specs.declared.outputs.LiveSpec.{LiveSpec}
 use Rattle.rec_events.specs.EventMaps.{of_status, status_with}
 use Rattle.rec_replay.proofs.Loaded.{loads_wanting}
-use Rattle.rec_replay.proofs.LoadedEach.{loads_more, loads_stop}
+use Rattle.rec_replay.proofs.LoadedEach.{loads_more, loads_stop, same_more}
 use Rattle.rec_replay.proofs.loading.load_each.Goals as goal
 use Rattle.rec_replay.specs.Loading.{description_names, description_loaded}
+use Rattle.rec_replay.specs.Replaying.{left_out, unloaded}
 
 pub returns-in_err-status-clause-loads : goal.returns-in_err-status-clause-loads
 returns-in_err-status-clause-loads g c =
@@ -30,5 +32,8 @@ loop-status-preserved g c =
           loads_more (of_status (description_names c.args.load)) (λ es. status_with (description_loaded c.args.load es)) _ _ _ _ _ _ _ _ _ c.args.statuses.now c.loop-status.status-index c.status-item.result
           c.loop-status.loaded.items _ c.in_ok-status.status c.loop-status-test.true c.status-item.is c.in_ok-push.ensures.items c.loop-status.invariant.loads c.in_ok-status.ensures.loads;
       skipped = λ h. c.in_ok-status.ensures.skipped h ∙ c.loop-status.invariant.skipped h;
+      apart =
+          same_more (status_with left_out) (status_with {T = LiveSpec} unloaded) c.args.statuses.now c.loop-status.status-index c.status-item.result c.loop-status.loaded.items _ c.in_ok-status.status
+          c.loop-status-test.true c.status-item.is c.in_ok-push.ensures.items c.loop-status.invariant.apart c.in_ok-status.ensures.apart;
       as_many = rw c.in_ok-push.ensures.items (search rules);
     }

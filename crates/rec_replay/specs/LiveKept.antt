@@ -20,16 +20,16 @@ outputs_cut m NotLoaded = Split None None
 
 -- outputs are cut; a cancel has no statistics but its reason, which is that of a signal where it has none; a setup script has lost its
 -- flags for reports; a run's start has this test list; and all else is the same
-abbrev pub kind_kept : ℕ → Bor Tests → TestEventKind → TestEventKind
-kind_kept m tests (RunStarted list run profile args condition) = RunStarted tests run profile args condition
-kind_kept m tests (RunBeginCancel scripts running stats) = RunBeginCancel scripts running (record no_stats { cancel_reason = Some (unwrap_or stats.cancel_reason Signal) })
-kind_kept m tests (SetupScriptFinished stress index total script program args no_capture store_success store_failure status) =
+abbrev pub live_kind_kept : ℕ → Bor Tests → TestEventKind → TestEventKind
+live_kind_kept m tests (RunStarted list run profile args condition) = RunStarted tests run profile args condition
+live_kind_kept m tests (RunBeginCancel scripts running stats) = RunBeginCancel scripts running (record no_stats { cancel_reason = Some (unwrap_or stats.cancel_reason Signal) })
+live_kind_kept m tests (SetupScriptFinished stress index total script program args no_capture store_success store_failure status) =
     SetupScriptFinished stress index total script program args no_capture false false (script_status_with (outputs_cut m) status)
-kind_kept m tests (TestAttemptFailedWillRetry stress test status delay failure running) =
+live_kind_kept m tests (TestAttemptFailedWillRetry stress test status delay failure running) =
     TestAttemptFailedWillRetry stress test (status_with (outputs_cut m) status) delay failure running
-kind_kept m tests (TestFinished stress test success failure store_success store_failure flaky statuses stats running) =
+live_kind_kept m tests (TestFinished stress test success failure store_success store_failure flaky statuses stats running) =
     TestFinished stress test success failure store_success store_failure flaky (statuses_with (outputs_cut m) statuses) stats running
-kind_kept m tests kind = kind
+live_kind_kept m tests kind = kind
 
-abbrev pub event_kept : ℕ → Bor Tests → TestEvent → TestEvent
-event_kept m tests e = record { timestamp = e.timestamp; elapsed = e.elapsed; kind = kind_kept m tests e.kind }
+abbrev pub live_event_kept : ℕ → Bor Tests → TestEvent → TestEvent
+live_event_kept m tests e = record { timestamp = e.timestamp; elapsed = e.elapsed; kind = live_kind_kept m tests e.kind }
