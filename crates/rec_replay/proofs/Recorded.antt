@@ -43,7 +43,7 @@ use Rattle.rec_store.specs.EventOutputs.{Live, file_name, output_entries, captur
 use Rattle.rec_store.specs.Kept.{bytes_under}
 use Rattle.rec_store.specs.Logging.{Logs}
 use Rattle.rec_store.specs.OutputPaths.{output_path}
-use Rattle.rec_store.specs.Recording.{Recording, AddsEach}
+use Rattle.rec_store.specs.Recording.{Recording}
 
 -- ---- outputs
 

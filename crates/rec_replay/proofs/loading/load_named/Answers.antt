@@ -1,4 +1,4 @@
-use Rattle.std.proofs.Common.{Ok, ap, sym, ◌∙◌}
+use Rattle.std.proofs.Common.{sym}
 use Rattle.rec_replay.proofs.Loaded.{loads_name}
 use Rattle.rec_replay.proofs.loading.load_named.Goals as goal
 
