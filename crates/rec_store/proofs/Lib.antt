@@ -2,9 +2,9 @@ pub mod Adding
 pub mod Clashing
 mod Counts
 mod EntrySpellings
-mod EventMapLaws
+pub mod EventMapLaws
 mod Growing
-mod Held
+pub mod Held
 mod KeptLaws
 mod Logged
 pub mod OutputLaws

@@ -1,0 +1,5 @@
+pub mod Converted
+pub mod Loaded
+pub mod LoadedEach
+pub mod Recorded
+pub mod Registered

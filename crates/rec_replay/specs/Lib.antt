@@ -1,0 +1,10 @@
+pub mod OutputLoads
+pub mod Settings
+pub mod Headers
+pub mod Reporting
+pub mod Registration
+pub mod Loading
+pub mod Replaying
+pub mod Conversions
+pub mod Lines
+pub mod LiveKept

@@ -1,0 +1,17 @@
+//! The tests of `rec_replay`.
+#![tactic(auto)]
+
+#[cfg(test)]
+mod bundles;
+#[cfg(test)]
+mod contexts;
+#[cfg(test)]
+mod headers;
+#[cfg(test)]
+mod lines;
+#[cfg(test)]
+mod refusals;
+#[cfg(test)]
+mod reporters;
+#[cfg(test)]
+mod texts;
