@@ -1,0 +1,5 @@
+//! The tests of `rec_junit`.
+#![tactic(auto)]
+
+#[cfg(test)]
+mod words;
