@@ -1,7 +1,8 @@
 //! The JSON of a report.
-ghost use Rattle.std.specs.Prelude.{◌≡◌, Some, IfOk, OnOk};
+ghost use Rattle.std.specs.Prelude.{◌≡◌, false, Some, IfOk, OnOk};
 ghost use Rattle.serde_json.specs.Data.{Data, string};
 ghost use Rattle.serde_json.specs.View.{view, members_view};
+ghost use Rattle.serde_json.specs.Written.{has_float};
 ghost use Rattle.rec_forms.specs.Lists.{list_value};
 ghost use Rattle.rec_forms.specs.Shape.{with_member, with_members};
 ghost use Rattle.rec_junit.specs.Values.{case_value, failed_value, failure_fields, kind_name, property_value, report_value, rerun_kind_name, rerun_value, run_fields, status_value, suite_value};
@@ -38,8 +39,10 @@ trait ToValue {
 /// # Errors
 ///
 /// `AllocError` if memory runs out.
+#[tactic(auto, using(crate::proofs::Whole::report_whole))]
 pub fn report_to_value(alloc: Global, report: &JunitReport) -> Result<Value, AllocError>
-    ensures { IfOk result (λ v. view v ≡ report_value report.now) }
+    ensures value { IfOk result (λ v. view v ≡ report_value report.now) }
+    ensures whole { IfOk result (λ v. has_float (view v) ≡ false) }
 {
     report.to_value(alloc)
 }
