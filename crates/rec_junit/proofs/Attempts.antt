@@ -1,5 +1,5 @@
 -- The description of attempts tells them apart as a report does.
-use Rattle.std.proofs.Common.{◌≡◌, ◌<◌, List, [], ◌∷◌, ◌++◌, length, Some, true, false, arith, ap, refl, subst, sym, ◌∙◌}
+use Rattle.std.proofs.Common.{◌≡◌, ◌<◌, List, [], ◌∷◌, ◌++◌, length, Some, true, false, arith, ap, refl, sym, ◌∙◌}
 use Rattle.rec_events.specs.Attempts.{Describes}
 use Rattle.rec_events.specs.declared.outputs.ChildOutputDescription.{ChildOutputDescription}
 use Rattle.rec_events.specs.declared.outputs.LiveSpec.{LiveSpec}
@@ -7,7 +7,7 @@ use Rattle.rec_events.specs.declared.statuses.ExecutionDescription.TheVariants a
 use Rattle.rec_events.specs.declared.statuses.ExecutionDescription.{ExecutionDescription}
 use Rattle.rec_events.specs.declared.statuses.ExecutionStatuses.{ExecutionStatuses}
 use Rattle.rec_events.specs.Results.{succeeded}
-use Rattle.rec_junit.specs.Attempts.{attempts, attempts_by, attempts_in, passed, split_last, Flaky, Failed}
+use Rattle.rec_junit.specs.Attempts.{attempts, attempts_in, split_last, Flaky, Failed}
 use Rattle.rec_junit.specs.Reruns.{Status}
 
 split_last-append : {A : Type 0} (x : A) (xs : List A) (last : A) → split_last x (xs ++ (last ∷ [])) ≡ (x ∷ xs, last)

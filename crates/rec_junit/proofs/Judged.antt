@@ -1,5 +1,5 @@
 -- A refusal goes on through what comes after it.
-use Rattle.std.proofs.Common.{◌≡◌, Result, Ok, Err, ap}
+use Rattle.std.proofs.Common.{Result, Err, ap}
 use Rattle.rec_junit.specs.declared.errors.JunitError.TheVariants.{NotLoadedOutput, SuccessAsFailure, OutOfMemory}
 use Rattle.rec_junit.specs.declared.errors.JunitError.{JunitError}
 use Rattle.rec_junit.specs.Judging.{◌>>=◌, Judges}

@@ -1,6 +1,6 @@
 -- A new key goes last, and a key that is there leads to its suite.
 use Rattle.indexmap.specs.IndexSet.{insert_key}
-use Rattle.std.proofs.Common.{◌≡◌, ℕ, Bool, false, List, [], ◌∷◌, ◌++◌, Some, Result, Ok, Err, IfOk, OnOk, position, slice_index_or, slice_set, ◌&&◌, ap, refl, subst, ◌∙◌}
+use Rattle.std.proofs.Common.{◌≡◌, ℕ, false, List, [], ◌∷◌, ◌++◌, Some, Result, Ok, Err, IfOk, OnOk, position, slice_index_or, slice_set, ◌&&◌, ap, refl, subst, ◌∙◌}
 use Rattle.std.specs.List.{list_any}
 use Rattle.std.specs.Option.{option_eq}
 use Rattle.rec_junit.specs.contracts.suite_keys.SuiteKeyPartialEq.TheImpl as derived

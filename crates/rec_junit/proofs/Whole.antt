@@ -1,5 +1,5 @@
 -- A report has no float.
-use Rattle.std.proofs.Common.{◌≡◌, ℕ, ℤ, pos, negsuc, List, [], ◌∷◌, ◌++◌, map, Option, Some, None, option_map, false, refl}
+use Rattle.std.proofs.Common.{◌≡◌, ℕ, ℤ, pos, negsuc, List, [], ◌∷◌, map, Option, Some, None, option_map, false, refl}
 use Rattle.std.proofs.lemmas.Bool.{or_parts}
 use Rattle.std.specs.Bool.{⊤}
 use Rattle.std.specs.Cmp.Lexicographic.{slice_cmp}
@@ -18,7 +18,7 @@ use Rattle.rec_junit.specs.declared.report.JunitRerunKind.{JunitRerunKind}
 use Rattle.rec_junit.specs.declared.report.JunitStatus.TheVariants.{Success, NonSuccess, Skipped}
 use Rattle.rec_junit.specs.declared.report.JunitStatus.{JunitStatus}
 use Rattle.rec_junit.specs.declared.report.JunitSuite.{JunitSuite}
-use Rattle.rec_junit.specs.Values.{failure_fields, run_fields, rerun_value, failed_value, status_value, case_value, property_value, suite_value, report_value}
+use Rattle.rec_junit.specs.Values.{rerun_value, failed_value, status_value, case_value, property_value, suite_value, report_value}
 use Rattle.serde_json.specs.Data.{Data, string, Members, no_members, member, put}
 use Rattle.serde_json.specs.View.{items_of}
 use Rattle.serde_json.specs.Written.{has_float, items_have_float, members_have_float}

@@ -1,5 +1,5 @@
 -- Further attempts of a case, and what is said of one that failed.
-use Rattle.std.specs.Prelude.{ℕ, List, [], ◌∷◌, Option, Some, None, option_map, Bool, Result, Ok, Err}
+use Rattle.std.specs.Prelude.{ℕ, List, [], ◌∷◌, Option, Some, option_map, Bool, Result, Ok}
 use Rattle.rec_events.specs.declared.outputs.ChildOutputDescription.{ChildOutputDescription}
 use Rattle.rec_events.specs.declared.outputs.LiveSpec.{LiveSpec}
 use Rattle.rec_events.specs.declared.statuses.ExecuteStatus.{ExecuteStatus}

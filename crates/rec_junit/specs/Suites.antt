@@ -3,8 +3,6 @@ use Rattle.std.specs.Fmt.{decimal}
 use Rattle.std.specs.Option.{option_eq}
 use Rattle.std.specs.Prelude.{ℕ, nat_eq, ◌&&◌, Bool, false, List, [], ◌∷◌, ◌++◌, codes, Option, Some, None, option_map, bytes_eq, slice_set, slice_index_or, position}
 use Rattle.rec_events.specs.declared.live_stress.StressIndex.{StressIndex}
-use Rattle.rec_junit.specs.declared.report.JunitCase.{JunitCase}
-use Rattle.rec_junit.specs.declared.report.JunitProperty.{JunitProperty}
 use Rattle.rec_junit.specs.declared.report.JunitSuite.{JunitSuite}
 use Rattle.rec_junit.specs.declared.suite_keys.StressKey.{StressKey}
 use Rattle.rec_junit.specs.declared.suite_keys.SuiteKey.{SuiteKey}
