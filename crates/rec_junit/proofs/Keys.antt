@@ -1,16 +1,16 @@
 -- A new key goes last, and a key that is there leads to its suite.
-use Rattle.indexmap.specs.IndexSet.{insert_key}
 use Rattle.std.proofs.Common.{◌≡◌, ℕ, false, List, [], ◌∷◌, ◌++◌, Some, Result, Ok, Err, IfOk, OnOk, position, slice_index_or, slice_set, ◌&&◌, ap, refl, subst, ◌∙◌}
 use Rattle.std.specs.List.{list_any}
 use Rattle.std.specs.Option.{option_eq}
+use Rattle.indexmap.specs.IndexSet.{insert_key}
 use Rattle.rec_junit.specs.contracts.suite_keys.SuiteKeyPartialEq.TheImpl as derived
 use Rattle.rec_junit.specs.contracts.suite_keys.SuiteSubjectPartialEq.TheImpl as subjects
-use Rattle.rec_junit.specs.declared.suite_keys.SuiteSubject.TheVariants.{Script, Binary}
-use Rattle.rec_junit.specs.declared.suite_keys.SuiteSubject.{SuiteSubject}
-use Rattle.rec_junit.specs.Suites.{Suites, same_key, same_stress, same_subject, new_suite, with_addition, with_more}
 use Rattle.rec_junit.specs.declared.report.JunitSuite.{JunitSuite}
 use Rattle.rec_junit.specs.declared.suite_keys.SuiteKey.{SuiteKey}
+use Rattle.rec_junit.specs.declared.suite_keys.SuiteSubject.TheVariants.{Script, Binary}
+use Rattle.rec_junit.specs.declared.suite_keys.SuiteSubject.{SuiteSubject}
 use Rattle.rec_junit.specs.declared.suites.Addition.{Addition}
+use Rattle.rec_junit.specs.Suites.{Suites, same_key, same_stress, same_subject, new_suite, with_addition, with_more}
 
 -- ---- the derived test of keys is that of the definitions
 
@@ -43,7 +43,7 @@ insert_key-new ks old k same new = ap (λ eq. insert_key eq ks k) keys ∙ rw (s
 pub with_addition-there : (a : Addition) (ss : Suites) (keys : List SuiteKey) (suites now : List JunitSuite) (i : ℕ)
     → record { keys = keys; suites = suites } ≡ ss
     → position (same_key a.key) keys ≡ Some i
-    → now ≡ slice_set suites i (with_more a (slice_index_or suites i (new_suite a)))
+    → now ≡ slice_set suites i (with_more a.case a.properties (slice_index_or suites i (new_suite a.key a.case a.properties)))
     → record { keys = keys; suites = now } ≡ with_addition a ss
 with_addition-there a ss keys suites now i is there set =
     subst (λ (s : Suites). record { keys = keys; suites = now } ≡ with_addition a s) is (rw (there, set) refl)

@@ -4,6 +4,9 @@ use Rattle.std.proofs.lemmas.Bool.{or_parts}
 use Rattle.std.specs.Bool.{⊤}
 use Rattle.std.specs.Cmp.Lexicographic.{slice_cmp}
 use Rattle.std.specs.Ordering.{nat_cmp}
+use Rattle.serde_json.specs.Data.{Data, string, Members, no_members, member, put}
+use Rattle.serde_json.specs.View.{items_of}
+use Rattle.serde_json.specs.Written.{has_float, items_have_float, members_have_float}
 use Rattle.rec_events.specs.Times.{Moment, Span}
 use Rattle.rec_forms.specs.Lists.{list_value}
 use Rattle.rec_forms.specs.RiseLaws.{match_holds}
@@ -19,9 +22,6 @@ use Rattle.rec_junit.specs.declared.report.JunitStatus.TheVariants.{Success, Non
 use Rattle.rec_junit.specs.declared.report.JunitStatus.{JunitStatus}
 use Rattle.rec_junit.specs.declared.report.JunitSuite.{JunitSuite}
 use Rattle.rec_junit.specs.Values.{rerun_value, failed_value, status_value, case_value, property_value, suite_value, report_value}
-use Rattle.serde_json.specs.Data.{Data, string, Members, no_members, member, put}
-use Rattle.serde_json.specs.View.{items_of}
-use Rattle.serde_json.specs.Written.{has_float, items_have_float, members_have_float}
 
 abbrev IsWhole : Data → Type 0
 IsWhole d = has_float d ≡ false
@@ -79,10 +79,25 @@ duration_whole d = struct_whole _ (refl, (refl, tt))
 rerun_whole : (r : JunitRerun) → IsWhole (rerun_value r)
 unfolding rerun_value
 rerun_whole r =
-    struct_whole _
-    (refl, (refl, (optional_whole string string_whole r.message, (optional_whole string string_whole r.description,
-    (optional_whole stamp_value stamp_whole r.timestamp, (optional_whole duration_value duration_whole r.time,
-    (optional_whole string string_whole r.system_out, (optional_whole string string_whole r.system_err, tt))))))))
+    struct_whole _ (
+      refl,
+      (
+        refl,
+        (
+          optional_whole string string_whole r.message,
+          (
+            optional_whole string string_whole r.description,
+            (
+              optional_whole stamp_value stamp_whole r.timestamp,
+              (
+                optional_whole duration_value duration_whole r.time,
+                (optional_whole string string_whole r.system_out, (optional_whole string string_whole r.system_err, tt)),
+              ),
+            ),
+          ),
+        ),
+      ),
+    )
 
 reruns_whole : (rs : List JunitRerun) → IsWhole (list_value rerun_value rs)
 reruns_whole rs = list_whole rerun_value rerun_whole rs
@@ -101,10 +116,22 @@ status_whole (Skipped message) = refl
 case_whole : (c : JunitCase) → IsWhole (case_value c)
 unfolding case_value
 case_whole c =
-    struct_whole _
-    (refl, (refl, (status_whole c.status,
-    (optional_whole stamp_value stamp_whole c.timestamp, (optional_whole duration_value duration_whole c.time,
-    (optional_whole string string_whole c.system_out, (optional_whole string string_whole c.system_err, tt)))))))
+    struct_whole _ (
+      refl,
+      (
+        refl,
+        (
+          status_whole c.status,
+          (
+            optional_whole stamp_value stamp_whole c.timestamp,
+            (
+              optional_whole duration_value duration_whole c.time,
+              (optional_whole string string_whole c.system_out, (optional_whole string string_whole c.system_err, tt)),
+            ),
+          ),
+        ),
+      ),
+    )
 
 property_whole : (p : JunitProperty) → IsWhole (property_value p)
 unfolding property_value

@@ -13,6 +13,8 @@ use Rattle.rec_events.specs.declared.skipping.MismatchReason.{MismatchReason}
 use Rattle.rec_events.specs.declared.skipping.ReportSkipPolicy.{ReportSkipPolicy}
 use Rattle.rec_events.specs.declared.statuses.ExecutionStatuses.{ExecutionStatuses}
 use Rattle.rec_events.specs.Skipping.{reports}
+use Rattle.rec_junit.specs.Attempts.{attempts}
+use Rattle.rec_junit.specs.Cases.{ScriptStatus, test_case, script_case, skipped_case}
 use Rattle.rec_junit.specs.declared.describer.ErrorText.{ErrorText}
 use Rattle.rec_junit.specs.declared.errors.JunitError.{JunitError}
 use Rattle.rec_junit.specs.declared.report.JunitCase.{JunitCase}
@@ -21,8 +23,6 @@ use Rattle.rec_junit.specs.declared.reruns.Storing.{Storing}
 use Rattle.rec_junit.specs.declared.suite_keys.SuiteKey.{SuiteKey}
 use Rattle.rec_junit.specs.declared.suite_keys.SuiteSubject.TheVariants.{Script, Binary}
 use Rattle.rec_junit.specs.declared.suites.Addition.{Addition}
-use Rattle.rec_junit.specs.Attempts.{attempts}
-use Rattle.rec_junit.specs.Cases.{ScriptStatus, test_case, script_case, skipped_case}
 use Rattle.rec_junit.specs.Describing.{Execution}
 use Rattle.rec_junit.specs.Failing.{test_unit}
 use Rattle.rec_junit.specs.Judging.{◌>>=◌}

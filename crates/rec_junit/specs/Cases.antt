@@ -11,7 +11,7 @@ use Rattle.rec_events.specs.declared.script_statuses.SetupScriptExecuteStatus.{S
 use Rattle.rec_events.specs.declared.skipping.MismatchReason.TheVariants as reason
 use Rattle.rec_events.specs.declared.skipping.MismatchReason.{MismatchReason}
 use Rattle.rec_events.specs.Results.{succeeded, flaky_text}
-use Rattle.rec_junit.specs.declared.reruns.Storing.{Storing}
+use Rattle.rec_junit.specs.Attempts.{Attempts, Passed, Flaky, Failed, main_of, has_failed}
 use Rattle.rec_junit.specs.declared.describer.ErrorText.{ErrorText}
 use Rattle.rec_junit.specs.declared.errors.JunitError.TheVariants.{SuccessAsFailure}
 use Rattle.rec_junit.specs.declared.errors.JunitError.{JunitError}
@@ -22,8 +22,8 @@ use Rattle.rec_junit.specs.declared.report.JunitRerun.{JunitRerun}
 use Rattle.rec_junit.specs.declared.report.JunitRerunKind.TheVariants as rerun
 use Rattle.rec_junit.specs.declared.report.JunitStatus.TheVariants.{Success, NonSuccess, Skipped}
 use Rattle.rec_junit.specs.declared.report.JunitStatus.{JunitStatus}
+use Rattle.rec_junit.specs.declared.reruns.Storing.{Storing}
 use Rattle.rec_junit.specs.declared.stored_outputs.StoredOutput.{StoredOutput}
-use Rattle.rec_junit.specs.Attempts.{Attempts, Passed, Flaky, Failed, main_of, has_failed}
 use Rattle.rec_junit.specs.Describing.{Execution}
 use Rattle.rec_junit.specs.Failing.{failing, script_unit}
 use Rattle.rec_junit.specs.Judging.{◌>>=◌, or_refused}
@@ -71,23 +71,34 @@ module _ (unit : List ℕ) (text_of : Execution → Option ErrorText) (stores_fa
     Ok (flaky_status result status main (text_of main.output) reruns)
   test_status result status (Failed first retries) = failed_test first retries
 
-abbrev pub test_case_with : OwnedTestInstanceId → Status → JunitStatus → StoredOutput → JunitCase
-test_case_with test main status output = record {
+-- a status with what was written, if it is stored
+abbrev pub with_output : JunitStatus → Bool → Execution → Result (JunitStatus × StoredOutput) JunitError
+with_output status is_stored execution = do
+  output ← stored_output is_stored execution
+  Ok (status, output)
+
+-- the main attempt's output is judged last
+abbrev pub judged_test :
+    List ℕ → (Execution → Option ErrorText) → Storing → FlakyResult → JunitFlakyFailStatus → Attempts → Result (JunitStatus × StoredOutput) JunitError
+judged_test unit text_of storing result flaky_status attempts = do
+  status ← test_status unit text_of storing.failure result flaky_status attempts
+  with_output status (stores storing (has_failed attempts)) (main_of attempts).output
+
+abbrev pub test_case_with : OwnedTestInstanceId → Status → JunitStatus × StoredOutput → JunitCase
+test_case_with test main judged = record {
   name = test.test_name;
   classname = test.binary_id;
   timestamp = Some main.start_time;
   time = Some main.time_taken;
-  status = status;
-  system_out = output.system_out;
-  system_err = output.system_err;
+  status = judged.0;
+  system_out = judged.1.system_out;
+  system_err = judged.1.system_err;
 }
 
--- the main attempt's output is judged last
 abbrev pub test_case : List ℕ → (Execution → Option ErrorText) → Storing → OwnedTestInstanceId → FlakyResult → JunitFlakyFailStatus → Attempts → Result JunitCase JunitError
 test_case unit text_of storing test result flaky_status attempts = do
-  status ← test_status unit text_of storing.failure result flaky_status attempts
-  output ← stored_output (stores storing (has_failed attempts)) (main_of attempts).output
-  Ok (test_case_with test (main_of attempts) status output)
+  judged ← judged_test unit text_of storing result flaky_status attempts
+  Ok (test_case_with test (main_of attempts) judged)
 
 -- ---- setup scripts
 
@@ -97,23 +108,27 @@ script_status_by false text_of status = do
   kind ← or_refused SuccessAsFailure (failing script_unit status.result)
   Ok (failed_status kind (text_of status.output) [])
 
-abbrev pub script_case_with : List ℕ → List ℕ → ScriptStatus → JunitStatus → StoredOutput → JunitCase
-script_case_with script suite ran status output = record {
+abbrev pub judged_script : Bool → (Execution → Option ErrorText) → Storing → ScriptStatus → Result (JunitStatus × StoredOutput) JunitError
+judged_script has_passed text_of storing ran = do
+  status ← script_status_by has_passed text_of ran
+  with_output status (stores storing (not has_passed)) ran.output
+
+abbrev pub script_case_with : List ℕ → List ℕ → ScriptStatus → JunitStatus × StoredOutput → JunitCase
+script_case_with script suite ran judged = record {
   name = script;
   classname = suite;
   timestamp = Some ran.start_time;
   time = Some ran.time_taken;
-  status = status;
-  system_out = output.system_out;
-  system_err = output.system_err;
+  status = judged.0;
+  system_out = judged.1.system_out;
+  system_err = judged.1.system_err;
 }
 
 -- the case of a script in the suite of this name
 abbrev pub script_case : (Execution → Option ErrorText) → Storing → List ℕ → List ℕ → ScriptStatus → Result JunitCase JunitError
 script_case text_of storing script suite ran = do
-  status ← script_status_by (succeeded ran.result) text_of ran
-  output ← stored_output (stores storing (not (succeeded ran.result))) ran.output
-  Ok (script_case_with script suite ran status output)
+  judged ← judged_script (succeeded ran.result) text_of storing ran
+  Ok (script_case_with script suite ran judged)
 
 -- ---- tests that don't run
 

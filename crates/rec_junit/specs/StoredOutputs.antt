@@ -1,7 +1,7 @@
 -- What a report holds of an output.
-use Rattle.bstr.specs.Utf8.{lossy_chars}
 use Rattle.std.specs.Prelude.{ℕ, List, codes, Option, Some, None, Bool, true, false, Result, Ok}
 use Rattle.std.specs.Str.{encode_utf8_all}
+use Rattle.bstr.specs.Utf8.{lossy_chars}
 use Rattle.rec_events.specs.declared.outputs.ChildExecutionOutputDescription.TheVariants.{Output, StartError}
 use Rattle.rec_events.specs.declared.outputs.ChildOutputDescription.TheVariants.{Split, Combined, NotLoaded}
 use Rattle.rec_events.specs.declared.outputs.ChildOutputDescription.{ChildOutputDescription}

@@ -3,6 +3,8 @@ use Rattle.std.specs.Fmt.{decimal}
 use Rattle.std.specs.Option.{option_eq}
 use Rattle.std.specs.Prelude.{ℕ, nat_eq, ◌&&◌, Bool, false, List, [], ◌∷◌, ◌++◌, codes, Option, Some, None, option_map, bytes_eq, slice_set, slice_index_or, position}
 use Rattle.rec_events.specs.declared.live_stress.StressIndex.{StressIndex}
+use Rattle.rec_junit.specs.declared.report.JunitCase.{JunitCase}
+use Rattle.rec_junit.specs.declared.report.JunitProperty.{JunitProperty}
 use Rattle.rec_junit.specs.declared.report.JunitSuite.{JunitSuite}
 use Rattle.rec_junit.specs.declared.suite_keys.StressKey.{StressKey}
 use Rattle.rec_junit.specs.declared.suite_keys.SuiteKey.{SuiteKey}
@@ -53,15 +55,16 @@ abbrev pub no_suites : Suites
 no_suites = record { keys = []; suites = [] }
 
 -- a suite with a case more, and with these properties after its own
-abbrev pub with_more : Addition → JunitSuite → JunitSuite
-with_more a s = record { name = s.name; cases = s.cases ++ (a.case ∷ []); properties = s.properties ++ a.properties }
+abbrev pub with_more : JunitCase → List JunitProperty → JunitSuite → JunitSuite
+with_more case properties s = record { name = s.name; cases = s.cases ++ (case ∷ []); properties = s.properties ++ properties }
 
-abbrev pub new_suite : Addition → JunitSuite
-new_suite a = record { name = suite_name a.key; cases = a.case ∷ []; properties = a.properties }
+abbrev pub new_suite : SuiteKey → JunitCase → List JunitProperty → JunitSuite
+new_suite key case properties = record { name = suite_name key; cases = case ∷ []; properties = properties }
 
 abbrev pub with_addition_at : Addition → Suites → Option ℕ → Suites
-with_addition_at a ss None = record { keys = ss.keys ++ (a.key ∷ []); suites = ss.suites ++ (new_suite a ∷ []) }
-with_addition_at a ss (Some i) = record { keys = ss.keys; suites = slice_set ss.suites i (with_more a (slice_index_or ss.suites i (new_suite a))) }
+with_addition_at a ss None = record { keys = ss.keys ++ (a.key ∷ []); suites = ss.suites ++ (new_suite a.key a.case a.properties ∷ []) }
+with_addition_at a ss (Some i) =
+    record { keys = ss.keys; suites = slice_set ss.suites i (with_more a.case a.properties (slice_index_or ss.suites i (new_suite a.key a.case a.properties))) }
 
 -- a case more in the suite of its key, or in a new one at the end
 abbrev pub with_addition : Addition → Suites → Suites

@@ -2,8 +2,10 @@
 ghost use Rattle.std.specs.Prelude.{◌≡◌, ◌++◌, codes, Some, Ok, IfOk, OnOk};
 ghost use Rattle.rec_events.specs.LiveEvents.{kind_name};
 ghost use Rattle.rec_junit.specs.Additions.{addition_of, finished_addition, property, script_addition, script_properties, test_addition, variables};
+ghost use Rattle.rec_junit.specs.Cases.{script_case};
 ghost use Rattle.rec_junit.specs.Failing.{script_unit};
 ghost use Rattle.rec_junit.specs.Judging.{Judges};
+ghost use Rattle.rec_junit.specs.Suites.{suite_name};
 
 use crate::failing::{script_unit, test_unit};
 use crate::other_cases::skipped_case;
@@ -87,14 +89,27 @@ fn script_addition<D: ErrorDescriber>(
     requires unit { maker.now.unit.now ≡ script_unit }
     ensures { Judges result (script_addition (D.text_of maker.now.describer.now) maker.now.storing key script.now program.now args.now ran.now) }
 {
-    let suite = key.suite_name(maker.alloc)?;
-    let case = maker.script_case(script, suite.as_str(), ran)?;
     let properties = script_properties(maker.alloc, program, args, &ran.env_map)?;
+    let case = case_in_suite(maker, &key, script, ran)?;
     Ok(Some(Addition {
         key,
         case,
         properties,
     }))
+}
+
+/// Makes the case of a finished setup script, in the suite of this key.
+fn case_in_suite<D: ErrorDescriber>(
+    maker: &CaseMaker<'_, D>,
+    key: &SuiteKey,
+    script: &ScriptId,
+    ran: &SetupScriptExecuteStatus<LiveSpec>,
+) -> Result<JunitCase, JunitError>
+    requires unit { maker.now.unit.now ≡ script_unit }
+    ensures { Judges result (script_case (D.text_of maker.now.describer.now) maker.now.storing script.now (suite_name key.now) ran.now) }
+{
+    let suite = key.suite_name(maker.alloc)?;
+    maker.script_case(script, suite.as_str(), ran)
 }
 
 /// Makes what a finished test adds.
@@ -204,11 +219,9 @@ fn script_properties(
 ) -> Result<Items<JunitProperty>, AllocError>
     ensures { IfOk result (λ properties. properties ≡ script_properties program.now args.now env_map.now) }
 {
-    let command = program.try_clone(alloc)?;
-    let args = join_texts(alloc, args)?;
     let mut properties = Vec::new(alloc);
-    properties.push(property(alloc, "command", command)?)?;
-    properties.push(property(alloc, "args", args)?)?;
+    properties.push(property(alloc, "command", program.try_clone(alloc)?)?)?;
+    properties.push(property(alloc, "args", join_texts(alloc, args)?)?)?;
     if let Some(env_map) = env_map {
         put_variables(alloc, &mut properties, env_map)?;
     }

@@ -1,6 +1,6 @@
 //! What a report says of an attempt that failed.
-ghost use Rattle.std.specs.Prelude.{◌≡◌, ◌∷◌, Option, IfOk, codes};
 ghost use Rattle.std.specs.List.{join_by};
+ghost use Rattle.std.specs.Prelude.{◌≡◌, ◌∷◌, Option, IfOk, codes};
 ghost use Rattle.rec_junit.specs.declared.describer.ErrorText.{ErrorText};
 ghost use Rattle.rec_junit.specs.Describing.{Execution, errors_text, plain_text};
 

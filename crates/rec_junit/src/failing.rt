@@ -1,10 +1,10 @@
 //! How a result is reported that is no success.
 ghost use Rattle.std.specs.Prelude.{◌≡◌, Some, IfOk, codes};
 ghost use Rattle.rec_events.specs.declared.results.ExecutionResultDescription.TheVariants.{Leak, Fail, Timeout};
-ghost use Rattle.rec_junit.specs.Failing.{failing, failure_text, leaked_note, script_unit, test_unit};
-ghost use Rattle.rec_junit.specs.Judging.{Judges, or_refused};
 ghost use Rattle.rec_junit.specs.declared.errors.JunitError.TheVariants.{SuccessAsFailure};
 ghost use Rattle.rec_junit.specs.declared.report.JunitKind.TheVariants.{Error};
+ghost use Rattle.rec_junit.specs.Failing.{failing, failure_text, leaked_note, script_unit, test_unit};
+ghost use Rattle.rec_junit.specs.Judging.{Judges, or_refused};
 
 use crate::{JunitError, JunitKind};
 use rec_events::{

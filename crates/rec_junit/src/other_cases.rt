@@ -1,13 +1,14 @@
 //! The cases of setup scripts, and of tests that don't run.
 ghost use Rattle.std.specs.Prelude.{◌≡◌, IfOk};
 ghost use Rattle.rec_events.specs.Results.{succeeded};
-ghost use Rattle.rec_junit.specs.Cases.{reason_text, script_case, script_status_by, skipped_case};
+ghost use Rattle.rec_junit.specs.Cases.{judged_script, reason_text, script_case, script_status_by, skipped_case};
 ghost use Rattle.rec_junit.specs.Failing.{script_unit};
 ghost use Rattle.rec_junit.specs.Judging.{Judges};
 
 use crate::failing::failing;
 use crate::reruns::{CaseMaker, split_text};
-use crate::stored_outputs::stored_output;
+use crate::stored_outputs::StoredOutput;
+use crate::test_cases::with_output;
 use crate::{ErrorDescriber, JunitCase, JunitError, JunitRerunKind, JunitStatus};
 use rec_events::{
     Duration, Items, LiveSpec, MismatchReason, ScriptId, SetupScriptExecuteStatus, TestInstanceId,
@@ -31,12 +32,9 @@ impl<D: ErrorDescriber> CaseMaker<'_, D> {
         requires unit { self.now.unit.now ≡ script_unit }
         ensures { Judges result (script_case (D.text_of self.now.describer.now) self.now.storing script.now suite.now ran.now) }
     {
-        let has_passed = ran.result.is_success();
-        let status = self.script_status(has_passed, ran)?;
-        let is_stored = self.storing.holds(!has_passed);
-        let output = stored_output(self.alloc, is_stored, &ran.output)?;
         let name = Text::from_str(self.alloc, script.as_str())?;
         let classname = Text::from_str(self.alloc, suite)?;
+        let (status, output) = self.judged_script(ran.result.is_success(), ran)?;
         Ok(JunitCase {
             name,
             classname,
@@ -46,6 +44,24 @@ impl<D: ErrorDescriber> CaseMaker<'_, D> {
             system_out: output.system_out,
             system_err: output.system_err,
         })
+    }
+
+    /// Says how a setup script ended, and then what it wrote.
+    fn judged_script(
+        &self,
+        has_passed: bool,
+        ran: &SetupScriptExecuteStatus<LiveSpec>,
+    ) -> Result<(JunitStatus, StoredOutput), JunitError>
+        requires unit { self.now.unit.now ≡ script_unit }
+        ensures { Judges result (judged_script has_passed (D.text_of self.now.describer.now) self.now.storing ran.now) }
+    {
+        let status = self.script_status(has_passed, ran)?;
+        with_output(
+            self.alloc,
+            status,
+            self.storing.holds(!has_passed),
+            &ran.output,
+        )
     }
 
     /// Says how a setup script ended.

@@ -1,6 +1,6 @@
 //! Words as a shell reads them.
-ghost use Rattle.std.specs.Prelude.{◌≡◌, ◌++◌, ℕ, List, IfOk, OnOk, string_bytes};
 ghost use Rattle.std.specs.List.{flat_map};
+ghost use Rattle.std.specs.Prelude.{◌≡◌, ◌++◌, ℕ, List, IfOk, OnOk, string_bytes};
 ghost use Rattle.std.specs.Str.{chars};
 ghost use Rattle.rec_junit.specs.Shell.{are_plain, is_plain, is_plain_word, quoted, shell_word, shell_words, within_quotes};
 

@@ -1,6 +1,8 @@
 //! The suites of a run, in the order in which they first got a case.
-ghost use Rattle.std.specs.Prelude.{◌≡◌, ◌<◌, ◌++◌, ◌∷◌, [], length, slice_index_or, slice_set, position, false, None, is_some, OnOk, OnErr, IfOk, IfSome};
 ghost use Rattle.std.specs.List.{list_any};
+ghost use Rattle.std.specs.Prelude.{◌≡◌, ◌<◌, ◌++◌, ◌∷◌, [], length, slice_index_or, slice_set, position, false, None, is_some, OnOk, OnErr, IfOk, IfSome};
+ghost use Rattle.std.specs.Vec.{vec_len, vec_capacity};
+ghost use Rattle.indexmap.specs.IndexSet.{spare};
 ghost use Rattle.rec_junit.specs.Suites.{new_suite, no_suites, same_key, with_addition, with_addition_at, with_more};
 
 use crate::suite_keys::SuiteKey;
@@ -80,25 +82,52 @@ fn add_suite(
 ) -> Result<(), AllocError>
     requires new { list_any (same_key addition.key) keys.old.keys ≡ false }
     ensures key { OnOk result (keys.new.keys ≡ keys.old.keys ++ (addition.key ∷ [])) }
-    ensures suite { OnOk result (suites.new.items ≡ suites.old.items ++ (new_suite addition ∷ [])) }
+    ensures suite { OnOk result (suites.new.items ≡ suites.old.items ++ (new_suite addition.key addition.case addition.properties ∷ [])) }
     ensures no_key { OnErr result (keys.new.keys ≡ keys.old.keys) }
     ensures no_suite { OnErr result (suites.new.items ≡ suites.old.items) }
 {
-    let name = addition.key.suite_name(alloc)?;
     let Addition {
         key,
         case,
         properties,
     } = addition;
-    let suite = JunitSuite {
-        name,
-        cases: one_item(alloc, case)?,
-        properties,
+    let suite = new_suite(alloc, &key, case, properties)?;
+    let Ok(()) = make_room(keys, suites) else {
+        drop(suite);
+        return Err(AllocError);
     };
-    keys.reserve(1)?;
-    suites.push(suite)?;
+    suites.push(suite).unwrap();
     let _ = keys.insert(key).unwrap();
     Ok(())
+}
+
+/// Makes room for one suite more.
+fn make_room(keys: &mut IndexSet<SuiteKey>, suites: &mut Vec<JunitSuite>) -> Result<(), AllocError>
+    ensures keys { keys.new.keys ≡ keys.old.keys }
+    ensures suites { suites.new.items ≡ suites.old.items }
+    ensures spare { OnOk result (0 < spare keys.new) }
+    ensures room { OnOk result (vec_len suites.new < vec_capacity suites.new) }
+{
+    keys.reserve(1)?;
+    suites.reserve(1)
+}
+
+/// Makes a suite of one case.
+fn new_suite(
+    alloc: Global,
+    key: &SuiteKey,
+    case: JunitCase,
+    properties: Items<JunitProperty>,
+) -> Result<JunitSuite, AllocError>
+    ensures { IfOk result (λ suite. suite ≡ new_suite key.now case properties) }
+{
+    let cases = one_item(alloc, case)?;
+    let name = key.suite_name(alloc)?;
+    Ok(JunitSuite {
+        name,
+        cases,
+        properties,
+    })
 }
 
 /// Makes the list of one case.
@@ -127,23 +156,33 @@ fn add_more(
     addition: Addition,
 ) -> Result<(), AllocError>
     requires { place < length suites.old.items }
-    ensures added { (d : _) → OnOk result (suites.new.items ≡ slice_set suites.old.items place (with_more addition (slice_index_or suites.old.items place d))) }
+    ensures added { (d : _) → OnOk result (suites.new.items ≡ slice_set suites.old.items place (with_more addition.case addition.properties (slice_index_or suites.old.items place d))) }
     ensures unchanged { OnErr result (suites.new.items ≡ suites.old.items) }
     ensures count { length suites.new.items ≡ length suites.old.items }
 {
-    extend_suite(alloc, &mut suites[place], addition)
+    let Addition {
+        case,
+        properties,
+        ..
+    } = addition;
+    extend_suite(alloc, &mut suites[place], case, properties)
 }
 
 /// Adds a case, and properties, to a suite.
-fn extend_suite(alloc: Global, suite: &mut JunitSuite, addition: Addition) -> Result<(), AllocError>
-    ensures added { OnOk result (suite.new ≡ with_more addition suite.old) }
+fn extend_suite(
+    alloc: Global,
+    suite: &mut JunitSuite,
+    case: JunitCase,
+    properties: Items<JunitProperty>,
+) -> Result<(), AllocError>
+    ensures added { OnOk result (suite.new ≡ with_more case properties suite.old) }
     ensures unchanged { OnErr result (suite.new ≡ suite.old) }
 {
     let mut cases = taken(alloc, &mut suite.cases);
-    let mut properties = taken(alloc, &mut suite.properties);
-    let result = extend(&mut cases, &mut properties, addition);
+    let mut all_properties = taken(alloc, &mut suite.properties);
+    let result = extend(&mut cases, &mut all_properties, case, properties);
     suite.cases = Items::new(cases);
-    suite.properties = Items::new(properties);
+    suite.properties = Items::new(all_properties);
     result
 }
 
@@ -158,16 +197,34 @@ fn taken<T: Drop>(alloc: Global, items: &mut Items<T>) -> Vec<T>
 fn extend(
     cases: &mut Vec<JunitCase>,
     properties: &mut Vec<JunitProperty>,
-    addition: Addition,
+    case: JunitCase,
+    more: Items<JunitProperty>,
 ) -> Result<(), AllocError>
-    ensures case { OnOk result (cases.new.items ≡ cases.old.items ++ (addition.case ∷ [])) }
-    ensures properties { OnOk result (properties.new.items ≡ properties.old.items ++ addition.properties) }
+    ensures case { OnOk result (cases.new.items ≡ cases.old.items ++ (case ∷ [])) }
+    ensures properties { OnOk result (properties.new.items ≡ properties.old.items ++ more) }
     ensures no_case { OnErr result (cases.new.items ≡ cases.old.items) }
     ensures no_properties { OnErr result (properties.new.items ≡ properties.old.items) }
 {
-    let mut more = addition.properties.into_vec();
-    cases.reserve(1)?;
-    properties.append(&mut more)?;
-    cases.push(addition.case).unwrap();
+    let Ok(()) = extend_properties(cases, properties, more) else {
+        drop(case);
+        return Err(AllocError);
+    };
+    cases.push(case).unwrap();
     Ok(())
+}
+
+/// Adds properties to some, where there is room for one case more too.
+fn extend_properties(
+    cases: &mut Vec<JunitCase>,
+    properties: &mut Vec<JunitProperty>,
+    more: Items<JunitProperty>,
+) -> Result<(), AllocError>
+    ensures cases { cases.new.items ≡ cases.old.items }
+    ensures room { OnOk result (vec_len cases.new < vec_capacity cases.new) }
+    ensures properties { OnOk result (properties.new.items ≡ properties.old.items ++ more) }
+    ensures no_properties { OnErr result (properties.new.items ≡ properties.old.items) }
+{
+    let mut more = more.into_vec();
+    cases.reserve(1)?;
+    properties.append(&mut more)
 }

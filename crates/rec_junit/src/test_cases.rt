@@ -1,23 +1,23 @@
 //! The cases of finished tests.
 ghost use Rattle.std.specs.Prelude.{◌≡◌, IfOk, Some, string_bytes};
-ghost use Rattle.rec_events.specs.Results.{flaky_text};
 ghost use Rattle.rec_events.specs.declared.reporting.JunitFlakyFailStatus.TheVariants as reported;
 ghost use Rattle.rec_events.specs.declared.results.FlakyResult.TheVariants as flaky;
+ghost use Rattle.rec_events.specs.Results.{flaky_text};
 ghost use Rattle.rec_junit.specs.Attempts.{attempts_in, has_failed, main_of};
-ghost use Rattle.rec_junit.specs.Cases.{failed_test, flaky_status, stores, test_case, test_status};
+ghost use Rattle.rec_junit.specs.Cases.{failed_test, flaky_status, judged_test, stores, test_case, test_status, with_output};
 ghost use Rattle.rec_junit.specs.Judging.{Judges};
 
 use crate::failing::failing;
 use crate::reruns::{CaseMaker, Storing, split_text};
-use crate::stored_outputs::stored_output;
+use crate::stored_outputs::{StoredOutput, stored_output};
 use crate::{
     ErrorDescriber, JunitCase, JunitError, JunitKind, JunitRerun, JunitRerunKind, JunitStatus,
 };
 use rec_events::{
-    ExecuteStatus, ExecutionDescription, FlakyResult, Items, JunitFlakyFailStatus, LiveSpec,
-    TestInstanceId, Text,
+    ChildExecutionOutputDescription, ExecuteStatus, ExecutionDescription, FlakyResult, Items,
+    JunitFlakyFailStatus, LiveSpec, TestInstanceId, Text,
 };
-use std::alloc::AllocError;
+use std::alloc::{AllocError, Global};
 
 impl Storing {
     /// Returns whether the output of a case is held that failed, or did not.
@@ -52,12 +52,10 @@ impl<D: ErrorDescriber> CaseMaker<'_, D> {
     ) -> Result<JunitCase, JunitError>
         ensures { Judges result (test_case self.now.unit.now (D.text_of self.now.describer.now) self.now.storing test.now flaky_result fail_status (attempts_in attempts.now)) }
     {
-        let status = self.test_status(flaky_result, fail_status, attempts)?;
         let main = main_of(attempts);
-        let is_stored = self.storing.holds(has_failed(attempts));
-        let output = stored_output(self.alloc, is_stored, &main.output)?;
         let name = Text::from_str(self.alloc, test.test_name.as_str())?;
         let classname = Text::from_str(self.alloc, test.binary_id.as_str())?;
+        let (status, output) = self.judged_test(flaky_result, fail_status, attempts)?;
         Ok(JunitCase {
             name,
             classname,
@@ -67,6 +65,20 @@ impl<D: ErrorDescriber> CaseMaker<'_, D> {
             system_out: output.system_out,
             system_err: output.system_err,
         })
+    }
+
+    /// Says how a finished test ended, and then what its main attempt wrote.
+    fn judged_test(
+        &self,
+        flaky_result: FlakyResult,
+        fail_status: JunitFlakyFailStatus,
+        attempts: &ExecutionDescription<'_, LiveSpec>,
+    ) -> Result<(JunitStatus, StoredOutput), JunitError>
+        ensures { Judges result (judged_test self.now.unit.now (D.text_of self.now.describer.now) self.now.storing flaky_result fail_status (attempts_in attempts.now)) }
+    {
+        let status = self.test_status(flaky_result, fail_status, attempts)?;
+        let is_stored = self.storing.holds(has_failed(attempts));
+        with_output(self.alloc, status, is_stored, &main_of(attempts).output)
     }
 
     /// Says how a finished test ended.
@@ -174,6 +186,24 @@ impl<D: ErrorDescriber> CaseMaker<'_, D> {
             reruns,
             rerun_kind: JunitRerunKind::Rerun,
         })
+    }
+}
+
+/// Adds to a status what was written, if it is stored.
+pub(crate) fn with_output(
+    alloc: Global,
+    status: JunitStatus,
+    is_stored: bool,
+    execution: &ChildExecutionOutputDescription<LiveSpec>,
+) -> Result<(JunitStatus, StoredOutput), JunitError>
+    ensures { Judges result (with_output status is_stored execution.now) }
+{
+    match stored_output(alloc, is_stored, execution) {
+        Ok(output) => Ok((status, output)),
+        Err(error) => {
+            drop(status);
+            Err(error)
+        }
     }
 }
 

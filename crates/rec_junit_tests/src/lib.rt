@@ -4,6 +4,8 @@
 #[cfg(test)]
 mod made;
 #[cfg(test)]
+mod suites;
+#[cfg(test)]
 mod test_ends;
 #[cfg(test)]
 mod words;

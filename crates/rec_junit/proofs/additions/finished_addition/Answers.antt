@@ -2,8 +2,8 @@ use Rattle.std.proofs.Common.{Some, Ok, refl, sym}
 use Rattle.std.proofs.lemmas.Result.{err_from_is_err_and}
 use Rattle.rec_junit.proofs.additions.finished_addition.Goals as goal
 use Rattle.rec_junit.proofs.Attempts.{described}
-use Rattle.rec_junit.specs.Additions.{test_addition}
 use Rattle.rec_junit.proofs.Judged.{refused_before}
+use Rattle.rec_junit.specs.Additions.{test_addition}
 
 pub returns-in_err-case : goal.returns-in_err-case
 returns-in_err-case g c =
