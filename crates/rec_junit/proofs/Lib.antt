@@ -1,0 +1,4 @@
+pub mod Keys
+pub mod Attempts
+pub mod Judged
+pub mod Whole

@@ -1,0 +1,12 @@
+pub mod Shell
+pub mod Describing
+pub mod Judging
+pub mod Failing
+pub mod StoredOutputs
+pub mod Reruns
+pub mod Attempts
+pub mod Cases
+pub mod Suites
+pub mod Additions
+pub mod Histories
+pub mod Values

@@ -1,0 +1,301 @@
+//! Events of a run, made of short texts, and what a report says of them.
+
+use rec_events::{
+    ChildExecutionOutputDescription, ChildOutputDescription, ChildSingleOutput, Duration,
+    ExecuteStatus, ExecutionResultDescription, ExecutionStatuses, FailureDescription, FlakyResult,
+    Items, JunitFlakyFailStatus, LeakTimeoutResult, LiveSpec, NextestRunMode, NonEmpty,
+    OwnedTestInstanceId, ReportUuid, RetryData, RunFinishedStats, RunStats, RustBinaryId,
+    SlowTimeoutResult, Stamp, StressIndex, TestCaseName, TestEvent, TestEventKind,
+    TestOutputDisplay, Text,
+};
+use rec_junit::{ErrorDescriber, JunitBuilder, JunitError, report_to_value};
+use serde_json::Value;
+use std::alloc::{AllocError, Global};
+use std::test::Fail;
+use uuid::Uuid;
+
+/// A second after the beginning of 1970.
+pub(crate) fn instant(secs: i64) -> Stamp {
+    Stamp {
+        secs,
+        nanos: 0,
+        offset: 0,
+    }
+}
+
+/// Some seconds.
+pub(crate) fn seconds(secs: u64) -> Duration {
+    Duration { secs, nanos: 0 }
+}
+
+/// An event of this kind, at second 1000.
+pub(crate) fn event(kind: TestEventKind<'_>) -> TestEvent<'_> {
+    TestEvent {
+        timestamp: instant(1000),
+        elapsed: seconds(0),
+        kind,
+    }
+}
+
+/// A test of a binary.
+pub(crate) fn test(
+    alloc: Global,
+    binary: &str,
+    name: &str,
+) -> Result<OwnedTestInstanceId, AllocError> {
+    Ok(OwnedTestInstanceId {
+        binary_id: RustBinaryId::new(String::from_str(alloc, binary)?),
+        test_name: TestCaseName::new(String::from_str(alloc, name)?),
+    })
+}
+
+/// How an attempt ended: `p` passed; `l` and `L` left an output open, and count as passed and as
+/// failed; `c` and `C` failed with exit code 101, the second with an output left open; `a` and `A` were
+/// aborted; `t` and `T` were stopped for their time, and count as passed and as failed; any other could
+/// not be started.
+pub(crate) fn ending(letter: u8) -> ExecutionResultDescription {
+    match letter {
+        b'p' => ExecutionResultDescription::Pass,
+        b'l' => ExecutionResultDescription::Leak {
+            result: LeakTimeoutResult::Pass,
+        },
+        b'L' => ExecutionResultDescription::Leak {
+            result: LeakTimeoutResult::Fail,
+        },
+        b'c' => exit_code(false),
+        b'C' => exit_code(true),
+        b'a' => abort(false),
+        b'A' => abort(true),
+        b't' => ExecutionResultDescription::Timeout {
+            result: SlowTimeoutResult::Pass,
+        },
+        b'T' => ExecutionResultDescription::Timeout {
+            result: SlowTimeoutResult::Fail,
+        },
+        _ => ExecutionResultDescription::ExecFail,
+    }
+}
+
+fn exit_code(leaked: bool) -> ExecutionResultDescription {
+    ExecutionResultDescription::Fail {
+        failure: FailureDescription::ExitCode { code: 101 },
+        leaked,
+    }
+}
+
+fn abort(leaked: bool) -> ExecutionResultDescription {
+    ExecutionResultDescription::Fail {
+        failure: FailureDescription::Abort {
+            signal: 6,
+            name: None,
+        },
+        leaked,
+    }
+}
+
+/// What came of a process: `s` wrote to both streams, `o` and `e` to one that was captured, `b` to both
+/// combined, `u` what is no UTF-8; `n` was not loaded; `E` had errors; any other could not be started.
+pub(crate) fn output(
+    alloc: Global,
+    letter: u8,
+) -> Result<ChildExecutionOutputDescription<LiveSpec>, AllocError> {
+    let output = match letter {
+        b's' => split(
+            Some(bytes(alloc, b"stdout")?),
+            Some(bytes(alloc, b"stderr")?),
+        ),
+        b'o' => split(Some(bytes(alloc, b"stdout")?), None),
+        b'e' => split(None, Some(bytes(alloc, b"stderr")?)),
+        b'b' => ChildOutputDescription::Combined {
+            output: bytes(alloc, b"both")?,
+        },
+        b'u' => split(Some(bytes(alloc, b"a\xFFb")?), Some(bytes(alloc, b"")?)),
+        b'n' => ChildOutputDescription::NotLoaded,
+        b'E' => split(None, None),
+        _ => {
+            let message = Text::from_str(alloc, "no such file")?;
+            return Ok(ChildExecutionOutputDescription::StartError { message });
+        }
+    };
+    let errors = if letter == b'E' {
+        Some(errors(alloc)?)
+    } else {
+        None
+    };
+    Ok(ChildExecutionOutputDescription::Output {
+        result: None,
+        output,
+        errors,
+    })
+}
+
+fn split(
+    stdout: Option<ChildSingleOutput>,
+    stderr: Option<ChildSingleOutput>,
+) -> ChildOutputDescription {
+    ChildOutputDescription::Split { stdout, stderr }
+}
+
+fn bytes(alloc: Global, bytes: &[u8]) -> Result<ChildSingleOutput, AllocError> {
+    Ok(ChildSingleOutput::new(bytes.to_vec(alloc)?))
+}
+
+fn errors(alloc: Global) -> Result<Items<Text>, AllocError> {
+    let mut errors = Vec::new(alloc);
+    errors.push(Text::from_str(alloc, "first")?)?;
+    errors.push(Text::from_str(alloc, "second")?)?;
+    Ok(Items::new(errors))
+}
+
+/// The attempt of this number, which began at that second and took so long.
+fn attempt(
+    alloc: Global,
+    number: u32,
+    ended: u8,
+    wrote: u8,
+) -> Result<ExecuteStatus<LiveSpec>, AllocError> {
+    Ok(ExecuteStatus {
+        retry_data: RetryData {
+            attempt: number,
+            total_attempts: 3,
+        },
+        output: output(alloc, wrote)?,
+        result: ending(ended),
+        start_time: instant(number as i64),
+        time_taken: seconds(number as u64),
+        is_slow: false,
+        delay_before_start: seconds(0),
+        error_summary: None,
+        output_error_slice: None,
+    })
+}
+
+/// The attempts that ended and wrote so, numbered from 1.
+fn attempts(
+    alloc: Global,
+    ended: &str,
+    wrote: &str,
+    flaky_result: FlakyResult,
+) -> Result<ExecutionStatuses<LiveSpec>, AllocError> {
+    let mut statuses = Vec::new(alloc);
+    let mut number = 0;
+    for (ended, wrote) in ended.as_bytes().iter().zip(wrote.as_bytes()) {
+        number = u32::wrapping_add(number, 1);
+        statuses.push(attempt(alloc, number, *ended, *wrote)?)?;
+    }
+    match NonEmpty::from_items(Items::new(statuses)) {
+        Some(statuses) => Ok(ExecutionStatuses {
+            statuses,
+            flaky_result,
+        }),
+        None => Err(AllocError),
+    }
+}
+
+/// The end of a test whose attempts ended and wrote so. `f` in the flags says that it counts as failed
+/// where it is flaky, `s` that it is then reported as a success, `+` and `-` that outputs of successes
+/// and of failures are stored.
+pub(crate) fn finished<'a>(
+    alloc: Global,
+    test: &'a OwnedTestInstanceId,
+    stress_index: Option<StressIndex>,
+    ended: &str,
+    wrote: &str,
+    flags: &str,
+) -> Result<TestEvent<'a>, AllocError> {
+    let flaky_result = if flags.contains('f') {
+        FlakyResult::Fail
+    } else {
+        FlakyResult::Pass
+    };
+    let junit_flaky_fail_status = if flags.contains('s') {
+        JunitFlakyFailStatus::Success
+    } else {
+        JunitFlakyFailStatus::Failure
+    };
+    let run_statuses = attempts(alloc, ended, wrote, flaky_result)?;
+    Ok(event(TestEventKind::TestFinished {
+        stress_index,
+        test_instance: test.as_id(),
+        success_output: TestOutputDisplay::Never,
+        failure_output: TestOutputDisplay::Never,
+        junit_store_success_output: flags.contains('+'),
+        junit_store_failure_output: flags.contains('-'),
+        junit_flaky_fail_status,
+        run_statuses,
+        current_stats: RunStats::zero(),
+        running: 0,
+    }))
+}
+
+/// The end of the run, which began at second 7 and took 9 seconds.
+pub(crate) fn run_end() -> TestEvent<'static> {
+    event(TestEventKind::RunFinished {
+        run_id: ReportUuid::new(Uuid::nil()),
+        start_time: instant(7),
+        elapsed: seconds(9),
+        run_stats: RunFinishedStats::Single(RunStats::zero()),
+        outstanding_not_seen: None,
+    })
+}
+
+/// The name of a refusal.
+pub(crate) fn name_of(error: JunitError) -> &'static str {
+    match error {
+        JunitError::NotLoadedOutput => "NotLoadedOutput",
+        JunitError::SuccessAsFailure => "SuccessAsFailure",
+        JunitError::OutOfMemory => "OutOfMemory",
+    }
+}
+
+/// Writes an event, and answers the name of its refusal, or `accepted`, or `report`.
+pub(crate) fn written<D: ErrorDescriber>(
+    builder: &mut JunitBuilder<'_, D>,
+    event: &TestEvent<'_>,
+) -> &'static str {
+    match builder.write_event(event) {
+        Ok(Some(report)) => {
+            drop(report);
+            "report"
+        }
+        Ok(None) => "accepted",
+        Err(error) => name_of(error),
+    }
+}
+
+/// Ends the run, and answers the value of its report.
+pub(crate) fn ended<D: ErrorDescriber>(
+    alloc: Global,
+    builder: &mut JunitBuilder<'_, D>,
+) -> Result<Value, Fail> {
+    let end = run_end();
+    let answer = builder.write_event(&end);
+    drop(end);
+    match answer {
+        Ok(Some(report)) => {
+            let value = report_to_value(alloc, &report);
+            drop(report);
+            Ok(value?)
+        }
+        Ok(None) => Ok(Value::Null),
+        Err(error) => Err(error.into()),
+    }
+}
+
+/// Makes a builder whose reports are named `run`.
+pub(crate) fn builder<'d, D: ErrorDescriber>(
+    alloc: Global,
+    mode: NextestRunMode,
+    describer: &'d D,
+) -> Result<JunitBuilder<'d, D>, AllocError> {
+    let name = String::from_str(alloc, "run")?;
+    Ok(JunitBuilder::new(alloc, mode, name, describer))
+}
+
+/// The text of the value at a path of a report, empty where there is none.
+pub(crate) fn text_at(alloc: Global, value: &Value, path: &str) -> Result<String, AllocError> {
+    match value.pointer(path) {
+        Some(value) => value.to_string(alloc),
+        None => Ok(String::new(alloc)),
+    }
+}
