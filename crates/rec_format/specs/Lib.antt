@@ -11,6 +11,8 @@ pub mod VersionForms
 pub mod VersionFormLaws
 pub mod SizeForms
 pub mod SizeFormLaws
+pub mod StatsForms
+pub mod StatsFormLaws
 pub mod StatusForms
 pub mod StatusFormLaws
 pub mod ScopeForms

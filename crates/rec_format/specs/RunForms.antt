@@ -8,10 +8,12 @@ use Rattle.rec_format.specs.declared.forms.parts.Identity.{Identity}
 use Rattle.rec_format.specs.declared.forms.parts.Invocation.{Invocation}
 use Rattle.rec_format.specs.declared.manifest.PortableManifest.{PortableManifest}
 use Rattle.rec_format.specs.declared.run.RecordedRun.{RecordedRun}
+use Rattle.rec_format.specs.declared.run.RecordedRunInfo.{RecordedRunInfo}
 use Rattle.rec_format.specs.PartForms.{identity_fields, identity_form, IsIdentity, invocation_fields, invocation_form, IsInvocation}
-use Rattle.rec_format.specs.SizeForms.{sizes_format_value, sizes_format_form, IsSizesFormat}
-use Rattle.rec_format.specs.StatusForms.{status_format_value, status_format_form, IsStatusFormat}
-use Rattle.rec_format.specs.VersionForms.{IsNumber, portable_version_value, portable_version_form, IsPortableVersion}
+use Rattle.rec_format.specs.Runs.{run_of}
+use Rattle.rec_format.specs.SizeForms.{sizes_value, sizes_form, AreSizes, sizes_format_value, sizes_format_form, IsSizesFormat}
+use Rattle.rec_format.specs.StatusForms.{status_value, status_form, IsStatus, status_format_value, status_format_form, IsStatusFormat}
+use Rattle.rec_format.specs.VersionForms.{IsNumber, store_version_value, store_version_form, IsStoreVersion, portable_version_value, portable_version_form, IsPortableVersion}
 
 abbrev pub run_identity : RecordedRun → Identity
 run_identity r = record {
@@ -68,6 +70,56 @@ pub record IsRun (r : RecordedRun) : Type 0 where
   pub store_format_minor_version : IsNumber r.store_format_minor_version
   pub sizes : IsSizesFormat r.sizes
   pub status : IsStatusFormat r.status
+
+-- ---- of the information on a run
+
+abbrev pub info_identity : RecordedRunInfo → Identity
+info_identity i = run_identity (run_of i)
+
+abbrev pub info_invocation : RecordedRunInfo → Invocation
+info_invocation i = run_invocation (run_of i)
+
+-- the version of its store, its sizes and how it ended
+abbrev pub info_fields : RecordedRunInfo → List Field
+info_fields i =
+    field (codes "store-format-version") (store_version_value i.store_format_version)
+    ∷ field (codes "sizes") (sizes_value i.sizes)
+    ∷ field (codes "status") (status_value i.status)
+    ∷ []
+
+abbrev pub info_value : RecordedRunInfo → Data
+info_value i = struct (identity_fields (info_identity i) ++ invocation_fields (info_invocation i) ++ info_fields i)
+
+unfoldable pub info_form : Data → Option RecordedRunInfo
+info_form d = do
+  ms ← as_object d
+  store_format_version ← required store_version_form (codes "store-format-version") ms
+  sizes ← required sizes_form (codes "sizes") ms
+  status ← required status_form (codes "status") ms
+  i ← identity_form ms
+  v ← invocation_form ms
+  Some (record {
+    run_id = i.run_id;
+    store_format_version = store_format_version;
+    nextest_version = i.nextest_version;
+    started_at = i.started_at;
+    last_written_at = i.last_written_at;
+    duration = i.duration;
+    cli_args = v.cli_args;
+    env_vars = v.env_vars;
+    parent_run_id = v.parent_run_id;
+    sizes = sizes;
+    status = status;
+  })
+
+pub record IsInfo (i : RecordedRunInfo) : Type 0 where
+  pub identity : IsIdentity (info_identity i)
+  pub invocation : IsInvocation (info_invocation i)
+  pub store_format_version : IsStoreVersion i.store_format_version
+  pub sizes : AreSizes i.sizes
+  pub status : IsStatus i.status
+
+-- ---- of a manifest
 
 abbrev pub manifest_value : PortableManifest → Data
 manifest_value m = struct (field (codes "format-version") (portable_version_value m.format_version) ∷ field (codes "run") (run_value m.run) ∷ [])

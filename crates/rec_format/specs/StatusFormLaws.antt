@@ -2,27 +2,29 @@
 use Rattle.std.proofs.Common.{ap, ◌∙◌}
 use Rattle.std.specs.List.{AllByRecursion}
 use Rattle.std.specs.Option.{option_map_or}
-use Rattle.std.specs.Prelude.{◌≡◌, ℕ, List, Some, option_map, refl, None, Option, codes}
-use Rattle.serde_json.specs.Data.{Members}
+use Rattle.std.specs.Prelude.{◌≡◌, ℕ, List, ◌∷◌, Some, option_map, refl, None, Option, codes}
+use Rattle.serde_json.specs.Data.{string, Members}
 use Rattle.serde_json.specs.Find.{as_str}
 use Rattle.rec_events.specs.Names.{IsText}
 use Rattle.rec_forms.specs.GivesWellFormed.{Holds, GivesWellFormed}
 use Rattle.rec_forms.specs.ListLaws.{maybe_back}
 use Rattle.rec_forms.specs.Members.{get_member-members_of}
-use Rattle.rec_forms.specs.NumberLaws.{u32_back, u64_back, i32_back, count_back, u32_writable, i32_writable, count_writable, count_well_formed, i32_well_formed, u32_well_formed, u64_well_formed}
-use Rattle.rec_forms.specs.Numbers.{count_form, IsCount, i32_form, u32_form, u64_form}
-use Rattle.rec_forms.specs.Shape.{natural, named}
+use Rattle.rec_forms.specs.NumberLaws.{u32_back, u64_back, i32_back, count_back, count_writable}
+use Rattle.rec_forms.specs.Numbers.{count_form, IsCount}
+use Rattle.rec_forms.specs.Shape.{natural, field, named}
 use Rattle.rec_forms.specs.TextLaws.{IsText-are_ascii}
-use Rattle.rec_forms.specs.WellFormedLaws.{any_well_formed, map_holds, object_then, required_then, maybe_then, named_holds}
-use Rattle.rec_forms.specs.Writable.{IsWritable, struct_writable, natural_writable, string_writable, optional_writable}
+use Rattle.rec_forms.specs.WellFormedLaws.{any_well_formed, map_holds, object_then, required_then, named_holds}
+use Rattle.rec_forms.specs.Writable.{IsWritable, struct_writable, string_writable}
 use Rattle.rec_format.specs.declared.status.CompletedRunStats.{CompletedRunStats}
 use Rattle.rec_format.specs.declared.status.RecordedRunStatus.TheVariants.{Incomplete, Completed, Cancelled, StressCompleted, StressCancelled, Unknown}
 use Rattle.rec_format.specs.declared.status.RecordedRunStatus.{RecordedRunStatus}
 use Rattle.rec_format.specs.declared.status.RecordedRunStatusFormat.TheVariants as format
 use Rattle.rec_format.specs.declared.status.RecordedRunStatusFormat.{RecordedRunStatusFormat}
 use Rattle.rec_format.specs.declared.status.StressCompletedRunStats.{StressCompletedRunStats}
+use Rattle.rec_format.specs.StatsFormLaws.{completed_written, stress_written, completed_well_formed, stress_well_formed}
+use Rattle.rec_format.specs.StatsForms.{completed_fields, completed_form, AreCompleted, stress_fields, stress_form, AreStress}
 use Rattle.rec_format.specs.Status.{status_format, status_of}
-use Rattle.rec_format.specs.StatusForms.{bare_value, completed_value, completed_form, stress_value, stress_form, status_value, status_form, IsStatus, status_format_value, status_format_form, IsStatusFormat, AreCompleted, AreStress, statuses}
+use Rattle.rec_format.specs.StatusForms.{bare_value, completed_value, stress_value, status_value, status_form, IsStatus, status_format_value, status_format_form, IsStatusFormat, statuses}
 
 pub status_back : (s : RecordedRunStatus) → IsStatus s → status_form (status_value s) ≡ Some s
 unfolding status_form completed_form stress_form
@@ -53,36 +55,10 @@ bare_writable : (name : List ℕ) → IsText name → IsWritable 1 (bare_value n
 bare_writable name text = struct_writable _ refl (string_writable name text, tt)
 
 completed_writable : (name : List ℕ) (s : CompletedRunStats) → IsText name → AreCompleted s → IsWritable 1 (completed_value name s)
-completed_writable name s text h =
-    struct_writable _ refl (
-      string_writable name text,
-      (
-        natural_writable s.initial_run_count h.initial_run_count,
-        (
-          natural_writable s.passed h.passed,
-          (
-            natural_writable s.failed h.failed,
-            (i32_writable s.exit_code h.exit_code, tt),
-          ),
-        ),
-      ),
-    )
+completed_writable name s text h = struct_writable (field (codes "status") (string name) ∷ completed_fields s) refl (string_writable name text, completed_written s h)
 
 stress_writable : (name : List ℕ) (s : StressCompletedRunStats) → IsText name → AreStress s → IsWritable 1 (stress_value name s)
-stress_writable name s text h =
-    struct_writable _ refl (
-      string_writable name text,
-      (
-        optional_writable natural count_writable s.initial_iteration_count h.initial_iteration_count,
-        (
-          u32_writable s.success_count h.success_count,
-          (
-            u32_writable s.failed_count h.failed_count,
-            (i32_writable s.exit_code h.exit_code, tt),
-          ),
-        ),
-      ),
-    )
+stress_writable name s text h = struct_writable (field (codes "status") (string name) ∷ stress_fields s) refl (string_writable name text, stress_written s h)
 
 pub status_writable : (s : RecordedRunStatus) → IsStatus s → IsWritable 1 (status_value s)
 status_writable Incomplete h = bare_writable _ (IsText-are_ascii _ refl)
@@ -108,24 +84,6 @@ pub status_format_writable : (f : RecordedRunStatusFormat) → IsStatusFormat f 
 status_format_writable f = status_writable (status_of f)
 
 -- ---- what is read is well-formed
-
-completed_well_formed : (ms : Members) → Holds AreCompleted (completed_form ms)
-unfolding completed_form
-completed_well_formed ms =
-    required_then u64_form (codes "initial-run-count") ms _ u64_well_formed (λ initial_run_count initial_run_count_is.
-    required_then u64_form (codes "passed") ms _ u64_well_formed (λ passed passed_is.
-    required_then u64_form (codes "failed") ms _ u64_well_formed (λ failed failed_is.
-    required_then i32_form (codes "exit-code") ms _ i32_well_formed (λ exit_code exit_code_is.
-    record { is = record { initial_run_count = initial_run_count_is; passed = passed_is; failed = failed_is; exit_code = exit_code_is } }))))
-
-stress_well_formed : (ms : Members) → Holds AreStress (stress_form ms)
-unfolding stress_form
-stress_well_formed ms =
-    maybe_then count_form (codes "initial-iteration-count") ms _ count_well_formed (λ initial_iteration_count initial_iteration_count_is.
-    required_then u32_form (codes "success-count") ms _ u32_well_formed (λ success_count success_count_is.
-    required_then u32_form (codes "failed-count") ms _ u32_well_formed (λ failed_count failed_count_is.
-    required_then i32_form (codes "exit-code") ms _ i32_well_formed (λ exit_code exit_code_is.
-    record { is = record { initial_iteration_count = initial_iteration_count_is; success_count = success_count_is; failed_count = failed_count_is; exit_code = exit_code_is } }))))
 
 -- what stands beside a name gives statuses that are well-formed
 abbrev GivesStatuses : (Members → Option RecordedRunStatus) → Type 0

@@ -1,73 +1,27 @@
 -- The values and forms of statuses.
-use Rattle.std.specs.Int.{w32}
 use Rattle.std.specs.Option.{option_map_or}
-use Rattle.std.specs.Prelude.{ℕ, ◌^◌, ◌<◌, FitsSigned, List, [], ◌∷◌, Option, Some, option_map, IfSome, codes}
+use Rattle.std.specs.Prelude.{ℕ, List, [], ◌∷◌, Option, Some, option_map, codes}
 use Rattle.serde_json.specs.Data.{Data, string, Members}
 use Rattle.serde_json.specs.Find.{as_object, as_str}
-use Rattle.rec_forms.specs.Numbers.{u32_form, u64_form, i32_form, count_form, IsCount}
-use Rattle.rec_forms.specs.Shape.{◌>>=◌, natural, integer, field, optional, struct, required, maybe, named}
+use Rattle.rec_forms.specs.Shape.{◌>>=◌, field, struct, required, named}
 use Rattle.rec_format.specs.declared.status.CompletedRunStats.{CompletedRunStats}
 use Rattle.rec_format.specs.declared.status.RecordedRunStatus.TheVariants.{Incomplete, Completed, Cancelled, StressCompleted, StressCancelled, Unknown}
 use Rattle.rec_format.specs.declared.status.RecordedRunStatus.{RecordedRunStatus}
 use Rattle.rec_format.specs.declared.status.RecordedRunStatusFormat.{RecordedRunStatusFormat}
 use Rattle.rec_format.specs.declared.status.StressCompletedRunStats.{StressCompletedRunStats}
+use Rattle.rec_format.specs.StatsForms.{completed_fields, completed_form, AreCompleted, stress_fields, stress_form, AreStress}
 use Rattle.rec_format.specs.Status.{status_format, status_of}
+
+-- a status with statistics beside it
+abbrev pub completed_value : List ℕ → CompletedRunStats → Data
+completed_value name s = struct (field (codes "status") (string name) ∷ completed_fields s)
+
+abbrev pub stress_value : List ℕ → StressCompletedRunStats → Data
+stress_value name s = struct (field (codes "status") (string name) ∷ stress_fields s)
 
 -- a status alone
 abbrev pub bare_value : List ℕ → Data
 bare_value name = struct (field (codes "status") (string name) ∷ [])
-
--- a status with statistics beside it
-abbrev pub completed_value : List ℕ → CompletedRunStats → Data
-completed_value name s = struct (
-    field (codes "status") (string name)
-    ∷ field (codes "initial-run-count") (natural s.initial_run_count)
-    ∷ field (codes "passed") (natural s.passed)
-    ∷ field (codes "failed") (natural s.failed)
-    ∷ field (codes "exit-code") (integer s.exit_code)
-    ∷ [])
-
-unfoldable pub completed_form : Members → Option CompletedRunStats
-completed_form ms = do
-  initial_run_count ← required u64_form (codes "initial-run-count") ms
-  passed ← required u64_form (codes "passed") ms
-  failed ← required u64_form (codes "failed") ms
-  exit_code ← required i32_form (codes "exit-code") ms
-  Some (record { initial_run_count = initial_run_count; passed = passed; failed = failed; exit_code = exit_code })
-
-pub record AreCompleted (s : CompletedRunStats) : Type 0 where
-  pub initial_run_count : s.initial_run_count < 2 ^ 64
-  pub passed : s.passed < 2 ^ 64
-  pub failed : s.failed < 2 ^ 64
-  pub exit_code : FitsSigned w32 s.exit_code
-
-abbrev pub stress_value : List ℕ → StressCompletedRunStats → Data
-stress_value name s = struct (
-    field (codes "status") (string name)
-    ∷ optional (codes "initial-iteration-count") natural s.initial_iteration_count
-    ∷ field (codes "success-count") (natural s.success_count)
-    ∷ field (codes "failed-count") (natural s.failed_count)
-    ∷ field (codes "exit-code") (integer s.exit_code)
-    ∷ [])
-
-unfoldable pub stress_form : Members → Option StressCompletedRunStats
-stress_form ms = do
-  initial_iteration_count ← maybe count_form (codes "initial-iteration-count") ms
-  success_count ← required u32_form (codes "success-count") ms
-  failed_count ← required u32_form (codes "failed-count") ms
-  exit_code ← required i32_form (codes "exit-code") ms
-  Some (record {
-    initial_iteration_count = initial_iteration_count;
-    success_count = success_count;
-    failed_count = failed_count;
-    exit_code = exit_code;
-  })
-
-pub record AreStress (s : StressCompletedRunStats) : Type 0 where
-  pub initial_iteration_count : IfSome s.initial_iteration_count IsCount
-  pub success_count : s.success_count < 2 ^ 32
-  pub failed_count : s.failed_count < 2 ^ 32
-  pub exit_code : FitsSigned w32 s.exit_code
 
 abbrev pub status_value : RecordedRunStatus → Data
 status_value Incomplete = bare_value (codes "incomplete")

@@ -7,6 +7,7 @@ mod run;
 mod run_list;
 mod scope;
 mod sizes;
+mod stats;
 mod status;
 mod suites;
 mod versions;

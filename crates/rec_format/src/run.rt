@@ -9,7 +9,7 @@ use crate::{
 use rec_events::{Duration, Items, ReportUuid, Stamp, Text, TextMap, TryClone, Version};
 use std::alloc::{AllocError, Global};
 
-/// Describes a recorded run. It has no JSON form of its own: that is `RecordedRun`'s.
+/// Describes a recorded run, with its store's version as one value.
 #[derive(Drop)]
 pub struct RecordedRunInfo {
     pub run_id: ReportUuid,
@@ -26,7 +26,8 @@ pub struct RecordedRunInfo {
     pub status: RecordedRunStatus,
 }
 
-/// Describes a recorded run as it stands in JSON.
+/// Describes a recorded run as it stands in manifests and run lists, where the two numbers of its
+/// store's version stand apart.
 #[derive(Drop)]
 pub struct RecordedRun {
     pub run_id: ReportUuid,

@@ -211,8 +211,7 @@ pub const STORE_FORMAT_VERSION: StoreFormatVersion = StoreFormatVersion {
     minor: StoreFormatMinorVersion { version: 0 },
 };
 
-/// Names a version of the store's format, printed as `major.minor`. It has no JSON form: its two
-/// numbers stand apart in a run's metadata.
+/// Names a version of the store's format, printed as `major.minor`.
 #[derive(Copy, Clone, PartialEq, Eq, Debug)]
 pub struct StoreFormatVersion {
     pub major: StoreFormatMajorVersion,

@@ -2,13 +2,13 @@
 
 use rec_events::{RustBinaryId, TestNames};
 use rec_format::{
-    ComponentSizes, OutputDict, PORTABLE_RECORDING_FORMAT_VERSION, PortableManifest,
-    PortableRecordingFormatMajorVersion, PortableRecordingFormatMinorVersion,
-    PortableRecordingFormatVersion, RecordedRunStatus, RecordedRunStatusFormat, RecordedSizes,
-    Release, RerunSuites, RerunTestSuiteInfo, STORE_FORMAT_VERSION, SessionHead,
+    CompletedRunStats, ComponentSizes, OutputDict, PORTABLE_RECORDING_FORMAT_VERSION,
+    PortableManifest, PortableRecordingFormatMajorVersion, PortableRecordingFormatMinorVersion,
+    PortableRecordingFormatVersion, RecordedRunInfo, RecordedRunStatus, RecordedRunStatusFormat,
+    RecordedSizes, Release, RerunSuites, RerunTestSuiteInfo, STORE_FORMAT_VERSION, SessionHead,
     StoreFormatMajorVersion, StoreFormatMinorVersion, StoreFormatVersion,
-    StoreVersionIncompatibility, TooOldRecordingGuidance, has_zip_extension,
-    store_format_version_for,
+    StoreVersionIncompatibility, StressCompletedRunStats, TooOldRecordingGuidance,
+    has_zip_extension, store_format_version_for,
 };
 use rec_forms::{Form, FromValueError, read_text, write_text};
 use std::alloc::Global;
@@ -320,6 +320,75 @@ fn statuses(rt: HostRuntime) -> Result<(), Fail> {
     Ok(())
 }
 
+// A text, and what it is written as once it was read.
+const STATS: [(&str, &str); 5] = [
+    (
+        r#"{"status":"failed","initial-run-count":18446744073709551615,"passed":2,"failed":1,"exit-code":-2147483648}"#,
+        r#"{"exit-code":-2147483648,"failed":1,"initial-run-count":18446744073709551615,"passed":2}"#,
+    ),
+    (
+        r#"{"initial-run-count":3,"passed":2,"failed":1}"#,
+        "refused",
+    ),
+    (
+        r#"{"initial-run-count":3,"passed":2,"failed":-1,"exit-code":0}"#,
+        "refused",
+    ),
+    (
+        r#"{"initial-run-count":3,"passed":2,"failed":1,"exit-code":2147483648}"#,
+        "refused",
+    ),
+    (r#"[3,2,1,0]"#, "refused"),
+];
+
+const STRESS_STATS: [(&str, &str); 4] = [
+    (
+        r#"{"initial-iteration-count":5,"success-count":4,"failed-count":1,"exit-code":100}"#,
+        r#"{"exit-code":100,"failed-count":1,"initial-iteration-count":5,"success-count":4}"#,
+    ),
+    (
+        r#"{"initial-iteration-count":null,"success-count":4294967295,"failed-count":0,"exit-code":0}"#,
+        r#"{"exit-code":0,"failed-count":0,"success-count":4294967295}"#,
+    ),
+    (
+        r#"{"initial-iteration-count":0,"success-count":4,"failed-count":1,"exit-code":0}"#,
+        "refused",
+    ),
+    (
+        r#"{"success-count":4294967296,"failed-count":1,"exit-code":0}"#,
+        "refused",
+    ),
+];
+
+const STORE_VERSIONS: [(&str, &str); 4] = [
+    (r#"{"minor":7,"major":3}"#, r#"{"major":3,"minor":7}"#),
+    (r#"{"major":3}"#, "refused"),
+    (r#"{"major":4294967296,"minor":0}"#, "refused"),
+    (r#""3.0""#, "refused"),
+];
+
+// The first text of a table that isn't written as is said beside it once it was read.
+fn first_other<T: Form + Drop>(
+    alloc: Global,
+    table: &[(&'static str, &'static str)],
+) -> Result<Option<&'static str>, Fail> {
+    for (text, want) in table {
+        if rewritten::<T>(alloc, *text)?.as_str() != *want {
+            return Ok(Some(*text));
+        }
+    }
+    Ok(None)
+}
+
+#[test]
+fn statistics(rt: HostRuntime) -> Result<(), Fail> {
+    let alloc = rt.alloc();
+    assert!(rt; first_other::<CompletedRunStats>(alloc, &STATS)? == None);
+    assert!(rt; first_other::<StressCompletedRunStats>(alloc, &STRESS_STATS)? == None);
+    assert!(rt; first_other::<StoreFormatVersion>(alloc, &STORE_VERSIONS)? == None);
+    Ok(())
+}
+
 const SIZES: RecordedSizes = RecordedSizes {
     log: ComponentSizes {
         compressed: 1,
@@ -369,6 +438,30 @@ fn manifests(rt: HostRuntime) -> Result<(), Fail> {
     assert!(rt; manifest.format_version == portable_version(1, 0));
     assert!(rt; manifest.store_format_version() == store_version(2, 0));
     assert_eq!(rt; events_by(alloc, &manifest)?, 0);
+    Ok(())
+}
+
+// The information on a run, and what it is written as once it was read.
+const INFO: &str =
+    r#"{"run-id":"550e8400-e29b-41d4-a716-446655440000","store-format-version":{"major":3,"minor":0},"nextest-version":"0.9.111","started-at":{"secs":1000,"nanos":0,"offset":0},"last-written-at":{"secs":1011,"nanos":0,"offset":0},"sizes":{"log":{"compressed":1,"uncompressed":2},"store":{"compressed":4,"uncompressed":5,"entries":6}},"status":{"status":"completed","initial-run-count":1,"passed":1,"failed":0,"exit-code":0}}"#;
+
+const WRITTEN_INFO: &str =
+    r#"{"cli-args":[],"env-vars":{},"last-written-at":{"nanos":0,"offset":0,"secs":1011},"nextest-version":"0.9.111","run-id":"550e8400-e29b-41d4-a716-446655440000","sizes":{"log":{"compressed":1,"entries":0,"uncompressed":2},"store":{"compressed":4,"entries":6,"uncompressed":5}},"started-at":{"nanos":0,"offset":0,"secs":1000},"status":{"exit-code":0,"failed":0,"initial-run-count":1,"passed":1,"status":"completed"},"store-format-version":{"major":3,"minor":0}}"#;
+
+// The information with another text in the place of a part, read and written.
+fn changed_info(alloc: Global, part: &str, other: &str) -> Result<String, Fail> {
+    let (before, after) = INFO.split_once(part).ok_or("no such part")?;
+    let info = format!(in alloc; "{before}{other}{after}")?;
+    rewritten::<RecordedRunInfo>(alloc, info.as_str())
+}
+
+#[test]
+fn run_info(rt: HostRuntime) -> Result<(), Fail> {
+    let alloc = rt.alloc();
+    assert!(rt; rewritten::<RecordedRunInfo>(alloc, INFO)?.as_str() == WRITTEN_INFO);
+    // The version of a run's own form is no version here.
+    assert!(rt; changed_info(alloc, r#"{"major":3,"minor":0}"#, "3")?.as_str() == "refused");
+    assert!(rt; changed_info(alloc, r#""sizes":"#, r#""size":"#)?.as_str() == "refused");
     Ok(())
 }
 

@@ -1,6 +1,6 @@
-//! The metadata of a run.
+//! The metadata of a run, with the two numbers of its store's version apart or together.
 use super::parts::{Identity, Invocation};
-use crate::{RecordedRun, StoreFormatMinorVersion};
+use crate::{RecordedRun, RecordedRunInfo, StoreFormatMinorVersion};
 use rec_forms::{
     Form, FromValueError, Held, defaulted_field, held_optional, put_field, required_field,
 };
@@ -106,6 +106,96 @@ impl Held for RecordedRun {
         held_optional(&self.parent_run_id);
         self.store_format_version.held();
         self.store_format_minor_version.held();
+        self.sizes.held();
+        self.status.held();
+    }
+}
+
+impl Form for RecordedRunInfo {
+    ghost use Rattle.rec_format.specs.RunFormLaws.{info_back, info_writable, info_well_formed};
+    ghost use Rattle.rec_format.specs.RunForms.{info_value, info_form, IsInfo};
+
+    ghost well_formed = { IsInfo };
+
+    ghost value_of = { info_value };
+
+    ghost form_of = { info_form };
+
+    ghost levels = { 3 };
+
+    ghost reads_back = { info_back };
+
+    ghost reads_well_formed = { info_well_formed };
+
+    ghost writable = { info_writable };
+
+    #[tactic(auto, unfolding(rec_forms::specs::Shape::members_of))]
+    fn to_value(&self, alloc: Global) -> Result<Value, AllocError> {
+        let mut object = Map::new(alloc);
+        Identity::put(
+            alloc,
+            &mut object,
+            &self.run_id,
+            &self.nextest_version,
+            &self.started_at,
+            &self.last_written_at,
+            &self.duration,
+        )?;
+        Invocation::put(
+            alloc,
+            &mut object,
+            &self.cli_args,
+            &self.env_vars,
+            &self.parent_run_id,
+        )?;
+        put_field(
+            alloc,
+            &mut object,
+            "store-format-version",
+            &self.store_format_version,
+        )?;
+        put_field(alloc, &mut object, "sizes", &self.sizes)?;
+        put_field(alloc, &mut object, "status", &self.status)?;
+        Ok(Value::from(object))
+    }
+
+    #[tactic(auto, unfolding(crate::specs::RunForms::info_form))]
+    fn from_value(alloc: Global, value: &Value) -> Result<RecordedRunInfo, FromValueError> {
+        let Value::Object(object) = value else {
+            return Err(FromValueError::NotAValue);
+        };
+        let store_format_version = required_field(alloc, object, "store-format-version")?;
+        let sizes = required_field(alloc, object, "sizes")?;
+        let status = required_field(alloc, object, "status")?;
+        let identity = Identity::read(alloc, object)?;
+        let invocation = Invocation::read(alloc, object)?;
+        Ok(RecordedRunInfo {
+            run_id: identity.run_id,
+            store_format_version,
+            nextest_version: identity.nextest_version,
+            started_at: identity.started_at,
+            last_written_at: identity.last_written_at,
+            duration: identity.duration,
+            cli_args: invocation.cli_args,
+            env_vars: invocation.env_vars,
+            parent_run_id: invocation.parent_run_id,
+            sizes,
+            status,
+        })
+    }
+}
+
+impl Held for RecordedRunInfo {
+    fn held(&self) {
+        self.run_id.held();
+        self.nextest_version.held();
+        self.started_at.held();
+        self.last_written_at.held();
+        held_optional(&self.duration);
+        self.cli_args.held();
+        self.env_vars.held();
+        held_optional(&self.parent_run_id);
+        self.store_format_version.held();
         self.sizes.held();
         self.status.held();
     }

@@ -5,15 +5,13 @@ ghost use Rattle.serde_json.specs.Find.{as_str};
 ghost use Rattle.serde_json.specs.View.{view, members_view};
 ghost use Rattle.rec_forms.specs.Gives.{Gives};
 ghost use Rattle.rec_forms.specs.Shape.{field, required, with_members};
-ghost use Rattle.rec_format.specs.StatusForms.{bare_value, completed_value, completed_form, AreCompleted, stress_value, stress_form, AreStress, status_with};
+ghost use Rattle.rec_format.specs.StatsForms.{AreCompleted, AreStress};
+ghost use Rattle.rec_format.specs.StatusForms.{bare_value, completed_value, stress_value, status_with};
 
 use crate::{
     CompletedRunStats, RecordedRunStatus, RecordedRunStatusFormat, StressCompletedRunStats,
 };
-use rec_forms::{
-    Form, FromValueError, Held, Object, held_optional, member, optional_field, put_field,
-    put_optional, required_field,
-};
+use rec_forms::{Form, FromValueError, Held, Object, member};
 use serde_json::{Map, Value};
 use std::alloc::{AllocError, Global};
 
@@ -53,29 +51,8 @@ fn completed(alloc: Global, name: &str, stats: &CompletedRunStats) -> Result<Val
     ensures known { IfOk result (λ _. AreCompleted stats.now) }
 {
     let mut object = named(alloc, name)?;
-    put_field(
-        alloc,
-        &mut object,
-        "initial-run-count",
-        &stats.initial_run_count,
-    )?;
-    put_field(alloc, &mut object, "passed", &stats.passed)?;
-    put_field(alloc, &mut object, "failed", &stats.failed)?;
-    put_field(alloc, &mut object, "exit-code", &stats.exit_code)?;
+    stats.put(alloc, &mut object)?;
     Ok(Value::from(object))
-}
-
-/// The statistics of a run in an object.
-#[tactic(auto, unfolding(crate::specs::StatusForms::completed_form))]
-fn completed_in(alloc: Global, object: &Object) -> Result<CompletedRunStats, FromValueError>
-    ensures { Gives result (completed_form (members_view object.now.entries)) }
-{
-    Ok(CompletedRunStats {
-        initial_run_count: required_field(alloc, object, "initial-run-count")?,
-        passed: required_field(alloc, object, "passed")?,
-        failed: required_field(alloc, object, "failed")?,
-        exit_code: required_field(alloc, object, "exit-code")?,
-    })
 }
 
 /// A status with the statistics of a stress run beside it.
@@ -85,29 +62,8 @@ fn stress(alloc: Global, name: &str, stats: &StressCompletedRunStats) -> Result<
     ensures known { IfOk result (λ _. AreStress stats.now) }
 {
     let mut object = named(alloc, name)?;
-    put_optional(
-        alloc,
-        &mut object,
-        "initial-iteration-count",
-        &stats.initial_iteration_count,
-    )?;
-    put_field(alloc, &mut object, "success-count", &stats.success_count)?;
-    put_field(alloc, &mut object, "failed-count", &stats.failed_count)?;
-    put_field(alloc, &mut object, "exit-code", &stats.exit_code)?;
+    stats.put(alloc, &mut object)?;
     Ok(Value::from(object))
-}
-
-/// The statistics of a stress run in an object.
-#[tactic(auto, unfolding(crate::specs::StatusForms::stress_form))]
-fn stress_in(alloc: Global, object: &Object) -> Result<StressCompletedRunStats, FromValueError>
-    ensures { Gives result (stress_form (members_view object.now.entries)) }
-{
-    Ok(StressCompletedRunStats {
-        initial_iteration_count: optional_field(alloc, object, "initial-iteration-count")?,
-        success_count: required_field(alloc, object, "success-count")?,
-        failed_count: required_field(alloc, object, "failed-count")?,
-        exit_code: required_field(alloc, object, "exit-code")?,
-    })
 }
 
 /// The status of a name, with what an object has beside it.
@@ -120,10 +76,14 @@ fn status_in(
 {
     match name {
         "incomplete" => Ok(RecordedRunStatus::Incomplete),
-        "completed" => Ok(RecordedRunStatus::Completed(completed_in(alloc, object)?)),
-        "cancelled" => Ok(RecordedRunStatus::Cancelled(completed_in(alloc, object)?)),
-        "stress-completed" => Ok(RecordedRunStatus::StressCompleted(stress_in(alloc, object)?)),
-        "stress-cancelled" => Ok(RecordedRunStatus::StressCancelled(stress_in(alloc, object)?)),
+        "completed" => Ok(RecordedRunStatus::Completed(CompletedRunStats::read(alloc, object)?)),
+        "cancelled" => Ok(RecordedRunStatus::Cancelled(CompletedRunStats::read(alloc, object)?)),
+        "stress-completed" => Ok(RecordedRunStatus::StressCompleted(StressCompletedRunStats::read(
+            alloc, object,
+        )?)),
+        "stress-cancelled" => Ok(RecordedRunStatus::StressCancelled(StressCompletedRunStats::read(
+            alloc, object,
+        )?)),
         _ => Ok(RecordedRunStatus::Unknown),
     }
 }
@@ -169,35 +129,14 @@ impl Form for RecordedRunStatus {
     }
 }
 
-/// States that the statistics of a run are well-formed.
-fn held_completed(stats: &CompletedRunStats)
-    ensures { AreCompleted stats.now }
-{
-    stats.initial_run_count.held();
-    stats.passed.held();
-    stats.failed.held();
-    stats.exit_code.held();
-}
-
-/// States that the statistics of a stress run are well-formed.
-fn held_stress(stats: &StressCompletedRunStats)
-    ensures { AreStress stats.now }
-{
-    held_optional(&stats.initial_iteration_count);
-    stats.success_count.held();
-    stats.failed_count.held();
-    stats.exit_code.held();
-}
-
 impl Held for RecordedRunStatus {
     fn held(&self) {
         match self {
             RecordedRunStatus::Incomplete | RecordedRunStatus::Unknown => {}
-            RecordedRunStatus::Completed(stats) | RecordedRunStatus::Cancelled(stats) => {
-                held_completed(stats)
-            }
+            RecordedRunStatus::Completed(stats) | RecordedRunStatus::Cancelled(stats) =>
+                stats.held(),
             RecordedRunStatus::StressCompleted(stats) | RecordedRunStatus::StressCancelled(stats) =>
-                { held_stress(stats) }
+                { stats.held() }
         }
     }
 }

@@ -1,8 +1,8 @@
-//! A version number is written as its number, and the bundle's version as an object of both.
+//! A version number is written as its number, and a version as an object of both.
 use crate::{
     PortableRecordingFormatMajorVersion, PortableRecordingFormatMinorVersion,
     PortableRecordingFormatVersion, RunsJsonFormatVersion, StoreFormatMajorVersion,
-    StoreFormatMinorVersion,
+    StoreFormatMinorVersion, StoreFormatVersion,
 };
 use rec_forms::{Form, FromValueError, Held, put_field, required_field};
 use serde_json::{Map, Value};
@@ -186,6 +186,51 @@ impl Form for RunsJsonFormatVersion {
 impl Held for RunsJsonFormatVersion {
     fn held(&self) {
         self.number().held();
+    }
+}
+
+impl Form for StoreFormatVersion {
+    ghost use Rattle.rec_format.specs.VersionFormLaws.{store_version_back, store_version_writable, store_version_well_formed};
+    ghost use Rattle.rec_format.specs.VersionForms.{store_version_value, store_version_form, IsStoreVersion};
+
+    ghost well_formed = { IsStoreVersion };
+
+    ghost value_of = { store_version_value };
+
+    ghost form_of = { store_version_form };
+
+    ghost levels = { 1 };
+
+    ghost reads_back = { store_version_back };
+
+    ghost reads_well_formed = { store_version_well_formed };
+
+    ghost writable = { store_version_writable };
+
+    #[tactic(auto, unfolding(rec_forms::specs::Shape::members_of))]
+    fn to_value(&self, alloc: Global) -> Result<Value, AllocError> {
+        let mut object = Map::new(alloc);
+        put_field(alloc, &mut object, "major", &self.major)?;
+        put_field(alloc, &mut object, "minor", &self.minor)?;
+        Ok(Value::from(object))
+    }
+
+    #[tactic(auto, unfolding(crate::specs::VersionForms::store_version_form))]
+    fn from_value(alloc: Global, value: &Value) -> Result<StoreFormatVersion, FromValueError> {
+        let Value::Object(object) = value else {
+            return Err(FromValueError::NotAValue);
+        };
+        Ok(StoreFormatVersion {
+            major: required_field(alloc, object, "major")?,
+            minor: required_field(alloc, object, "minor")?,
+        })
+    }
+}
+
+impl Held for StoreFormatVersion {
+    fn held(&self) {
+        self.major.held();
+        self.minor.held();
     }
 }
 
