@@ -122,10 +122,12 @@ def manifest(bundle):
 def cut_session(example):
     """The example with an output that is longer than the limit of 100 bytes."""
     lines = example.decode().splitlines()
-    event = json.loads(lines[-1])
-    attempt = event["run-statuses"]["statuses"][0]
+    last = max(i for i, line in enumerate(lines) if '"kind":"test-finished"' in line)
+    event = json.loads(lines[last])
+    attempt = event["run-statuses"]["statuses"][-1]
     attempt["output"]["output"]["output"]["split"]["stdout"] = "61" * 1000
-    return "\n".join(lines[:-1] + [json.dumps(event)]).encode()
+    lines[last] = json.dumps(event)
+    return "\n".join(lines).encode()
 
 
 def main():

@@ -14,7 +14,7 @@ use Rattle.rec_forms.specs.TextForm.{bytes_form}
 use Rattle.rec_format.specs.declared.manifest.PortableManifest.{PortableManifest}
 use Rattle.rec_format.specs.RunForms.{manifest_form}
 use Rattle.rec_format.specs.Runs.{store_version_in}
-use Rattle.rec_codec.specs.LineReading.{events_before_fault, first_line_fault}
+use Rattle.rec_codec.specs.LineReading.{first_line_fault}
 use Rattle.rec_codec.specs.Lines.{NumberedLine}
 use Rattle.rec_store.specs.Entries.{log_name, manifest_name}
 use Rattle.rec_portable.specs.declared.errors.PortableRecordingReadError.TheVariants as bundles
@@ -27,8 +27,9 @@ use Rattle.rec_trace.proofs.Timelines.{timeline}
 use Rattle.rec_trace.specs.declared.errors.ChromeTraceError.TheVariants as traces
 use Rattle.rec_trace.specs.declared.errors.ChromeTraceError.{ChromeTraceError}
 use Rattle.rec_trace.specs.declared.settings.ChromeTraceGroupBy.{ChromeTraceGroupBy}
-use Rattle.rec_trace.specs.Refusals.{history_refusal}
+use Rattle.rec_trace.specs.Kinds.{history}
 use Rattle.rec_trace.specs.Timeline.{IsTimeline}
+use Rattle.rec_trace.specs.Traces.{events_refusal}
 use Rattle.rec_program.proofs.BundlesShown.{trace_drawn}
 use Rattle.rec_program.proofs.Complete.{no_more, same_session}
 use Rattle.rec_program.proofs.RecordedDrawn.{recorded-is_drawn}
@@ -40,7 +41,7 @@ use Rattle.rec_program.specs.declared.refusal.RecordExportError.TheVariants as e
 use Rattle.rec_program.specs.declared.refusal.RecordExportError.{RecordExportError}
 use Rattle.rec_program.specs.declared.settings.Settings.{Settings}
 use Rattle.rec_program.specs.Export.{Exports}
-use Rattle.rec_program.specs.LogTraces.{bundle_trace, log_history, log_lines, log_refusal}
+use Rattle.rec_program.specs.LogTraces.{bundle_trace, log_lines, log_refusal, plain_log}
 use Rattle.rec_program.specs.ReadingCommands.{IsPrintedOf, Shows, Withholds, info_of, manifest_line, part, trace_of, trace_of_parts, trace_unless}
 use Rattle.rec_program.specs.ReadingErrors.{bundle_error}
 use Rattle.rec_program.specs.Running.{Records, ShowsBundle}
@@ -58,8 +59,9 @@ export_above (exports.ParseEvent line_number) = lit< tt
 export_above (exports.NameCollision file_name) = lit< tt
 export_above (exports.CountOutOfRange event) = lit< tt
 export_above (exports.FileTooLarge file_name size limit) = lit< tt
-export_above (exports.KindNotBuilt event) = lit< tt
 export_above (exports.MissingTestStart event binary_id test_name) = lit< tt
+export_above (exports.MissingScriptStart event script_id) = lit< tt
+export_above (exports.MissingStressSubRunStart event) = lit< tt
 export_above (exports.SpanAlreadyOpen event span) = lit< tt
 export_above (exports.SlotBusy event slot) = lit< tt
 export_above (exports.TimestampOutOfRange event) = lit< tt
@@ -209,9 +211,9 @@ first_none : {E : Type 0} (a b : Option E) → option_or a b ≡ None → a ≡ 
 first_none None b h = refl
 first_none (Some x) b h = absurd cc
 
-log_timeline : (g : ChromeTraceGroupBy) (ls : List NumberedLine) → log_refusal g ls ≡ None → IsTimeline (log_history g ls)
+log_timeline : (g : ChromeTraceGroupBy) (ls : List NumberedLine) → log_refusal g ls ≡ None → IsTimeline (history g (plain_log ls))
 unfolding log_refusal
-log_timeline g ls none = timeline g (events_before_fault ls) (first_none (history_refusal (log_history g ls)) (option_map traces.ReadError (first_line_fault ls)) none)
+log_timeline g ls none = timeline g (plain_log ls) (first_none (events_refusal g (plain_log ls)) (option_map traces.ReadError (first_line_fault ls)) none)
 
 -- ---- what the status 0 of each command says
 
@@ -229,7 +231,7 @@ module _ {S T G : Type 0} (left : S → Option (List ℕ)) (source_faults : S �
   pub traced : ShowsBundle left source_faults out_taken out_faults diag_taken diag_faults (trace_of settings) settings.session_limit status s0 s1 o0 o1 d0 d1
       → (bytes : List ℕ) × (es : List Entry) × (manifest : PortableManifest) × (log : List ℕ) × Gave left source_faults settings.session_limit s0 s1 bytes × IsContainer bytes es
       × (judged settings.read_limit es ≡ Ok manifest) × (log_part settings.read_limit es ≡ Ok log) × (log_refusal settings.group_by (log_lines log) ≡ None)
-      × IsTimeline (log_history settings.group_by (log_lines log)) × Appends (out_taken o0) (out_taken o1) (bundle_trace settings manifest log)
+      × IsTimeline (history settings.group_by (plain_log (log_lines log))) × Appends (out_taken o0) (out_taken o1) (bundle_trace settings manifest log)
   traced runs =
       let w = shown_whole left source_faults out_taken out_faults diag_taken diag_faults (trace_of settings) settings.session_limit status s0 s1 o0 o1 d0 d1 zeroed runs in
       let p = printed_of (trace_of settings) w.1.0 w.0 w.1.2 in

@@ -3,7 +3,7 @@ use Rattle.std.proofs.Common.{◌≡◌, ℕ, ◌≤◌, List, ◌++◌, length,
 use Rattle.std.specs.Io.KnownBytes.{Consumes, IsAtEnd}
 use Rattle.rec_container.specs.Causes.{Rose}
 use Rattle.rec_program.specs.Bundle.{session_refusal}
-use Rattle.rec_program.specs.declared.refusal.RecordExportError.TheVariants.{SourceFault, SessionTooLarge, ParseHead, ReadRunLog, ParseEvent, NameCollision, CountOutOfRange, FileTooLarge, KindNotBuilt, MissingTestStart, SpanAlreadyOpen, SlotBusy, TimestampOutOfRange, RowOutOfRange, BundleFault, TraceFault, OutOfMemory}
+use Rattle.rec_program.specs.declared.refusal.RecordExportError.TheVariants.{SourceFault, SessionTooLarge, ParseHead, ReadRunLog, ParseEvent, NameCollision, CountOutOfRange, FileTooLarge, MissingTestStart, MissingScriptStart, MissingStressSubRunStart, SpanAlreadyOpen, SlotBusy, TimestampOutOfRange, RowOutOfRange, BundleFault, TraceFault, OutOfMemory}
 use Rattle.rec_program.specs.declared.refusal.RecordExportError.{RecordExportError}
 use Rattle.rec_program.specs.declared.settings.Settings.{Settings}
 use Rattle.rec_program.specs.Export.{Undelivered, Fails}
@@ -36,8 +36,9 @@ module _ {S B T : Type 0} (left : S → Option (List ℕ)) (source_faults : S �
   unread (NameCollision file_name) u = absurd u
   unread (CountOutOfRange event) u = absurd u
   unread (FileTooLarge file_name size most) u = absurd u
-  unread (KindNotBuilt event) u = absurd u
   unread (MissingTestStart event binary_id test_name) u = absurd u
+  unread (MissingScriptStart event script_id) u = absurd u
+  unread (MissingStressSubRunStart event) u = absurd u
   unread (SpanAlreadyOpen event span) u = absurd u
   unread (SlotBusy event slot) u = absurd u
   unread (TimestampOutOfRange event) u = absurd u
@@ -55,8 +56,9 @@ module _ {S B T : Type 0} (left : S → Option (List ℕ)) (source_faults : S �
   undelivered bytes text (NameCollision file_name) u = absurd u
   undelivered bytes text (CountOutOfRange event) u = absurd u
   undelivered bytes text (FileTooLarge file_name size most) u = absurd u
-  undelivered bytes text (KindNotBuilt event) u = absurd u
   undelivered bytes text (MissingTestStart event binary_id test_name) u = absurd u
+  undelivered bytes text (MissingScriptStart event script_id) u = absurd u
+  undelivered bytes text (MissingStressSubRunStart event) u = absurd u
   undelivered bytes text (SpanAlreadyOpen event span) u = absurd u
   undelivered bytes text (SlotBusy event slot) u = absurd u
   undelivered bytes text (TimestampOutOfRange event) u = absurd u

@@ -4,7 +4,9 @@ use Rattle.std.specs.Option.{option_or}
 use Rattle.semver.specs.Parse.{Parts}
 use Rattle.rec_container.proofs.Unique.{one_reading_spec}
 use Rattle.rec_container.specs.Container.{Entry, IsContainer, content_of}
+use Rattle.rec_events.specs.declared.events.TestEventSummary.{TestEventSummary}
 use Rattle.rec_events.specs.declared.outputs.RecordingSpec.{RecordingSpec}
+use Rattle.rec_events.specs.EventMaps.{event_with}
 use Rattle.rec_forms.specs.Recording.{record_opts_form, test_list_form}
 use Rattle.rec_forms.specs.Shape.{◌>>=◌}
 use Rattle.rec_forms.specs.TextForm.{bytes_form}
@@ -21,19 +23,17 @@ use Rattle.rec_codec.specs.Lines.{NumberedLine, lines}
 use Rattle.rec_store.specs.Entries.{build_scope_path, bundle_entries, cargo_metadata_path, log_name, manifest_name, record_opts_path, rerun_info_path, test_list_path}
 use Rattle.rec_store.specs.Kept.{event_resolved, outputs_kept, outputs_resolved}
 use Rattle.rec_store.specs.Reading.{RunRecord, maybe_part, outputs_of, part, record_of, recorded, text_part}
-use Rattle.rec_trace.proofs.OutputsNotDrawn.{same-history}
+use Rattle.rec_trace.proofs.Plains.{event-plain}
 use Rattle.rec_trace.specs.declared.settings.ChromeTraceGroupBy.{ChromeTraceGroupBy}
-use Rattle.rec_trace.specs.Drawing.{trace_text}
-use Rattle.rec_trace.specs.History.{trace_marks}
-use Rattle.rec_trace.specs.Kinds.{history}
-use Rattle.rec_trace.specs.Refusals.{history_refusal}
+use Rattle.rec_trace.specs.Plain.{plain}
+use Rattle.rec_trace.specs.Traces.{events_refusal, trace_text}
 use Rattle.rec_program.proofs.Judging.{after_count, after_head, after_lines, events_after}
 use Rattle.rec_program.proofs.LogTraced.{refusal-whole}
 use Rattle.rec_program.specs.Bundle.{AreOf, count_refusal, refusal_after, session_events, size_refusal}
 use Rattle.rec_program.specs.declared.settings.Settings.{Settings}
-use Rattle.rec_program.specs.LogTraces.{RecordedIsDrawn, bundle_trace, log_history, log_lines, log_refusal, log_trace}
+use Rattle.rec_program.specs.LogTraces.{RecordedIsDrawn, bundle_trace, log_lines, log_refusal, log_trace, plain_log}
 use Rattle.rec_program.specs.Session.{event_lines, events_of, lines_refusal, session_lines}
-use Rattle.rec_program.specs.SessionTraces.{run_trace, session_history, trace_refusal}
+use Rattle.rec_program.specs.SessionTraces.{run_trace, trace_refusal}
 use Rattle.rec_program.specs.TraceFaults.{trace_fault}
 
 -- ---- what a record's manifest and log are
@@ -75,26 +75,31 @@ come-from text log_bytes es r h =
       events_are = ap (λ (x : RunRecord). x.events) same;
     }
 
--- ---- the history of a log that was recorded
+-- ---- the events of a log that was recorded
 
-module _ (number : List ℕ → ℕ) (m : ℕ) (head : SessionHead) (live : List LiveEvent) (text log_bytes : List ℕ) (es : List Entry) (from : ComeFrom text log_bytes es (recorded number m head live)) (g : ChromeTraceGroupBy) where
-  -- its events have the history of the session's
-  events-history : history g from.events ≡ history g live
-  events-history =
-      sym (same-history RecordingSpec g (outputs_resolved es) from.events)
-      ∙ ap (history g) from.events_are
-      ∙ same-history RecordingSpec g (outputs_kept m) live
+-- events are the same without outputs, whatever became of these
+events-plain : (T : Type 0) {S O P : Type 0} (f : O → P) (events : List (TestEventSummary S O)) → map plain (map (event_with {T = T} f) events) ≡ map plain events
+events-plain T f [] = refl
+events-plain T f (e ∷ events) = λ i. event-plain T f e i ∷ events-plain T f events i
+
+module _ (number : List ℕ → ℕ) (m : ℕ) (head : SessionHead) (live : List LiveEvent) (text log_bytes : List ℕ) (es : List Entry) (from : ComeFrom text log_bytes es (recorded number m head live)) where
+  -- its events are those of the session, but for the outputs
+  events-same : map plain from.events ≡ map plain live
+  events-same =
+      sym (events-plain RecordingSpec (outputs_resolved es) from.events)
+      ∙ ap (map plain) from.events_are
+      ∙ events-plain RecordingSpec (outputs_kept m) live
 
   -- each of its lines gives an event, or is blank
   whole : (events_before_fault (log_lines log_bytes) ≡ from.events) × (first_line_fault (log_lines log_bytes) ≡ None)
   whole = (log_events-whole 1 (lines log_bytes) from.events).0 from.log_read
 
-  pub recorded-history : log_history g (log_lines log_bytes) ≡ history g live
-  recorded-history = ap (history g) whole.0 ∙ events-history
+  pub recorded-plain : plain_log (log_lines log_bytes) ≡ map plain live
+  recorded-plain = ap (map plain) whole.0 ∙ events-same
 
   -- so it is refused where they are
-  pub recorded-refusal : log_refusal g (log_lines log_bytes) ≡ history_refusal (history g live)
-  recorded-refusal = refusal-whole g (log_lines log_bytes) whole.1 ∙ ap history_refusal recorded-history
+  pub recorded-refusal : (g : ChromeTraceGroupBy) → log_refusal g (log_lines log_bytes) ≡ events_refusal g (map plain live)
+  recorded-refusal g = refusal-whole g (log_lines log_bytes) whole.1 ∙ ap (events_refusal g) recorded-plain
 
   pub recorded-version : from.manifest.run.nextest_version ≡ head.nextest_version
   recorded-version = ap (λ i. i.nextest_version) from.run_is
@@ -112,22 +117,22 @@ none-mapped f (Some x) h = absurd cc
 module _ (number : List ℕ → ℕ) (settings : Settings) where
   -- the events of a session that is accepted have a trace
   accepted : (session : List ℕ) (head : SessionHead) → refusal_after number settings (Some head) (event_lines (session_lines session)) ≡ None
-      → history_refusal (session_history settings (session_events session)) ≡ None
+      → events_refusal settings.group_by (map plain (session_events session)) ≡ None
   accepted session head valid =
       let ls = event_lines (session_lines session) in
       let events = events_of ls in
       let sizes = second-none (lines_refusal number settings.max_output [] ls) (after_lines number settings head ls) valid in
       let size = second-none (count_refusal number settings head events) (after_count number settings head ls) sizes in
       let trace = second-none (size_refusal number settings head events) (trace_refusal settings events) size in
-      ap (λ l. history_refusal (session_history settings l)) (sym (events_after session)) ∙ none-mapped trace_fault (history_refusal (session_history settings events)) trace
+      ap (λ l. events_refusal settings.group_by (map plain l)) (sym (events_after session)) ∙ none-mapped trace_fault (events_refusal settings.group_by (map plain events)) trace
 
-  -- the text of a log with the history of these events
+  -- the text of a log that has these events, but for their outputs
   same-text : (head : SessionHead) (events : List LiveEvent) (version : Parts) (ls : List NumberedLine) → version ≡ head.nextest_version
-      → log_history settings.group_by ls ≡ session_history settings events → log_trace settings.group_by settings.message_format version ls ≡ run_trace settings head events
+      → plain_log ls ≡ map plain events → log_trace settings.group_by settings.message_format version ls ≡ run_trace settings head events
   unfolding log_trace run_trace
   same-text head events version ls same all =
-      ap (λ v. trace_text settings.message_format v (trace_marks (log_history settings.group_by ls))) same
-      ∙ ap (λ h. trace_text settings.message_format head.nextest_version (trace_marks h)) all
+      ap (λ v. trace_text settings.message_format settings.group_by v (plain_log ls)) same
+      ∙ ap (trace_text settings.message_format settings.group_by head.nextest_version) all
 
   -- with the settings of the recording
   drawn-again : (session bundle trace : List ℕ) (es : List Entry) (manifest : PortableManifest) (manifest_text log : List ℕ) → AreOf number settings session bundle trace → IsContainer bundle es
@@ -145,8 +150,8 @@ module _ (number : List ℕ → ℕ) (settings : Settings) where
       let from = come-from manifest_text log reads.entries (recorded number m head events)
       (ap (λ t. record_of t log reads.entries) text_is ∙ ap (λ l. record_of reads.manifest l reads.entries) log_is ∙ reads.read) in
       let manifest_same : manifest ≡ from.manifest = same-item _ _ (sym manifest_is ∙ from.manifest_read) in
-      let version = ap (λ (p : PortableManifest). p.run.nextest_version) manifest_same ∙ recorded-version number m head events manifest_text log reads.entries from g in
-      let all = recorded-history number m head events manifest_text log reads.entries from g in (
+      let version = ap (λ (p : PortableManifest). p.run.nextest_version) manifest_same ∙ recorded-version number m head events manifest_text log reads.entries from in
+      let all = recorded-plain number m head events manifest_text log reads.entries from in (
         recorded-refusal number m head events manifest_text log reads.entries from g
             ∙ accepted session head (sym (after_head number settings session head are.has_head) ∙ are.valid),
         same-text head events manifest.run.nextest_version (log_lines log) version all ∙ sym are.traced,

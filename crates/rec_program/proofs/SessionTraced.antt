@@ -4,28 +4,34 @@ use Rattle.std.specs.List.{cons_option}
 use Rattle.std.specs.Option.{option_or, option_to_list}
 use Rattle.rec_codec.specs.Event.{LiveEvent}
 use Rattle.rec_trace.proofs.Acceptance.{history_refusal_after-append}
+use Rattle.rec_trace.proofs.Histories.{history-append}
 use Rattle.rec_trace.specs.declared.builder.TraceBuilder.{TraceBuilder}
 use Rattle.rec_trace.specs.declared.errors.ChromeTraceError.{ChromeTraceError}
 use Rattle.rec_trace.specs.declared.settings.ChromeTraceGroupBy.{ChromeTraceGroupBy}
-use Rattle.rec_trace.specs.History.{after, state_after}
-use Rattle.rec_trace.specs.Kinds.{trace_input}
-use Rattle.rec_trace.specs.Past.{TraceInput}
+use Rattle.rec_trace.specs.History.{after}
+use Rattle.rec_trace.specs.Kinds.{history, history_after}
+use Rattle.rec_trace.specs.Plain.{PlainEvent, plain}
 use Rattle.rec_trace.specs.Refusals.{history_refusal, history_refusal_after}
+use Rattle.rec_trace.specs.Traces.{events_refusal}
 use Rattle.rec_program.specs.SessionTraces.{IsTracedOr}
 
--- a history that is refused stays so with an event more
-pub refused_more : (history : List TraceInput) (h : TraceInput) (e : ChromeTraceError) → history_refusal history ≡ Some e → history_refusal (history ++ h ∷ []) ≡ Some e
-refused_more history h e refused =
-    history_refusal_after-append [] history (h ∷ []) ∙ ap (λ o. option_or o (history_refusal_after (state_after (after [] history)) (h ∷ []))) refused
+-- events that are refused stay so with more after them
+pub refused_more : (g : ChromeTraceGroupBy) (xs ys : List PlainEvent) (e : ChromeTraceError) → events_refusal g xs ≡ Some e → events_refusal g (xs ++ ys) ≡ Some e
+refused_more g xs ys e refused =
+    let past = after [] (history g xs) in
+    let more = history_after g past ys in
+    ap history_refusal (history-append g xs ys)
+    ∙ history_refusal_after-append [] (history g xs) more
+    ∙ ap (λ o. option_or o (history_refusal_after past more)) refused
 
--- so does what holds its refusal
-pub refused_stays : (g : ChromeTraceGroupBy) (history : List TraceInput) (h : TraceInput) (builder : TraceBuilder) (o : Option ChromeTraceError) → is_some o ≡ true
-    → IsTracedOr g history builder o → IsTracedOr g (history ++ h ∷ []) builder o
-refused_stays g history h builder None some is = absurd cc
-refused_stays g history h builder (Some e) some is = refused_more history h e is
+-- so does what holds their refusal
+pub refused_stays : (g : ChromeTraceGroupBy) (events : List PlainEvent) (event : PlainEvent) (builder : TraceBuilder) (o : Option ChromeTraceError) → is_some o ≡ true
+    → IsTracedOr g events builder o → IsTracedOr g (events ++ event ∷ []) builder o
+refused_stays g events event builder None some is = absurd cc
+refused_stays g events event builder (Some e) some is = refused_more g events (event ∷ []) e is
 
 -- the event of a line stands before those of the rest
-pub inputs_next : (g : ChromeTraceGroupBy) (so_far : List TraceInput) (o : Option LiveEvent) (rest : List LiveEvent)
-    → so_far ++ map (trace_input g) (cons_option o rest) ≡ (so_far ++ map (trace_input g) (option_to_list o)) ++ map (trace_input g) rest
-inputs_next g so_far None rest = ap (λ l. l ++ map (trace_input g) rest) (sym (append-nil so_far))
-inputs_next g so_far (Some event) rest = sym (append_assoc so_far (trace_input g event ∷ []) (map (trace_input g) rest))
+pub plain_next : (so_far : List PlainEvent) (o : Option LiveEvent) (rest : List LiveEvent)
+    → so_far ++ map plain (cons_option o rest) ≡ (so_far ++ map plain (option_to_list o)) ++ map plain rest
+plain_next so_far None rest = ap (λ l. l ++ map plain rest) (sym (append-nil so_far))
+plain_next so_far (Some event) rest = sym (append_assoc so_far (plain event ∷ []) (map plain rest))

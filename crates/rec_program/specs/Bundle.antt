@@ -1,6 +1,6 @@
 -- The bundle and the trace of a session, and why a session has none.
 use Rattle.std.specs.Option.{option_or}
-use Rattle.std.specs.Prelude.{◌≡◌, ℕ, ◌^◌, List, [], ◌∷◌, length, Option, Some, None, nat_lt, if◌then◌else◌, option_and_then}
+use Rattle.std.specs.Prelude.{◌≡◌, ℕ, ◌^◌, List, [], ◌∷◌, length, map, Option, Some, None, nat_lt, if◌then◌else◌, option_and_then}
 use Rattle.rec_container.specs.Writing.{entry_named}
 use Rattle.rec_forms.specs.TextForm.{bytes_form}
 use Rattle.rec_format.specs.declared.head.SessionHead.{SessionHead}
@@ -10,12 +10,14 @@ use Rattle.rec_codec.specs.Lines.{NumberedLine}
 use Rattle.rec_store.specs.Bundle.{manifest_text, run_bundle, run_log, run_store}
 use Rattle.rec_store.specs.Entries.{log_name, manifest_name}
 use Rattle.rec_store.specs.Reading.{IsReading, recorded}
+use Rattle.rec_trace.specs.Kinds.{history}
+use Rattle.rec_trace.specs.Plain.{plain}
 use Rattle.rec_trace.specs.Timeline.{IsTimeline}
 use Rattle.rec_program.specs.declared.refusal.RecordExportError.TheVariants.{ParseHead, CountOutOfRange}
 use Rattle.rec_program.specs.declared.refusal.RecordExportError.{RecordExportError}
 use Rattle.rec_program.specs.declared.settings.Settings.{Settings}
 use Rattle.rec_program.specs.Session.{session_lines, head_text, event_lines, lines_refusal, events_of}
-use Rattle.rec_program.specs.SessionTraces.{run_trace, session_history, trace_refusal}
+use Rattle.rec_program.specs.SessionTraces.{run_trace, trace_refusal}
 use Rattle.rec_program.specs.Sizes.{entries_refusal}
 
 -- the head that a line's text is read as
@@ -68,4 +70,4 @@ module _ (number : List ℕ → ℕ) (settings : Settings) where
     pub spelled : bundle ≡ run_bundle number settings.max_output head (session_events session)
     pub reads : IsReading bundle (recorded number settings.max_output head (session_events session))
     pub traced : trace ≡ run_trace settings head (session_events session)
-    pub timeline : IsTimeline (session_history settings (session_events session))
+    pub timeline : IsTimeline (history settings.group_by (map plain (session_events session)))

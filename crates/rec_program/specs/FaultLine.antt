@@ -3,7 +3,7 @@ use Rattle.std.specs.Fmt.{decimal}
 use Rattle.std.specs.Prelude.{ℕ, List, [], ◌∷◌, ◌++◌, Option, Some, None, codes}
 use Rattle.rec_trace.specs.declared.spans.SpanKey.TheVariants as spans
 use Rattle.rec_trace.specs.declared.spans.SpanKey.{SpanKey}
-use Rattle.rec_program.specs.declared.refusal.RecordExportError.TheVariants.{SourceFault, SessionTooLarge, ParseHead, ReadRunLog, ParseEvent, NameCollision, CountOutOfRange, FileTooLarge, KindNotBuilt, MissingTestStart, SpanAlreadyOpen, SlotBusy, TimestampOutOfRange, RowOutOfRange, BundleFault, TraceFault, OutOfMemory}
+use Rattle.rec_program.specs.declared.refusal.RecordExportError.TheVariants.{SourceFault, SessionTooLarge, ParseHead, ReadRunLog, ParseEvent, NameCollision, CountOutOfRange, FileTooLarge, MissingTestStart, MissingScriptStart, MissingStressSubRunStart, SpanAlreadyOpen, SlotBusy, TimestampOutOfRange, RowOutOfRange, BundleFault, TraceFault, OutOfMemory}
 use Rattle.rec_program.specs.declared.refusal.RecordExportError.{RecordExportError}
 use Rattle.rec_program.specs.declared.words.WordsError.TheVariants.{NoCommand, UnknownCommand, MissingPositional, UnknownOption, RepeatedOption, MissingValue, BadValue}
 use Rattle.rec_program.specs.declared.words.WordsError.{WordsError}
@@ -83,8 +83,9 @@ export_name (ParseEvent line_number) = codes "ParseEvent"
 export_name (NameCollision file_name) = codes "NameCollision"
 export_name (CountOutOfRange event) = codes "CountOutOfRange"
 export_name (FileTooLarge file_name size limit) = codes "FileTooLarge"
-export_name (KindNotBuilt event) = codes "KindNotBuilt"
 export_name (MissingTestStart event binary_id test_name) = codes "MissingTestStart"
+export_name (MissingScriptStart event script_id) = codes "MissingScriptStart"
+export_name (MissingStressSubRunStart event) = codes "MissingStressSubRunStart"
 export_name (SpanAlreadyOpen event span) = codes "SpanAlreadyOpen"
 export_name (SlotBusy event slot) = codes "SlotBusy"
 export_name (TimestampOutOfRange event) = codes "TimestampOutOfRange"
@@ -102,9 +103,10 @@ export_fields (ParseEvent line_number) = field (codes "line_number") (number lin
 export_fields (NameCollision file_name) = field (codes "file_name") (text file_name) no_fields
 export_fields (CountOutOfRange event) = field (codes "event") (optional_number event) no_fields
 export_fields (FileTooLarge file_name size limit) = field (codes "file_name") (text file_name) (field (codes "size") (number size) (field (codes "limit") (number limit) no_fields))
-export_fields (KindNotBuilt event) = field (codes "event") (number event) no_fields
 export_fields (MissingTestStart event binary_id test_name) =
     field (codes "event") (number event) (field (codes "binary_id") (text binary_id) (field (codes "test_name") (text test_name) no_fields))
+export_fields (MissingScriptStart event script_id) = field (codes "event") (number event) (field (codes "script_id") (text script_id) no_fields)
+export_fields (MissingStressSubRunStart event) = field (codes "event") (number event) no_fields
 export_fields (SpanAlreadyOpen event span) = field (codes "event") (number event) (field (codes "span") (span_shown span) no_fields)
 export_fields (SlotBusy event slot) = field (codes "event") (number event) (field (codes "slot") (number slot) no_fields)
 export_fields (TimestampOutOfRange event) = field (codes "event") (number event) no_fields

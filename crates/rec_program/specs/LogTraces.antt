@@ -1,7 +1,7 @@
 -- The trace of a log: its text, or why it has none.
 use Rattle.std.specs.declared.alloc.Global.{Global}
 use Rattle.std.specs.Option.{option_or}
-use Rattle.std.specs.Prelude.{◌≡◌, ◌⊎◌, ℕ, List, Option, Some, None, option_map, Result, Ok, Err, Vec}
+use Rattle.std.specs.Prelude.{◌≡◌, ◌⊎◌, ℕ, List, map, Option, Some, None, option_map, Result, Ok, Err, Vec}
 use Rattle.semver.specs.Parse.{Parts}
 use Rattle.rec_container.specs.Container.{Entry, IsContainer, content_of}
 use Rattle.rec_forms.specs.TextForm.{bytes_form}
@@ -14,12 +14,10 @@ use Rattle.rec_trace.specs.declared.errors.ChromeTraceError.TheVariants.{OutOfMe
 use Rattle.rec_trace.specs.declared.errors.ChromeTraceError.{ChromeTraceError}
 use Rattle.rec_trace.specs.declared.settings.ChromeTraceGroupBy.{ChromeTraceGroupBy}
 use Rattle.rec_trace.specs.declared.settings.ChromeTraceMessageFormat.{ChromeTraceMessageFormat}
-use Rattle.rec_trace.specs.Drawing.{trace_text}
-use Rattle.rec_trace.specs.History.{trace_marks}
 use Rattle.rec_trace.specs.Kinds.{history}
-use Rattle.rec_trace.specs.Past.{TraceInput}
-use Rattle.rec_trace.specs.Refusals.{history_refusal}
+use Rattle.rec_trace.specs.Plain.{PlainEvent, plain}
 use Rattle.rec_trace.specs.Timeline.{IsTimeline}
+use Rattle.rec_trace.specs.Traces.{events_refusal, trace_text}
 use Rattle.rec_program.specs.Bundle.{AreOf}
 use Rattle.rec_program.specs.declared.settings.Settings.{Settings}
 
@@ -27,23 +25,23 @@ use Rattle.rec_program.specs.declared.settings.Settings.{Settings}
 abbrev pub log_lines : List ℕ → List NumberedLine
 log_lines log = numbered 1 (lines log)
 
--- the history of a log: its events before the first line that fails
-abbrev pub log_history : ChromeTraceGroupBy → List NumberedLine → List TraceInput
-log_history g lines = history g (events_before_fault lines)
+-- the events of a log before the first line that fails, without outputs
+abbrev pub plain_log : List NumberedLine → List PlainEvent
+plain_log lines = map plain (events_before_fault lines)
 
 -- Why a log has no trace, if it has none: the first cause of an event before the first line that fails, else this line's fault. So the
 -- cause of an event comes before the fault of a later line, and after that of an earlier one
 unfoldable pub log_refusal : ChromeTraceGroupBy → List NumberedLine → Option ChromeTraceError
-log_refusal g lines = option_or (history_refusal (log_history g lines)) (option_map ReadError (first_line_fault lines))
+log_refusal g lines = option_or (events_refusal g (plain_log lines)) (option_map ReadError (first_line_fault lines))
 
 -- the text of the trace of a log
 unfoldable pub log_trace : ChromeTraceGroupBy → ChromeTraceMessageFormat → Parts → List NumberedLine → List ℕ
-log_trace g format version lines = trace_text format version (trace_marks (log_history g lines))
+log_trace g format version lines = trace_text format g version (plain_log lines)
 
 -- a log that isn't refused is answered by the text of its trace, whose marks are the timeline of its events; one that is, by why it
 -- is; or memory ran out
 abbrev pub TracesLog : ChromeTraceGroupBy → ChromeTraceMessageFormat → Parts → List NumberedLine → Result (Vec ℕ Global) ChromeTraceError → Type 0
-TracesLog g format version lines (Ok text) = (log_refusal g lines ≡ None) × (text.items ≡ log_trace g format version lines) × IsTimeline (log_history g lines)
+TracesLog g format version lines (Ok text) = (log_refusal g lines ≡ None) × (text.items ≡ log_trace g format version lines) × IsTimeline (history g (plain_log lines))
 TracesLog g format version lines (Err e) = (e ≡ OutOfMemory) ⊎ (log_refusal g lines ≡ Some e)
 
 -- the text of the trace of a bundle with this manifest and this log

@@ -4,9 +4,11 @@ use Rattle.std.specs.Prelude.{ℕ, ◌+◌, ◌^◌, List, [], ◌∷◌, length
 use Rattle.std.specs.Str.Parse.{digits_value}
 use Rattle.std.specs.Str.{bytes_eq, all_ascii_digits}
 use Rattle.rec_container.specs.Reading.{◌>>=◌}
+use Rattle.rec_trace.specs.declared.settings.ChromeTraceGroupBy.TheVariants.{Binary, Slot}
+use Rattle.rec_trace.specs.declared.settings.ChromeTraceGroupBy.{ChromeTraceGroupBy}
 use Rattle.rec_program.specs.declared.options.CommandName.TheVariants.{Record, Trace, Info}
 use Rattle.rec_program.specs.declared.options.CommandName.{CommandName}
-use Rattle.rec_program.specs.declared.options.OptionName.TheVariants.{MaxOutput, ReadLimit, SessionLimit}
+use Rattle.rec_program.specs.declared.options.OptionName.TheVariants.{GroupBy, MaxOutput, ReadLimit, SessionLimit}
 use Rattle.rec_program.specs.declared.options.OptionName.{OptionName}
 use Rattle.rec_program.specs.declared.options.OptionValues.{OptionValues}
 use Rattle.rec_program.specs.declared.settings.Settings.{Settings}
@@ -17,13 +19,17 @@ use Rattle.rec_program.specs.Settings.{default_settings}
 -- the option of a name
 unfoldable pub option_named : List ℕ → Option OptionName
 option_named word =
-    if bytes_eq word (codes "--max-output") then Some MaxOutput
+    if bytes_eq word (codes "--group-by") then Some GroupBy
+    else if bytes_eq word (codes "--max-output") then Some MaxOutput
     else if bytes_eq word (codes "--read-limit") then Some ReadLimit
     else if bytes_eq word (codes "--session-limit") then Some SessionLimit
     else None
 
 -- which commands take an option
 abbrev pub takes : CommandName → OptionName → Bool
+takes Record GroupBy = true
+takes Trace GroupBy = true
+takes Info GroupBy = false
 takes Record MaxOutput = true
 takes Trace MaxOutput = false
 takes Info MaxOutput = false
@@ -41,18 +47,24 @@ unfoldable pub number_of : List ℕ → Option ℕ
 number_of text =
     if all_ascii_digits text && nat_lt 0 (length text) && nat_lt (digits_value 10 text) (2 ^ 64) then Some (digits_value 10 text) else None
 
+-- the grouping of a name
+unfoldable pub group_by_of : List ℕ → Option ChromeTraceGroupBy
+group_by_of word = if bytes_eq word (codes "binary") then Some Binary else if bytes_eq word (codes "slot") then Some Slot else None
+
 -- no option came yet
 abbrev pub no_values : OptionValues
-no_values = record { max_output = None; read_limit = None; session_limit = None }
+no_values = record { group_by = None; max_output = None; read_limit = None; session_limit = None }
 
 -- whether an option came
 abbrev pub has_come : OptionValues → OptionName → Bool
+has_come values GroupBy = is_some values.group_by
 has_come values MaxOutput = is_some values.max_output
 has_come values ReadLimit = is_some values.read_limit
 has_come values SessionLimit = is_some values.session_limit
 
 -- the values after an option and the text of its value, where the option takes it
 abbrev pub with_value : OptionValues → OptionName → List ℕ → Option OptionValues
+with_value values GroupBy text = option_map (λ g. record values { group_by = Some g }) (group_by_of text)
 with_value values MaxOutput text = option_map (λ limit. record values { max_output = Some limit }) (number_of text)
 with_value values ReadLimit text = option_map (λ limit. record values { read_limit = Some limit }) (number_of text)
 with_value values SessionLimit text = option_map (λ limit. record values { session_limit = Some limit }) (number_of text)
@@ -60,7 +72,7 @@ with_value values SessionLimit text = option_map (λ limit. record values { sess
 -- the values of options, and the defaults elsewhere
 abbrev pub settings_of : OptionValues → Settings
 settings_of values = record {
-  group_by = default_settings.group_by;
+  group_by = unwrap_or values.group_by default_settings.group_by;
   message_format = default_settings.message_format;
   max_output = unwrap_or values.max_output default_settings.max_output;
   read_limit = unwrap_or values.read_limit default_settings.read_limit;

@@ -5,7 +5,7 @@ use Rattle.rec_portable.specs.declared.errors.PortableRecordingReadError.{Portab
 use Rattle.rec_trace.specs.declared.errors.ChromeTraceError.{ChromeTraceError}
 use Rattle.rec_program.specs.declared.reading_error.ReadingError.TheVariants as reading
 use Rattle.rec_program.specs.declared.reading_error.ReadingError.{ReadingError}
-use Rattle.rec_program.specs.declared.refusal.RecordExportError.TheVariants.{SourceFault, SessionTooLarge, ParseHead, ReadRunLog, ParseEvent, NameCollision, CountOutOfRange, FileTooLarge, KindNotBuilt, MissingTestStart, SpanAlreadyOpen, SlotBusy, TimestampOutOfRange, RowOutOfRange, BundleFault, TraceFault, OutOfMemory}
+use Rattle.rec_program.specs.declared.refusal.RecordExportError.TheVariants.{SourceFault, SessionTooLarge, ParseHead, ReadRunLog, ParseEvent, NameCollision, CountOutOfRange, FileTooLarge, MissingTestStart, MissingScriptStart, MissingStressSubRunStart, SpanAlreadyOpen, SlotBusy, TimestampOutOfRange, RowOutOfRange, BundleFault, TraceFault, OutOfMemory}
 use Rattle.rec_program.specs.declared.refusal.RecordExportError.{RecordExportError}
 use Rattle.rec_program.specs.TraceFaults.{trace_fault}
 
@@ -20,13 +20,14 @@ export_status (NameCollision file_name) = 6
 export_status (CountOutOfRange event) = 9
 export_status (FileTooLarge file_name size limit) = 7
 export_status (MissingTestStart event binary_id test_name) = 8
+export_status (MissingScriptStart event script_id) = 8
+export_status (MissingStressSubRunStart event) = 8
 export_status (SpanAlreadyOpen event span) = 8
 export_status (SlotBusy event slot) = 8
 export_status (TimestampOutOfRange event) = 9
 export_status (RowOutOfRange event number) = 9
 export_status BundleFault = 10
 export_status TraceFault = 11
-export_status (KindNotBuilt event) = 20
 export_status OutOfMemory = 70
 
 -- the status for a bundle that isn't read

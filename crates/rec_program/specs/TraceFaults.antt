@@ -2,14 +2,15 @@
 use Rattle.std.specs.Prelude.{Some}
 use Rattle.rec_trace.specs.declared.errors.ChromeTraceError.TheVariants as traces
 use Rattle.rec_trace.specs.declared.errors.ChromeTraceError.{ChromeTraceError}
-use Rattle.rec_program.specs.declared.refusal.RecordExportError.TheVariants.{CountOutOfRange, KindNotBuilt, MissingTestStart, OutOfMemory, RowOutOfRange, SlotBusy, SpanAlreadyOpen, TimestampOutOfRange}
+use Rattle.rec_program.specs.declared.refusal.RecordExportError.TheVariants.{CountOutOfRange, MissingScriptStart, MissingStressSubRunStart, MissingTestStart, OutOfMemory, RowOutOfRange, SlotBusy, SpanAlreadyOpen, TimestampOutOfRange}
 use Rattle.rec_program.specs.declared.refusal.RecordExportError.{RecordExportError}
 use Rattle.rec_program.specs.LineFaults.{line_fault}
 
 abbrev pub trace_fault : ChromeTraceError → RecordExportError
 trace_fault (traces.ReadError fault) = line_fault fault
-trace_fault (traces.KindNotBuilt event) = KindNotBuilt event
 trace_fault (traces.MissingTestStart event binary_id test_name) = MissingTestStart event binary_id test_name
+trace_fault (traces.MissingScriptStart event script_id) = MissingScriptStart event script_id
+trace_fault (traces.MissingStressSubRunStart event) = MissingStressSubRunStart event
 trace_fault (traces.SpanAlreadyOpen event span) = SpanAlreadyOpen event span
 trace_fault (traces.SlotBusy event slot) = SlotBusy event slot
 trace_fault (traces.TimestampOutOfRange event) = TimestampOutOfRange event

@@ -5,7 +5,8 @@ ghost use Rattle.rec_program.specs.LinePieces.{fields_bytes, line_bytes};
 ghost use Rattle.rec_program.specs.Reporting.{Reports};
 
 use crate::fields::{
-    event_number, missing_start, no_fields, number, one, open_span, optional_event, text, three,
+    event_number, missing_script, missing_test, no_fields, number, one, open_span, optional_event,
+    text, three,
 };
 use crate::line::{FaultText, Fields, write_line};
 use crate::refusal::RecordExportError;
@@ -101,8 +102,9 @@ fn export_name(error: &RecordExportError) -> &'static str
         RecordExportError::NameCollision { .. } => "NameCollision",
         RecordExportError::CountOutOfRange { .. } => "CountOutOfRange",
         RecordExportError::FileTooLarge { .. } => "FileTooLarge",
-        RecordExportError::KindNotBuilt { .. } => "KindNotBuilt",
         RecordExportError::MissingTestStart { .. } => "MissingTestStart",
+        RecordExportError::MissingScriptStart { .. } => "MissingScriptStart",
+        RecordExportError::MissingStressSubRunStart { .. } => "MissingStressSubRunStart",
         RecordExportError::SpanAlreadyOpen { .. } => "SpanAlreadyOpen",
         RecordExportError::SlotBusy { .. } => "SlotBusy",
         RecordExportError::TimestampOutOfRange { .. } => "TimestampOutOfRange",
@@ -141,7 +143,7 @@ fn export_fields(error: &RecordExportError) -> Fields<'_>
             number(" limit=", *limit),
         ),
         RecordExportError::CountOutOfRange { event } => one(optional_event(*event)),
-        RecordExportError::KindNotBuilt { event }
+        RecordExportError::MissingStressSubRunStart { event }
         | RecordExportError::TimestampOutOfRange { event } => one(number(" event=", *event)),
         RecordExportError::SlotBusy { event, slot } => event_number(*event, " slot=", *slot),
         RecordExportError::RowOutOfRange { event, number } => {
@@ -151,7 +153,10 @@ fn export_fields(error: &RecordExportError) -> Fields<'_>
             event,
             binary_id,
             test_name,
-        } => missing_start(*event, binary_id, test_name),
+        } => missing_test(*event, binary_id, test_name),
+        RecordExportError::MissingScriptStart { event, script_id } => {
+            missing_script(*event, script_id)
+        }
         RecordExportError::SpanAlreadyOpen { event, span } => open_span(*event, span),
     }
 }

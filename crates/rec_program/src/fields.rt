@@ -3,12 +3,12 @@ ghost use Rattle.std.specs.Prelude.{◌≡◌, ◌++◌, ◌∷◌, [], ℕ, Lis
 ghost use Rattle.rec_format.specs.Incompatibility.{release_text};
 ghost use Rattle.rec_format.specs.Versions.{version_text};
 ghost use Rattle.rec_trace.specs.declared.spans.SpanKey.TheVariants.{Test};
-ghost use Rattle.rec_program.specs.declared.refusal.RecordExportError.TheVariants.{MissingTestStart};
+ghost use Rattle.rec_program.specs.declared.refusal.RecordExportError.TheVariants.{MissingScriptStart, MissingTestStart};
 ghost use Rattle.rec_program.specs.FaultLine.{export_fields, fields_text, optional_number, shown_text, span_shown};
 ghost use Rattle.rec_program.specs.LinePieces.{fields_bytes, value_bytes};
 
 use crate::line::{Field, FieldValue, Fields};
-use rec_events::{OwnedTestInstanceId, RustBinaryId, TestCaseName};
+use rec_events::{OwnedTestInstanceId, RustBinaryId, ScriptId, TestCaseName};
 use rec_format::Release;
 use rec_trace::SpanKey;
 
@@ -111,7 +111,7 @@ pub fn event_number(event: u64, label: &str, other: u64) -> Fields<'_>
 }
 
 /// Returns the number of an event, and the test that had not started at it.
-pub fn missing_start<'a>(
+pub fn missing_test<'a>(
     event: u64,
     binary_id: &'a RustBinaryId,
     test_name: &'a TestCaseName,
@@ -122,6 +122,16 @@ pub fn missing_start<'a>(
         number(" event=", event),
         text(" binary_id=", binary_id.as_str()),
         text(" test_name=", test_name.as_str()),
+    )
+}
+
+/// Returns the number of an event, and the setup script that had not started at it.
+pub fn missing_script(event: u64, script_id: &ScriptId) -> Fields<'_>
+    ensures { (rest : List ℕ) → fields_bytes result rest ≡ fields_text (export_fields (MissingScriptStart event script_id.now)) rest }
+{
+    two(
+        number(" event=", event),
+        text(" script_id=", script_id.as_str()),
     )
 }
 

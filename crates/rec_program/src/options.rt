@@ -1,10 +1,11 @@
 //! The options of the commands.
 ghost use Rattle.std.specs.Prelude.{◌≡◌};
-ghost use Rattle.rec_program.specs.Options.{has_come, new_option, no_values, number_of, option_named, options_at, settings_from, settings_of, takes, values_from, with_value};
+ghost use Rattle.rec_program.specs.Options.{group_by_of, has_come, new_option, no_values, number_of, option_named, options_at, settings_from, settings_of, takes, values_from, with_value};
 ghost use Rattle.rec_program.specs.Words.{texts};
 
 use crate::settings::Settings;
 use crate::words::WordsError;
+use rec_trace::ChromeTraceGroupBy;
 
 /// Names a command that takes options.
 #[derive(Clone, Copy)]
@@ -20,6 +21,10 @@ impl CommandName {
         ensures { result ≡ takes self option }
     {
         match option {
+            OptionName::GroupBy => match self {
+                CommandName::Record | CommandName::Trace => true,
+                CommandName::Info => false,
+            },
             OptionName::MaxOutput => match self {
                 CommandName::Record => true,
                 CommandName::Trace | CommandName::Info => false,
@@ -42,6 +47,7 @@ impl CommandName {
 /// Names an option by the setting that it sets.
 #[derive(Clone, Copy)]
 pub enum OptionName {
+    GroupBy,
     MaxOutput,
     ReadLimit,
     SessionLimit,
@@ -50,6 +56,7 @@ pub enum OptionName {
 /// Holds the values that options have. One is `None` until its option comes.
 #[derive(Clone, Copy)]
 pub struct OptionValues {
+    pub group_by: Option<ChromeTraceGroupBy>,
     pub max_output: Option<u64>,
     pub read_limit: Option<u64>,
     pub session_limit: Option<u64>,
@@ -60,6 +67,7 @@ impl OptionValues {
         ensures { result ≡ no_values }
     {
         OptionValues {
+            group_by: None,
             max_output: None,
             read_limit: None,
             session_limit: None,
@@ -71,6 +79,7 @@ impl OptionValues {
         ensures { result ≡ has_come self.now name }
     {
         match name {
+            OptionName::GroupBy => self.group_by.is_some(),
             OptionName::MaxOutput => self.max_output.is_some(),
             OptionName::ReadLimit => self.read_limit.is_some(),
             OptionName::SessionLimit => self.session_limit.is_some(),
@@ -83,6 +92,7 @@ impl OptionValues {
     {
         let mut values = self;
         match name {
+            OptionName::GroupBy => values.group_by = Some(group_by(text)?),
             OptionName::MaxOutput => values.max_output = Some(number(text)?),
             OptionName::ReadLimit => values.read_limit = Some(number(text)?),
             OptionName::SessionLimit => values.session_limit = Some(number(text)?),
@@ -96,7 +106,7 @@ impl OptionValues {
     {
         let defaults = Settings::default();
         Settings {
-            group_by: defaults.group_by,
+            group_by: self.group_by.unwrap_or(defaults.group_by),
             message_format: defaults.message_format,
             max_output: self.max_output.unwrap_or(defaults.max_output),
             read_limit: self.read_limit.unwrap_or(defaults.read_limit),
@@ -167,9 +177,22 @@ fn option_named(word: &str) -> Option<OptionName>
     ensures { result ≡ option_named word.now }
 {
     match word {
+        "--group-by" => Some(OptionName::GroupBy),
         "--max-output" => Some(OptionName::MaxOutput),
         "--read-limit" => Some(OptionName::ReadLimit),
         "--session-limit" => Some(OptionName::SessionLimit),
+        _ => None,
+    }
+}
+
+/// Returns the grouping that a word names.
+#[tactic(auto, unfolding(crate::specs::Options::group_by_of))]
+fn group_by(word: &str) -> Option<ChromeTraceGroupBy>
+    ensures { result ≡ group_by_of word.now }
+{
+    match word {
+        "binary" => Some(ChromeTraceGroupBy::Binary),
+        "slot" => Some(ChromeTraceGroupBy::Slot),
         _ => None,
     }
 }

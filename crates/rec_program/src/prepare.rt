@@ -1,6 +1,6 @@
 //! The judging of a session, and what is exported of it, in memory.
 ghost use Rattle.std.specs.Option.{option_or};
-ghost use Rattle.std.specs.Prelude.{◌≡◌, ◌⊎◌, ◌<◌, ◌^◌, [], length, Some, None, IfOk, IfErr, OnOk, string_bytes, List, ℕ};
+ghost use Rattle.std.specs.Prelude.{◌≡◌, ◌⊎◌, ◌<◌, ◌^◌, [], length, map, Some, None, IfOk, IfErr, OnOk, string_bytes, List, ℕ};
 ghost use Rattle.serde_json.specs.Written.{compact_text};
 ghost use Rattle.rec_format.specs.HeadForms.{IsHead};
 ghost use Rattle.rec_format.specs.RunForms.{manifest_value};
@@ -8,13 +8,14 @@ ghost use Rattle.rec_format.specs.Runs.{manifest_of, recorded_info};
 ghost use Rattle.rec_store.specs.Bundle.{outputs_stored, run_bundle};
 ghost use Rattle.rec_store.specs.Reading.{IsReading, recorded};
 ghost use Rattle.rec_store.specs.Store.{store_entries};
-ghost use Rattle.rec_trace.specs.Refusals as traces;
+ghost use Rattle.rec_trace.specs.Plain.{plain};
+ghost use Rattle.rec_trace.specs.Traces.{events_refusal};
 ghost use Rattle.rec_program.specs.Bundle.{AreOf, session_refusal, refusal_after};
 ghost use Rattle.rec_program.specs.declared.refusal.RecordExportError.TheVariants.{OutOfMemory};
 ghost use Rattle.rec_program.specs.Export.{CountsOf};
 ghost use Rattle.rec_program.specs.Prepared.{contents_refusal, prepared_bundle, bundle_of_contents};
 ghost use Rattle.rec_program.specs.Session.{events_of};
-ghost use Rattle.rec_program.specs.SessionTraces.{run_trace, session_history};
+ghost use Rattle.rec_program.specs.SessionTraces.{run_trace};
 ghost use Rattle.rec_program.specs.Sizes.{AnswersRefusal};
 
 use crate::bundle::{JudgedManifest, judge_contents};
@@ -84,7 +85,7 @@ fn prepare_run<N: OutputNamer>(
         (recorded (N.number namer.now) settings.now.max_output head.now (events_of lines.entry))) }
     ensures trace { IfOk result (λ p. string_bytes p.trace
         ≡ run_trace settings.now head.now (events_of lines.entry)) }
-    ensures accepted { OnOk result (traces.history_refusal (session_history settings.now (events_of lines.entry)) ≡ None) }
+    ensures accepted { OnOk result (events_refusal settings.now.group_by (map plain (events_of lines.entry)) ≡ None) }
     ensures valid { OnOk result (refusal_after (N.number namer.now) settings.now (Some head.now) lines.entry ≡ None) }
     ensures events { IfOk result (λ p. p.exported.events ≡ length (events_of lines.entry)) }
     ensures outputs { IfOk result (λ p. p.exported.outputs

@@ -8,12 +8,13 @@ ghost use Rattle.rec_format.specs.declared.manifest.PortableManifest.{PortableMa
 ghost use Rattle.rec_store.specs.Namer.{sha256_number};
 ghost use Rattle.rec_portable.specs.Judging.{judged};
 ghost use Rattle.rec_portable.specs.OuterEntries.{log_part};
+ghost use Rattle.rec_trace.specs.Kinds.{history};
 ghost use Rattle.rec_trace.specs.Timeline.{IsTimeline};
 ghost use Rattle.rec_program.specs.Bundle.{AreOf, session_refusal};
 ghost use Rattle.rec_program.specs.declared.counts.Exported.{Exported};
 ghost use Rattle.rec_program.specs.declared.settings.Settings.{Settings};
 ghost use Rattle.rec_program.specs.Export.{Exports};
-ghost use Rattle.rec_program.specs.LogTraces.{bundle_trace, log_history, log_lines, log_refusal};
+ghost use Rattle.rec_program.specs.LogTraces.{bundle_trace, log_lines, log_refusal, plain_log};
 ghost use Rattle.rec_program.specs.ReadingCommands.{manifest_line};
 ghost use Rattle.rec_program.specs.Running.{Prints, Records, Runs, ShowsMade};
 ghost use Rattle.rec_program.specs.Words.{command, informing, recording, texts, tracing};
@@ -104,7 +105,7 @@ pub fn run_program<S: Source, B: Sink, T: Sink, G: Sink>(
         × (judged settings.read_limit es ≡ Ok manifest)
         × (log_part settings.read_limit es ≡ Ok log)
         × (log_refusal settings.group_by (log_lines log) ≡ None)
-        × IsTimeline (log_history settings.group_by (log_lines log))
+        × IsTimeline (history settings.group_by (plain_log (log_lines log)))
         × Appends (T.taken out.old) (T.taken out.new) (bundle_trace settings manifest log) }
 
     // Of a bundle that a recording wrote, `trace` prints the text that the recording printed, where both draw and write it alike.

@@ -6,12 +6,13 @@ ghost use Rattle.rec_program.specs.ReadingErrors.{bundle_error, trace_error};
 use rec_portable::PortableRecordingReadError;
 use rec_trace::ChromeTraceError;
 use std::alloc::{AllocError, AllocFailed};
+use std::fmt;
 use thiserror::Error;
 
 /// Says why a command prints nothing of a bundle. The source is judged first, then the bundle's length, its
 /// bytes and its manifest; then, for its trace, the log, and the events from the first on. Want of memory
 /// may come at any time before the first byte is printed.
-#[derive(Debug, Drop, Error)]
+#[derive(Drop, Error)]
 pub enum ReadingError {
     /// The bundle, or its log, isn't read.
     #[error(transparent)]
@@ -22,6 +23,13 @@ pub enum ReadingError {
     /// There was no memory.
     #[error("out of memory")]
     OutOfMemory,
+}
+
+/// Prints the error as `Display` does.
+impl fmt::Debug for ReadingError {
+    fn fmt<W: fmt::Write>(&self, f: &mut fmt::Formatter<W>) -> fmt::Result {
+        fmt::Display::fmt(self, f)
+    }
 }
 
 impl From<PortableRecordingReadError> for ReadingError {

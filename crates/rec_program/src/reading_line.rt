@@ -10,8 +10,8 @@ ghost use Rattle.rec_program.specs.ReadingLine.{bundle_fields, bundle_name, bund
 
 use crate::fault_line::FaultLine;
 use crate::fields::{
-    NOTHING, event_number, missing_start, no_fields, number, one, open_span, release, text, three,
-    two, version,
+    NOTHING, event_number, missing_script, missing_test, no_fields, number, one, open_span, release,
+    text, three, two, version,
 };
 use crate::line::{FaultText, Field, Fields};
 use crate::reading_error::ReadingError;
@@ -323,8 +323,9 @@ fn trace_name(error: &ChromeTraceError) -> &'static str
 {
     match error {
         ChromeTraceError::ReadError(_) => "ReadError",
-        ChromeTraceError::KindNotBuilt { .. } => "KindNotBuilt",
         ChromeTraceError::MissingTestStart { .. } => "MissingTestStart",
+        ChromeTraceError::MissingScriptStart { .. } => "MissingScriptStart",
+        ChromeTraceError::MissingStressSubRunStart { .. } => "MissingStressSubRunStart",
         ChromeTraceError::SpanAlreadyOpen { .. } => "SpanAlreadyOpen",
         ChromeTraceError::SlotBusy { .. } => "SlotBusy",
         ChromeTraceError::TimestampOutOfRange { .. } => "TimestampOutOfRange",
@@ -340,7 +341,7 @@ fn trace_fields(error: &ChromeTraceError) -> Fields<'_>
 {
     match error {
         ChromeTraceError::ReadError(fault) => line_fields(*fault),
-        ChromeTraceError::KindNotBuilt { event }
+        ChromeTraceError::MissingStressSubRunStart { event }
         | ChromeTraceError::TimestampOutOfRange { event }
         | ChromeTraceError::CountOutOfRange { event } => one(number(" event=", *event)),
         ChromeTraceError::SlotBusy { event, slot } => event_number(*event, " slot=", *slot),
@@ -351,7 +352,10 @@ fn trace_fields(error: &ChromeTraceError) -> Fields<'_>
             event,
             binary_id,
             test_name,
-        } => missing_start(*event, binary_id, test_name),
+        } => missing_test(*event, binary_id, test_name),
+        ChromeTraceError::MissingScriptStart { event, script_id } => {
+            missing_script(*event, script_id)
+        }
         ChromeTraceError::SpanAlreadyOpen { event, span } => open_span(*event, span),
         ChromeTraceError::OutOfMemory => no_fields(),
     }

@@ -11,13 +11,12 @@ ghost use Rattle.rec_store.specs.Bundle.{run_store};
 ghost use Rattle.rec_store.specs.Recording.{Stores, Unstored, has_failed};
 ghost use Rattle.rec_store.specs.Store.{rerun_entries, store_entries};
 ghost use Rattle.rec_trace.specs.declared.settings.ChromeTraceGroupBy.{ChromeTraceGroupBy};
-ghost use Rattle.rec_trace.specs.Kinds.{trace_input};
-ghost use Rattle.rec_trace.specs.Past.{TraceInput};
+ghost use Rattle.rec_trace.specs.Plain.{PlainEvent, plain};
 ghost use Rattle.rec_program.specs.declared.refusal.RecordExportError.TheVariants.{OutOfMemory};
 ghost use Rattle.rec_program.specs.Recorded.{HasRecorded, IsRunOf, RecordsEvent, RecordsLine, RecordsLines};
 ghost use Rattle.rec_program.specs.RecorderFaults.{ComesAtEnd, ComesOfEvent, ComesOfHead, event_fault};
 ghost use Rattle.rec_program.specs.Session.{event_at, events_of, lines_refusal};
-ghost use Rattle.rec_program.specs.SessionTraces.{IsTraceOf, session_history};
+ghost use Rattle.rec_program.specs.SessionTraces.{IsTraceOf};
 ghost use Rattle.rec_program.specs.Sizes.{entries_refusal};
 
 use crate::refusal::RecordExportError;
@@ -66,7 +65,7 @@ pub fn record_run<N: OutputNamer>(
     ensures run { IfOk result (λ r. IsRunOf (N.number namer.now) settings.now.max_output head.now (events_of lines.entry) r.store.bytes r.log.bytes r.sizes) }
     ensures too_large { IfOk result (λ r. r.too_large
         ≡ entries_refusal settings.now.read_limit (run_store (N.number namer.now) settings.now.max_output head.now (events_of lines.entry))) }
-    ensures traced { IfOk result (λ r. IsTraceOf settings.now.group_by (session_history settings.now (events_of lines.entry)) r.trace) }
+    ensures traced { IfOk result (λ r. IsTraceOf settings.now.group_by (map plain (events_of lines.entry)) r.trace) }
     ensures err { IfErr result (λ e. (e ≡ OutOfMemory)
         ⊎ (lines_refusal (N.number namer.now) settings.now.max_output [] lines.entry ≡ Some e)) }
 {
@@ -173,8 +172,8 @@ fn record_lines<N: OutputNamer>(
     ensures recorded { (head : SessionHead) (events : List LiveEvent)
         → HasRecorded N.number recorder.old.namer recorder.old.max_output head events recorder.old
         → RecordsLines N.number recorder.old.namer recorder.old.max_output head events lines.entry recorder.new result }
-    ensures traced { (g : ChromeTraceGroupBy) (history : List TraceInput) → IsTraceOf g history trace.old
-        → OnOk result (IsTraceOf g (history ++ map (trace_input g) (events_of lines.entry)) trace.new) }
+    ensures traced { (g : ChromeTraceGroupBy) (before : List PlainEvent) → IsTraceOf g before trace.old
+        → OnOk result (IsTraceOf g (before ++ map plain (events_of lines.entry)) trace.new) }
 {
     for line in lines {
         record_line(alloc, line, recorder, trace)?;
@@ -194,8 +193,8 @@ fn record_line<N: OutputNamer>(
     ensures recorded { (head : SessionHead) (events : List LiveEvent)
         → HasRecorded N.number recorder.old.namer recorder.old.max_output head events recorder.old
         → RecordsLine N.number recorder.old.namer recorder.old.max_output head events (line_view line.entry) recorder.new result }
-    ensures traced { (g : ChromeTraceGroupBy) (history : List TraceInput) → IsTraceOf g history trace.old
-        → OnOk result (IsTraceOf g (history ++ map (trace_input g) (option_to_list (event_at (line_view line.entry)))) trace.new) }
+    ensures traced { (g : ChromeTraceGroupBy) (before : List PlainEvent) → IsTraceOf g before trace.old
+        → OnOk result (IsTraceOf g (before ++ map plain (option_to_list (event_at (line_view line.entry)))) trace.new) }
 {
     match read_line(alloc, line) {
         None => Ok(()),
@@ -216,8 +215,8 @@ fn record_event<N: OutputNamer>(
     ensures recorded { (head : SessionHead) (events : List LiveEvent)
         → HasRecorded N.number recorder.old.namer recorder.old.max_output head events recorder.old
         → RecordsEvent N.number recorder.old.namer recorder.old.max_output head events event recorder.new result }
-    ensures traced { (g : ChromeTraceGroupBy) (history : List TraceInput) → IsTraceOf g history trace.old
-        → OnOk result (IsTraceOf g (history ++ trace_input g event ∷ []) trace.new) }
+    ensures traced { (g : ChromeTraceGroupBy) (before : List PlainEvent) → IsTraceOf g before trace.old
+        → OnOk result (IsTraceOf g (before ++ plain event ∷ []) trace.new) }
 {
     let Ok(()) = trace.add(alloc, &event) else {
         // By a call: in place, each kind of event would be a case of the proof.

@@ -3,7 +3,7 @@ ghost use Rattle.std.specs.Prelude.{◌≡◌};
 ghost use Rattle.rec_program.specs.declared.refusal.RecordExportError.TheVariants.{OutOfMemory};
 
 use rec_codec::LineError;
-use rec_events::{RustBinaryId, TestCaseName, Text};
+use rec_events::{RustBinaryId, ScriptId, TestCaseName, Text};
 use rec_trace::{ChromeTraceError, SpanKey};
 use std::alloc::AllocError;
 use std::fmt;
@@ -12,7 +12,7 @@ use thiserror::Error;
 /// Says why a session isn't exported. The source is judged first, then the session's length, the head, the
 /// lines from the first on, the sum of all sizes, each size, and then the trace from the first event
 /// on. Want of memory may come at any time before the first byte is written.
-#[derive(Debug, PartialEq, Drop, Error)]
+#[derive(PartialEq, Drop, Error)]
 pub enum RecordExportError {
     /// The source failed.
     #[error("reading the session failed")]
@@ -56,17 +56,25 @@ pub enum RecordExportError {
         size: u64,
         limit: u64,
     },
-    /// The event is of a kind that the trace doesn't draw yet. Events are numbered from 1.
-    #[error("the kind of event {event} isn't drawn yet")]
-    KindNotBuilt {
-        event: u64,
-    },
-    /// The event finishes a test of which no attempt is open.
-    #[error("event {event} ends {} {}, which isn't running", .binary_id.as_str(), .test_name.as_str())]
+    /// The event finishes a test of which no attempt is open, or says that it failed or is slow. Events are
+    /// numbered from 1.
+    #[error("event {event} is of {} {}, which isn't running", .binary_id.as_str(), .test_name.as_str())]
     MissingTestStart {
         event: u64,
         binary_id: RustBinaryId,
         test_name: TestCaseName,
+    },
+    /// The event finishes a setup script whose index isn't open under its id, or says that one is slow while
+    /// none of its id is open.
+    #[error("event {event} is of setup script {}, which isn't running", .script_id.as_str())]
+    MissingScriptStart {
+        event: u64,
+        script_id: ScriptId,
+    },
+    /// The event finishes a sub-run while none is open.
+    #[error("event {event} ends a sub-run, and none is running")]
+    MissingStressSubRunStart {
+        event: u64,
     },
     /// The event starts what is open already.
     #[error("event {event} starts {span}, which is running already")]
@@ -85,8 +93,9 @@ pub enum RecordExportError {
     TimestampOutOfRange {
         event: u64,
     },
-    /// The number of a row of the trace is no u64. `number` is the slot from which it is made.
-    #[error("event {event} needs a row that is out of range, by its number {number}")]
+    /// A number of the trace is no u64: that of a row, and `number` is the slot or the index from which it is
+    /// made; or that of a process or a flow, and `number` is the greatest u64.
+    #[error("event {event} needs a row or a flow that is out of range, by its number {number}")]
     RowOutOfRange {
         event: u64,
         number: u64,
@@ -112,6 +121,13 @@ impl fmt::Display for Counted {
             Some(event) => write!(f, "a number of event {event}"),
             None => f.write_str("a size or a number of entries"),
         }
+    }
+}
+
+/// Prints the error as `Display` does.
+impl fmt::Debug for RecordExportError {
+    fn fmt<W: fmt::Write>(&self, f: &mut fmt::Formatter<W>) -> fmt::Result {
+        fmt::Display::fmt(self, f)
     }
 }
 
@@ -145,7 +161,6 @@ impl From<ChromeTraceError> for RecordExportError {
     fn from(error: ChromeTraceError) -> Self {
         match error {
             ChromeTraceError::ReadError(fault) => RecordExportError::from(fault),
-            ChromeTraceError::KindNotBuilt { event } => RecordExportError::KindNotBuilt { event },
             ChromeTraceError::MissingTestStart {
                 event,
                 binary_id,
@@ -155,6 +170,12 @@ impl From<ChromeTraceError> for RecordExportError {
                 binary_id,
                 test_name,
             },
+            ChromeTraceError::MissingScriptStart { event, script_id } => {
+                RecordExportError::MissingScriptStart { event, script_id }
+            }
+            ChromeTraceError::MissingStressSubRunStart { event } => {
+                RecordExportError::MissingStressSubRunStart { event }
+            }
             ChromeTraceError::SpanAlreadyOpen { event, span } => {
                 RecordExportError::SpanAlreadyOpen { event, span }
             }

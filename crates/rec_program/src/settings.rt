@@ -27,7 +27,7 @@ impl Default for Settings {
 
     fn default() -> Settings {
         Settings {
-            group_by: ChromeTraceGroupBy::Slot,
+            group_by: ChromeTraceGroupBy::Binary,
             message_format: ChromeTraceMessageFormat::Json,
             max_output: 10485760,
             read_limit: 268435456,

@@ -32,8 +32,6 @@ const BUNDLE_FAILED: u8 = 10;
 pub const OUTPUT_FAILED: u8 = 11;
 /// Means that the bytes on standard input are no bundle that is read.
 const NO_BUNDLE: u8 = 12;
-/// Means that an event is of a kind that the trace doesn't draw yet.
-const KIND_NOT_BUILT: u8 = 20;
 /// Means that memory ran out.
 pub const OUT_OF_MEMORY: u8 = 70;
 
@@ -50,6 +48,8 @@ pub fn export_status(error: &RecordExportError) -> u8
         RecordExportError::NameCollision { .. } => NAME_COLLISION,
         RecordExportError::FileTooLarge { .. } => ABOVE_READ_LIMIT,
         RecordExportError::MissingTestStart { .. }
+        | RecordExportError::MissingScriptStart { .. }
+        | RecordExportError::MissingStressSubRunStart { .. }
         | RecordExportError::SpanAlreadyOpen { .. }
         | RecordExportError::SlotBusy { .. } => OUT_OF_ORDER,
         RecordExportError::TimestampOutOfRange { .. }
@@ -57,7 +57,6 @@ pub fn export_status(error: &RecordExportError) -> u8
         | RecordExportError::CountOutOfRange { .. } => OUT_OF_RANGE,
         RecordExportError::BundleFault => BUNDLE_FAILED,
         RecordExportError::TraceFault => OUTPUT_FAILED,
-        RecordExportError::KindNotBuilt { .. } => KIND_NOT_BUILT,
         RecordExportError::OutOfMemory => OUT_OF_MEMORY,
     }
 }
@@ -100,12 +99,13 @@ fn trace_status(error: &ChromeTraceError) -> u8
         ChromeTraceError::ReadError(LineError::ReadRunLog { .. } | LineError::ParseEvent { .. }) =>
             FAULTY_LINE,
         ChromeTraceError::MissingTestStart { .. }
+        | ChromeTraceError::MissingScriptStart { .. }
+        | ChromeTraceError::MissingStressSubRunStart { .. }
         | ChromeTraceError::SpanAlreadyOpen { .. }
         | ChromeTraceError::SlotBusy { .. } => OUT_OF_ORDER,
         ChromeTraceError::TimestampOutOfRange { .. }
         | ChromeTraceError::RowOutOfRange { .. }
         | ChromeTraceError::CountOutOfRange { .. } => OUT_OF_RANGE,
-        ChromeTraceError::KindNotBuilt { .. } => KIND_NOT_BUILT,
         ChromeTraceError::ReadError(LineError::OutOfMemory) | ChromeTraceError::OutOfMemory => {
             OUT_OF_MEMORY
         }

@@ -1,10 +1,8 @@
 //! The trace of a session's events.
 ghost use Rattle.std.specs.Prelude.{◌≡◌, List, [], ◌∷◌, ◌++◌, OnOk};
 ghost use Rattle.rec_trace.specs.declared.settings.ChromeTraceGroupBy.{ChromeTraceGroupBy};
-ghost use Rattle.rec_trace.specs.Drawing.{trace_text};
-ghost use Rattle.rec_trace.specs.History.{trace_marks};
-ghost use Rattle.rec_trace.specs.Kinds.{trace_input};
-ghost use Rattle.rec_trace.specs.Past.{TraceInput};
+ghost use Rattle.rec_trace.specs.Plain.{PlainEvent, plain};
+ghost use Rattle.rec_trace.specs.Traces.{trace_text};
 ghost use Rattle.rec_program.specs.SessionTraces.{IsTraceOf, AnswersTrace};
 
 use crate::refusal::RecordExportError;
@@ -41,8 +39,8 @@ impl SessionTrace {
         alloc: Global,
         event: &TestEventSummary<LiveSpec>,
     ) -> Result<(), AllocError>
-        ensures { (g : ChromeTraceGroupBy) (history : List TraceInput) → IsTraceOf g history self.old
-            → OnOk result (IsTraceOf g (history ++ trace_input g event.now ∷ []) self.new) }
+        ensures { (g : ChromeTraceGroupBy) (events : List PlainEvent) → IsTraceOf g events self.old
+            → OnOk result (IsTraceOf g (events ++ plain event.now ∷ []) self.new) }
     {
         if self.refusal.is_some() {
             return Ok(());
@@ -68,8 +66,8 @@ impl SessionTrace {
         version: &Version,
         format: ChromeTraceMessageFormat,
     ) -> Result<String, RecordExportError>
-        ensures { (g : ChromeTraceGroupBy) (history : List TraceInput) → IsTraceOf g history self
-            → AnswersTrace history (trace_text format version.now (trace_marks history)) result }
+        ensures { (g : ChromeTraceGroupBy) (events : List PlainEvent) → IsTraceOf g events self
+            → AnswersTrace g events (trace_text format g version.now events) result }
     {
         let SessionTrace { builder, refusal } = self;
         match refusal {

@@ -15,7 +15,9 @@ goes to standard output.
 trace and info read such a bundle from standard input. trace prints the trace
 of its log, and info prints its manifest.
 
-Options, each at most once, with a number of bytes as its value:
+Options, each at most once, with a value after it; limits are in bytes:
+  --group-by       of record and trace: binary draws a process for each test
+                   binary, and slot one process for all (binary)
   --max-output     of record alone: the most of an output that is kept whole
                    (10485760)
   --read-limit     the most of the manifest, of the log and, for record, of
@@ -29,11 +31,11 @@ Other words, each of them alone:
 The status is 0 on success, 2 for faulty words, 3 if standard input can't be
 read, 4 if it is too long, 5 for a faulty line, 6 for other bytes under the
 name of an output, 7 for what is above the read limit, 8 for an event that
-ends what isn't open, starts what is, or takes a slot that is held, 9 for a
+needs what isn't open, starts what is, or takes a slot that is held, 9 for a
 number out of range, 10 if the bundle can't be written, 11 if standard output
-fails, 12 for a bundle that is damaged, incomplete or of another version, 20
-for an event of a kind that the trace doesn't draw yet, and 70 if memory runs
-out. With a status other than 0, a line on standard error names the cause.
+fails, 12 for a bundle that is damaged, incomplete or of another version, and
+70 if memory runs out. With a status other than 0, a line on standard error
+names the cause.
 ";
 
 /// Returns the version of the program, and those of the formats that it writes.

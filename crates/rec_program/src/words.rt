@@ -45,7 +45,7 @@ pub enum WordsError {
     /// The value of the last option is missing.
     #[error("missing value at word {at}")]
     MissingValue { at: usize },
-    /// The value is no number of decimal digits up to u64's greatest.
+    /// The value is no word that its option takes, or no number of decimal digits up to u64's greatest.
     #[error("bad value at word {at}")]
     BadValue { at: usize },
 }

@@ -195,6 +195,54 @@ fn options_of_reading_commands(rt: HostRuntime) -> Result<(), Fail> {
     Ok(())
 }
 
+/// The grouping that words with a blank between them ask for, or the fault.
+fn grouping(alloc: Global, text: &str) -> Result<String, AllocError> {
+    let mut words = Vec::new(alloc);
+    for word in text.split(' ') {
+        words.push(String::from_str(alloc, word)?)?;
+    }
+    match read_words(&words) {
+        Ok(Command::Record { settings, .. } | Command::Trace { settings }) => {
+            let group_by = settings.group_by;
+            format!(in alloc; "{group_by:?}")
+        }
+        Ok(_) => String::from_str(alloc, "none"),
+        Err(fault) => line_of(alloc, &fault),
+    }
+}
+
+/// Words with a grouping, and the one that they ask for.
+fn groupings() -> [(&'static str, &'static str); 14] {
+    [
+        ("record b", "Binary"),
+        ("record b --group-by binary", "Binary"),
+        ("record b --group-by slot", "Slot"),
+        ("record b --max-output 1 --group-by slot", "Slot"),
+        ("trace", "Binary"),
+        ("trace --group-by slot --read-limit 1", "Slot"),
+        ("record b --group-by", "MissingValue at=3\n"),
+        ("record b --group-by ", "BadValue at=3\n"),
+        ("record b --group-by Slot", "BadValue at=3\n"),
+        ("trace --group-by slots", "BadValue at=2\n"),
+        ("trace --group-by 1", "BadValue at=2\n"),
+        (
+            "trace --group-by slot --group-by slot",
+            "RepeatedOption at=3\n",
+        ),
+        ("info --group-by slot", "UnknownOption at=1\n"),
+        ("record b --max-output slot", "BadValue at=3\n"),
+    ]
+}
+
+#[test]
+fn groupings_of_words(rt: HostRuntime) -> Result<(), Fail> {
+    for (text, expected) in groupings() {
+        let got = grouping(rt.alloc(), text)?;
+        assert!(rt; got.as_str() == expected, "{text}: {got}");
+    }
+    Ok(())
+}
+
 fn version() -> &'static str {
     "rezovamy 0.1.0\nportable recording format 1.1\nstore format 3.0\n"
 }
@@ -221,7 +269,9 @@ goes to standard output.
 trace and info read such a bundle from standard input. trace prints the trace
 of its log, and info prints its manifest.
 
-Options, each at most once, with a number of bytes as its value:
+Options, each at most once, with a value after it; limits are in bytes:
+  --group-by       of record and trace: binary draws a process for each test
+                   binary, and slot one process for all (binary)
   --max-output     of record alone: the most of an output that is kept whole
                    (10485760)
   --read-limit     the most of the manifest, of the log and, for record, of
@@ -235,11 +285,11 @@ Other words, each of them alone:
 The status is 0 on success, 2 for faulty words, 3 if standard input can't be
 read, 4 if it is too long, 5 for a faulty line, 6 for other bytes under the
 name of an output, 7 for what is above the read limit, 8 for an event that
-ends what isn't open, starts what is, or takes a slot that is held, 9 for a
+needs what isn't open, starts what is, or takes a slot that is held, 9 for a
 number out of range, 10 if the bundle can't be written, 11 if standard output
-fails, 12 for a bundle that is damaged, incomplete or of another version, 20
-for an event of a kind that the trace doesn't draw yet, and 70 if memory runs
-out. With a status other than 0, a line on standard error names the cause.
+fails, 12 for a bundle that is damaged, incomplete or of another version, and
+70 if memory runs out. With a status other than 0, a line on standard error
+names the cause.
 "
 }
 

@@ -111,35 +111,70 @@ fn a_session_is_read_up_to_its_limit(rt: HostRuntime) -> Result<(), Fail> {
     Ok(())
 }
 
-/// An event of each kind that isn't drawn yet.
-fn not_drawn() -> [&'static str; 13] {
+/// An event of each other kind, and what comes of it after the start of a run.
+fn other_kinds() -> [(&'static str, &'static str); 13] {
     [
-        r#"{"timestamp":{"secs":1002,"nanos":0,"offset":0},"elapsed":{"secs":2,"nanos":0},"kind":"run-paused","setup-scripts-running":0,"running":1}"#,
-        r#"{"timestamp":{"secs":1002,"nanos":0,"offset":0},"elapsed":{"secs":2,"nanos":0},"kind":"stress-sub-run-started","progress":{"count":{"elapsed":{"secs":1,"nanos":0},"completed":0}}}"#,
-        r#"{"timestamp":{"secs":1002,"nanos":0,"offset":0},"elapsed":{"secs":2,"nanos":0},"kind":"setup-script-started","index":0,"total":1,"script-id":"db","program":"sh","args":[],"no-capture":false}"#,
-        r#"{"timestamp":{"secs":1002,"nanos":0,"offset":0},"elapsed":{"secs":2,"nanos":0},"kind":"setup-script-slow","script-id":"db","program":"sh","args":[],"slow-elapsed":{"secs":1,"nanos":0},"will-terminate":false}"#,
-        r#"{"timestamp":{"secs":1002,"nanos":0,"offset":0},"elapsed":{"secs":2,"nanos":0},"kind":"setup-script-finished","index":0,"total":1,"script-id":"db","program":"sh","args":[],"no-capture":false,"run-status":{"output":{"start-error":"none"},"result":"exec-fail","start-time":{"secs":1001,"nanos":0,"offset":0},"time-taken":{"secs":1,"nanos":0},"is-slow":false}}"#,
-        r#"{"timestamp":{"secs":1002,"nanos":0,"offset":0},"elapsed":{"secs":2,"nanos":0},"kind":"test-slow","test-instance":{"binary-id":"alpha::a","test-name":"t1"},"retry-data":{"attempt":1,"total-attempts":2},"slow-elapsed":{"secs":1,"nanos":0},"will-terminate":false}"#,
-        r#"{"timestamp":{"secs":1002,"nanos":0,"offset":0},"elapsed":{"secs":2,"nanos":0},"kind":"test-attempt-failed-will-retry","test-instance":{"binary-id":"alpha::a","test-name":"t1"},"run-status":{"retry-data":{"attempt":1,"total-attempts":2},"output":{"start-error":"none"},"result":"exec-fail","start-time":{"secs":1001,"nanos":0,"offset":0},"time-taken":{"secs":1,"nanos":0},"is-slow":false,"delay-before-start":{"secs":1,"nanos":0}},"delay-before-next-attempt":{"secs":1,"nanos":0},"failure-output":"never","running":0}"#,
-        r#"{"timestamp":{"secs":1002,"nanos":0,"offset":0},"elapsed":{"secs":2,"nanos":0},"kind":"test-retry-started","test-instance":{"binary-id":"alpha::a","test-name":"t1"},"slot-assignment":{"global-slot":0,"test-group":"@global"},"retry-data":{"attempt":1,"total-attempts":2},"running":1,"command-line":[]}"#,
-        r#"{"timestamp":{"secs":1002,"nanos":0,"offset":0},"elapsed":{"secs":2,"nanos":0},"kind":"test-skipped","test-instance":{"binary-id":"alpha::a","test-name":"t1"},"reason":"ignored","junit-report-skipped":"none"}"#,
-        r#"{"timestamp":{"secs":1002,"nanos":0,"offset":0},"elapsed":{"secs":2,"nanos":0},"kind":"run-begin-cancel","setup-scripts-running":0,"running":1,"reason":"signal"}"#,
-        r#"{"timestamp":{"secs":1002,"nanos":0,"offset":0},"elapsed":{"secs":2,"nanos":0},"kind":"run-continued","setup-scripts-running":0,"running":1}"#,
-        r#"{"timestamp":{"secs":1002,"nanos":0,"offset":0},"elapsed":{"secs":2,"nanos":0},"kind":"stress-sub-run-finished","progress":{"count":{"elapsed":{"secs":1,"nanos":0},"completed":0}},"sub-elapsed":{"secs":1,"nanos":0},"sub-stats":{"initial-run-count":1,"finished-count":0,"setup-scripts-initial-count":0,"setup-scripts-finished-count":0,"setup-scripts-passed":0,"setup-scripts-failed":0,"setup-scripts-exec-failed":0,"setup-scripts-timed-out":0,"passed":0,"passed-slow":0,"passed-timed-out":0,"flaky":0,"failed":0,"failed-slow":0,"failed-timed-out":0,"leaky":0,"leaky-failed":0,"exec-failed":0,"skipped":0}}"#,
-        r#"{"timestamp":{"secs":1002,"nanos":0,"offset":0},"elapsed":{"secs":2,"nanos":0},"kind":"run-finished","run-id":"550e8400-e29b-41d4-a716-446655440000","start-time":{"secs":1001,"nanos":0,"offset":0},"run-elapsed":{"secs":1,"nanos":0},"run-stats":{"single":{"initial-run-count":1,"finished-count":0,"setup-scripts-initial-count":0,"setup-scripts-finished-count":0,"setup-scripts-passed":0,"setup-scripts-failed":0,"setup-scripts-exec-failed":0,"setup-scripts-timed-out":0,"passed":0,"passed-slow":0,"passed-timed-out":0,"flaky":0,"failed":0,"failed-slow":0,"failed-timed-out":0,"leaky":0,"leaky-failed":0,"exec-failed":0,"skipped":0}}}"#,
+        (
+            r#"{"timestamp":{"secs":1002,"nanos":0,"offset":0},"elapsed":{"secs":2,"nanos":0},"kind":"run-paused","setup-scripts-running":0,"running":1}"#,
+            "2 events, 0 outputs false false",
+        ),
+        (
+            r#"{"timestamp":{"secs":1002,"nanos":0,"offset":0},"elapsed":{"secs":2,"nanos":0},"kind":"stress-sub-run-started","progress":{"count":{"elapsed":{"secs":1,"nanos":0},"completed":0}}}"#,
+            "2 events, 0 outputs false false",
+        ),
+        (
+            r#"{"timestamp":{"secs":1002,"nanos":0,"offset":0},"elapsed":{"secs":2,"nanos":0},"kind":"setup-script-started","index":0,"total":1,"script-id":"db","program":"sh","args":[],"no-capture":false}"#,
+            "2 events, 0 outputs false false",
+        ),
+        (
+            r#"{"timestamp":{"secs":1002,"nanos":0,"offset":0},"elapsed":{"secs":2,"nanos":0},"kind":"setup-script-slow","script-id":"db","program":"sh","args":[],"slow-elapsed":{"secs":1,"nanos":0},"will-terminate":false}"#,
+            "MissingScriptStart event=2 script_id=db\n true true",
+        ),
+        (
+            r#"{"timestamp":{"secs":1002,"nanos":0,"offset":0},"elapsed":{"secs":2,"nanos":0},"kind":"setup-script-finished","index":0,"total":1,"script-id":"db","program":"sh","args":[],"no-capture":false,"run-status":{"output":{"start-error":"none"},"result":"exec-fail","start-time":{"secs":1001,"nanos":0,"offset":0},"time-taken":{"secs":1,"nanos":0},"is-slow":false}}"#,
+            "MissingScriptStart event=2 script_id=db\n true true",
+        ),
+        (
+            r#"{"timestamp":{"secs":1002,"nanos":0,"offset":0},"elapsed":{"secs":2,"nanos":0},"kind":"test-slow","test-instance":{"binary-id":"alpha::a","test-name":"t1"},"retry-data":{"attempt":1,"total-attempts":2},"slow-elapsed":{"secs":1,"nanos":0},"will-terminate":false}"#,
+            "MissingTestStart event=2 binary_id=alpha::a test_name=t1\n true true",
+        ),
+        (
+            r#"{"timestamp":{"secs":1002,"nanos":0,"offset":0},"elapsed":{"secs":2,"nanos":0},"kind":"test-attempt-failed-will-retry","test-instance":{"binary-id":"alpha::a","test-name":"t1"},"run-status":{"retry-data":{"attempt":1,"total-attempts":2},"output":{"start-error":"none"},"result":"exec-fail","start-time":{"secs":1001,"nanos":0,"offset":0},"time-taken":{"secs":1,"nanos":0},"is-slow":false,"delay-before-start":{"secs":1,"nanos":0}},"delay-before-next-attempt":{"secs":1,"nanos":0},"failure-output":"never","running":0}"#,
+            "MissingTestStart event=2 binary_id=alpha::a test_name=t1\n true true",
+        ),
+        (
+            r#"{"timestamp":{"secs":1002,"nanos":0,"offset":0},"elapsed":{"secs":2,"nanos":0},"kind":"test-retry-started","test-instance":{"binary-id":"alpha::a","test-name":"t1"},"slot-assignment":{"global-slot":0,"test-group":"@global"},"retry-data":{"attempt":1,"total-attempts":2},"running":1,"command-line":[]}"#,
+            "2 events, 0 outputs false false",
+        ),
+        (
+            r#"{"timestamp":{"secs":1002,"nanos":0,"offset":0},"elapsed":{"secs":2,"nanos":0},"kind":"test-skipped","test-instance":{"binary-id":"alpha::a","test-name":"t1"},"reason":"ignored","junit-report-skipped":"none"}"#,
+            "2 events, 0 outputs false false",
+        ),
+        (
+            r#"{"timestamp":{"secs":1002,"nanos":0,"offset":0},"elapsed":{"secs":2,"nanos":0},"kind":"run-begin-cancel","setup-scripts-running":0,"running":1,"reason":"signal"}"#,
+            "2 events, 0 outputs false false",
+        ),
+        (
+            r#"{"timestamp":{"secs":1002,"nanos":0,"offset":0},"elapsed":{"secs":2,"nanos":0},"kind":"run-continued","setup-scripts-running":0,"running":1}"#,
+            "2 events, 0 outputs false false",
+        ),
+        (
+            r#"{"timestamp":{"secs":1002,"nanos":0,"offset":0},"elapsed":{"secs":2,"nanos":0},"kind":"stress-sub-run-finished","progress":{"count":{"elapsed":{"secs":1,"nanos":0},"completed":0}},"sub-elapsed":{"secs":1,"nanos":0},"sub-stats":{"initial-run-count":1,"finished-count":0,"setup-scripts-initial-count":0,"setup-scripts-finished-count":0,"setup-scripts-passed":0,"setup-scripts-failed":0,"setup-scripts-exec-failed":0,"setup-scripts-timed-out":0,"passed":0,"passed-slow":0,"passed-timed-out":0,"flaky":0,"failed":0,"failed-slow":0,"failed-timed-out":0,"leaky":0,"leaky-failed":0,"exec-failed":0,"skipped":0}}"#,
+            "MissingStressSubRunStart event=2\n true true",
+        ),
+        (
+            r#"{"timestamp":{"secs":1002,"nanos":0,"offset":0},"elapsed":{"secs":2,"nanos":0},"kind":"run-finished","run-id":"550e8400-e29b-41d4-a716-446655440000","start-time":{"secs":1001,"nanos":0,"offset":0},"run-elapsed":{"secs":1,"nanos":0},"run-stats":{"single":{"initial-run-count":1,"finished-count":0,"setup-scripts-initial-count":0,"setup-scripts-finished-count":0,"setup-scripts-passed":0,"setup-scripts-failed":0,"setup-scripts-exec-failed":0,"setup-scripts-timed-out":0,"passed":0,"passed-slow":0,"passed-timed-out":0,"flaky":0,"failed":0,"failed-slow":0,"failed-timed-out":0,"leaky":0,"leaky-failed":0,"exec-failed":0,"skipped":0}}}"#,
+            "2 events, 0 outputs false false",
+        ),
     ]
 }
 
 #[test]
-fn kinds_that_are_not_drawn_are_refused(rt: HostRuntime) -> Result<(), Fail> {
+fn events_of_all_kinds(rt: HostRuntime) -> Result<(), Fail> {
     let alloc = rt.alloc();
-    let lines = not_drawn();
-    for line in lines {
-        let got = exported_lines(alloc, &Sha256Namer, &[run_started(), line, line])?;
-        assert!(rt;
-            got.as_str() == "KindNotBuilt event=2\n true true",
-            "{line}: {got}"
-        );
+    for (line, expected) in other_kinds() {
+        let got = exported_lines(alloc, &Sha256Namer, &[run_started(), line])?;
+        assert!(rt; got.as_str() == expected, "{line}: {got}");
     }
     Ok(())
 }

@@ -2,7 +2,7 @@
 
 use crate::running::line_of;
 use rec_container::SinkFailed;
-use rec_events::{RustBinaryId, TestCaseName, Text};
+use rec_events::{RustBinaryId, ScriptId, TestCaseName, Text};
 use rec_portable::PortableRecordingReadError;
 use rec_program::{ReadingError, RecordExportError, reading_status};
 use rec_trace::{ChromeTraceError, SpanKey};
@@ -106,6 +106,40 @@ fn a_missing_start_is_shown_by_its_test(rt: HostRuntime) -> Result<(), Fail> {
     let got = trace_shown(alloc, missing)?;
     let expected = "8 MissingTestStart event=4 binary_id=alpha::a test_name=t1\n";
     assert!(rt; got.as_str() == expected, "{got}");
+    Ok(())
+}
+
+#[test]
+fn other_missing_starts_are_shown(rt: HostRuntime) -> Result<(), Fail> {
+    let alloc = rt.alloc();
+    let missing = ChromeTraceError::MissingScriptStart {
+        event: 4,
+        script_id: ScriptId::new(String::from_str(alloc, "db 1")?),
+    };
+    let got = trace_shown(alloc, missing)?;
+    assert!(rt;
+        got.as_str() == "8 MissingScriptStart event=4 script_id=db 1\n",
+        "{got}"
+    );
+    let missing = ChromeTraceError::MissingStressSubRunStart { event: 5 };
+    let got = trace_shown(alloc, missing)?;
+    assert!(rt;
+        got.as_str() == "8 MissingStressSubRunStart event=5\n",
+        "{got}"
+    );
+    Ok(())
+}
+
+#[test]
+fn errors_print_alike_for_a_developer(rt: HostRuntime) -> Result<(), Fail> {
+    let alloc = rt.alloc();
+    let error = RecordExportError::MissingStressSubRunStart { event: 5 };
+    let texts = format!(in alloc; "{error}, {error:?}")?;
+    let expected = "event 5 ends a sub-run, and none is running";
+    assert!(rt; texts.as_str().starts_with(expected) && texts.as_str().ends_with(expected));
+    let error = ReadingError::OutOfMemory;
+    let texts = format!(in alloc; "{error}, {error:?}")?;
+    assert!(rt; texts.as_str() == "out of memory, out of memory");
     Ok(())
 }
 

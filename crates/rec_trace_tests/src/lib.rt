@@ -2,4 +2,14 @@
 #![tactic(auto)]
 
 #[cfg(test)]
-mod conversions;
+mod converting;
+#[cfg(test)]
+mod lines;
+#[cfg(test)]
+mod marks;
+#[cfg(test)]
+mod refusals;
+#[cfg(test)]
+mod traces;
+#[cfg(test)]
+mod values;

@@ -1,10 +1,11 @@
-use Rattle.std.proofs.Common.{◌≡◌, ◌⊎◌, List, ◌∙◌, ap, sym, subst, inl, inr, length, Option, Some, None, Result, Ok, Err, IfOk, IfErr, OnOk}
+use Rattle.std.proofs.Common.{◌≡◌, ◌⊎◌, List, ◌∙◌, ap, sym, subst, inl, inr, length, map, Option, Some, None, Result, Ok, Err, IfOk, IfErr, OnOk}
 use Rattle.std.proofs.lemmas.Result.{err_from_is_err_and}
 use Rattle.rec_codec.specs.Event.{LiveEvent}
 use Rattle.rec_store.specs.Bundle.{outputs_stored, run_bundle}
 use Rattle.rec_store.specs.Reading.{IsReading, recorded}
 use Rattle.rec_trace.proofs.Timelines.{timeline}
-use Rattle.rec_trace.specs.Refusals as traces
+use Rattle.rec_trace.specs.Plain.{plain}
+use Rattle.rec_trace.specs.Traces.{events_refusal}
 use Rattle.rec_program.proofs.Judging.{after_head, events_after, refused_head}
 use Rattle.rec_program.proofs.prepare.prepare.Goals as goal
 use Rattle.rec_program.specs.Bundle.{head_in, refusal_after, session_events}
@@ -12,7 +13,7 @@ use Rattle.rec_program.specs.declared.refusal.RecordExportError.TheVariants.{Out
 use Rattle.rec_program.specs.declared.refusal.RecordExportError.{RecordExportError}
 use Rattle.rec_program.specs.Prepared.{prepared_bundle}
 use Rattle.rec_program.specs.Session.{event_lines, events_of, head_text}
-use Rattle.rec_program.specs.SessionTraces.{run_trace, session_history}
+use Rattle.rec_program.specs.SessionTraces.{run_trace}
 
 -- five facts of an answer make a sixth
 joined : {T E V W : Type 0} {P Q A R : T → Type 0} (r : Result T E) → ((x : T) → P x → Q x → A x → V → W → R x) → IfOk r P → IfOk r Q → IfOk r A → OnOk r V → OnOk r W → IfOk r R
@@ -50,8 +51,8 @@ returns-clause-texts g c =
       spelled = spelled ∙ ap (run_bundle number settings.max_output head) events;
       reads = subst (λ (es : List LiveEvent). IsReading (prepared_bundle prepared) (recorded number settings.max_output head es)) events reads;
       traced = traced ∙ ap (run_trace settings head) events;
-      timeline = timeline settings.group_by (session_events session)
-          (subst (λ (es : List LiveEvent). traces.history_refusal (session_history settings es) ≡ None) events accepted);
+      timeline = timeline settings.group_by (map plain (session_events session))
+          (subst (λ (es : List LiveEvent). events_refusal settings.group_by (map plain es) ≡ None) events accepted);
     }) c.prepare_run-result.ensures.bundle (c.prepare_run-result.ensures.reads c.in_ok-head.ensures.known) c.prepare_run-result.ensures.trace c.prepare_run-result.ensures.valid c.prepare_run-result.ensures.accepted
 
 pub returns-clause-counts : goal.returns-clause-counts

@@ -3,11 +3,10 @@ use Rattle.std.specs.Option.{option_to_list}
 use Rattle.rec_codec.specs.Event.{LiveEvent}
 use Rattle.rec_codec.specs.Lines.{NumberedLine}
 use Rattle.rec_codec.specs.LineView.{line_view}
-use Rattle.rec_trace.specs.Kinds.{trace_input}
-use Rattle.rec_trace.specs.Past.{TraceInput}
+use Rattle.rec_trace.specs.Plain.{PlainEvent, plain}
 use Rattle.rec_program.proofs.record.record_lines.Goals as goal
 use Rattle.rec_program.proofs.RecordedLines.{line_with, made_with, recorded_here}
-use Rattle.rec_program.proofs.SessionTraced.{inputs_next}
+use Rattle.rec_program.proofs.SessionTraced.{plain_next}
 use Rattle.rec_program.specs.Recorded.{HasRecorded, RecordsLines}
 use Rattle.rec_program.specs.Session.{event_at, events_of}
 use Rattle.rec_program.specs.SessionTraces.{IsTraceOf}
@@ -18,7 +17,7 @@ loop-line-init g c =
     record {
       sound = c.requires.sound;
       recorded = λ head events had. (events, had, λ r new all. subst (λ (ls : List NumberedLine). RecordsLines g.N.OutputNamer.number c.args.recorder.now.namer c.args.recorder.now.max_output head events ls new r) lines all);
-      traced = λ group history had. (history, had, ap (λ (ls : List NumberedLine). history ++ map (trace_input group) (events_of ls)) (sym lines));
+      traced = λ group before had. (before, had, ap (λ (ls : List NumberedLine). before ++ map plain (events_of ls)) (sym lines));
     }
 
 pub loop-line-preserved : goal.loop-line-preserved
@@ -39,15 +38,15 @@ loop-line-preserved g c = record {
         λ r new after. before.2 r new (subst (λ (ls : List NumberedLine). RecordsLines number namer m head before.0 ls new r) (sym c.in-Some.ensures.steps)
             (recorded_here number namer m head before.0 line rest new r here.0 after)),
       );
-  traced = λ group history had.
+  traced = λ group events had.
       let line = line_view c.in-Some.line in
       let rest = c.next.new.self in
-      let before = c.loop-line.invariant.traced group history had in (
-        before.0 ++ map (trace_input group) (option_to_list (event_at line)),
+      let before = c.loop-line.invariant.traced group events had in (
+        before.0 ++ map plain (option_to_list (event_at line)),
         c.in_ok-record_line.ensures.traced group before.0 before.1,
         before.2
-            ∙ ap (λ (ls : List NumberedLine). before.0 ++ map (trace_input group) (events_of ls)) c.in-Some.ensures.steps
-            ∙ inputs_next group before.0 (event_at line) (events_of rest),
+            ∙ ap (λ (ls : List NumberedLine). before.0 ++ map plain (events_of ls)) c.in-Some.ensures.steps
+            ∙ plain_next before.0 (event_at line) (events_of rest),
       );
 }
 
@@ -62,7 +61,7 @@ returns-clause-recorded g c = λ head events had.
     before.2 (Ok tt) now (subst (λ (ls : List NumberedLine). RecordsLines number namer m head before.0 ls now (Ok tt)) (sym c.in-None.ensures.steps.0) none)
 
 pub returns-clause-traced : goal.returns-clause-traced
-returns-clause-traced g c = λ group history had.
-    let before = c.loop-line.invariant.traced group history had in
-    let all = before.2 ∙ ap (λ (ls : List NumberedLine). before.0 ++ map (trace_input group) (events_of ls)) c.in-None.ensures.steps.0 ∙ append-nil before.0 in
-    subst (λ (hs : List TraceInput). IsTraceOf group hs c.loop-line.trace) (sym all) before.1
+returns-clause-traced g c = λ group events had.
+    let before = c.loop-line.invariant.traced group events had in
+    let all = before.2 ∙ ap (λ (ls : List NumberedLine). before.0 ++ map plain (events_of ls)) c.in-None.ensures.steps.0 ∙ append-nil before.0 in
+    subst (λ (es : List PlainEvent). IsTraceOf group es c.loop-line.trace) (sym all) before.1

@@ -5,8 +5,7 @@ use Rattle.rec_format.specs.declared.head.SessionHead.{SessionHead}
 use Rattle.rec_codec.specs.Event.{LiveEvent}
 use Rattle.rec_store.specs.Recording.{Recording, has_failed}
 use Rattle.rec_trace.specs.declared.settings.ChromeTraceGroupBy.{ChromeTraceGroupBy}
-use Rattle.rec_trace.specs.Kinds.{trace_input}
-use Rattle.rec_trace.specs.Past.{TraceInput}
+use Rattle.rec_trace.specs.Plain.{PlainEvent, plain}
 use Rattle.rec_program.proofs.record.record_lines.Given as goal
 use Rattle.rec_program.specs.declared.refusal.RecordExportError.{RecordExportError}
 use Rattle.rec_program.specs.Recorded.{HasRecorded, RecordsLines}
@@ -24,7 +23,7 @@ invariant-loop-line g l =
       recorded : (head : SessionHead) (events : List LiveEvent) → HasRecorded number namer m head events l.fn.recorder
           → (so_far : List LiveEvent) × HasRecorded number namer m head so_far l.recorder
           × ((r : Result ⊤ RecordExportError) (new : Recording GrowingSinkState GrowingSinkState _) → RecordsLines number namer m head so_far l.line-iterator new r → RecordsLines number namer m head events l.fn.lines new r);
-      traced : (group : ChromeTraceGroupBy) (history : List TraceInput) → IsTraceOf group history l.fn.trace
-          → (so_far : List TraceInput) × IsTraceOf group so_far l.trace
-          × (history ++ map (trace_input group) (events_of l.fn.lines) ≡ so_far ++ map (trace_input group) (events_of l.line-iterator));
+      traced : (group : ChromeTraceGroupBy) (before : List PlainEvent) → IsTraceOf group before l.fn.trace
+          → (so_far : List PlainEvent) × IsTraceOf group so_far l.trace
+          × (before ++ map plain (events_of l.fn.lines) ≡ so_far ++ map plain (events_of l.line-iterator));
     }

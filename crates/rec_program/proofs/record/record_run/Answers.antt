@@ -1,14 +1,15 @@
-use Rattle.std.proofs.Common.{◌≡◌, [], Ok, Err, subst, sym, inl}
+use Rattle.std.proofs.Common.{◌≡◌, [], map, Ok, Err, subst, sym, inl}
 use Rattle.std.proofs.lemmas.Result.{IfErr-weaker, IfOk-weaker}
 use Rattle.rec_container.specs.Memory.{GrowingSinkState}
 use Rattle.rec_store.specs.Recording.{Recording, Stores}
 use Rattle.rec_store.specs.Store.{store_entries}
+use Rattle.rec_trace.specs.Plain.{plain}
 use Rattle.rec_program.proofs.record.record_run.Goals as goal
 use Rattle.rec_program.proofs.Recorded.{always, begun, text_taken}
 use Rattle.rec_program.proofs.RecordedLines.{lines_with, made_with}
 use Rattle.rec_program.specs.declared.record.RecordedInMemory.{RecordedInMemory}
 use Rattle.rec_program.specs.Session.{events_of}
-use Rattle.rec_program.specs.SessionTraces.{IsTraceOf, session_history}
+use Rattle.rec_program.specs.SessionTraces.{IsTraceOf}
 
 pub returns-in-Err-clause-err : goal.returns-in-Err-clause-err
 returns-in-Err-clause-err g c =
@@ -60,10 +61,10 @@ returns-in-Ok-record_lines-clause-too_large g c =
 pub returns-in-Ok-record_lines-clause-traced : goal.returns-in-Ok-record_lines-clause-traced
 returns-in-Ok-record_lines-clause-traced g c =
     let group_by = c.args.settings.now.group_by in
-    let history = session_history c.args.settings.now (events_of c.args.lines) in
+    let events = map plain (events_of c.args.lines) in
     let traced = c.in-Ok-record_lines.ensures.traced group_by [] c.new-trace.ensures in
-    IfOk-weaker c.end_run.result (λ (r : RecordedInMemory). r.trace ≡ c.record_lines.new.trace) (λ (r : RecordedInMemory). IsTraceOf group_by history r.trace)
-    (λ r same. subst (IsTraceOf group_by history) (sym same) traced) c.end_run.ensures.traced
+    IfOk-weaker c.end_run.result (λ (r : RecordedInMemory). r.trace ≡ c.record_lines.new.trace) (λ (r : RecordedInMemory). IsTraceOf group_by events r.trace)
+    (λ r same. subst (IsTraceOf group_by events) (sym same) traced) c.end_run.ensures.traced
 
 pub returns-in-Ok-record_lines-clause-err : goal.returns-in-Ok-record_lines-clause-err
 returns-in-Ok-record_lines-clause-err g c =

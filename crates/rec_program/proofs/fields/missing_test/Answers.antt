@@ -1,5 +1,5 @@
 use Rattle.std.proofs.Common.{◌∙◌, refl}
-use Rattle.rec_program.proofs.fields.missing_start.Goals as goal
+use Rattle.rec_program.proofs.fields.missing_test.Goals as goal
 use Rattle.rec_program.proofs.Lines.{piece_is}
 
 pub returns : goal.returns

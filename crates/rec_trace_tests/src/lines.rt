@@ -1,0 +1,201 @@
+//! A short language of events, and the log that they stand for.
+
+use std::alloc::Global;
+use std::test::Fail;
+
+// A line of a log, with the second of its event. Tests, setup scripts, slots and counts are numbers. The first
+// two tests are of one binary, the others of another.
+#[derive(Clone, Copy)]
+pub(crate) enum Line {
+    // The run starts, so many nanoseconds later.
+    Run(i64, u32),
+    RunEnd(i64),
+    SubRun(i64),
+    SubRunEnd(i64),
+    // The setup script of this index starts, under an id.
+    Script(i64, u64, u32),
+    ScriptEnd(i64, u64, u32),
+    // The setup script of this id is slow.
+    ScriptSlow(i64, u32),
+    // The test of this number starts on a slot.
+    Start(i64, u32, u64),
+    // Its attempt failed.
+    Fail(i64, u32),
+    // It starts again.
+    Retry(i64, u32, u64),
+    // It ends, and so many have failed beside one that could not be executed.
+    End(i64, u32, u64),
+    Slow(i64, u32),
+    Skip(i64, u32),
+    // The run pauses, continues or is cancelled, while so many setup scripts run.
+    Pause(i64, u64),
+    Continue(i64, u64),
+    Cancel(i64, u64),
+    // No event.
+    Faulty,
+}
+
+// An event of these members, at an instant.
+fn event(alloc: Global, secs: i64, nanos: u32, members: &str) -> Result<String, Fail> {
+    Ok(format!(in alloc;
+        r#"{{"timestamp":{{"secs":{secs},"nanos":{nanos},"offset":0}},"elapsed":{{"secs":1,"nanos":0}},{members}}}"#
+    )?)
+}
+
+fn run_started() -> &'static str {
+    r#""kind":"run-started","run-id":"550e8400-e29b-41d4-a716-446655440000","profile-name":"default","cli-args":[]"#
+}
+
+// The counts of a run of which so many tests failed.
+fn stats(alloc: Global, failed: u64) -> Result<String, Fail> {
+    Ok(format!(in alloc;
+        r#"{{"exec-failed":1,"failed":{failed},"failed-slow":0,"failed-timed-out":0,"finished-count":0,"flaky":0,"initial-run-count":1,"leaky":0,"leaky-failed":0,"passed":0,"passed-slow":0,"passed-timed-out":0,"setup-scripts-exec-failed":0,"setup-scripts-failed":0,"setup-scripts-finished-count":0,"setup-scripts-initial-count":0,"setup-scripts-passed":0,"setup-scripts-timed-out":0,"skipped":0}}"#
+    )?)
+}
+
+fn run_finished(alloc: Global, secs: i64) -> Result<String, Fail> {
+    let stats = stats(alloc, 0)?;
+    let members = format!(in alloc;
+        r#""kind":"run-finished","run-id":"550e8400-e29b-41d4-a716-446655440000","start-time":{{"secs":1000,"nanos":0,"offset":0}},"run-elapsed":{{"secs":1,"nanos":0}},"run-stats":{{"single":{stats}}}"#
+    )?;
+    event(alloc, secs, 0, members.as_str())
+}
+
+fn sub_run_started() -> &'static str {
+    r#""kind":"stress-sub-run-started","progress":{"count":{"elapsed":{"secs":1,"nanos":0},"completed":0}}"#
+}
+
+fn sub_run_finished(alloc: Global, secs: i64) -> Result<String, Fail> {
+    let stats = stats(alloc, 0)?;
+    let members = format!(in alloc;
+        r#""kind":"stress-sub-run-finished","progress":{{"count":{{"elapsed":{{"secs":1,"nanos":0}},"completed":1}}}},"sub-elapsed":{{"secs":1,"nanos":0}},"sub-stats":{stats}"#
+    )?;
+    event(alloc, secs, 0, members.as_str())
+}
+
+// An event of the setup script of this index.
+fn script_event(
+    alloc: Global,
+    secs: i64,
+    index: u64,
+    id: u32,
+    members: &str,
+) -> Result<String, Fail> {
+    let members = format!(in alloc;
+        r#""index":{index},"total":2,"script-id":"db{id}","program":"sh","args":[],"no-capture":false,{members}"#
+    )?;
+    event(alloc, secs, 0, members.as_str())
+}
+
+fn script_passed() -> &'static str {
+    r#""kind":"setup-script-finished","run-status":{"output":{"start-error":"none"},"result":"exec-fail","start-time":{"secs":1001,"nanos":0,"offset":0},"time-taken":{"secs":1,"nanos":0},"is-slow":false}"#
+}
+
+fn script_slow(alloc: Global, secs: i64, id: u32) -> Result<String, Fail> {
+    let members = format!(in alloc;
+        r#""kind":"setup-script-slow","script-id":"db{id}","program":"sh","args":[],"slow-elapsed":{{"secs":1,"nanos":0}},"will-terminate":false"#
+    )?;
+    event(alloc, secs, 0, members.as_str())
+}
+
+// The binary of a test.
+pub(crate) fn binary(test: u32) -> &'static str {
+    if test < 3 { "alpha::a" } else { "beta::b" }
+}
+
+// An event of a test.
+fn test_event(alloc: Global, secs: i64, test: u32, members: &str) -> Result<String, Fail> {
+    let binary = binary(test);
+    let members = format!(in alloc;
+        r#""test-instance":{{"binary-id":"{binary}","test-name":"t{test}"}},{members}"#
+    )?;
+    event(alloc, secs, 0, members.as_str())
+}
+
+fn test_start(alloc: Global, secs: i64, test: u32, slot: u64) -> Result<String, Fail> {
+    let stats = stats(alloc, 0)?;
+    let members = format!(in alloc;
+        r#""kind":"test-started","slot-assignment":{{"global-slot":{slot},"test-group":"@global"}},"current-stats":{stats},"running":0,"command-line":[]"#
+    )?;
+    test_event(alloc, secs, test, members.as_str())
+}
+
+fn test_retry(alloc: Global, secs: i64, test: u32, slot: u64) -> Result<String, Fail> {
+    let members = format!(in alloc;
+        r#""kind":"test-retry-started","slot-assignment":{{"global-slot":{slot},"test-group":"@global"}},"retry-data":{{"attempt":2,"total-attempts":3}},"running":0,"command-line":[]"#
+    )?;
+    test_event(alloc, secs, test, members.as_str())
+}
+
+fn attempt_failed() -> &'static str {
+    r#""kind":"test-attempt-failed-will-retry","run-status":{"retry-data":{"attempt":1,"total-attempts":3},"output":{"start-error":"none"},"result":"exec-fail","start-time":{"secs":1001,"nanos":0,"offset":0},"time-taken":{"secs":1,"nanos":0},"is-slow":false,"delay-before-start":{"secs":0,"nanos":0}},"delay-before-next-attempt":{"secs":0,"nanos":0},"failure-output":"never","running":0"#
+}
+
+fn passing_attempt() -> &'static str {
+    r#"{"retry-data":{"attempt":1,"total-attempts":1},"output":{"output":{"output":{"split":{}}}},"result":"pass","start-time":{"secs":1001,"nanos":0,"offset":0},"time-taken":{"secs":1,"nanos":0},"is-slow":false,"delay-before-start":{"secs":0,"nanos":0}}"#
+}
+
+fn test_end(alloc: Global, secs: i64, test: u32, failed: u64) -> Result<String, Fail> {
+    let stats = stats(alloc, failed)?;
+    let attempt = passing_attempt();
+    let members = format!(in alloc;
+        r#""kind":"test-finished","success-output":"never","failure-output":"immediate","junit-store-success-output":false,"junit-store-failure-output":true,"junit-flaky-fail-status":"failure","run-statuses":{{"statuses":[{attempt}],"flaky-result":"pass"}},"current-stats":{stats},"running":0"#
+    )?;
+    test_event(alloc, secs, test, members.as_str())
+}
+
+fn test_slow() -> &'static str {
+    r#""kind":"test-slow","retry-data":{"attempt":1,"total-attempts":2},"slow-elapsed":{"secs":1,"nanos":0},"will-terminate":false"#
+}
+
+fn test_skipped() -> &'static str {
+    r#""kind":"test-skipped","reason":"ignored","junit-report-skipped":"none""#
+}
+
+// An event that says how many setup scripts run.
+fn count_event(alloc: Global, secs: i64, scripts: u64, members: &str) -> Result<String, Fail> {
+    let members = format!(in alloc; r#""setup-scripts-running":{scripts},"running":0,{members}"#)?;
+    event(alloc, secs, 0, members.as_str())
+}
+
+fn cancelled() -> &'static str {
+    r#""kind":"run-begin-cancel","reason":"signal""#
+}
+
+fn line_text(alloc: Global, line: Line) -> Result<String, Fail> {
+    match line {
+        Line::Run(secs, nanos) => event(alloc, secs, nanos, run_started()),
+        Line::RunEnd(secs) => run_finished(alloc, secs),
+        Line::SubRun(secs) => event(alloc, secs, 0, sub_run_started()),
+        Line::SubRunEnd(secs) => sub_run_finished(alloc, secs),
+        Line::Script(secs, index, id) => {
+            script_event(alloc, secs, index, id, "\"kind\":\"setup-script-started\"")
+        }
+        Line::ScriptEnd(secs, index, id) => script_event(alloc, secs, index, id, script_passed()),
+        Line::ScriptSlow(secs, id) => script_slow(alloc, secs, id),
+        Line::Start(secs, test, slot) => test_start(alloc, secs, test, slot),
+        Line::Fail(secs, test) => test_event(alloc, secs, test, attempt_failed()),
+        Line::Retry(secs, test, slot) => test_retry(alloc, secs, test, slot),
+        Line::End(secs, test, failed) => test_end(alloc, secs, test, failed),
+        Line::Slow(secs, test) => test_event(alloc, secs, test, test_slow()),
+        Line::Skip(secs, test) => test_event(alloc, secs, test, test_skipped()),
+        Line::Pause(secs, scripts) => {
+            count_event(alloc, secs, scripts, "\"kind\":\"run-paused\"")
+        }
+        Line::Continue(secs, scripts) => {
+            count_event(alloc, secs, scripts, "\"kind\":\"run-continued\"")
+        }
+        Line::Cancel(secs, scripts) => count_event(alloc, secs, scripts, cancelled()),
+        Line::Faulty => Ok(String::from_str(alloc, "{}")?),
+    }
+}
+
+// A log of these lines.
+pub(crate) fn log(alloc: Global, lines: &[Line]) -> Result<String, Fail> {
+    let mut text = String::new(alloc);
+    for line in lines {
+        text.push_str(line_text(alloc, *line)?.as_str())?;
+        text.push_str("\n")?;
+    }
+    Ok(text)
+}
