@@ -80,8 +80,8 @@ with_output status is_stored execution = do
 -- the main attempt's output is judged last
 abbrev pub judged_test :
     List ℕ → (Execution → Option ErrorText) → Storing → FlakyResult → JunitFlakyFailStatus → Attempts → Result (JunitStatus × StoredOutput) JunitError
-judged_test unit text_of storing result flaky_status attempts = do
-  status ← test_status unit text_of storing.failure result flaky_status attempts
+judged_test unit text_of storing result fail_status attempts = do
+  status ← test_status unit text_of storing.failure result fail_status attempts
   with_output status (stores storing (has_failed attempts)) (main_of attempts).output
 
 abbrev pub test_case_with : OwnedTestInstanceId → Status → JunitStatus × StoredOutput → JunitCase
@@ -96,8 +96,8 @@ test_case_with test main judged = record {
 }
 
 abbrev pub test_case : List ℕ → (Execution → Option ErrorText) → Storing → OwnedTestInstanceId → FlakyResult → JunitFlakyFailStatus → Attempts → Result JunitCase JunitError
-test_case unit text_of storing test result flaky_status attempts = do
-  judged ← judged_test unit text_of storing result flaky_status attempts
+test_case unit text_of storing test result fail_status attempts = do
+  judged ← judged_test unit text_of storing result fail_status attempts
   Ok (test_case_with test (main_of attempts) judged)
 
 -- ---- setup scripts

@@ -94,46 +94,61 @@ fn abort(leaked: bool) -> ExecutionResultDescription {
 }
 
 /// What came of a process: `s` wrote to both streams, `o` and `e` to one that was captured, `b` to both
-/// combined, `u` what is no UTF-8; `n` was not loaded; `E` had errors; any other could not be started.
+/// combined, `u` what is no UTF-8; `!` could not be started; `E` had errors, and was not loaded; any other
+/// was not loaded.
 pub(crate) fn output(
     alloc: Global,
     letter: u8,
 ) -> Result<ChildExecutionOutputDescription<LiveSpec>, AllocError> {
-    let output = match letter {
-        b's' => split(
-            Some(bytes(alloc, b"stdout")?),
-            Some(bytes(alloc, b"stderr")?),
-        ),
-        b'o' => split(Some(bytes(alloc, b"stdout")?), None),
-        b'e' => split(None, Some(bytes(alloc, b"stderr")?)),
-        b'b' => ChildOutputDescription::Combined {
-            output: bytes(alloc, b"both")?,
-        },
-        b'u' => split(Some(bytes(alloc, b"a\xFFb")?), Some(bytes(alloc, b"")?)),
-        b'n' => ChildOutputDescription::NotLoaded,
-        b'E' => split(None, None),
-        _ => {
-            let message = Text::from_str(alloc, "no such file")?;
-            return Ok(ChildExecutionOutputDescription::StartError { message });
-        }
-    };
-    let errors = if letter == b'E' {
-        Some(errors(alloc)?)
-    } else {
-        None
-    };
-    Ok(ChildExecutionOutputDescription::Output {
-        result: None,
-        output,
-        errors,
-    })
+    match letter {
+        b'!' => Ok(ChildExecutionOutputDescription::StartError {
+            message: Text::from_str(alloc, "no such file")?,
+        }),
+        b'E' => Ok(ChildExecutionOutputDescription::Output {
+            result: None,
+            output: ChildOutputDescription::NotLoaded,
+            errors: Some(errors(alloc)?),
+        }),
+        _ => Ok(ChildExecutionOutputDescription::Output {
+            result: None,
+            output: captured(alloc, letter)?,
+            errors: None,
+        }),
+    }
 }
 
-fn split(
-    stdout: Option<ChildSingleOutput>,
-    stderr: Option<ChildSingleOutput>,
-) -> ChildOutputDescription {
-    ChildOutputDescription::Split { stdout, stderr }
+fn captured(alloc: Global, letter: u8) -> Result<ChildOutputDescription, AllocError> {
+    match letter {
+        b's' => streams(
+            alloc,
+            Some(b"stdout".as_slice()),
+            Some(b"stderr".as_slice()),
+        ),
+        b'o' => streams(alloc, Some(b"stdout".as_slice()), None),
+        b'e' => streams(alloc, None, Some(b"stderr".as_slice())),
+        b'u' => streams(alloc, Some(b"a\xFFb".as_slice()), Some(b"".as_slice())),
+        b'b' => Ok(ChildOutputDescription::Combined {
+            output: bytes(alloc, b"both")?,
+        }),
+        _ => Ok(ChildOutputDescription::NotLoaded),
+    }
+}
+
+fn streams(
+    alloc: Global,
+    stdout: Option<&[u8]>,
+    stderr: Option<&[u8]>,
+) -> Result<ChildOutputDescription, AllocError> {
+    let stdout = stream(alloc, stdout)?;
+    let stderr = stream(alloc, stderr)?;
+    Ok(ChildOutputDescription::Split { stdout, stderr })
+}
+
+fn stream(alloc: Global, stream: Option<&[u8]>) -> Result<Option<ChildSingleOutput>, AllocError> {
+    match stream {
+        Some(stream) => Ok(Some(bytes(alloc, stream)?)),
+        None => Ok(None),
+    }
 }
 
 fn bytes(alloc: Global, bytes: &[u8]) -> Result<ChildSingleOutput, AllocError> {
@@ -263,8 +278,30 @@ pub(crate) fn written<D: ErrorDescriber>(
     }
 }
 
+/// Ends a test whose attempts ended and wrote so, and answers what came of it.
+pub(crate) fn write_test<D: ErrorDescriber>(
+    alloc: Global,
+    builder: &mut JunitBuilder<'_, D>,
+    names: (&str, &str),
+    stress_index: Option<StressIndex>,
+    attempts: (&str, &str, &str),
+) -> Result<&'static str, AllocError> {
+    let test = test(alloc, names.0, names.1)?;
+    let event = finished(
+        alloc,
+        &test,
+        stress_index,
+        attempts.0,
+        attempts.1,
+        attempts.2,
+    )?;
+    let answer = written(builder, &event);
+    drop(event);
+    Ok(answer)
+}
+
 /// Ends the run, and answers the value of its report.
-pub(crate) fn ended<D: ErrorDescriber>(
+fn ended<D: ErrorDescriber>(
     alloc: Global,
     builder: &mut JunitBuilder<'_, D>,
 ) -> Result<Value, Fail> {
@@ -282,6 +319,23 @@ pub(crate) fn ended<D: ErrorDescriber>(
     }
 }
 
+/// Ends the run after an event of which this came, and answers the text at a path of the report, empty
+/// where there is none; or what came of the event where it was not accepted.
+pub(crate) fn said<D: ErrorDescriber>(
+    alloc: Global,
+    builder: &mut JunitBuilder<'_, D>,
+    answer: &str,
+    path: &str,
+) -> Result<String, Fail> {
+    if answer != "accepted" {
+        return Ok(String::from_str(alloc, answer)?);
+    }
+    let report = ended(alloc, builder)?;
+    let text = text_at(alloc, &report, path);
+    drop(report);
+    Ok(text?)
+}
+
 /// Makes a builder whose reports are named `run`.
 pub(crate) fn builder<'d, D: ErrorDescriber>(
     alloc: Global,
@@ -292,8 +346,8 @@ pub(crate) fn builder<'d, D: ErrorDescriber>(
     Ok(JunitBuilder::new(alloc, mode, name, describer))
 }
 
-/// The text of the value at a path of a report, empty where there is none.
-pub(crate) fn text_at(alloc: Global, value: &Value, path: &str) -> Result<String, AllocError> {
+/// The text of the value at a path, empty where there is none.
+fn text_at(alloc: Global, value: &Value, path: &str) -> Result<String, AllocError> {
     match value.pointer(path) {
         Some(value) => value.to_string(alloc),
         None => Ok(String::new(alloc)),

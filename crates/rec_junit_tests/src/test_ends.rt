@@ -1,33 +1,25 @@
 //! The cases of finished tests.
 
-use crate::made::{builder, ended, finished, test, text_at, written};
+use crate::made::{builder, said, write_test};
 use rec_events::NextestRunMode;
 use rec_junit::PlainDescriber;
 use std::alloc::Global;
 use std::process::Abort;
 use std::test::Fail;
 
-/// What a report says at a path of the case of a test whose attempts ended and wrote so, or why there
-/// is none.
-fn said(
+/// What a report says at a path, of a test whose attempts ended and wrote so, or why there is none.
+fn said_of(
     alloc: Global,
     mode: NextestRunMode,
     attempts: (&str, &str, &str),
     path: &str,
 ) -> Result<String, Fail> {
     let describer = PlainDescriber;
-    let test = test(alloc, "bin", "t")?;
-    let event = finished(alloc, &test, None, attempts.0, attempts.1, attempts.2)?;
     let mut builder = builder(alloc, mode, &describer)?;
-    let answer = written(&mut builder, &event);
-    drop(event);
-    if answer != "accepted" {
-        drop(builder);
-        return Ok(String::from_str(alloc, answer)?);
-    }
-    let report = ended(alloc, &mut builder);
+    let answer = write_test(alloc, &mut builder, ("bin", "t"), None, attempts)?;
+    let text = said(alloc, &mut builder, answer, path);
     drop(builder);
-    Ok(text_at(alloc, &report?, path)?)
+    text
 }
 
 /// Each row has what a report says at this path of its case.
@@ -38,7 +30,7 @@ fn check(
     rows: &[((&str, &str, &str), &str)],
 ) -> Result<(), Fail> {
     for (attempts, expected) in rows {
-        let got = said(alloc, NextestRunMode::Test, *attempts, path)?;
+        let got = said_of(alloc, NextestRunMode::Test, *attempts, path)?;
         assert!(rt;
             got.as_str() == *expected,
             "{} is reported as {got}, and not as {expected}",
@@ -50,54 +42,51 @@ fn check(
 
 #[test]
 fn each_ending_has_its_kind(rt: HostRuntime) -> Result<(), Fail> {
+    let kinds = [
+        (("c", "s", ""), "\"failure\""),
+        (("a", "s", ""), "\"failure\""),
+        (("T", "s", ""), "\"failure\""),
+        (("x", "s", ""), "\"error\""),
+        (("L", "s", ""), "\"error\""),
+        (("lc", "ss", ""), "\"error\""),
+    ];
+    check(
+        &rt,
+        rt.alloc(),
+        "/suites/0/cases/0/status/non-success/kind",
+        &kinds,
+    )
+}
+
+#[test]
+fn each_ending_has_its_type(rt: HostRuntime) -> Result<(), Fail> {
     let rows = [
-        (
-            ("c", "s", ""),
-            "\"failure\" \"test failure with exit code 101\"",
-        ),
+        (("c", "s", ""), "\"test failure with exit code 101\""),
         (
             ("C", "s", ""),
-            "\"failure\" \"test failure with exit code 101 (leaked handles)\"",
+            "\"test failure with exit code 101 (leaked handles)\"",
         ),
-        (("a", "s", ""), "\"failure\" \"test abort\""),
-        (
-            ("A", "s", ""),
-            "\"failure\" \"test abort (leaked handles)\"",
-        ),
-        (("T", "s", ""), "\"failure\" \"test timeout\""),
-        (("x", "s", ""), "\"error\" \"execution failure\""),
+        (("a", "s", ""), "\"test abort\""),
+        (("A", "s", ""), "\"test abort (leaked handles)\""),
+        (("T", "s", ""), "\"test timeout\""),
+        (("x", "s", ""), "\"execution failure\""),
         (
             ("L", "s", ""),
-            "\"error\" \"test exited with code 0, but leaked handles so was marked failed\"",
+            "\"test exited with code 0, but leaked handles so was marked failed\"",
         ),
-        (
-            ("lc", "ss", ""),
-            "\"error\" \"test passed but leaked handles\"",
-        ),
+        (("lc", "ss", ""), "\"test passed but leaked handles\""),
     ];
-    let alloc = rt.alloc();
-    for (attempts, expected) in rows {
-        let kind = said(
-            alloc,
-            NextestRunMode::Test,
-            attempts,
-            "/suites/0/cases/0/status/non-success/kind",
-        )?;
-        let type_text = said(
-            alloc,
-            NextestRunMode::Test,
-            attempts,
-            "/suites/0/cases/0/status/non-success/type-text",
-        )?;
-        let got = format!(in alloc; "{kind} {type_text}")?;
-        assert!(rt; got.as_str() == expected);
-    }
-    Ok(())
+    check(
+        &rt,
+        rt.alloc(),
+        "/suites/0/cases/0/status/non-success/type-text",
+        &rows,
+    )
 }
 
 #[test]
 fn a_benchmark_is_called_so(rt: HostRuntime) -> Result<(), Fail> {
-    let got = said(
+    let got = said_of(
         rt.alloc(),
         NextestRunMode::Benchmark,
         ("T", "s", ""),
@@ -107,27 +96,33 @@ fn a_benchmark_is_called_so(rt: HostRuntime) -> Result<(), Fail> {
     Ok(())
 }
 
+/// What is said of a first attempt that was aborted, before one that passed.
+fn flaky() -> &'static str {
+    "{\"success\":[{\"kind\":\"failure\",\"time\":{\"nanos\":0,\"secs\":1},\"timestamp\":{\"nanos\":0,\"offset\":0,\"secs\":1},\"type-text\":\"test abort\"}]}"
+}
+
+/// The same where it counts as failed, and is reported so.
+fn flaky_failure() -> &'static str {
+    "{\"non-success\":{\"kind\":\"failure\",\"message\":\"test passed on attempt 2/3 but is configured to fail when flaky\",\"rerun-kind\":\"flaky\",\"reruns\":[{\"kind\":\"failure\",\"time\":{\"nanos\":0,\"secs\":1},\"timestamp\":{\"nanos\":0,\"offset\":0,\"secs\":1},\"type-text\":\"test abort\"}],\"type-text\":\"flaky failure\"}}"
+}
+
+/// What is said of an abort before an exit code and a process that could not be started.
+fn failure() -> &'static str {
+    "{\"non-success\":{\"kind\":\"failure\",\"rerun-kind\":\"rerun\",\"reruns\":[{\"kind\":\"failure\",\"time\":{\"nanos\":0,\"secs\":2},\"timestamp\":{\"nanos\":0,\"offset\":0,\"secs\":2},\"type-text\":\"test failure with exit code 101\"},{\"kind\":\"error\",\"time\":{\"nanos\":0,\"secs\":3},\"timestamp\":{\"nanos\":0,\"offset\":0,\"secs\":3},\"type-text\":\"execution failure\"}],\"type-text\":\"test abort\"}}"
+}
+
 #[test]
 fn attempts_are_described(rt: HostRuntime) -> Result<(), Fail> {
-    let rerun =
-        "{\"kind\":\"failure\",\"time\":{\"nanos\":0,\"secs\":1},\"timestamp\":{\"nanos\":0,\"offset\":0,\"secs\":1},\"type-text\":\"test abort\"}";
-    let alloc = rt.alloc();
-    let passed = format!(in alloc; "{{\"success\":[{rerun}]}}")?;
-    let flaky = format!(in alloc;
-        "{{\"non-success\":{{\"kind\":\"failure\",\"message\":\"test passed on attempt 2/3 but is configured to fail when flaky\",\"rerun-kind\":\"flaky\",\"reruns\":[{rerun}],\"type-text\":\"flaky failure\"}}}}"
-    )?;
-    let failed =
-        "{\"non-success\":{\"kind\":\"failure\",\"rerun-kind\":\"rerun\",\"reruns\":[{\"kind\":\"failure\",\"time\":{\"nanos\":0,\"secs\":2},\"timestamp\":{\"nanos\":0,\"offset\":0,\"secs\":2},\"type-text\":\"test failure with exit code 101\"},{\"kind\":\"error\",\"time\":{\"nanos\":0,\"secs\":3},\"timestamp\":{\"nanos\":0,\"offset\":0,\"secs\":3},\"type-text\":\"execution failure\"}],\"type-text\":\"test abort\"}}";
     let rows = [
         (("p", "s", ""), "{\"success\":[]}"),
         (("l", "s", "f"), "{\"success\":[]}"),
         (("t", "s", ""), "{\"success\":[]}"),
-        (("ap", "ss", ""), passed.as_str()),
-        (("ap", "ss", "fs"), passed.as_str()),
-        (("ap", "ss", "f"), flaky.as_str()),
-        (("acx", "sss", "f"), failed),
+        (("ap", "ss", ""), flaky()),
+        (("ap", "ss", "fs"), flaky()),
+        (("ap", "ss", "f"), flaky_failure()),
+        (("acx", "sss", "f"), failure()),
     ];
-    check(&rt, alloc, "/suites/0/cases/0/status", &rows)
+    check(&rt, rt.alloc(), "/suites/0/cases/0/status", &rows)
 }
 
 #[test]
@@ -141,8 +136,8 @@ fn the_main_attempt_gives_its_times(rt: HostRuntime) -> Result<(), Fail> {
 }
 
 #[test]
-fn outputs_are_stored_by_their_flags(rt: HostRuntime) -> Result<(), Fail> {
-    let out = [
+fn stdout_is_stored_by_its_flag(rt: HostRuntime) -> Result<(), Fail> {
+    let rows = [
         (("p", "s", "+"), "\"stdout\""),
         (("p", "s", "-"), ""),
         (("p", "b", "+-"), "\"both\""),
@@ -154,27 +149,35 @@ fn outputs_are_stored_by_their_flags(rt: HostRuntime) -> Result<(), Fail> {
         (("cp", "sb", "f-"), ""),
         (("cc", "sb", "-"), "\"stdout\""),
     ];
-    check(&rt, rt.alloc(), "/suites/0/cases/0/system-out", &out)?;
-    let err = [
+    check(&rt, rt.alloc(), "/suites/0/cases/0/system-out", &rows)
+}
+
+#[test]
+fn stderr_is_stored_by_its_flag(rt: HostRuntime) -> Result<(), Fail> {
+    let rows = [
         (("p", "s", "+"), "\"stderr\""),
         (("p", "b", "+"), "\"(stdout and stderr are combined)\""),
         (("p", "o", "+"), "\"(stderr not captured)\""),
         (("p", "u", "+"), "\"\""),
         (("x", "!", "-"), "\"(process failed to start)\""),
     ];
-    check(&rt, rt.alloc(), "/suites/0/cases/0/system-err", &err)?;
-    let rerun = [(("cp", "sb", "-"), "\"stdout\""), (("cp", "sb", "+"), "")];
+    check(&rt, rt.alloc(), "/suites/0/cases/0/system-err", &rows)
+}
+
+#[test]
+fn reruns_are_stored_as_failures(rt: HostRuntime) -> Result<(), Fail> {
+    let rows = [(("cp", "sb", "-"), "\"stdout\""), (("cp", "sb", "+"), "")];
     check(
         &rt,
         rt.alloc(),
         "/suites/0/cases/0/status/success/0/system-out",
-        &rerun,
+        &rows,
     )
 }
 
 #[test]
-fn what_is_said_of_a_failure(rt: HostRuntime) -> Result<(), Fail> {
-    let message = [
+fn a_failure_has_a_message(rt: HostRuntime) -> Result<(), Fail> {
+    let rows = [
         (("c", "E", ""), "\"first\""),
         (("x", "!", ""), "\"no such file\""),
         (("c", "s", ""), ""),
@@ -184,9 +187,13 @@ fn what_is_said_of_a_failure(rt: HostRuntime) -> Result<(), Fail> {
         &rt,
         rt.alloc(),
         "/suites/0/cases/0/status/non-success/message",
-        &message,
-    )?;
-    let description = [
+        &rows,
+    )
+}
+
+#[test]
+fn a_failure_has_a_description(rt: HostRuntime) -> Result<(), Fail> {
+    let rows = [
         (("c", "E", ""), "\"first\\nsecond\""),
         (("x", "!", ""), "\"no such file\""),
         (("cp", "ss", "f"), ""),
@@ -195,7 +202,7 @@ fn what_is_said_of_a_failure(rt: HostRuntime) -> Result<(), Fail> {
         &rt,
         rt.alloc(),
         "/suites/0/cases/0/status/non-success/description",
-        &description,
+        &rows,
     )
 }
 
