@@ -1,5 +1,5 @@
 -- What was recorded of a session is drawn as the session was.
-use Rattle.std.proofs.Common.{◌≡◌, ℕ, List, [], map, Option, Some, None, option_map, refl, sym, ap, ◌∙◌}
+use Rattle.std.proofs.Common.{◌≡◌, ℕ, List, [], ◌∷◌, map, Option, Some, None, option_map, refl, sym, ap, ◌∙◌}
 use Rattle.std.specs.Option.{option_or}
 use Rattle.semver.specs.Parse.{Parts}
 use Rattle.rec_container.proofs.Unique.{one_reading_spec}

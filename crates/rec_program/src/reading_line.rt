@@ -10,8 +10,8 @@ ghost use Rattle.rec_program.specs.ReadingLine.{bundle_fields, bundle_name, bund
 
 use crate::fault_line::FaultLine;
 use crate::fields::{
-    NOTHING, event_number, missing_script, missing_test, no_fields, number, one, open_span, release,
-    text, three, two, version,
+    NOTHING, event_number, missing_script, missing_test, no_fields, number, one, open_span,
+    release, text, three, two, version,
 };
 use crate::line::{FaultText, Field, Fields};
 use crate::reading_error::ReadingError;
