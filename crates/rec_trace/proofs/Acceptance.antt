@@ -1,5 +1,5 @@
 -- In a history that is not refused, each start finds its key, its place and its row free.
-use Rattle.std.proofs.Common.{◌≡◌, ℕ, suc, List, [], ◌∷◌, ◌++◌, length, Option, Some, None, refl, sym, ◌∙◌, ap, subst, cond}
+use Rattle.std.proofs.Common.{◌≡◌, ℕ, suc, List, [], ◌∷◌, ◌++◌, length, Option, Some, None, refl, sym, ◌∙◌, ap, cond}
 use Rattle.std.specs.Option.{option_or}
 use Rattle.rec_trace.proofs.Fits.{FitsAt, Fits, AllFit, StartFits, StartsFit, AllFit-open_after, row-free_from_place, place-free_from_key, only_run, only_sub_run, only_script, history-fits}
 use Rattle.rec_trace.proofs.Rows.{FindsRoom, AllFindRoom}

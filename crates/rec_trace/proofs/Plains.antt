@@ -9,8 +9,7 @@ use Rattle.rec_events.specs.declared.outputs.ChildExecutionOutputDescription.The
 use Rattle.rec_events.specs.declared.outputs.ChildExecutionOutputDescription.{ChildExecutionOutputDescription}
 use Rattle.rec_events.specs.declared.script_statuses.SetupScriptExecuteStatus.{SetupScriptExecuteStatus}
 use Rattle.rec_events.specs.declared.statuses.ExecuteStatus.{ExecuteStatus}
-use Rattle.rec_events.specs.declared.statuses.ExecutionStatuses.{ExecutionStatuses}
-use Rattle.rec_events.specs.EventMaps.{execution_with, status_with, statuses_with, script_status_with, output_kind_with, kind_with, event_with}
+use Rattle.rec_events.specs.EventMaps.{execution_with, status_with, script_status_with, output_kind_with, kind_with, event_with}
 use Rattle.rec_trace.specs.Plain.{plain, plain_kind, plain_output_kind}
 
 abbrev bare : {X : Type 0} → X → Unit {0}

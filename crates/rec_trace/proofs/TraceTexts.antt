@@ -10,7 +10,7 @@ use Rattle.serde_json.specs.Written.{compact_text, has_float, items_have_float, 
 use Rattle.rec_forms.specs.Shape.{Field, integer, with_member, with_members, members_of, struct}
 use Rattle.rec_trace.specs.declared.settings.ChromeTraceMessageFormat.TheVariants.{Json}
 use Rattle.rec_trace.specs.declared.settings.ChromeTraceMessageFormat.{ChromeTraceMessageFormat}
-use Rattle.rec_trace.specs.Drawing.{mark_value, other_data, text_in, trace_value}
+use Rattle.rec_trace.specs.Drawing.{mark_value, text_in, trace_value}
 use Rattle.rec_trace.specs.Past.{Mark}
 
 or_left : (a b : Bool) → (a || b) ≡ false → a ≡ false

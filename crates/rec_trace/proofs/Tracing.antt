@@ -1,15 +1,13 @@
 -- What has been traced, with one event more.
-use Rattle.std.proofs.Common.{◌≡◌, inl, inr, List, [], ◌∷◌, ◌++◌, map, append-nil, Option, None, Some, Result, Ok, Err, ap, refl, subst, sym, ◌∙◌}
+use Rattle.std.proofs.Common.{◌≡◌, inl, inr, List, [], ◌∷◌, ◌++◌, map, append-nil, Option, None, Some, Result, Ok, Err, ap, refl, sym, ◌∙◌}
 use Rattle.std.proofs.lemmas.List.{map-append}
 use Rattle.std.specs.Bool.{⊤}
 use Rattle.std.specs.Option.{option_or}
-use Rattle.serde_json.specs.declared.value.Value.{Value}
 use Rattle.serde_json.specs.View.{view}
 use Rattle.rec_trace.proofs.Acceptance.{history_refusal_after-append}
 use Rattle.rec_trace.proofs.Histories.{history-push}
 use Rattle.rec_trace.proofs.Prefixes.{after-append, marks_after-append}
 use Rattle.rec_trace.specs.declared.builder.TraceBuilder.{TraceBuilder}
-use Rattle.rec_trace.specs.declared.errors.ChromeTraceError.TheVariants.{OutOfMemory}
 use Rattle.rec_trace.specs.declared.errors.ChromeTraceError.{ChromeTraceError}
 use Rattle.rec_trace.specs.declared.settings.ChromeTraceGroupBy.{ChromeTraceGroupBy}
 use Rattle.rec_trace.specs.Drawing.{mark_value}

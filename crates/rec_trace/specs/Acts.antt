@@ -3,7 +3,6 @@ use Rattle.std.specs.Prelude.{ℕ, List}
 use Rattle.rec_events.specs.declared.events.CoreEventKind.TheVariants.{RunStarted, StressSubRunStarted, SetupScriptStarted, SetupScriptSlow, TestStarted, TestSlow, TestRetryStarted, TestSkipped, RunBeginCancel, RunPaused, RunContinued, StressSubRunFinished, RunFinished}
 use Rattle.rec_events.specs.declared.events.CoreEventKind.{CoreEventKind}
 use Rattle.rec_events.specs.declared.events.OutputEventKind.TheVariants.{SetupScriptFinished, TestAttemptFailedWillRetry, TestFinished}
-use Rattle.rec_events.specs.declared.events.OutputEventKind.{OutputEventKind}
 use Rattle.rec_events.specs.declared.events.TestEventKindSummary.TheVariants.{Core, Output}
 use Rattle.rec_events.specs.declared.instances.OwnedTestInstanceId.{OwnedTestInstanceId}
 use Rattle.rec_events.specs.Stats as stats

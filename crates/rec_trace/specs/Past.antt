@@ -2,7 +2,6 @@
 use Rattle.std.specs.BTreeMap.{insert_entry}
 use Rattle.std.specs.Cmp.Lexicographic.{slice_cmp}
 use Rattle.std.specs.Map.{lookup}
-use Rattle.std.specs.Option.{unwrap_or}
 use Rattle.std.specs.Ordering.{nat_cmp}
 use Rattle.std.specs.Prelude.{ℕ, suc, ◌-◌, ℤ, Bool, true, false, not, List, [], ◌∷◌, ◌++◌, length, map, filter, bytes_eq, Option, is_some, if◌then◌else◌}
 use Rattle.rec_trace.specs.Acts.Act.{ScriptStarts, ScriptEnds, AttemptFails, Pauses, Continues, Cancels}

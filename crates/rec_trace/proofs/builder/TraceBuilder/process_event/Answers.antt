@@ -1,7 +1,6 @@
 use Rattle.std.proofs.Common.{refl, subst}
 use Rattle.rec_trace.proofs.builder.TraceBuilder.process_event.Goals as goal
 use Rattle.rec_trace.proofs.Tracing.{input-is, traces}
-use Rattle.rec_trace.specs.History.{TraceState}
 use Rattle.rec_trace.specs.Past.{TraceInput}
 use Rattle.rec_trace.specs.Plain.{plain}
 use Rattle.rec_trace.specs.Refusals.{next_refusal}
