@@ -8,11 +8,8 @@ use Rattle.rec_format.specs.declared.incompatibility.StoreVersionIncompatibility
 use Rattle.rec_format.specs.declared.incompatibility.StoreVersionIncompatibility.{StoreVersionIncompatibility}
 use Rattle.rec_format.specs.declared.incompatibility.TooOldRecordingGuidance.TheVariants.{UseOlderNextest, Discard, Unknown}
 use Rattle.rec_format.specs.declared.incompatibility.TooOldRecordingGuidance.{TooOldRecordingGuidance}
-use Rattle.rec_format.specs.declared.versions.PortableRecordingFormatVersion.{PortableRecordingFormatVersion}
-use Rattle.rec_format.specs.declared.versions.StoreFormatVersion.{StoreFormatVersion}
 use Rattle.rec_format.specs.Incompatibility.{release_text}
 use Rattle.rec_format.specs.Versions.{version_text}
-use Rattle.rec_codec.specs.declared.line_events.LineError.{LineError}
 use Rattle.rec_portable.specs.declared.errors.PortableRecordingReadError.TheVariants.{SourceFault, SpoolTooLarge, ReadArchive, NotAWrapperArchive, FileTooLarge, ParseManifest, UnsupportedFormatVersion, UnsupportedStoreFormatVersion, MissingFile, ExtractFile, OutOfMemory}
 use Rattle.rec_portable.specs.declared.errors.PortableRecordingReadError.{PortableRecordingReadError}
 use Rattle.rec_trace.specs.declared.errors.ChromeTraceError.TheVariants.{ReadError}

@@ -1,8 +1,6 @@
-use Rattle.std.proofs.Common.{◌+◌, ap, arith, sym, ◌∙◌}
+use Rattle.std.proofs.Common.{arith, sym, ◌∙◌}
 use Rattle.rec_program.proofs.options.read_options.Goals as goal
 use Rattle.rec_program.proofs.OptionSteps.{values_from-read}
-use Rattle.rec_program.specs.Options.{values_from}
-use Rattle.rec_program.specs.Words.{texts}
 
 pub options-preserved : goal.options-preserved
 options-preserved c = record {

@@ -1,4 +1,4 @@
-use Rattle.std.proofs.Common.{List, ℕ, Result, subst}
+use Rattle.std.proofs.Common.{Result, subst}
 use Rattle.rec_store.specs.Namer.{sha256_number}
 use Rattle.rec_program.proofs.Commands.{info_printed, informed, recorded_whole, redrawn, shown_or_memory, trace_printed, traced}
 use Rattle.rec_program.proofs.program.run_program.Goals as goal

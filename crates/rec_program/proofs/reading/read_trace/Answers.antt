@@ -1,4 +1,4 @@
-use Rattle.std.proofs.Common.{List, ℕ, [], sym, subst}
+use Rattle.std.proofs.Common.{[], sym, subst}
 use Rattle.std.proofs.lemmas.Result.{err_from_is_err_and}
 use Rattle.rec_program.proofs.BundlesShown.{trace_refused, opened_shows, opened_withholds, unopened}
 use Rattle.rec_program.proofs.reading.read_trace.Goals as goal
