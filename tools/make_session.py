@@ -4,8 +4,9 @@
     tools/make_session.py 10000 > large.session
     tools/make_session.py 20000 --distinct 200 > distinct.session
     tools/make_session.py 100 --distinct 1048576 > outputs.session
+    tools/make_session.py 10000 --binaries 10000 > binaries.session
 
-Test i is `t{i}` of the binary `bin-{i mod 4}`, on slot i mod 8. Eight tests run at a time, in
+Test i is `t{i}` of the binary `bin-{i mod 4}`, or `bin-{i mod N}` with `--binaries N`, on slot i mod 8. Eight tests run at a time, in
 batches four seconds apart, and every hundredth one fails. Each test writes one of sixteen lines on
 standard output; with `--distinct N` it writes N bytes of its own, on standard output and again on
 standard error.
@@ -42,14 +43,14 @@ def stats(count):
     return {**dict.fromkeys(COUNTS, 0), "initial-run-count": count}
 
 
-def test_id(i):
-    return {"binary-id": f"bin-{i % 4}", "test-name": f"t{i}"}
+def test_id(i, binaries):
+    return {"binary-id": f"bin-{i % binaries}", "test-name": f"t{i}"}
 
 
-def head(count):
+def head(count, binaries=4):
     suites = {}
     for i in range(count):
-        suites.setdefault(f"bin-{i % 4}", []).append(f"t{i}")
+        suites.setdefault(f"bin-{i % binaries}", []).append(f"t{i}")
     return {
         "run-id": RUN_ID, "nextest-version": "0.9.111", "started-at": instant(1000),
         "last-written-at": instant(1011), "status": {"status": "incomplete"},
@@ -63,10 +64,10 @@ def event(kind, at, **fields):
     return {"timestamp": at, "elapsed": span(0), "kind": kind, **members}
 
 
-def started(i, batch, count, running):
+def started(i, batch, count, running, binaries):
     return event(
         "test-started", instant(1000 + 4 * batch, 1000 * (i % SLOTS)),
-        test_instance=test_id(i),
+        test_instance=test_id(i, binaries),
         slot_assignment={"global-slot": i % SLOTS, "test-group": "@global"},
         current_stats=stats(count), running=running, command_line=[],
     )
@@ -82,7 +83,7 @@ def outputs(i, distinct):
     }
 
 
-def finished(i, batch, count, running, distinct):
+def finished(i, batch, count, running, binaries, distinct):
     failed = i % 100 == 99
     result = {"fail": {"failure": {"exit-code": 1}, "leaked": False}} if failed else "pass"
     status = {
@@ -93,7 +94,7 @@ def finished(i, batch, count, running, distinct):
     }
     return event(
         "test-finished", instant(1003 + 4 * batch, 1000 * (i % SLOTS)),
-        test_instance=test_id(i), success_output="never", failure_output="never",
+        test_instance=test_id(i, binaries), success_output="never", failure_output="never",
         junit_store_success_output=False, junit_store_failure_output=False,
         junit_flaky_fail_status="failure",
         run_statuses={"statuses": [status], "flaky-result": "pass"},
@@ -101,23 +102,24 @@ def finished(i, batch, count, running, distinct):
     )
 
 
-def session(count, distinct):
-    yield head(count)
+def session(count, binaries, distinct):
+    yield head(count, binaries)
     yield event("run-started", instant(1000), run_id=RUN_ID, profile_name="default", cli_args=[])
     for batch in range((count + SLOTS - 1) // SLOTS):
         tests = range(batch * SLOTS, min(count, (batch + 1) * SLOTS))
         for place, i in enumerate(tests):
-            yield started(i, batch, count, place + 1)
+            yield started(i, batch, count, place + 1, binaries)
         for place, i in enumerate(tests):
-            yield finished(i, batch, count, len(tests) - place - 1, distinct)
+            yield finished(i, batch, count, len(tests) - place - 1, binaries, distinct)
 
 
 def main():
     parser = argparse.ArgumentParser(description=__doc__, formatter_class=argparse.RawDescriptionHelpFormatter)
     parser.add_argument("count", type=int, help="how many tests")
     parser.add_argument("--distinct", type=int, metavar="N", help="the bytes of each of a test's two own outputs")
+    parser.add_argument("--binaries", type=int, metavar="N", default=4, help="how many test binaries (4)")
     words = parser.parse_args()
-    for line in session(words.count, words.distinct):
+    for line in session(words.count, words.binaries, words.distinct):
         print(text(line))
 
 
