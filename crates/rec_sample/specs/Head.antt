@@ -24,7 +24,7 @@ suite n k = (binary_id k, map test_name (binary_tests n k))
 
 -- those of the four binaries that have a test; the binary k has its first test where n is above k
 unfoldable pub test_list : ℕ → TestListSummary
-test_list n = record { suites = map (suite n) (range_with_len 0 (min 4 n)) }
+test_list n = record { suites = map (suite n) (range_with_len 0 (min n 4)) }
 
 -- ---- the head
 

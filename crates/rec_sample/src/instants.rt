@@ -1,5 +1,5 @@
 //! When what happens.
-ghost use Rattle.std.specs.Prelude.{◌≡◌, ◌≤◌, ◌<◌};
+ghost use Rattle.std.specs.Prelude.{◌≡◌, ◌≤◌, ◌<◌, ◌+◌, ◌*◌};
 ghost use Rattle.rec_sample.specs.Instants.{instant, run_start, test_start, test_end, pause_start, pause_end, run_end, seconds};
 
 use crate::batches::{batch_count, batch_of, slot_of};

@@ -1,5 +1,5 @@
 //! The names of the tests, and what they write.
-ghost use Rattle.std.specs.Prelude.{◌≡◌, ◌%◌, IfOk};
+ghost use Rattle.std.specs.Prelude.{◌≡◌, IfOk, string_bytes};
 ghost use Rattle.rec_sample.specs.Names.{binary_id, test_name, test_instance, test_stdout};
 
 use rec_events::{ChildSingleOutput, OwnedTestInstanceId, RustBinaryId, TestCaseName};
@@ -13,7 +13,7 @@ const LINES: u64 = 16;
 
 /// Makes the name of a binary.
 pub(crate) fn binary_id(alloc: Global, binary: u64) -> Result<String, AllocError>
-    ensures { IfOk result (λ id. id ≡ binary_id binary) }
+    ensures { IfOk result (λ id. string_bytes id ≡ binary_id binary) }
 {
     format!(in alloc; "bin-{binary}")
 }
