@@ -1,10 +1,10 @@
 -- The events of a made session of n tests.
 use Rattle.std.specs.List.{flat_map, range_with_len}
 use Rattle.std.specs.Prelude.{ℕ, List, [], ◌∷◌, ◌++◌, map, if◌then◌else◌}
-use Rattle.rec_codec.specs.Event.{LiveEvent}
 use Rattle.rec_events.specs.declared.events.CoreEventKind.{CoreEventKind}
 use Rattle.rec_events.specs.declared.events.TestEventKindSummary.TheVariants.{Core, Output}
 use Rattle.rec_events.specs.Times.{Moment}
+use Rattle.rec_codec.specs.Event.{LiveEvent}
 use Rattle.rec_sample.specs.Batches.{batch_count, batch_tests, has_pause}
 use Rattle.rec_sample.specs.Instants.{run_start, test_start, test_end, pause_start, pause_end, run_end, seconds}
 use Rattle.rec_sample.specs.Kinds.{run_started, test_started, run_paused, run_continued, test_finished, run_finished}

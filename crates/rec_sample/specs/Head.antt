@@ -1,6 +1,6 @@
 -- The head of a made session of n tests.
 use Rattle.std.specs.List.{filter, range_with_len}
-use Rattle.std.specs.Prelude.{ℕ, ◌%◌, ◌==◌, min, List, [], ◌∷◌, map, None, codes}
+use Rattle.std.specs.Prelude.{ℕ, ◌%◌, ◌==◌, min, List, [], map, None, codes}
 use Rattle.rec_events.specs.declared.recording.NextestRunMode.TheVariants.{Test}
 use Rattle.rec_events.specs.declared.recording.TestListSummary.{TestListSummary}
 use Rattle.rec_events.specs.declared.selections.BuildScope.{BuildScope}

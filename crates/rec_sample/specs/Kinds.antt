@@ -1,6 +1,6 @@
 -- What happens in a made session of n tests.
 use Rattle.std.specs.Int.{w128, to_be_bytes}
-use Rattle.std.specs.Prelude.{ℕ, ◌%◌, ◌==◌, pos, true, false, if◌then◌else◌, List, [], ◌∷◌, Some, None, codes}
+use Rattle.std.specs.Prelude.{ℕ, ◌%◌, ◌==◌, pos, false, if◌then◌else◌, List, [], ◌∷◌, Some, None, codes}
 use Rattle.rec_events.specs.declared.events.CoreEventKind.TheVariants.{RunStarted, TestStarted, RunPaused, RunContinued, RunFinished}
 use Rattle.rec_events.specs.declared.events.CoreEventKind.{CoreEventKind}
 use Rattle.rec_events.specs.declared.events.OutputEventKind.TheVariants.{TestFinished}
@@ -79,16 +79,16 @@ run_continued n b = RunContinued 0 (batch_size n b)
 abbrev pub test_finished : ℕ → ℕ → OutputEventKind LiveSpec ChildOutputDescription
 test_finished n i =
     TestFinished
-        None
-        (test_instance i)
-        Never
-        Never
-        false
-        false
-        Failure
-        (record { statuses = attempt i ∷ []; flaky_result = flaky.Pass })
-        (stats n)
-        (running_after n i)
+    None
+    (test_instance i)
+    Never
+    Never
+    false
+    false
+    Failure
+    (record { statuses = attempt i ∷ []; flaky_result = flaky.Pass })
+    (stats n)
+    (running_after n i)
 
 abbrev pub run_finished : ℕ → CoreEventKind
 run_finished n = RunFinished run_id run_start (seconds 0) (Single (stats n)) None

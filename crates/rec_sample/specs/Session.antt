@@ -2,10 +2,10 @@
 use Rattle.std.specs.List.{flat_map}
 use Rattle.std.specs.Prelude.{ℕ, List, [], ◌∷◌, ◌++◌}
 use Rattle.serde_json.specs.Written.{compact_text}
+use Rattle.rec_format.specs.HeadForms.{head_value}
 use Rattle.rec_codec.specs.Event.{LiveEvent}
 use Rattle.rec_codec.specs.EventForms.{event_value}
 use Rattle.rec_codec.specs.Live.{live_value}
-use Rattle.rec_format.specs.HeadForms.{head_value}
 use Rattle.rec_sample.specs.Events.{sample_events}
 use Rattle.rec_sample.specs.Head.{sample_head}
 

@@ -1,10 +1,10 @@
 //! The text of a session.
 ghost use Rattle.std.specs.Prelude.{◌≡◌, ◌≤◌, ◌<◌, ◌*◌, ◌++◌, true, IfOk, OnOk, string_bytes};
+ghost use Rattle.serde_json.specs.View.{view};
 ghost use Rattle.rec_codec.specs.EventForms.{event_value, kind_loaded, IsEvent};
 ghost use Rattle.rec_codec.specs.Live.{is_loaded, live_value, IsLive};
 ghost use Rattle.rec_sample.specs.Events.{test_starts, pause, test_ends, batch_events};
 ghost use Rattle.rec_sample.specs.Session.{head_line, event_text, event_line, event_lines, sample_session};
-ghost use Rattle.serde_json.specs.View.{view};
 
 use crate::batches::{SLOTS, batch_count, batch_size, has_pause};
 use crate::events::{

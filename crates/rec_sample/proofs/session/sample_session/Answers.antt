@@ -15,12 +15,12 @@ pub returns : goal.returns
 returns c =
     let all : c.loop-batch.batch ≡ batch_count c.args.tests = omega arith in
     so_far_last
-        c.args.tests
-        c.loop-batch.batch
-        c.loop-batch.session.items
-        c.append_event-2.new.session.items
-        c.run_finished.result
-        all
-        c.loop-batch.invariant
-        c.run_finished.ensures.value
-        c.in_ok-append_event-2.ensures
+    c.args.tests
+    c.loop-batch.batch
+    c.loop-batch.session.items
+    c.append_event-2.new.session.items
+    c.run_finished.result
+    all
+    c.loop-batch.invariant
+    c.run_finished.ensures.value
+    c.in_ok-append_event-2.ensures
