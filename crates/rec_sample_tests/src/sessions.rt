@@ -4,7 +4,7 @@ use rec_codec::{LineError, LineIter, Lines};
 use rec_events::{LiveSpec, TestEventSummary};
 use rec_format::SessionHead;
 use rec_forms::{FromValueError, read_text};
-use rec_sample::sample_session;
+use rec_sample::{MAX_TESTS, sample_session};
 use std::alloc::{AllocError, Global};
 use std::test::Fail;
 
@@ -94,10 +94,17 @@ fn line_count(text: &[u8]) -> usize {
 #[test]
 fn each_event_has_a_line(rt: HostRuntime) -> Result<(), Fail> {
     let alloc = rt.alloc();
-    for (tests, lines) in [(0, 3), (1, 5), (80, 165), (10000, 20253)] {
-        let session = sample_session(alloc, tests)?;
-        assert!(rt; line_count(session.as_slice()) == lines, "{tests}");
-    }
+    let session = sample_session(alloc, 80)?;
+    assert!(rt; line_count(session.as_slice()) == 165);
+    Ok(())
+}
+
+#[test]
+fn the_longest_session(rt: HostRuntime) -> Result<(), Fail> {
+    let alloc = rt.alloc();
+    let session = sample_session(alloc, MAX_TESTS)?;
+    assert!(rt; line_count(session.as_slice()) == 20253);
+    assert!(rt; session.len() < 40_000_000);
     Ok(())
 }
 
