@@ -1,0 +1,4 @@
+pub mod Ranges
+pub mod EventLines
+pub mod Suites
+pub mod Counts

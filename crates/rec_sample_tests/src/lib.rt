@@ -1,0 +1,5 @@
+//! The tests of `rec_sample`.
+#![tactic(auto)]
+
+#[cfg(test)]
+mod sessions;
