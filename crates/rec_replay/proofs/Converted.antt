@@ -10,14 +10,17 @@ use Rattle.rec_events.specs.declared.events.OutputEventKind.TheVariants.{SetupSc
 use Rattle.rec_events.specs.declared.events.TestEventKindSummary.TheVariants as event
 use Rattle.rec_events.specs.declared.events.TestEventKindSummary.{TestEventKindSummary}
 use Rattle.rec_events.specs.declared.events.TestEventSummary.{TestEventSummary}
-use Rattle.rec_events.specs.declared.output_names.OutputFileName.{OutputFileName}
 use Rattle.rec_events.specs.declared.live_events.TestEvent.{TestEvent}
 use Rattle.rec_events.specs.declared.live_events.TestEventKind.{TestEventKind}
+use Rattle.rec_events.specs.declared.output_names.OutputFileName.{OutputFileName}
 use Rattle.rec_events.specs.declared.outputs.ChildExecutionOutputDescription.TheVariants.{Output, StartError}
 use Rattle.rec_events.specs.declared.outputs.ChildExecutionOutputDescription.{ChildExecutionOutputDescription}
 use Rattle.rec_events.specs.declared.statuses.ExecuteStatus.{ExecuteStatus}
 use Rattle.rec_events.specs.EventMaps.{of_execution, of_status, of_kind}
 use Rattle.rec_events.specs.TestLists.{Tests}
+use Rattle.rec_store.specs.declared.read_error.RecordReadError.TheVariants as reading
+use Rattle.rec_store.specs.declared.read_error.RecordReadError.{RecordReadError}
+use Rattle.rec_store.specs.EventOutputs.{Recorded}
 use Rattle.rec_replay.specs.Conversions.{Converts, ConvertsAs, Judges, Replays, conversion_error}
 use Rattle.rec_replay.specs.declared.conversion_error.ReplayConversionError.TheVariants.{TestNotFound, RecordRead, InvalidStressCount, OutOfMemory}
 use Rattle.rec_replay.specs.declared.conversion_error.ReplayConversionError.{ReplayConversionError}
@@ -25,9 +28,6 @@ use Rattle.rec_replay.specs.declared.output_load.LoadOutput.TheVariants.{Skip}
 use Rattle.rec_replay.specs.declared.output_load.LoadOutput.{LoadOutput}
 use Rattle.rec_replay.specs.Loading.{Loads, description_names, event_names, first_refusal}
 use Rattle.rec_replay.specs.Replaying.{core_replayed, kind_unloaded, replayed}
-use Rattle.rec_store.specs.declared.read_error.RecordReadError.TheVariants as reading
-use Rattle.rec_store.specs.declared.read_error.RecordReadError.{RecordReadError}
-use Rattle.rec_store.specs.EventOutputs.{Recorded}
 
 -- ---- an error of a reader
 

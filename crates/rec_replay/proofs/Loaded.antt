@@ -9,13 +9,13 @@ use Rattle.rec_events.specs.OutputNames.{file_name_text}
 use Rattle.rec_format.specs.declared.paths.OutputDict.TheVariants as dict
 use Rattle.rec_format.specs.declared.paths.OutputDict.{OutputDict}
 use Rattle.rec_format.specs.Paths.{dict_of_name}
-use Rattle.rec_replay.specs.Loading.{Loads, LoadsAs, first_refusal, name_refusal, or_done, refusal_of}
 use Rattle.rec_store.specs.declared.read_error.RecordReadError.TheVariants.{RunNotFound, OpenArchive, ParseArchive, FileNotFound, FileTooLarge, NotUtf8, DeserializeMetadata, UnknownOutputType, ExtractFile, OpenRunLog, DiskFault, ReadRunLog, ParseEvent, OutOfMemory}
 use Rattle.rec_store.specs.declared.read_error.RecordReadError.{RecordReadError}
 use Rattle.rec_store.specs.Kept.{bytes_under}
 use Rattle.rec_store.specs.OutputPaths.{output_path}
 use Rattle.rec_store.specs.Parts.{found_within, of_kind, output_part, path_of_output}
 use Rattle.rec_store.specs.Readers.{Denies, IsDiskCaused, Keeps}
+use Rattle.rec_replay.specs.Loading.{Loads, LoadsAs, first_refusal, name_refusal, or_done, refusal_of}
 
 -- ---- refusals
 

@@ -6,9 +6,9 @@ use Rattle.std.proofs.Math.Seq.{take-suc}
 use Rattle.std.specs.List.{flat_map}
 use Rattle.rec_container.specs.Container.{Entry}
 use Rattle.rec_events.specs.declared.output_names.OutputFileName.{OutputFileName}
+use Rattle.rec_store.specs.declared.read_error.RecordReadError.{RecordReadError}
 use Rattle.rec_replay.proofs.Loaded.{loads_named, loads_before, loads_both, loads_after}
 use Rattle.rec_replay.specs.Loading.{Loads}
-use Rattle.rec_store.specs.declared.read_error.RecordReadError.{RecordReadError}
 
 nil_after : {A : Type 0} (xs : List A) → xs ++ [] ≡ xs
 nil_after [] = refl

@@ -31,10 +31,6 @@ use Rattle.rec_events.specs.EventMaps.{event_with, kind_with, output_kind_with, 
 use Rattle.rec_events.specs.LiveEvents.{core_kind, output_kind, kind_summary, event_summary}
 use Rattle.rec_events.specs.LiveStress.{condition_summary, index_summary}
 use Rattle.rec_events.specs.TestLists.{Tests}
-use Rattle.rec_replay.specs.declared.output_load.LoadOutput.TheVariants.{Load}
-use Rattle.rec_replay.specs.LiveKept.{outputs_cut, live_kind_kept, live_event_kept}
-use Rattle.rec_replay.specs.Loading.{output_loaded, description_loaded}
-use Rattle.rec_replay.specs.Replaying.{condition_replayed, index_replayed, core_replayed, output_live, kind_live, event_live, replayed}
 use Rattle.rec_store.proofs.Clashing.{clash_none}
 use Rattle.rec_store.proofs.EventMapLaws.{event_twice}
 use Rattle.rec_store.proofs.Held.{all_prefix, all_back, all_held, all_weaker, IsHeld}
@@ -44,6 +40,10 @@ use Rattle.rec_store.specs.Kept.{bytes_under}
 use Rattle.rec_store.specs.Logging.{Logs}
 use Rattle.rec_store.specs.OutputPaths.{output_path}
 use Rattle.rec_store.specs.Recording.{Recording}
+use Rattle.rec_replay.specs.declared.output_load.LoadOutput.TheVariants.{Load}
+use Rattle.rec_replay.specs.LiveKept.{outputs_cut, live_kind_kept, live_event_kept}
+use Rattle.rec_replay.specs.Loading.{output_loaded, description_loaded}
+use Rattle.rec_replay.specs.Replaying.{condition_replayed, index_replayed, core_replayed, output_live, kind_live, event_live, replayed}
 
 -- ---- outputs
 

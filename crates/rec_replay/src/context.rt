@@ -1,8 +1,8 @@
 //! The tests by which recorded events are replayed.
 ghost use Rattle.std.specs.Prelude.{◌≡◌, ◌||◌, [], IfOk, None, OnErr, OnOk, Some, if◌then◌else◌};
 ghost use Rattle.rec_events.specs.declared.instances.OwnedTestInstanceId.{OwnedTestInstanceId};
-ghost use Rattle.rec_replay.specs.declared.conversion_error.ReplayConversionError.TheVariants.{TestNotFound};
 ghost use Rattle.rec_replay.specs.Conversions.{Converts, test_refusal};
+ghost use Rattle.rec_replay.specs.declared.conversion_error.ReplayConversionError.TheVariants.{TestNotFound};
 ghost use Rattle.rec_replay.specs.Registration.{is_registered, test_eq};
 
 use crate::conversion_error::ReplayConversionError;

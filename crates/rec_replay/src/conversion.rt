@@ -2,13 +2,13 @@
 ghost use Rattle.std.specs.Prelude.{◌≡◌, ◌<◌, [], IfOk, List, None, Some, length, true};
 ghost use Rattle.rec_container.specs.Container.{Entry};
 ghost use Rattle.rec_events.specs.EventMaps.{of_event, of_kind, of_output_kind};
+ghost use Rattle.rec_store.specs.Readers.{Keeps};
 ghost use Rattle.rec_replay.specs.Conversions.{ConversionCause, Converts, ConvertsAs, Judges, Replays, event_refusal, is_failed_attempt, is_finished, is_script_finished, kind_refusal, output_refusal};
 ghost use Rattle.rec_replay.specs.declared.conversion_error.ReplayConversionError.{ReplayConversionError};
 ghost use Rattle.rec_replay.specs.declared.output_load.LoadOutput.TheVariants.{Skip};
 ghost use Rattle.rec_replay.specs.Loading.{description_loaded, description_names, event_names, first_refusal};
 ghost use Rattle.rec_replay.specs.Registration.{is_registered};
 ghost use Rattle.rec_replay.specs.Replaying.{event_unloaded, kind_replayed, kind_unloaded, output_replayed, replayed, left_out};
-ghost use Rattle.rec_store.specs.Readers.{Keeps};
 
 use crate::context::ReplayContext;
 use crate::conversion_error::ReplayConversionError;

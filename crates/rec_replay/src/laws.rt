@@ -6,14 +6,14 @@ ghost use Rattle.rec_events.specs.declared.live_events.TestEvent.{TestEvent};
 ghost use Rattle.rec_events.specs.LiveEvents.{event_summary};
 ghost use Rattle.rec_events.specs.TestLists.{Tests};
 ghost use Rattle.rec_codec.specs.Event.{IsLogged, LiveEvent, RecordedEvent, event_text, recorded_event_of};
+ghost use Rattle.rec_store.specs.EventOutputs.{event_recorded};
+ghost use Rattle.rec_store.specs.Logging.{Logs};
+ghost use Rattle.rec_store.specs.Recording.{Recording};
 ghost use Rattle.rec_replay.specs.Conversions.{ConvertsAs};
 ghost use Rattle.rec_replay.specs.declared.output_load.LoadOutput.TheVariants.{Load};
 ghost use Rattle.rec_replay.specs.LiveKept.{live_event_kept};
 ghost use Rattle.rec_replay.specs.Loading.{event_names, first_refusal};
 ghost use Rattle.rec_replay.specs.Replaying.{replayed};
-ghost use Rattle.rec_store.specs.EventOutputs.{event_recorded};
-ghost use Rattle.rec_store.specs.Logging.{Logs};
-ghost use Rattle.rec_store.specs.Recording.{Recording};
 
 use rec_container::Sink;
 use rec_store::OutputNamer;

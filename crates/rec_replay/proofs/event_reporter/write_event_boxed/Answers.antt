@@ -1,7 +1,7 @@
 use Rattle.std.proofs.Common.{◌≡◌, ◌≤◌, subst, ap}
-use Rattle.rec_replay.specs.Reporting.{Shows, known}
 use Rattle.rec_replay.proofs.event_reporter.write_event_boxed.Given as given
 use Rattle.rec_replay.proofs.event_reporter.write_event_boxed.Goals as goal
+use Rattle.rec_replay.specs.Reporting.{Shows, known}
 
 -- what is behind a `dyn`: its vtable, and its value there
 abbrev Object : given.Over → Type 0
