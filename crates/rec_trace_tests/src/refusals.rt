@@ -321,13 +321,15 @@ fn added(alloc: Global, builder: &mut TraceBuilder, lines: &[Line]) -> Result<u6
     Ok(refused)
 }
 
-// Adds an event, and lets it go here: among other values that takes a proof long, as there are many kinds.
+// Adds an event, and lets it go here and by a call: in place, each of its kinds would be a case of the proof.
 fn add_event(
     alloc: Global,
     builder: &mut TraceBuilder,
     event: TestEventSummary<RecordingSpec>,
 ) -> Result<(), ChromeTraceError> {
-    builder.process_event(alloc, &event)
+    let result = builder.process_event(alloc, &event);
+    drop(event);
+    result
 }
 
 // Three events that are drawn, among six that are refused.
