@@ -3,12 +3,12 @@ use Rattle.std.proofs.Common.{◌≡◌, ℕ, ◌≤◌, List, Option, Result, O
 use Rattle.std.specs.Prelude.{IfErr}
 use Rattle.rec_container.specs.Causes.{Rose}
 use Rattle.rec_container.specs.Disks.{Files}
+use Rattle.rec_store.specs.Entries.{log_name}
 use Rattle.rec_directory.specs.Directories.{HasFailed, IsOpened}
 use Rattle.rec_directory.specs.Files.{IsMissing}
 use Rattle.rec_directory.specs.Paths.{joined, path_of_store}
-use Rattle.rec_store.specs.Entries.{log_name}
-use Rattle.rec_portable_writer.specs.declared.errors.PortableRecordingError.{PortableRecordingError}
 use Rattle.rec_portable_writer.specs.declared.errors.PortableRecordingError.TheVariants.{RunDirNotFound, RequiredFileMissing, ReadFile, WriteFile, DiskFault, OutOfMemory}
+use Rattle.rec_portable_writer.specs.declared.errors.PortableRecordingError.{PortableRecordingError}
 use Rattle.rec_portable_writer.specs.Preparing.{HasOne, LacksOne, Unprepared}
 
 module _ {D : Type 0} (files : D → Option Files) (faults : D → ℕ) (before after : D) (dir : List ℕ) (same : files after ≡ files before) (later : faults before ≤ faults after) where

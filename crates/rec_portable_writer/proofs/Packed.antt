@@ -4,24 +4,24 @@ use Rattle.std.proofs.lemmas.List.{append_assoc}
 use Rattle.std.proofs.lemmas.Slice.Eq.{bytes_eq-Decides}
 use Rattle.std.proofs.Math.Seq.{drop-append_seam}
 use Rattle.std.specs.Str.{bytes_eq}
+use Rattle.serde_json.specs.Written.{compact_text}
 use Rattle.rec_container.specs.Causes.{Rose}
-use Rattle.rec_container.specs.Disks.{AreSame, BothKnown, Files, HasDiskCause, renamed}
-use Rattle.rec_container.specs.declared.disk.DiskError.{DiskError}
-use Rattle.rec_container.specs.declared.disk.DiskError.TheVariants.{Missing, DiskFailed, OutOfMemory}
-use Rattle.rec_directory.specs.Files.{IsWhole, IsWholeOf}
-use Rattle.rec_directory.specs.Paths.{ends_open, joined, path_of_log, path_of_store}
 use Rattle.rec_container.specs.Container.{spell}
+use Rattle.rec_container.specs.declared.disk.DiskError.TheVariants.{Missing, DiskFailed, OutOfMemory}
+use Rattle.rec_container.specs.declared.disk.DiskError.{DiskError}
+use Rattle.rec_container.specs.Disks.{AreSame, BothKnown, Files, HasDiskCause, renamed}
 use Rattle.rec_format.specs.declared.manifest.PortableManifest.{PortableManifest}
 use Rattle.rec_format.specs.declared.run.RecordedRunInfo.{RecordedRunInfo}
 use Rattle.rec_format.specs.RunForms.{manifest_value}
 use Rattle.rec_format.specs.Runs.{manifest_of}
 use Rattle.rec_store.specs.Entries.{bundle_entries}
-use Rattle.serde_json.specs.Written.{compact_text}
+use Rattle.rec_directory.specs.Files.{IsWhole, IsWholeOf}
+use Rattle.rec_directory.specs.Paths.{ends_open, joined, path_of_log, path_of_store}
+use Rattle.rec_portable_writer.proofs.Replacements.{put_there}
 use Rattle.rec_portable_writer.specs.declared.packing.PortableRecordingResult.{PortableRecordingResult}
 use Rattle.rec_portable_writer.specs.Names.{temporary_path}
 use Rattle.rec_portable_writer.specs.Packing.{Bundles, IsBundle, Packed, PacksIn, Unpacked, bundle_of, write_error}
 use Rattle.rec_portable_writer.specs.Replacing.{IsBegun, Replaces, ReplacesFile}
-use Rattle.rec_portable_writer.proofs.Replacements.{put_there}
 
 -- ---- paths that differ
 

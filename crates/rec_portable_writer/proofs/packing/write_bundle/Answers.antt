@@ -1,9 +1,9 @@
 use Rattle.std.proofs.Common.{rules, ◌≡◌, ◌∙◌, Err, ap, sym, subst}
 use Rattle.rec_container.specs.Disks.{BothKnown}
-use Rattle.rec_portable_writer.specs.declared.errors.PortableRecordingError.{PortableRecordingError}
-use Rattle.rec_portable_writer.specs.Packing.{PacksIn, write_error}
 use Rattle.rec_portable_writer.proofs.Packed.{packs, refused}
 use Rattle.rec_portable_writer.proofs.packing.write_bundle.Goals as goal
+use Rattle.rec_portable_writer.specs.declared.errors.PortableRecordingError.{PortableRecordingError}
+use Rattle.rec_portable_writer.specs.Packing.{PacksIn, write_error}
 
 pub returns-in-Ok-clause-packs : goal.returns-in-Ok-clause-packs
 returns-in-Ok-clause-packs g c =

@@ -2,9 +2,9 @@ use Rattle.std.proofs.Common.{List, Result, ℕ}
 use Rattle.rec_container.specs.Container.{Entry}
 use Rattle.rec_format.specs.declared.scope.RecordedBuildScope.{RecordedBuildScope}
 use Rattle.rec_format.specs.ScopeForms.{recorded_scope_form}
+use Rattle.rec_store.specs.declared.read_error.RecordReadError.{RecordReadError}
 use Rattle.rec_store.specs.Entries.{build_scope_path}
 use Rattle.rec_store.specs.Parts.{metadata_part}
-use Rattle.rec_store.specs.declared.read_error.RecordReadError.{RecordReadError}
 use Rattle.rec_directory.proofs.KeptStore.{answers_kept}
 use Rattle.rec_directory.proofs.reader.RecordReader.read_build_scope.Goals as goal
 

@@ -1,8 +1,8 @@
 use Rattle.std.proofs.Common.{Global, List, Result, String, string_bytes, ℕ}
 use Rattle.rec_container.specs.Container.{Entry}
+use Rattle.rec_store.specs.declared.read_error.RecordReadError.{RecordReadError}
 use Rattle.rec_store.specs.Entries.{cargo_metadata_path}
 use Rattle.rec_store.specs.Parts.{utf8_part}
-use Rattle.rec_store.specs.declared.read_error.RecordReadError.{RecordReadError}
 use Rattle.rec_directory.proofs.KeptStore.{answers_kept}
 use Rattle.rec_directory.proofs.reader.RecordReader.read_cargo_metadata.Goals as goal
 

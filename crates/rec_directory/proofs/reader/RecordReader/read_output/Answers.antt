@@ -1,7 +1,7 @@
 use Rattle.std.proofs.Common.{Global, List, Result, Vec, ℕ}
 use Rattle.rec_container.specs.Container.{Entry}
-use Rattle.rec_store.specs.Parts.{output_part}
 use Rattle.rec_store.specs.declared.read_error.RecordReadError.{RecordReadError}
+use Rattle.rec_store.specs.Parts.{output_part}
 use Rattle.rec_directory.proofs.KeptStore.{answers_kept}
 use Rattle.rec_directory.proofs.reader.RecordReader.read_output.Goals as goal
 

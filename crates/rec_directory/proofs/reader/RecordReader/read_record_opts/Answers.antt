@@ -2,9 +2,9 @@ use Rattle.std.proofs.Common.{List, Result, ℕ}
 use Rattle.rec_container.specs.Container.{Entry}
 use Rattle.rec_events.specs.declared.recording.RecordOpts.{RecordOpts}
 use Rattle.rec_forms.specs.Recording.{record_opts_form}
+use Rattle.rec_store.specs.declared.read_error.RecordReadError.{RecordReadError}
 use Rattle.rec_store.specs.Entries.{record_opts_path}
 use Rattle.rec_store.specs.Parts.{metadata_part}
-use Rattle.rec_store.specs.declared.read_error.RecordReadError.{RecordReadError}
 use Rattle.rec_directory.proofs.KeptStore.{answers_kept}
 use Rattle.rec_directory.proofs.reader.RecordReader.read_record_opts.Goals as goal
 

@@ -1,8 +1,8 @@
 use Rattle.std.proofs.Common.{List, Option, Result, ℕ}
 use Rattle.rec_container.specs.Container.{Entry}
 use Rattle.rec_format.specs.declared.rerun.RerunInfo.{RerunInfo}
-use Rattle.rec_store.specs.Parts.{rerun_info_part}
 use Rattle.rec_store.specs.declared.read_error.RecordReadError.{RecordReadError}
+use Rattle.rec_store.specs.Parts.{rerun_info_part}
 use Rattle.rec_directory.proofs.KeptStore.{answers_kept}
 use Rattle.rec_directory.proofs.reader.RecordReader.read_rerun_info.Goals as goal
 

@@ -2,9 +2,9 @@ use Rattle.std.proofs.Common.{List, Result, ℕ}
 use Rattle.rec_container.specs.Container.{Entry}
 use Rattle.rec_events.specs.declared.recording.TestListSummary.{TestListSummary}
 use Rattle.rec_forms.specs.Recording.{test_list_form}
+use Rattle.rec_store.specs.declared.read_error.RecordReadError.{RecordReadError}
 use Rattle.rec_store.specs.Entries.{test_list_path}
 use Rattle.rec_store.specs.Parts.{metadata_part}
-use Rattle.rec_store.specs.declared.read_error.RecordReadError.{RecordReadError}
 use Rattle.rec_directory.proofs.KeptStore.{answers_kept}
 use Rattle.rec_directory.proofs.reader.RecordReader.read_test_list.Goals as goal
 

@@ -1,9 +1,9 @@
 use Rattle.std.proofs.Common.{refl}
 use Rattle.std.proofs.lemmas.Result.{err_from_is_err_and}
-use Rattle.rec_directory.specs.Paths.{path_of_store}
 use Rattle.rec_directory.proofs.SinkLaws.{container_extracts, extract_judges, unparsed_extracts}
-use Rattle.rec_directory.proofs.StoreLaws.{unparsed_judges}
 use Rattle.rec_directory.proofs.store_parts.StoreBytes.extract.Goals as goal
+use Rattle.rec_directory.proofs.StoreLaws.{unparsed_judges}
+use Rattle.rec_directory.specs.Paths.{path_of_store}
 
 pub returns-in_err-entries-clause-answer : goal.returns-in_err-entries-clause-answer
 returns-in_err-entries-clause-answer g c =

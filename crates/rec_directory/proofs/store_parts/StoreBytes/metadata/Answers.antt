@@ -1,11 +1,11 @@
 use Rattle.std.proofs.Common.{List, Result}
 use Rattle.std.proofs.lemmas.Result.{err_from_is_err_and}
 use Rattle.rec_container.specs.Container.{Entry}
-use Rattle.rec_store.specs.Parts.{metadata_part}
 use Rattle.rec_store.specs.declared.read_error.RecordReadError.{RecordReadError}
-use Rattle.rec_directory.specs.Paths.{path_of_store}
-use Rattle.rec_directory.proofs.StoreLaws.{container_answers, part_judges, unparsed_answers, unparsed_judges}
+use Rattle.rec_store.specs.Parts.{metadata_part}
 use Rattle.rec_directory.proofs.store_parts.StoreBytes.metadata.Goals as goal
+use Rattle.rec_directory.proofs.StoreLaws.{container_answers, part_judges, unparsed_answers, unparsed_judges}
+use Rattle.rec_directory.specs.Paths.{path_of_store}
 
 pub returns-in_err-entries-clause-answer : goal.returns-in_err-entries-clause-answer
 returns-in_err-entries-clause-answer g c =
