@@ -1,22 +1,20 @@
 //! Bundles that are made of a run's directory.
 
 use crate::helpers::{
-    Output, bundle, bundle_name, disk_of, holds, log_path, run_info, store_path, write,
+    Output, bundle, bundle_name, disk_of, holds, log_path, name, store_path, write,
 };
 use rec_container::{GrowingSink, MemoryDisk, SliceSource};
 use rec_portable::PortableRecording;
-use rec_portable_writer::PortableRecordingWriter;
 use std::alloc::Global;
 use std::test::Fail;
 
 #[test]
 fn a_bundle_is_written(rt: HostRuntime) -> Result<(), Fail> {
     let alloc = rt.alloc();
-    let info = run_info(alloc)?;
     let mut disk = disk_of(alloc, 0)?;
     let want = bundle(alloc)?;
     let size = want.len();
-    let answer = write(alloc, &info, &mut disk, Output::Dir("out"))?;
+    let answer = write(alloc, &mut disk, Output::Dir("out"))?;
     let path = "out/nextest-run-550e8400-e29b-41d4-a716-446655440000.zip";
     assert!(rt; answer == format!(in alloc; "{path} has {size} bytes")?);
     assert!(rt; holds(&disk, path, Some(&want)));
@@ -35,12 +33,8 @@ fn a_bundle_is_written(rt: HostRuntime) -> Result<(), Fail> {
 #[test]
 fn a_bundle_has_a_name(rt: HostRuntime) -> Result<(), Fail> {
     let alloc = rt.alloc();
-    let info = run_info(alloc)?;
     let mut disk = disk_of(alloc, 0)?;
-    let writer = PortableRecordingWriter::new(alloc, &info, &mut disk, "runs/")?;
-    let name = writer.default_filename(alloc)?;
-    drop(writer);
-    assert!(rt; name.as_str() == bundle_name());
+    assert!(rt; name(alloc, &mut disk)?.as_str() == bundle_name());
     Ok(())
 }
 
@@ -48,8 +42,8 @@ fn a_bundle_has_a_name(rt: HostRuntime) -> Result<(), Fail> {
 fn extracted(alloc: Global, disk: &MemoryDisk, path: &str) -> Result<Vec<u8>, Fail> {
     let bytes = disk.get(path).unwrap_or(b"");
     let mut source = SliceSource::new(bytes);
-    let name = String::from_str(alloc, path)?;
-    let recording = PortableRecording::open(alloc, name, &mut source, 10_000, 10_000)?;
+    let path = String::from_str(alloc, path)?;
+    let recording = PortableRecording::open(alloc, path, &mut source, 10_000, 10_000)?;
     let mut out = GrowingSink::new(alloc);
     let result = recording.extract_outer_file_to_path(alloc, "store.zip", &mut out, true);
     drop(recording);
@@ -60,9 +54,8 @@ fn extracted(alloc: Global, disk: &MemoryDisk, path: &str) -> Result<Vec<u8>, Fa
 #[test]
 fn a_bundle_is_opened(rt: HostRuntime) -> Result<(), Fail> {
     let alloc = rt.alloc();
-    let info = run_info(alloc)?;
     let mut disk = disk_of(alloc, 0)?;
-    write(alloc, &info, &mut disk, Output::Path("b"))?;
+    write(alloc, &mut disk, Output::Path("b"))?;
     let store = extracted(alloc, &disk, "b")?;
     assert!(rt; store.as_slice() == b"nxtcont1\0".as_slice());
     Ok(())

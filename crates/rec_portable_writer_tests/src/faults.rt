@@ -1,30 +1,28 @@
 //! What is answered, and what is left, where a file is missing or a call of the disk fails.
 
-use crate::helpers::{Output, bundle, disk_of, holds, log_path, run_info, store_path, write};
+use crate::helpers::{Output, bundle, disk_of, holds, log_path, store_path, write};
 use rec_container::MemoryDisk;
-use rec_format::RecordedRunInfo;
 use std::alloc::Global;
 use std::test::Fail;
 
 /// What a writer answers where only these files are there.
-fn answer_of(alloc: Global, info: &RecordedRunInfo, files: &[&str]) -> Result<String, Fail> {
+fn answer_of(alloc: Global, files: &[&str]) -> Result<String, Fail> {
     let mut disk = MemoryDisk::new(alloc, Vec::new(alloc));
     for path in files {
         disk.put(path, b"")?;
     }
-    write(alloc, info, &mut disk, Output::Path("b"))
+    write(alloc, &mut disk, Output::Path("b"))
 }
 
 #[test]
 fn what_is_missing_is_said(rt: HostRuntime) -> Result<(), Fail> {
     let alloc = rt.alloc();
-    let info = run_info(alloc)?;
     let run = "the run at runs/550e8400-e29b-41d4-a716-446655440000";
-    let none = answer_of(alloc, &info, &["runs/x"])?;
+    let none = answer_of(alloc, &["runs/x"])?;
     assert!(rt; none.as_str() == "there is no run at runs/550e8400-e29b-41d4-a716-446655440000");
-    let log = answer_of(alloc, &info, &[log_path()])?;
+    let log = answer_of(alloc, &[log_path()])?;
     assert!(rt; log == format!(in alloc; "{run} has no store.zip")?);
-    let store = answer_of(alloc, &info, &[store_path()])?;
+    let store = answer_of(alloc, &[store_path()])?;
     assert!(rt; store == format!(in alloc; "{run} has no run.log.zst")?);
     Ok(())
 }
@@ -96,10 +94,10 @@ fn rows() -> [Row; 10] {
 }
 
 /// Whether a row holds, with the run's files and the file at the bundle's path as they were.
-fn holds_row(alloc: Global, info: &RecordedRunInfo, whole: &[u8], row: &Row) -> Result<bool, Fail> {
+fn holds_row(alloc: Global, whole: &[u8], row: &Row) -> Result<bool, Fail> {
     let mut disk = disk_of(alloc, row.number)?;
     disk.put("b", b"old")?;
-    let answer = write(alloc, info, &mut disk, Output::Path("b"))?;
+    let answer = write(alloc, &mut disk, Output::Path("b"))?;
     let temporary = row
         .temporary
         .map(|parts| if parts == 0 { &whole[..0] } else { whole });
@@ -115,11 +113,10 @@ fn holds_row(alloc: Global, info: &RecordedRunInfo, whole: &[u8], row: &Row) -> 
 #[test]
 fn each_call_may_fail(rt: HostRuntime) -> Result<(), Fail> {
     let alloc = rt.alloc();
-    let info = run_info(alloc)?;
     let whole = bundle(alloc)?;
     for row in rows() {
         let number = row.number;
-        assert!(rt; holds_row(alloc, &info, &whole, &row)?, "{number}");
+        assert!(rt; holds_row(alloc, &whole, &row)?, "{number}");
     }
     Ok(())
 }

@@ -13,7 +13,7 @@ pub(crate) fn manifest_text() -> &'static str {
 }
 
 /// The run of this manifest.
-pub(crate) fn run_info(alloc: Global) -> Result<RecordedRunInfo, Fail> {
+fn run_info(alloc: Global) -> Result<RecordedRunInfo, Fail> {
     let manifest: PortableManifest = read_text(alloc, manifest_text().as_bytes())?;
     let info = manifest.run_info(alloc);
     drop(manifest);
@@ -63,9 +63,19 @@ pub(crate) fn bundle(alloc: Global) -> Result<Vec<u8>, Fail> {
     Ok(sink.into_bytes())
 }
 
-/// Writes the run's bundle to `out`, in the directory of this name or under this path, and says how long it
-/// is or why it isn't written.
+/// Writes the run's bundle, and says how long it is or why it isn't written.
 pub(crate) fn write(
+    alloc: Global,
+    disk: &mut MemoryDisk,
+    output: Output<'_>,
+) -> Result<String, Fail> {
+    let info = run_info(alloc)?;
+    let text = write_of(alloc, &info, disk, output);
+    drop(info);
+    text
+}
+
+fn write_of(
     alloc: Global,
     info: &RecordedRunInfo,
     disk: &mut MemoryDisk,
@@ -79,6 +89,21 @@ pub(crate) fn write(
         }
         Err(error) => Ok(refusal(alloc, error)?),
     }
+}
+
+/// The default name of the run's bundle.
+pub(crate) fn name(alloc: Global, disk: &mut MemoryDisk) -> Result<String, Fail> {
+    let info = run_info(alloc)?;
+    let name = name_of(alloc, &info, disk);
+    drop(info);
+    name
+}
+
+fn name_of(alloc: Global, info: &RecordedRunInfo, disk: &mut MemoryDisk) -> Result<String, Fail> {
+    let writer = PortableRecordingWriter::new(alloc, info, disk, "runs/")?;
+    let name = writer.default_filename(alloc);
+    drop(writer);
+    Ok(name?)
 }
 
 /// Where a bundle is written.
