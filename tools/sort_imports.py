@@ -1,7 +1,7 @@
 #!/usr/bin/env python3
 """Puts the imports of proof files and the `ghost use` lines of source files into one order.
 
-    tools/sort_imports.py            prints each file whose imports are not in order
+    tools/sort_imports.py            prints each file whose imports are not in order, and ends with status 1 if there is one
     tools/sort_imports.py --write    puts them in order
 
 Imports that stand one below the other are a block. In a block those of the standard library come first,
@@ -43,7 +43,7 @@ def in_order(text, crates):
 
 
 def main():
-    crates, write = layers(), sys.argv[1:] == ["--write"]
+    crates, write, found = layers(), sys.argv[1:] == ["--write"], False
     for path in sorted((TOP / "crates").glob("*/*/**/*")):
         if path.suffix not in (".rt", ".antt") or path.parts[len(TOP.parts) + 2] == "out":
             continue
@@ -51,6 +51,8 @@ def main():
         sorted_text = in_order(text, crates)
         if sorted_text != text:
             path.write_text(sorted_text) if write else print(f"{path.relative_to(TOP)}: imports are not in order")
+            found = not write
+    return int(found)
 
 
-main()
+sys.exit(main())
