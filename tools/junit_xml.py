@@ -1,11 +1,10 @@
 #!/usr/bin/env python3
-"""Writes the reports of a bundle as JUnit XML, for tools of continuous integration.
+"""Writes reports of runs as JUnit XML, for tools of continuous integration.
 
-    rezovamy report run.bundle > reports.json
     tools/junit_xml.py reports.json target/junit
     tools/junit_xml.py --self-test
 
-Each line of the input is the JSON of one report; `-` stands for standard input. The first report becomes
+Each line of the input is the JSON of one report, as `report_to_value` of `rec_junit` makes it; `-` stands for standard input. The first report becomes
 `junit.xml` in the folder, the second `junit-2.xml`, and so on; the paths are printed. The elements and
 attributes are those that the crate quick-junit writes. Characters that XML can't hold are left out. A
 line that is no report ends it with status 1, and nothing is written.
