@@ -1,0 +1,760 @@
+#!/usr/bin/env python3
+"""Makes a session of the JSON lines that a real test run prints.
+
+    cargo test --no-fail-fast -- -Z unstable-options --format json --report-time 2>&1 | tools/session_from_libtest.py > run.session
+    cargo nextest run --message-format libtest-json-plus | tools/session_from_libtest.py > run.session
+    tools/session_from_libtest.py --no-clock < examples/sums.libtest.json > sums.session
+    tools/session_from_libtest.py --self-test
+
+Each event has the instant at which its line came, and a test starts as much before its end as its `exec_time` says where its
+start came later than that. With `--no-clock` a test ends its `exec_time` after its start, and starts where the latest end
+so far is, so that the same lines give the same session. Lines that are no event go to standard error. The session is printed
+once the input has ended, since its first line lists the tests.
+
+Status 0: a session was printed. 1: no line was an event of a run. 2: the options are wrong. Nothing of this is proved;
+`--self-test` tries it on streams of each kind.
+"""
+
+import argparse
+import collections
+import hashlib
+import heapq
+import itertools
+import json
+import pathlib
+import re
+import sys
+import time
+import uuid
+
+from make_session import event, head, instant, span, stats, text
+
+SECOND = 10**9
+MOST_SECONDS = 10**6
+MOST_TESTS = 2**32
+WARNED_AFTER = 60 * SECOND
+EXAMPLE = pathlib.Path(__file__).resolve().parent.parent / "examples" / "sums.libtest.json"
+
+NEXTEST_NAME = re.compile(r"([\w-]+::[\w.-]+)\$(.+)", re.S)
+RETRY = re.compile(r"(.+)#([2-9]|[1-9]\d{1,2})", re.S | re.A)
+RUNNING = re.compile(r"\s*Running\b.*[/\\]([^/\\\s]+?)-([0-9a-f]{16})(?:\.exe)?(?:[)`\s].*)?")
+DOC_TESTS = re.compile(r"\s*Doc-tests (\S+)\s*")
+COLOR = re.compile(r"\x1b\[[0-9;]*m")
+NUMBER = r"(?:0|[1-9]\d{0,8})"
+TAG = rf"(?:{NUMBER}|\d*[A-Za-z-][0-9A-Za-z-]*)"
+VERSION = re.compile(rf"{NUMBER}\.{NUMBER}\.{NUMBER}(?:-{TAG}(?:\.{TAG})*)?(?:\+[0-9A-Za-z-]+(?:\.[0-9A-Za-z-]+)*)?", re.A)
+
+# The results of attempts, by the names of the counts of tests that end so.
+RESULTS = {
+    "passed": "pass",
+    "failed": {"fail": {"failure": {"exit-code": 101}, "leaked": False}},
+    "failed-timed-out": {"timeout": "fail"},
+}
+
+# A place in the order of events: an instant in nanoseconds, and the line that said so.
+Mark = collections.namedtuple("Mark", "time line")
+
+
+class Attempt:
+    """A try of a test, which may not have ended."""
+
+    def __init__(self, start):
+        self.start = start
+        self.slow = self.end = self.result = self.output = self.message = None
+        self.taken = 0
+
+
+class TestRun:
+    """A test that was started or skipped, with its attempts; it can't have begun before the floor."""
+
+    def __init__(self, binary, name, floor):
+        self.test_id = {"binary-id": binary, "test-name": name}
+        self.floor = floor
+        self.attempts = []
+        self.skipped = None
+
+    def is_open(self):
+        return self.skipped is None and self.attempts[-1].end is None
+
+    def has_failed(self):
+        return self.skipped is None and self.attempts[-1].result not in (None, "passed")
+
+    def last_instant(self):
+        return (self.skipped or self.attempts[-1].end).time
+
+
+class Suite:
+    """One run of a test binary; its name may come later than its start."""
+
+    def __init__(self, number, count):
+        self.number = number
+        self.count = count
+        self.binary = self.prefix = None
+        self.runs = []
+        self.ended = False
+
+    def lost(self):
+        return [run for run in self.runs if run.is_open()]
+
+    def unseen(self):
+        return max(0, self.count - len(self.runs))
+
+
+class ArrivalClock:
+    """Tells the instant at which the last line came."""
+
+    def __init__(self, source=None):
+        begin, base = time.monotonic_ns(), time.time_ns()
+        self.source = source or (lambda: base + time.monotonic_ns() - begin)
+        self.now = 0
+
+    def tick(self):
+        self.now = self.source()
+
+    def begin(self, taken):
+        return self.now - (taken or 0)
+
+    def ended(self, _start, _taken):
+        return self.now
+
+    def warned(self, _start, _taken):
+        return self.now
+
+
+class SummedClock:
+    """Tells instants that follow from how long the tests took."""
+
+    def __init__(self, start):
+        self.now = start
+
+    def tick(self):
+        pass
+
+    def begin(self, _taken):
+        return self.now
+
+    def ended(self, start, taken):
+        self.now = max(self.now, start + (taken or 0))
+        return start + (taken or 0)
+
+    def warned(self, start, taken):
+        return start + (WARNED_AFTER if taken is None else taken)
+
+
+def clean(name):
+    """The text without halves of surrogate pairs, which no session can hold."""
+    return name.encode("utf-8", "replace").decode()
+
+
+def nanoseconds(value):
+    """The nanoseconds of a number of seconds; None where it is no time."""
+    if type(value) not in (int, float) or not 0 <= value <= MOST_SECONDS:
+        return None
+    return round(value * SECOND)
+
+
+def nextest_names(info):
+    """How a suite's tests are named in the stream, and the id of its binary; None where nothing says so."""
+    parts = [info.get(key) for key in ("crate", "test_binary", "kind")] if isinstance(info, dict) else [None]
+    if not all(isinstance(part, str) for part in parts):
+        return None, None
+    crate, binary, kind = (clean(part) for part in parts)
+    ids = {"lib": crate, "proc-macro": crate, "test": f"{crate}::{binary}"}
+    return f"{crate}::{binary}", ids.get(kind, f"{crate}::{kind}/{binary}")
+
+
+class Reader:
+    """Reads the lines of a stream into suites and runs of tests."""
+
+    def __init__(self, clock, say):
+        self.clock, self.say = clock, say
+        self.suites, self.runs = [], []
+        self.latest, self.prefixes, self.binaries, self.used = {}, {}, {}, set()
+        self.current = self.announced = None
+        self.line = self.unknown = 0
+        self.nextest = False
+        self.first = None
+
+    def mark(self, instant_of_it):
+        return Mark(instant_of_it, self.line)
+
+    def note(self, what):
+        self.say(f"session_from_libtest: line {self.line}: {what}")
+
+    def read(self, line):
+        """Takes the next line, as bytes."""
+        self.line += 1
+        self.clock.tick()
+        try:
+            words = line.decode()
+        except UnicodeDecodeError:
+            words = line.decode("utf-8", "replace")
+            self.note("isn't UTF-8; read with replacement characters")
+        if words.strip() and not self.take(words):
+            self.unknown += 1
+            self.say(words.rstrip("\r\n"))
+
+    def take(self, words):
+        """Whether the line says something of the run."""
+        if not words.lstrip().startswith("{"):
+            return self.take_binary(COLOR.sub("", words))
+        try:
+            value = json.loads(words)
+        except (ValueError, RecursionError):
+            return False
+        known = False
+        if value.get("type") == "suite":
+            known = self.take_suite(value)
+        elif value.get("type") in ("test", "bench") and isinstance(value.get("name"), str):
+            known = self.take_test(value)
+        if known and self.first is None:
+            self.first = self.clock.now
+        return known
+
+    def take_binary(self, words):
+        """Reads which binary comes next, as cargo says it. Two binaries may have one name, and differ in its hash."""
+        running, documentation = RUNNING.fullmatch(words.rstrip()), DOC_TESTS.fullmatch(words)
+        if not running and not documentation:
+            return False
+        key = running.groups() if running else documentation.groups()
+        name = clean(running[1] if running else f"{documentation[1]}::doc")
+        taken = self.binaries.values()
+        names = itertools.chain([name], (f"{name}-{number}" for number in itertools.count(2)))
+        self.announced = self.binaries.get(key) or next(one for one in names if one not in taken)
+        self.binaries[key] = self.announced
+        self.current = None
+        return True
+
+    def take_suite(self, value):
+        prefix, binary = nextest_names(value.get("nextest"))
+        if value.get("event") == "started":
+            suite = self.new_suite(value.get("test_count"))
+            if prefix or self.announced:
+                self.name(suite, prefix, binary or self.announced)
+            return True
+        if value.get("event") not in ("ok", "failed"):
+            return False
+        suite = self.prefixes.get(prefix, self.current)
+        if suite is None or suite.ended:
+            self.note("a suite ends that isn't running")
+        else:
+            self.resolve(suite)
+            self.time_out(suite)
+            suite.ended = True
+        return True
+
+    def new_suite(self, count=0):
+        sound = type(count) is int and 0 <= count < MOST_TESTS
+        self.current = Suite(len(self.suites) + 1, count if sound else 0)
+        self.suites.append(self.current)
+        return self.current
+
+    def name(self, suite, prefix, binary):
+        """Gives a suite its binary, which may have run before."""
+        if binary in self.used:
+            self.note(f"{binary} runs again; its tests are started anew")
+        self.used.add(binary)
+        suite.binary, suite.prefix = binary, prefix
+        self.announced = None
+        if prefix:
+            self.prefixes[prefix] = suite
+            self.nextest = True
+
+    def resolve(self, suite):
+        """Gives a suite that has no name the one that cargo said, or its number."""
+        if suite.binary is None:
+            self.name(suite, None, self.announced or f"binary-{suite.number}")
+
+    def suite_of(self, prefix):
+        """The suite of a test, by what stands before its name, if anything."""
+        suite = self.current
+        if prefix is None:
+            suite = suite or self.new_suite()
+            self.resolve(suite)
+        elif suite is None or suite.prefix != prefix:
+            unnamed = suite is not None and suite.binary is None
+            suite = suite if unnamed else self.prefixes.get(prefix) or self.new_suite()
+            if suite.binary is None:
+                self.name(suite, prefix, prefix)
+        return suite
+
+    def place(self, name):
+        """The suite of a test, its name there, and which attempt it is."""
+        match = NEXTEST_NAME.fullmatch(name)
+        suite = self.suite_of(match[1] if match else None)
+        name = match[2] if match else name
+        retry = RETRY.fullmatch(name) if match else None
+        known = self.latest.get((suite.binary, name))
+        if retry is None or known is not None and known.is_open():
+            return suite, name, 1
+        return suite, retry[1], int(retry[2])
+
+    def take_test(self, value):
+        what = "ok" if value["type"] == "bench" else value.get("event")
+        if what not in ("started", "ok", "failed", "ignored", "timeout"):
+            return False
+        suite, name, number = self.place(clean(value["name"]))
+        run = self.latest.get((suite.binary, name))
+        taken = nanoseconds(value.get("exec_time"))
+        if taken is None and "exec_time" in value:
+            self.note("an exec_time that is no time")
+        if what == "started":
+            self.start(suite, name, number, run)
+        elif what == "ignored":
+            self.skip(run if run and run.is_open() else self.new_run(suite, name))
+        else:
+            run = self.started(suite, name, number, run, taken)
+            self.pull(run, self.clock.begin(taken))
+            self.settle(run, number, what, taken, value)
+        return True
+
+    def new_run(self, suite, name):
+        """A run of the test, which begins after its last one."""
+        last = self.latest.get((suite.binary, name))
+        run = TestRun(suite.binary, name, last.last_instant() if last else None)
+        self.latest[suite.binary, name] = run
+        self.runs.append(run)
+        suite.runs.append(run)
+        return run
+
+    def begin_run(self, suite, name, begin):
+        run = self.new_run(suite, name)
+        run.attempts.append(Attempt(self.mark(begin if run.floor is None else max(begin, run.floor))))
+        return run
+
+    def start(self, suite, name, number, run):
+        """Starts an attempt; one of a test that runs is no start, unless it is the next one."""
+        begin = self.clock.now
+        again = run is not None and number > 1 and (run.is_open() or run.has_failed())
+        if run is not None and run.is_open() and number <= len(run.attempts):
+            self.note(f"{suite.binary} {name} is started while it runs")
+            return
+        run = run if again and number > len(run.attempts) else self.begin_run(suite, name, begin)
+        while len(run.attempts) < number:
+            self.retry(run, begin)
+
+    def started(self, suite, name, number, run, taken):
+        """The run of a test that ends, where need be with a start that no line said."""
+        if run is not None and (run.is_open() or run.has_failed() and number > len(run.attempts)):
+            return run
+        self.note(f"{suite.binary} {name} has no start; one is made")
+        return self.begin_run(suite, name, self.clock.begin(taken))
+
+    def skip(self, run):
+        run.skipped = self.mark(self.clock.now)
+
+    def pull(self, run, begin):
+        """Puts the start of the open attempt back, but not before what ended earlier."""
+        attempt = run.attempts[-1]
+        floor = run.attempts[-2].end.time if len(run.attempts) > 1 else run.floor
+        begin = begin if floor is None else max(begin, floor)
+        if attempt.end is None and begin < attempt.start.time:
+            attempt.start = self.mark(begin)
+
+    def retry(self, run, begin):
+        """Opens the next attempt; what no line said of the one before is that it failed."""
+        last = run.attempts[-1]
+        if last.end is None:
+            self.close(last, max(begin, last.start.time), "failed", None)
+        run.attempts.append(Attempt(self.mark(max(begin, last.end.time))))
+
+    def settle(self, run, number, what, taken, value):
+        """Ends the attempt of this number, or says that it is slow."""
+        begin = self.clock.begin(taken)
+        while len(run.attempts) < number:
+            self.retry(run, begin)
+        attempt = run.attempts[-1]
+        if what == "timeout":
+            attempt.slow = self.mark(self.clock.warned(attempt.start.time, taken))
+            return
+        if isinstance(value.get("stdout"), str):
+            attempt.output = clean(value["stdout"]).encode().hex()
+        if isinstance(value.get("message"), str):
+            attempt.message = clean(value["message"])
+        late = value.get("reason") == "time limit exceeded"
+        result = "passed" if what == "ok" else "failed-timed-out" if late else "failed"
+        self.close(attempt, self.clock.ended(attempt.start.time, taken), result, taken)
+
+    def close(self, attempt, end, result, taken):
+        attempt.end, attempt.result = self.mark(end), result
+        attempt.taken = end - attempt.start.time if taken is None else taken
+        if attempt.slow:
+            attempt.slow = min(attempt.slow, attempt.end)
+
+    def time_out(self, suite):
+        """Ends the tests that were slow and of which nothing more came."""
+        for run in suite.lost():
+            attempt = run.attempts[-1]
+            if attempt.slow:
+                taken = attempt.slow.time - attempt.start.time
+                self.close(attempt, self.clock.ended(attempt.start.time, taken), "failed-timed-out", None)
+
+    def finish(self):
+        """Takes the end of the input, and says what is missing."""
+        self.line += 1
+        self.clock.tick()
+        for suite in self.suites:
+            self.resolve(suite)
+            self.time_out(suite)
+            lost, unseen = suite.lost(), suite.unseen()
+            missing = [
+                f"{len(lost)} tests never ended, the first is {lost[0].test_id['test-name']}" if lost else "",
+                f"{unseen} of {suite.count} tests never started" if unseen else "",
+                "" if suite.ended else "the suite never ended",
+            ]
+            if any(missing):
+                self.say(f"session_from_libtest: {suite.binary}: {'; '.join(filter(None, missing))}")
+        if self.unknown:
+            self.say(f"session_from_libtest: {self.unknown} lines are no event of a run")
+
+
+def moment(nanos):
+    return instant(*divmod(nanos, SECOND))
+
+
+def length(nanos):
+    return {**span(nanos // SECOND), "nanos": nanos % SECOND}
+
+
+def steps(run):
+    """What happened to a test, each with its mark."""
+    if run.skipped:
+        yield run.skipped, "skipped", run, 0
+        return
+    for place, attempt in enumerate(run.attempts):
+        yield attempt.start, "started", run, place
+        if attempt.slow:
+            yield attempt.slow, "slow", run, place
+        if attempt.end:
+            yield attempt.end, "ended", run, place
+
+
+def status_of(run, place):
+    """An attempt that ended, as a session has it."""
+    attempt = run.attempts[place]
+    outputs = {"split": {}} if attempt.output is None else {"combined": attempt.output}
+    delay = attempt.start.time - run.attempts[place - 1].end.time if place else 0
+    summary = {"short-message": attempt.message, "description": attempt.message}
+    return {
+        "retry-data": retry_data(run, place), "output": {"output": {"output": outputs}},
+        "result": RESULTS[attempt.result], "start-time": moment(attempt.start.time),
+        "time-taken": length(attempt.taken), "is-slow": attempt.slow is not None,
+        "delay-before-start": length(delay), **({"error-summary": summary} if attempt.message else {}),
+    }
+
+
+def retry_data(run, place):
+    return {"attempt": place + 1, "total-attempts": len(run.attempts)}
+
+
+class Teller:
+    """Makes the events of a session, in the order of their instants."""
+
+    def __init__(self, reader, begin):
+        self.begin = begin
+        self.to_run = [run for run in reader.runs if run.skipped is None]
+        self.unseen = sum(suite.unseen() for suite in reader.suites)
+        self.counts = stats(len(self.to_run) + self.unseen)
+        self.slots, self.free = {}, []
+
+    def at(self, kind, nanos, **fields):
+        return event(kind, moment(nanos), elapsed=length(nanos - self.begin), **fields)
+
+    def of(self, kind, run, nanos, **fields):
+        return self.at(kind, nanos, test_instance=run.test_id, **fields)
+
+    def tell(self, mark, step, run, place):
+        return getattr(self, step)(run, place, mark.time)
+
+    def started(self, run, place, nanos):
+        if run not in self.slots:
+            self.slots[run] = heapq.heappop(self.free) if self.free else len(self.slots)
+        more = {"retry_data": retry_data(run, place)} if place else {"current_stats": dict(self.counts)}
+        return self.of(
+            "test-retry-started" if place else "test-started", run, nanos, running=len(self.slots),
+            slot_assignment={"global-slot": self.slots[run], "test-group": "@global"}, command_line=[], **more,
+        )
+
+    def slow(self, run, place, nanos):
+        elapsed = length(nanos - run.attempts[place].start.time)
+        return self.of(
+            "test-slow", run, nanos, retry_data=retry_data(run, place), slow_elapsed=elapsed, will_terminate=False,
+        )
+
+    def skipped(self, run, _place, nanos):
+        self.counts["skipped"] += 1
+        return self.of("test-skipped", run, nanos, reason="ignored", junit_report_skipped="all")
+
+    def ended(self, run, place, nanos):
+        if place + 1 < len(run.attempts):
+            delay = run.attempts[place + 1].start.time - nanos
+            return self.of(
+                "test-attempt-failed-will-retry", run, nanos, run_status=status_of(run, place),
+                delay_before_next_attempt=length(delay), failure_output="immediate", running=len(self.slots),
+            )
+        heapq.heappush(self.free, self.slots.pop(run))
+        self.count(run)
+        statuses = [status_of(run, place) for place in range(len(run.attempts))]
+        return self.of(
+            "test-finished", run, nanos, success_output="never", failure_output="immediate",
+            junit_store_success_output=False, junit_store_failure_output=True, junit_flaky_fail_status="failure",
+            run_statuses={"statuses": statuses, "flaky-result": "pass"}, current_stats=dict(self.counts),
+            running=len(self.slots),
+        )
+
+    def count(self, run):
+        """Counts a test that ended by its last attempt."""
+        last = run.attempts[-1]
+        self.counts["finished-count"] += 1
+        self.counts[last.result] += 1
+        if last.slow and last.result != "failed-timed-out":
+            self.counts[f"{last.result}-slow"] += 1
+        if last.result == "passed" and len(run.attempts) > 1:
+            self.counts["flaky"] += 1
+
+    def missing(self):
+        """What was announced and never ended."""
+        lost = [run.test_id for run in self.to_run if run.is_open()]
+        total = len(lost) + self.unseen
+        return {"outstanding_not_seen": {"not-seen": lost, "total-not-seen": total}} if total else {}
+
+
+def head_of(reader, teller, words, run_id, end):
+    """The head, with the tests in the order in which they came."""
+    suites = {suite.binary: {} for suite in reader.suites}
+    for run in reader.runs:
+        suites[run.test_id["binary-id"]][run.test_id["test-name"]] = None
+    counts, status = teller.counts, {"status": "incomplete"}
+    failed = counts["failed"] + counts["failed-timed-out"]
+    if not teller.missing() and all(suite.ended for suite in reader.suites):
+        code = (100 if reader.nextest else 101) if failed else 0
+        status = {
+            "status": "completed", "initial-run-count": counts["initial-run-count"],
+            "passed": counts["passed"], "failed": failed, "exit-code": code,
+        }
+    return {
+        **head(0), "run-id": run_id, "nextest-version": words.nextest_version, "status": status,
+        "started-at": moment(teller.begin), "last-written-at": moment(end), "duration": length(end - teller.begin),
+        "test-list": {"suites": {binary: list(names) for binary, names in suites.items()}},
+    }
+
+
+def session(reader, words, run_id):
+    """The values of the lines of a session."""
+    marked = sorted((step for run in reader.runs for step in steps(run)), key=lambda step: step[0])
+    begin = min([reader.first] + [mark.time for mark, *_ in marked[:1]])
+    end = max([reader.clock.now] + [mark.time for mark, *_ in marked[-1:]])
+    teller = Teller(reader, begin)
+    events = [teller.at("run-started", begin, run_id=run_id, profile_name=clean(words.profile), cli_args=[])]
+    events += [teller.tell(*step) for step in marked]
+    events.append(teller.at(
+        "run-finished", end, run_id=run_id, start_time=moment(begin), run_elapsed=length(end - begin),
+        run_stats={"single": dict(teller.counts)}, **teller.missing(),
+    ))
+    return [head_of(reader, teller, words, run_id, end), *events]
+
+
+def convert(lines, words, say, source=None):
+    """The session of a stream; None where no line is an event of a run."""
+    reader = Reader(SummedClock(words.start * SECOND) if words.no_clock else ArrivalClock(source), say)
+    digest = hashlib.sha256()
+    try:
+        for line in lines:
+            digest.update(line)
+            reader.read(line)
+    except KeyboardInterrupt:
+        say("session_from_libtest: interrupted; the session is of what came before")
+    reader.finish()
+    if reader.first is None:
+        say("session_from_libtest: no line is an event of a run")
+        return None
+    made = uuid.uuid5(uuid.NAMESPACE_OID, digest.hexdigest()) if words.no_clock else uuid.uuid4()
+    return session(reader, words, str(words.run_id or made))
+
+
+def version(word):
+    if VERSION.fullmatch(word) is None:
+        raise ValueError(word)
+    return word
+
+
+def seconds(word):
+    if re.fullmatch(r"-?\d{1,11}", word, re.A) is None:
+        raise ValueError(word)
+    return int(word)
+
+
+def options(words):
+    parser = argparse.ArgumentParser(description=__doc__, formatter_class=argparse.RawDescriptionHelpFormatter)
+    parser.add_argument("--no-clock", action="store_true", help="take the instants from the times that tests took")
+    parser.add_argument("--start", type=seconds, metavar="SECS", help="the run's start with --no-clock (0)")
+    parser.add_argument("--profile", metavar="NAME", default="default", help="the name of the run's profile (default)")
+    parser.add_argument("--run-id", type=uuid.UUID, metavar="UUID", help="the run's id (with --no-clock made of the input)")
+    parser.add_argument("--nextest-version", type=version, metavar="VERSION", default="0.9.111", help="of the head (0.9.111)")
+    parser.add_argument("--self-test", action="store_true", help="try the tool, and print only what is wrong")
+    read = parser.parse_args(words)
+    if read.start is not None and not read.no_clock:
+        parser.error("--start is for --no-clock")
+    read.start = read.start or 0
+    return read
+
+
+def lines_of(*parts):
+    """A stream of lines: words as they are, and the texts of objects."""
+    return [(part if isinstance(part, str) else text(part)).encode() + b"\n" for part in parts]
+
+
+def suite(what, count=0, **more):
+    return {"type": "suite", "event": what, **({"test_count": count} if what == "started" else {}), **more}
+
+
+def test(what, name, **more):
+    return {"type": "test", "event": what, "name": name, **more}
+
+
+def cut(words, *places):
+    """What a session says in brief: what each event is, of which test, on which slot or with which results."""
+    brief = []
+    for value in words[2:-1]:
+        name = value["test-instance"]["test-name"]
+        more = value.get("slot-assignment", {}).get("global-slot", "")
+        if value["kind"] == "test-finished":
+            names = {text(form): short for short, form in RESULTS.items()}
+            more = ",".join(names[text(status["result"])] for status in value["run-statuses"]["statuses"])
+        brief.append(f"{value['kind'].removeprefix('test-')} {name} {more}".strip())
+    return brief
+
+
+def broken(values):
+    """The rules that a session breaks: starts and ends take turns, slots are free, counts are right."""
+    faults, running, tried, slots, last = [], set(), set(), {}, values[1]["timestamp"]
+    for value in values[2:-1]:
+        kind, test_id = value["kind"], text(value["test-instance"])
+        if (value["timestamp"]["secs"], value["timestamp"]["nanos"]) < (last["secs"], last["nanos"]):
+            faults.append(f"{kind} {test_id} is before what stands above it")
+        last = value["timestamp"]
+        starts = kind in ("test-started", "test-retry-started")
+        if kind != "test-skipped" and (test_id in running) == starts:
+            faults.append(f"{kind} {test_id} contradicts what stands above it")
+        if starts:
+            slot = value["slot-assignment"]["global-slot"]
+            if slot in slots.values() and slots.get(test_id) != slot:
+                faults.append(f"slot {slot} is held")
+            running.add(test_id)
+            slots[test_id] = slot
+        elif kind in ("test-finished", "test-attempt-failed-will-retry"):
+            running.discard(test_id)
+            tried.add(test_id)
+        if kind == "test-finished":
+            slots.pop(test_id, None)
+        if value.get("running", len(slots)) != len(slots):
+            faults.append(f"{kind} {test_id} counts {value['running']} as running")
+    counts = values[-1]["run-stats"]["single"]
+    ends = sum(value["kind"] == "test-finished" for value in values)
+    missing = values[-1].get("outstanding-not-seen", {}).get("total-not-seen", 0)
+    if counts["finished-count"] != ends or counts["initial-run-count"] != ends + missing:
+        faults.append("the counts at the end are wrong")
+    return faults
+
+
+NEXTEST = {"crate": "a", "test_binary": "t", "kind": "test"}
+CASES = {
+    "slots": ([
+        suite("started", 3), test("started", "x"), test("started", "y"), test("ok", "x", exec_time=1), test("started", "z"),
+        test("ok", "z", exec_time=1), test("failed", "y", exec_time=0.5, stdout="\u00e9"), suite("failed"),
+    ], ["started x 0", "started y 1", "finished y failed", "finished x passed", "started z 0", "finished z passed"], 0),
+    "ignored": ([suite("started", 1), test("started", "x"), test("ignored", "x"), suite("ok")], ["skipped x"], 0),
+    "no start": ([suite("started", 1), test("ok", "x", exec_time=1), suite("ok")], ["started x 0", "finished x passed"], 1),
+    "started twice": (
+        [suite("started", 1), test("started", "x"), test("started", "x"), test("ok", "x"), suite("ok")],
+        ["started x 0", "finished x passed"], 1,
+    ),
+    "nothing but a suite's start": ([suite("started", 2)], [], 1),
+    "cut": (['{"type":"suite","event":"started","test_count":2}', test("started", "x"), '{"type":"te'], ["started x 0"], 3),
+    "late": (
+        [suite("started", 1), test("started", "x"), test("failed", "x", reason="time limit exceeded"), suite("failed")],
+        ["started x 0", "finished x failed-timed-out"], 0,
+    ),
+    "slow": (
+        [suite("started", 1), test("started", "x"), test("timeout", "x"), test("ok", "x", exec_time=70), suite("ok")],
+        ["started x 0", "slow x", "finished x passed"], 0,
+    ),
+    "slow and no end": (
+        [suite("started", 1), test("started", "x"), test("timeout", "x"), suite("failed")],
+        ["started x 0", "slow x", "finished x failed-timed-out"], 0,
+    ),
+    "two runs": (
+        [suite("started", 1, nextest=NEXTEST), test("ok", "a::t$x"), suite("ok", nextest=NEXTEST)] * 2,
+        ["started x 0", "finished x passed"] * 2, 3,
+    ),
+    "a retry at the end": (
+        [suite("started", 1, nextest=NEXTEST), test("started", "a::t$x"), test("ok", "a::t$x#2", exec_time=1), suite("ok")],
+        ["started x 0", "attempt-failed-will-retry x", "retry-started x 0", "finished x failed,passed"], 0,
+    ),
+    "each retry": (
+        [suite("started", 1), *(test(what, f"a::t$x{number}") for number in ("", "#2", "#3") for what in ("started", "failed"))],
+        ["started x 0", *["attempt-failed-will-retry x", "retry-started x 0"] * 2, "finished x failed,failed,failed"], 1,
+    ),
+    "odd lines": (
+        ["", "text", "[]", "{}", '{"type":[]}', '{"type":"test","event":"ok","name":1}', "[" * 9999, '{"a":' * 9999,
+         test("ok", "x", exec_time=-1), test("ok", "\ud800", stdout="\udfff"), {"type": "bench", "name": "b", "median": 1}],
+        ["started x 0", "finished x passed", "started ? 0", "finished ? passed", "started b 0", "finished b passed"], 13,
+    ),
+    "names": (
+        ["     Running unittests src/lib.rs (target/debug/deps/s-0123456789abcdef)", suite("started", 1), test("ok", "x"),
+         "\x1b[1m     Running\x1b[0m tests/s.rs (target/debug/deps/s-1123456789abcdef)", test("started", "x"),
+         "   Doc-tests s", test("started", "x")],
+        ["started x 0", "finished x passed", "started x 0", "started x 1"], 4,
+    ),
+}
+
+
+def self_test():
+    """What is wrong with the tool, a line each."""
+    faults, plain = [], options(["--no-clock"])
+    for name, (parts, expected, said) in CASES.items():
+        for clock in (["--no-clock"], []):
+            notes = []
+            values = convert(lines_of(*parts), options(clock), notes.append, itertools.count(10**18, 10**6).__next__)
+            faults += [f"{name}: {fault}" for fault in broken(values)]
+            if len(notes) != said:
+                faults.append(f"{name}: said {notes}")
+            if clock and cut(values) != expected:
+                faults.append(f"{name}: {cut(values)}")
+    for parts in ([], [""], ["text", "{}"]):
+        if convert(lines_of(*parts), plain, lambda _: None) is not None:
+            faults.append(f"a session of {parts}")
+    notes = []
+    values = convert([b'{"type":"test","event":"ok","name":"\xff"}'], plain, notes.append)
+    if values[2]["test-instance"]["test-name"] != "\ufffd" or not notes:
+        faults.append("a line that isn't UTF-8")
+    ids = [convert(lines_of(test("ok", "x")), options(words), notes.append)[0]["run-id"] for words in (["--no-clock"], [])]
+    if ids != [str(uuid.UUID(one)) for one in ids] or ids[0] == ids[1]:
+        faults.append(f"the runs' ids {ids}")
+    return faults + example_faults(plain)
+
+
+def example_faults(words):
+    """Whether the example's session is what is made of its stream."""
+    notes = []
+    with EXAMPLE.open("rb") as lines:
+        values = convert(lines, words, notes.append)
+    made = "".join(text(value) + "\n" for value in values)
+    same = made == EXAMPLE.with_name("sums.session").read_text()
+    return [f"the example: {fault}" for fault in notes + broken(values)] + ([] if same else ["the example's session differs"])
+
+
+def main():
+    words = options(sys.argv[1:])
+    if words.self_test:
+        faults = self_test()
+        print("".join(f"{fault}\n" for fault in faults), end="")
+        return int(bool(faults))
+    values = convert(sys.stdin.buffer, words, lambda line: print(line, file=sys.stderr, flush=True))
+    for value in values or []:
+        print(text(value))
+    return 0 if values else 1
+
+
+if __name__ == "__main__":
+    sys.exit(main())
