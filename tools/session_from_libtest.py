@@ -59,9 +59,8 @@ class Attempt:
     """A try of a test, which may not have ended."""
 
     def __init__(self, start):
-        self.start = start
+        self.start, self.taken = start, 0
         self.slow = self.end = self.result = self.output = self.message = None
-        self.taken = 0
 
 
 class TestRun:
@@ -69,29 +68,22 @@ class TestRun:
 
     def __init__(self, binary, name, floor):
         self.test_id = {"binary-id": binary, "test-name": name}
-        self.floor = floor
-        self.attempts = []
-        self.skipped = None
+        self.floor, self.attempts, self.skipped = floor, [], None
 
     def is_open(self):
         return self.skipped is None and self.attempts[-1].end is None
 
-    def has_failed(self):
-        return self.skipped is None and self.attempts[-1].result not in (None, "passed")
-
-    def last_instant(self):
-        return (self.skipped or self.attempts[-1].end).time
+    def takes(self, number):
+        """Whether the attempt of this number can follow the last one."""
+        return self.skipped is None and self.attempts[-1].result != "passed" and number > len(self.attempts)
 
 
 class Suite:
     """One run of a test binary; its name may come later than its start."""
 
     def __init__(self, number, count):
-        self.number = number
-        self.count = count
-        self.binary = self.prefix = None
-        self.runs = []
-        self.ended = False
+        self.number, self.count, self.runs = number, count, []
+        self.binary, self.prefix, self.ended = None, None, False
 
     def lost(self):
         return [run for run in self.runs if run.is_open()]
@@ -100,45 +92,31 @@ class Suite:
         return max(0, self.count - len(self.runs))
 
 
-class ArrivalClock:
-    """Tells the instant at which the last line came."""
+class Clock:
+    """Tells the instant at which the last line came; without a source, one that follows from how long tests took."""
 
-    def __init__(self, source=None):
-        begin, base = time.monotonic_ns(), time.time_ns()
-        self.source = source or (lambda: base + time.monotonic_ns() - begin)
-        self.now = 0
+    def __init__(self, source, start):
+        self.source, self.now = source, start
 
     def tick(self):
-        self.now = self.source()
+        self.now = self.source() if self.source else self.now
 
     def begin(self, taken):
-        return self.now - (taken or 0)
-
-    def ended(self, _start, _taken):
-        return self.now
-
-    def warned(self, _start, _taken):
-        return self.now
-
-
-class SummedClock:
-    """Tells instants that follow from how long the tests took."""
-
-    def __init__(self, start):
-        self.now = start
-
-    def tick(self):
-        pass
-
-    def begin(self, _taken):
-        return self.now
+        return self.now - taken if self.source and taken else self.now
 
     def ended(self, start, taken):
-        self.now = max(self.now, start + (taken or 0))
-        return start + (taken or 0)
+        end = self.now if self.source else start + (taken or 0)
+        self.now = max(self.now, end)
+        return end
 
     def warned(self, start, taken):
-        return start + (WARNED_AFTER if taken is None else taken)
+        return self.now if self.source else start + (WARNED_AFTER if taken is None else taken)
+
+
+def arrivals():
+    """A source that begins with the time of day, and never goes back."""
+    begin, base = time.monotonic_ns(), time.time_ns()
+    return lambda: base + time.monotonic_ns() - begin
 
 
 def clean(name):
@@ -300,69 +278,38 @@ class Reader:
             self.note("an exec_time that is no time")
         if what == "started":
             self.start(suite, name, number, run)
-        elif what == "ignored":
-            self.skip(run if run and run.is_open() else self.new_run(suite, name))
+            return True
+        if run is None or not run.is_open() and not run.takes(number):
+            if what != "ignored":
+                self.note(f"{suite.binary} {name} has no start; one is made")
+            run = self.new_run(suite, name, self.clock.begin(taken))
+        if what == "ignored":
+            run.skipped = self.mark(self.clock.now)
         else:
-            run = self.started(suite, name, number, run, taken)
-            self.pull(run, self.clock.begin(taken))
             self.settle(run, number, what, taken, value)
         return True
 
-    def new_run(self, suite, name):
-        """A run of the test, which begins after its last one."""
+    def new_run(self, suite, name, begin):
+        """A run of the test after its last one, with its first attempt."""
         last = self.latest.get((suite.binary, name))
-        run = TestRun(suite.binary, name, last.last_instant() if last else None)
-        self.latest[suite.binary, name] = run
+        floor = (last.skipped or last.attempts[-1].end).time if last else begin - MOST_SECONDS * SECOND
+        run = self.latest[suite.binary, name] = TestRun(suite.binary, name, floor)
+        run.attempts.append(Attempt(self.mark(max(begin, floor))))
         self.runs.append(run)
         suite.runs.append(run)
         return run
 
-    def begin_run(self, suite, name, begin):
-        run = self.new_run(suite, name)
-        run.attempts.append(Attempt(self.mark(begin if run.floor is None else max(begin, run.floor))))
-        return run
-
     def start(self, suite, name, number, run):
         """Starts an attempt; one of a test that runs is no start, unless it is the next one."""
-        begin = self.clock.now
-        again = run is not None and number > 1 and (run.is_open() or run.has_failed())
         if run is not None and run.is_open() and number <= len(run.attempts):
             self.note(f"{suite.binary} {name} is started while it runs")
             return
-        run = run if again and number > len(run.attempts) else self.begin_run(suite, name, begin)
-        while len(run.attempts) < number:
-            self.retry(run, begin)
-
-    def started(self, suite, name, number, run, taken):
-        """The run of a test that ends, where need be with a start that no line said."""
-        if run is not None and (run.is_open() or run.has_failed() and number > len(run.attempts)):
-            return run
-        self.note(f"{suite.binary} {name} has no start; one is made")
-        return self.begin_run(suite, name, self.clock.begin(taken))
-
-    def skip(self, run):
-        run.skipped = self.mark(self.clock.now)
-
-    def pull(self, run, begin):
-        """Puts the start of the open attempt back, but not before what ended earlier."""
-        attempt = run.attempts[-1]
-        floor = run.attempts[-2].end.time if len(run.attempts) > 1 else run.floor
-        begin = begin if floor is None else max(begin, floor)
-        if attempt.end is None and begin < attempt.start.time:
-            attempt.start = self.mark(begin)
-
-    def retry(self, run, begin):
-        """Opens the next attempt; what no line said of the one before is that it failed."""
-        last = run.attempts[-1]
-        if last.end is None:
-            self.close(last, max(begin, last.start.time), "failed", None)
-        run.attempts.append(Attempt(self.mark(max(begin, last.end.time))))
+        goes_on = run is not None and run.takes(number)
+        self.reach(run if goes_on else self.new_run(suite, name, self.clock.now), number, self.clock.now)
 
     def settle(self, run, number, what, taken, value):
         """Ends the attempt of this number, or says that it is slow."""
-        begin = self.clock.begin(taken)
-        while len(run.attempts) < number:
-            self.retry(run, begin)
+        self.reach(run, number, self.clock.begin(taken))
         attempt = run.attempts[-1]
         if what == "timeout":
             attempt.slow = self.mark(self.clock.warned(attempt.start.time, taken))
@@ -374,6 +321,20 @@ class Reader:
         late = value.get("reason") == "time limit exceeded"
         result = "passed" if what == "ok" else "failed-timed-out" if late else "failed"
         self.close(attempt, self.clock.ended(attempt.start.time, taken), result, taken)
+
+    def reach(self, run, number, begin):
+        """Opens the attempt of this number; what no line said of those before it is that they failed.
+
+        The start of an open attempt is put back to the instant, but not before what ended earlier.
+        """
+        attempts = run.attempts
+        if attempts[-1].end is None and begin < attempts[-1].start.time:
+            floor = attempts[-2].end.time if len(attempts) > 1 else run.floor
+            attempts[-1].start = self.mark(max(begin, floor))
+        while len(attempts) < number:
+            if attempts[-1].end is None:
+                self.close(attempts[-1], max(begin, attempts[-1].start.time), "failed", None)
+            attempts.append(Attempt(self.mark(max(begin, attempts[-1].end.time))))
 
     def close(self, attempt, end, result, taken):
         attempt.end, attempt.result = self.mark(end), result
@@ -463,9 +424,6 @@ class Teller:
     def of(self, kind, run, nanos, **fields):
         return self.at(kind, nanos, test_instance=run.test_id, **fields)
 
-    def tell(self, mark, step, run, place):
-        return getattr(self, step)(run, place, mark.time)
-
     def started(self, run, place, nanos):
         if run not in self.slots:
             self.slots[run] = heapq.heappop(self.free) if self.free else len(self.slots)
@@ -546,7 +504,7 @@ def session(reader, words, run_id):
     end = max([reader.clock.now] + [mark.time for mark, *_ in marked[-1:]])
     teller = Teller(reader, begin)
     events = [teller.at("run-started", begin, run_id=run_id, profile_name=clean(words.profile), cli_args=[])]
-    events += [teller.tell(*step) for step in marked]
+    events += [getattr(teller, step)(run, place, mark.time) for mark, step, run, place in marked]
     events.append(teller.at(
         "run-finished", end, run_id=run_id, start_time=moment(begin), run_elapsed=length(end - begin),
         run_stats={"single": dict(teller.counts)}, **teller.missing(),
@@ -556,7 +514,7 @@ def session(reader, words, run_id):
 
 def convert(lines, words, say, source=None):
     """The session of a stream; None where no line is an event of a run."""
-    reader = Reader(SummedClock(words.start * SECOND) if words.no_clock else ArrivalClock(source), say)
+    reader = Reader(Clock(None if words.no_clock else source or arrivals(), words.start * SECOND), say)
     digest = hashlib.sha256()
     try:
         for line in lines:
@@ -599,149 +557,87 @@ def options(words):
     return read
 
 
-def lines_of(*parts):
-    """A stream of lines: words as they are, and the texts of objects."""
-    return [(part if isinstance(part, str) else text(part)).encode() + b"\n" for part in parts]
+def stream(words):
+    """The lines of a stream that is told in brief; after a mark of equality a line stands as it is."""
+    lines = []
+    for part in words.split(" > "):
+        what, name, *more = (part.split() + ["", ""])[:3]
+        value = {"type": "test", "event": what, "name": name}
+        if what in ("suite", "end"):
+            value = {"type": "suite", "event": "ok"} if what == "end" else {**value, "type": "suite", "event": "started", "test_count": int(name)}
+            value |= {"nextest": NEXTEST} if more[0] else {}
+        elif part[:1] != "=" and more[0]:
+            value["exec_time"] = float(more[0])
+        lines.append((part[1:] if part[:1] == "=" else text(value)).encode() + b"\n")
+    return lines
 
 
-def suite(what, count=0, **more):
-    return {"type": "suite", "event": what, **({"test_count": count} if what == "started" else {}), **more}
-
-
-def test(what, name, **more):
-    return {"type": "test", "event": what, "name": name, **more}
-
-
-def cut(words, *places):
-    """What a session says in brief: what each event is, of which test, on which slot or with which results."""
-    brief = []
-    for value in words[2:-1]:
-        name = value["test-instance"]["test-name"]
-        more = value.get("slot-assignment", {}).get("global-slot", "")
-        if value["kind"] == "test-finished":
-            names = {text(form): short for short, form in RESULTS.items()}
-            more = ",".join(names[text(status["result"])] for status in value["run-statuses"]["statuses"])
-        brief.append(f"{value['kind'].removeprefix('test-')} {name} {more}".strip())
-    return brief
-
-
-def broken(values):
-    """The rules that a session breaks: starts and ends take turns, slots are free, counts are right."""
-    faults, running, tried, slots, last = [], set(), set(), {}, values[1]["timestamp"]
+def brief(values):
+    """The events of a session in brief, with slots, results, and how many tests run or have ended."""
+    names, parts = {text(form): name for name, form in RESULTS.items()}, []
     for value in values[2:-1]:
-        kind, test_id = value["kind"], text(value["test-instance"])
-        if (value["timestamp"]["secs"], value["timestamp"]["nanos"]) < (last["secs"], last["nanos"]):
-            faults.append(f"{kind} {test_id} is before what stands above it")
-        last = value["timestamp"]
-        starts = kind in ("test-started", "test-retry-started")
-        if kind != "test-skipped" and (test_id in running) == starts:
-            faults.append(f"{kind} {test_id} contradicts what stands above it")
-        if starts:
-            slot = value["slot-assignment"]["global-slot"]
-            if slot in slots.values() and slots.get(test_id) != slot:
-                faults.append(f"slot {slot} is held")
-            running.add(test_id)
-            slots[test_id] = slot
-        elif kind in ("test-finished", "test-attempt-failed-will-retry"):
-            running.discard(test_id)
-            tried.add(test_id)
-        if kind == "test-finished":
-            slots.pop(test_id, None)
-        if value.get("running", len(slots)) != len(slots):
-            faults.append(f"{kind} {test_id} counts {value['running']} as running")
+        more = [str(value["slot-assignment"]["global-slot"])] if "slot-assignment" in value else []
+        if value["kind"] == "test-finished":
+            more = [names[text(status["result"])] for status in value["run-statuses"]["statuses"]]
+        parts.append(" ".join([value["kind"].removeprefix("test-"), value["test-instance"]["test-name"], *more]))
     counts = values[-1]["run-stats"]["single"]
-    ends = sum(value["kind"] == "test-finished" for value in values)
-    missing = values[-1].get("outstanding-not-seen", {}).get("total-not-seen", 0)
-    if counts["finished-count"] != ends or counts["initial-run-count"] != ends + missing:
-        faults.append("the counts at the end are wrong")
-    return faults
+    parts.append(f"{counts['finished-count']} of {counts['initial-run-count']}")
+    return " > ".join(parts)
 
 
 NEXTEST = {"crate": "a", "test_binary": "t", "kind": "test"}
-CASES = {
-    "slots": ([
-        suite("started", 3), test("started", "x"), test("started", "y"), test("ok", "x", exec_time=1), test("started", "z"),
-        test("ok", "z", exec_time=1), test("failed", "y", exec_time=0.5, stdout="\u00e9"), suite("failed"),
-    ], ["started x 0", "started y 1", "finished y failed", "finished x passed", "started z 0", "finished z passed"], 0),
-    "ignored": ([suite("started", 1), test("started", "x"), test("ignored", "x"), suite("ok")], ["skipped x"], 0),
-    "no start": ([suite("started", 1), test("ok", "x", exec_time=1), suite("ok")], ["started x 0", "finished x passed"], 1),
-    "started twice": (
-        [suite("started", 1), test("started", "x"), test("started", "x"), test("ok", "x"), suite("ok")],
-        ["started x 0", "finished x passed"], 1,
-    ),
-    "nothing but a suite's start": ([suite("started", 2)], [], 1),
-    "cut": (['{"type":"suite","event":"started","test_count":2}', test("started", "x"), '{"type":"te'], ["started x 0"], 3),
-    "late": (
-        [suite("started", 1), test("started", "x"), test("failed", "x", reason="time limit exceeded"), suite("failed")],
-        ["started x 0", "finished x failed-timed-out"], 0,
-    ),
-    "slow": (
-        [suite("started", 1), test("started", "x"), test("timeout", "x"), test("ok", "x", exec_time=70), suite("ok")],
-        ["started x 0", "slow x", "finished x passed"], 0,
-    ),
-    "slow and no end": (
-        [suite("started", 1), test("started", "x"), test("timeout", "x"), suite("failed")],
-        ["started x 0", "slow x", "finished x failed-timed-out"], 0,
-    ),
-    "two runs": (
-        [suite("started", 1, nextest=NEXTEST), test("ok", "a::t$x"), suite("ok", nextest=NEXTEST)] * 2,
-        ["started x 0", "finished x passed"] * 2, 3,
-    ),
-    "a retry at the end": (
-        [suite("started", 1, nextest=NEXTEST), test("started", "a::t$x"), test("ok", "a::t$x#2", exec_time=1), suite("ok")],
-        ["started x 0", "attempt-failed-will-retry x", "retry-started x 0", "finished x failed,passed"], 0,
-    ),
-    "each retry": (
-        [suite("started", 1), *(test(what, f"a::t$x{number}") for number in ("", "#2", "#3") for what in ("started", "failed"))],
-        ["started x 0", *["attempt-failed-will-retry x", "retry-started x 0"] * 2, "finished x failed,failed,failed"], 1,
-    ),
-    "odd lines": (
-        ["", "text", "[]", "{}", '{"type":[]}', '{"type":"test","event":"ok","name":1}', "[" * 9999, '{"a":' * 9999,
-         test("ok", "x", exec_time=-1), test("ok", "\ud800", stdout="\udfff"), {"type": "bench", "name": "b", "median": 1}],
-        ["started x 0", "finished x passed", "started ? 0", "finished ? passed", "started b 0", "finished b passed"], 13,
-    ),
-    "names": (
-        ["     Running unittests src/lib.rs (target/debug/deps/s-0123456789abcdef)", suite("started", 1), test("ok", "x"),
-         "\x1b[1m     Running\x1b[0m tests/s.rs (target/debug/deps/s-1123456789abcdef)", test("started", "x"),
-         "   Doc-tests s", test("started", "x")],
-        ["started x 0", "finished x passed", "started x 0", "started x 1"], 4,
-    ),
-}
+UNIT = "=     Running unittests src/lib.rs (target/debug/deps/s-0123456789abcdef)"
+INTEGRATION = "=\x1b[1m     Running\x1b[0m tests/s.rs (target/debug/deps/s-1123456789abcdef)"
+# Streams, the events that they give without a clock, and how many lines are said of them.
+CASES = [
+    ("suite 3 > started x > started y > ok x 1 > started z > ok z 1 > failed y 0.5 > end",
+     "started x 0 > started y 1 > finished y failed > finished x passed > started z 0 > finished z passed > 3 of 3", 0),
+    ("suite 1 > started x > ignored x > end > suite 1 > ignored x > end", "skipped x > skipped x > 0 of 0", 0),
+    ("suite 1 > ok x 1 > end", "started x 0 > finished x passed > 1 of 1", 1),
+    ("suite 1 > started x > started x > ok x > end", "started x 0 > finished x passed > 1 of 1", 1),
+    ("suite 2", "0 of 2", 1),
+    ("suite 0 > end", "0 of 0", 0),
+    ('suite 2 > started x > ={"type":"te', "started x 0 > 0 of 2", 3),
+    ('suite 1 > started x > ={"type":"test","event":"failed","name":"x","reason":"time limit exceeded"} > end',
+     "started x 0 > finished x failed-timed-out > 1 of 1", 0),
+    ("suite 1 > started x > timeout x > ok x 70 > end", "started x 0 > slow x > finished x passed > 1 of 1", 0),
+    ("suite 1 > started x > timeout x > end", "started x 0 > slow x > finished x failed-timed-out > 1 of 1", 0),
+    (" > ".join(["suite 1 plus > started a::t$x > ok a::t$x 9 > end - plus"] * 2),
+     "started x 0 > finished x passed > started x 0 > finished x passed > 2 of 2", 1),
+    ("suite 1 plus > started a::t$x > ok a::t$x#2 1 > end",
+     "started x 0 > attempt-failed-will-retry x > retry-started x 0 > finished x failed passed > 1 of 1", 0),
+    ("suite 1 > started a::t$x > failed a::t$x > started a::t$x#2 > ok a::t$x#3 > end",
+     "started x 0 > attempt-failed-will-retry x > retry-started x 0 > attempt-failed-will-retry x > retry-started x 0 > "
+     "finished x failed failed passed > 1 of 1", 0),
+    ('suite 1 > started x > =ok > =[] > ={} > = > ={"type":[]} > ={"type":"test","event":"ok","name":1} > ok x -1 > end',
+     "started x 0 > finished x passed > 1 of 1", 7),
+    ("=" + '{"a":' * 9999 + r' > ={"type":"bench","name":"\ud800"} > =text', "started ? 0 > finished ? passed > 1 of 1", 5),
+    (f"{UNIT} > suite 1 > ok x > end > {INTEGRATION} > started x > =   Doc-tests s > started x",
+     "started x 0 > finished x passed > started x 0 > started x 1 > 1 of 3", 3),
+]
 
 
 def self_test():
     """What is wrong with the tool, a line each."""
     faults, plain = [], options(["--no-clock"])
-    for name, (parts, expected, said) in CASES.items():
+    for words, expected, said in CASES:
         for clock in (["--no-clock"], []):
             notes = []
-            values = convert(lines_of(*parts), options(clock), notes.append, itertools.count(10**18, 10**6).__next__)
-            faults += [f"{name}: {fault}" for fault in broken(values)]
-            if len(notes) != said:
-                faults.append(f"{name}: said {notes}")
-            if clock and cut(values) != expected:
-                faults.append(f"{name}: {cut(values)}")
-    for parts in ([], [""], ["text", "{}"]):
-        if convert(lines_of(*parts), plain, lambda _: None) is not None:
-            faults.append(f"a session of {parts}")
+            values = convert(stream(words), options(clock), notes.append, itertools.count(10**18, 10**6).__next__)
+            if len(notes) != said or clock and brief(values) != expected:
+                faults.append(f"{words[:99]}: {brief(values)}, and said {[note[:99] for note in notes]}")
     notes = []
+    for lines in ([], [b"\n"], [b"text\n", b"{}\n"]):
+        if convert(lines, plain, notes.append) is not None:
+            faults.append(f"a session of {lines}")
     values = convert([b'{"type":"test","event":"ok","name":"\xff"}'], plain, notes.append)
-    if values[2]["test-instance"]["test-name"] != "\ufffd" or not notes:
+    if values[2]["test-instance"]["test-name"] != "\ufffd":
         faults.append("a line that isn't UTF-8")
-    ids = [convert(lines_of(test("ok", "x")), options(words), notes.append)[0]["run-id"] for words in (["--no-clock"], [])]
-    if ids != [str(uuid.UUID(one)) for one in ids] or ids[0] == ids[1]:
-        faults.append(f"the runs' ids {ids}")
-    return faults + example_faults(plain)
-
-
-def example_faults(words):
-    """Whether the example's session is what is made of its stream."""
-    notes = []
     with EXAMPLE.open("rb") as lines:
-        values = convert(lines, words, notes.append)
-    made = "".join(text(value) + "\n" for value in values)
-    same = made == EXAMPLE.with_name("sums.session").read_text()
-    return [f"the example: {fault}" for fault in notes + broken(values)] + ([] if same else ["the example's session differs"])
+        values = convert(lines, plain, faults.append)
+    if "".join(text(value) + "\n" for value in values) != EXAMPLE.with_name("sums.session").read_text():
+        faults.append("the example's session isn't what is made of its stream")
+    return faults
 
 
 def main():
