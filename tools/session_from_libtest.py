@@ -328,9 +328,9 @@ class Reader:
         The start of an open attempt is put back to the instant, but not before what ended earlier.
         """
         attempts = run.attempts
+        begin = max(begin, attempts[-2].end.time if len(attempts) > 1 else run.floor)
         if attempts[-1].end is None and begin < attempts[-1].start.time:
-            floor = attempts[-2].end.time if len(attempts) > 1 else run.floor
-            attempts[-1].start = self.mark(max(begin, floor))
+            attempts[-1].start = self.mark(begin)
         while len(attempts) < number:
             if attempts[-1].end is None:
                 self.close(attempts[-1], max(begin, attempts[-1].start.time), "failed", None)
