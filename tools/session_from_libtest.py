@@ -25,6 +25,7 @@ import pathlib
 import re
 import sys
 import time
+import types
 import uuid
 
 from make_session import event, head, instant, span, stats, text
@@ -42,7 +43,7 @@ DOC_TESTS = re.compile(r"\s*Doc-tests (\S+)\s*")
 COLOR = re.compile(r"\x1b\[[0-9;]*m")
 NUMBER = r"(?:0|[1-9]\d{0,8})"
 TAG = rf"(?:{NUMBER}|\d*[A-Za-z-][0-9A-Za-z-]*)"
-VERSION = re.compile(rf"{NUMBER}\.{NUMBER}\.{NUMBER}(?:-{TAG}(?:\.{TAG})*)?(?:\+[0-9A-Za-z-]+(?:\.[0-9A-Za-z-]+)*)?", re.A)
+VERSION = rf"{NUMBER}\.{NUMBER}\.{NUMBER}(?:-{TAG}(?:\.{TAG})*)?(?:\+[0-9A-Za-z-]+(?:\.[0-9A-Za-z-]+)*)?"
 
 # The results of attempts, by the names of the counts of tests that end so.
 RESULTS = {
@@ -55,12 +56,9 @@ RESULTS = {
 Mark = collections.namedtuple("Mark", "time line")
 
 
-class Attempt:
-    """A try of a test, which may not have ended."""
-
-    def __init__(self, start):
-        self.start, self.taken = start, 0
-        self.slow = self.end = self.result = self.output = self.message = None
+def attempt_from(mark):
+    """A try of a test, of which nothing but the start is known."""
+    return types.SimpleNamespace(start=mark, slow=None, end=None, taken=0, result=None, output=None, message=None)
 
 
 class TestRun:
@@ -191,17 +189,15 @@ class Reader:
 
     def take_binary(self, words):
         """Reads which binary comes next, as cargo says it. Two binaries may have one name, and differ in its hash."""
-        running, documentation = RUNNING.fullmatch(words.rstrip()), DOC_TESTS.fullmatch(words)
-        if not running and not documentation:
-            return False
-        key = running.groups() if running else documentation.groups()
-        name = clean(running[1] if running else f"{documentation[1]}::doc")
-        taken = self.binaries.values()
-        names = itertools.chain([name], (f"{name}-{number}" for number in itertools.count(2)))
-        self.announced = self.binaries.get(key) or next(one for one in names if one not in taken)
-        self.binaries[key] = self.announced
-        self.current = None
-        return True
+        found = RUNNING.fullmatch(words.rstrip()) or DOC_TESTS.fullmatch(words.rstrip())
+        if found:
+            name = clean(found[1]) + ("" if found.re is RUNNING else "::doc")
+            taken = self.binaries.values()
+            names = itertools.chain([name], (f"{name}-{number}" for number in itertools.count(2)))
+            self.announced = self.binaries.get(found.groups()) or next(one for one in names if one not in taken)
+            self.binaries[found.groups()] = self.announced
+            self.current = None
+        return found is not None
 
     def take_suite(self, value):
         prefix, binary = nextest_names(value.get("nextest"))
@@ -245,13 +241,11 @@ class Reader:
 
     def suite_of(self, prefix):
         """The suite of a test, by what stands before its name, if anything."""
-        suite = self.current
+        suite = self.current or self.new_suite()
         if prefix is None:
-            suite = suite or self.new_suite()
             self.resolve(suite)
-        elif suite is None or suite.prefix != prefix:
-            unnamed = suite is not None and suite.binary is None
-            suite = suite if unnamed else self.prefixes.get(prefix) or self.new_suite()
+        elif suite.prefix != prefix:
+            suite = suite if suite.binary is None else self.prefixes.get(prefix) or self.new_suite()
             if suite.binary is None:
                 self.name(suite, prefix, prefix)
         return suite
@@ -294,7 +288,7 @@ class Reader:
         last = self.latest.get((suite.binary, name))
         floor = (last.skipped or last.attempts[-1].end).time if last else begin - MOST_SECONDS * SECOND
         run = self.latest[suite.binary, name] = TestRun(suite.binary, name, floor)
-        run.attempts.append(Attempt(self.mark(max(begin, floor))))
+        run.attempts.append(attempt_from(self.mark(max(begin, floor))))
         self.runs.append(run)
         suite.runs.append(run)
         return run
@@ -334,7 +328,7 @@ class Reader:
         while len(attempts) < number:
             if attempts[-1].end is None:
                 self.close(attempts[-1], max(begin, attempts[-1].start.time), "failed", None)
-            attempts.append(Attempt(self.mark(max(begin, attempts[-1].end.time))))
+            attempts.append(attempt_from(self.mark(max(begin, attempts[-1].end.time))))
 
     def close(self, attempt, end, result, taken):
         attempt.end, attempt.result = self.mark(end), result
@@ -379,15 +373,11 @@ def length(nanos):
 
 def steps(run):
     """What happened to a test, each with its mark."""
-    if run.skipped:
-        yield run.skipped, "skipped", run, 0
-        return
-    for place, attempt in enumerate(run.attempts):
-        yield attempt.start, "started", run, place
-        if attempt.slow:
-            yield attempt.slow, "slow", run, place
-        if attempt.end:
-            yield attempt.end, "ended", run, place
+    found = [(run.skipped, "skipped", run, 0)]
+    for place, attempt in enumerate([] if run.skipped else run.attempts):
+        marks = {"started": attempt.start, "slow": attempt.slow, "ended": attempt.end}
+        found += [(mark, step, run, place) for step, mark in marks.items()]
+    return [step for step in found if step[0]]
 
 
 def status_of(run, place):
@@ -530,25 +520,22 @@ def convert(lines, words, say, source=None):
     return session(reader, words, str(words.run_id or made))
 
 
-def version(word):
-    if VERSION.fullmatch(word) is None:
-        raise ValueError(word)
-    return word
-
-
-def seconds(word):
-    if re.fullmatch(r"-?\d{1,11}", word, re.A) is None:
-        raise ValueError(word)
-    return int(word)
+def matching(pattern, made):
+    """A type of an option whose words match a pattern whole."""
+    def read(word):
+        if re.fullmatch(pattern, word, re.A) is None:
+            raise argparse.ArgumentTypeError(f"{word!r} isn't one")
+        return made(word)
+    return read
 
 
 def options(words):
     parser = argparse.ArgumentParser(description=__doc__, formatter_class=argparse.RawDescriptionHelpFormatter)
     parser.add_argument("--no-clock", action="store_true", help="take the instants from the times that tests took")
-    parser.add_argument("--start", type=seconds, metavar="SECS", help="the run's start with --no-clock (0)")
+    parser.add_argument("--start", type=matching(r"-?\d{1,11}", int), metavar="SECS", help="the run's start with --no-clock (0)")
     parser.add_argument("--profile", metavar="NAME", default="default", help="the name of the run's profile (default)")
     parser.add_argument("--run-id", type=uuid.UUID, metavar="UUID", help="the run's id (with --no-clock made of the input)")
-    parser.add_argument("--nextest-version", type=version, metavar="VERSION", default="0.9.111", help="of the head (0.9.111)")
+    parser.add_argument("--nextest-version", type=matching(VERSION, str), metavar="VERSION", default="0.9.111", help="of the head (0.9.111)")
     parser.add_argument("--self-test", action="store_true", help="try the tool, and print only what is wrong")
     read = parser.parse_args(words)
     if read.start is not None and not read.no_clock:
@@ -646,9 +633,8 @@ def main():
         faults = self_test()
         print("".join(f"{fault}\n" for fault in faults), end="")
         return int(bool(faults))
-    values = convert(sys.stdin.buffer, words, lambda line: print(line, file=sys.stderr, flush=True))
-    for value in values or []:
-        print(text(value))
+    values = convert(sys.stdin.buffer, words, lambda line: print(line, file=sys.stderr, flush=True)) or []
+    print("".join(text(value) + "\n" for value in values), end="")
     return 0 if values else 1
 
 
