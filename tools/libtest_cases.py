@@ -32,7 +32,7 @@ def brief(values, results):
             more = [names[text(status["result"])] for status in value["run-statuses"]["statuses"]]
         parts.append(" ".join([value["kind"].removeprefix("test-"), value["test-instance"]["test-name"], *more]))
     counts = values[-1]["run-stats"]["single"]
-    parts.append(f"{counts['finished-count']} of {counts['initial-run-count']}")
+    parts.append(f"{counts['finished-count']} of {counts['initial-run-count']}" + ", flaky" * counts["flaky"])
     return " > ".join(parts)
 
 
@@ -43,6 +43,8 @@ INTEGRATION = "=\x1b[1m     Running\x1b[0m tests/s.rs (target/debug/deps/s-11234
 CASES = [
     ("suite 3 > started x > started y > ok x 1 > started z > ok z 1 > failed y 0.5 > end",
      "started x 0 > started y 1 > finished y failed > finished x passed > started z 0 > finished z passed > 3 of 3", 0),
+    ("suite 3 > started x > started y > ok x 1 > started z > ok z 1 > failed y 5 > end",
+     "started x 0 > started y 1 > finished x passed > started z 0 > finished z passed > finished y failed > 3 of 3", 0),
     ("suite 1 > started x > ignored x > end > suite 1 > ignored x > end", "skipped x > skipped x > 0 of 0", 0),
     ("suite 1 > ok x 1 > end", "started x 0 > finished x passed > 1 of 1", 1),
     ("suite 1 > started x > started x > ok x > end", "started x 0 > finished x passed > 1 of 1", 1),
@@ -56,10 +58,10 @@ CASES = [
     (" > ".join(["suite 1 plus > started a::t$x > ok a::t$x 9 > end - plus"] * 2),
      "started x 0 > finished x passed > started x 0 > finished x passed > 2 of 2", 1),
     ("suite 1 plus > started a::t$x > ok a::t$x#2 1 > end",
-     "started x 0 > attempt-failed-will-retry x > retry-started x 0 > finished x failed passed > 1 of 1", 0),
+     "started x 0 > attempt-failed-will-retry x > retry-started x 0 > finished x failed passed > 1 of 1, flaky", 0),
     ("suite 1 > started a::t$x > failed a::t$x > started a::t$x#2 > ok a::t$x#3 > end",
      "started x 0 > attempt-failed-will-retry x > retry-started x 0 > attempt-failed-will-retry x > retry-started x 0 > "
-     "finished x failed failed passed > 1 of 1", 0),
+     "finished x failed failed passed > 1 of 1, flaky", 0),
     ('suite 1 > started x > =ok > =[] > ={} > = > ={"type":[]} > ={"type":"test","event":"ok","name":1} > ok x -1 > end',
      "started x 0 > finished x passed > 1 of 1", 7),
     ("=" + '{"a":' * 9999 + r' > ={"type":"bench","name":"\ud800"} > =text', "started ? 0 > finished ? passed > 1 of 1", 5),
