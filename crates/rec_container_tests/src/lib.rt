@@ -6,4 +6,6 @@ mod containers;
 #[cfg(test)]
 mod disks;
 #[cfg(test)]
+mod real_files;
+#[cfg(test)]
 mod streams;

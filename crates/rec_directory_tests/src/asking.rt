@@ -1,6 +1,6 @@
 //! Asks the reader of a directory, and prints what it answers.
 
-use rec_container::{ContainerWriter, Disk, GrowingSink, MemoryDisk};
+use rec_container::{ContainerWriter, Disk, GrowingSink};
 use rec_directory::{RecordEventIter, RecordReader};
 use rec_format::RerunInfo;
 use rec_forms::{Form, write_text};
@@ -54,9 +54,9 @@ pub(crate) fn fault_text(alloc: Global, fault: RecordReadError) -> Result<String
 }
 
 /// A part of the store of the directory `r`, or why it isn't read.
-pub(crate) fn part_of(
+pub(crate) fn part_of<D: Disk>(
     alloc: Global,
-    disk: &mut MemoryDisk,
+    disk: &mut D,
     part: Part<'_>,
 ) -> Result<String, Fail> {
     match open(alloc, disk) {

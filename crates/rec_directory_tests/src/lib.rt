@@ -10,6 +10,8 @@ mod faults;
 #[cfg(test)]
 mod logs;
 #[cfg(test)]
+mod real_files;
+#[cfg(test)]
 mod stores;
 #[cfg(test)]
 mod texts;

@@ -1,6 +1,6 @@
 //! Directories of runs, and the writer of their bundles.
 
-use rec_container::{GrowingSink, MemoryDisk, NamedContent, write_container};
+use rec_container::{Disk, GrowingSink, MemoryDisk, NamedContent, write_container};
 use rec_format::{PortableManifest, RecordedRunInfo};
 use rec_forms::read_text;
 use rec_portable_writer::{PortableRecordingError, PortableRecordingWriter};
@@ -64,9 +64,9 @@ pub(crate) fn bundle(alloc: Global) -> Result<Vec<u8>, Fail> {
 }
 
 /// Writes the run's bundle, and says how long it is or why it isn't written.
-pub(crate) fn write(
+pub(crate) fn write<D: Disk>(
     alloc: Global,
-    disk: &mut MemoryDisk,
+    disk: &mut D,
     output: Output<'_>,
 ) -> Result<String, Fail> {
     let info = run_info(alloc)?;
@@ -75,10 +75,10 @@ pub(crate) fn write(
     text
 }
 
-fn write_of(
+fn write_of<D: Disk>(
     alloc: Global,
     info: &RecordedRunInfo,
-    disk: &mut MemoryDisk,
+    disk: &mut D,
     output: Output<'_>,
 ) -> Result<String, Fail> {
     match PortableRecordingWriter::new(alloc, info, disk, "runs") {
@@ -115,9 +115,9 @@ pub(crate) enum Output<'o> {
     Path(&'o str),
 }
 
-fn written(
+fn written<D: Disk>(
     alloc: Global,
-    writer: &mut PortableRecordingWriter<'_, MemoryDisk>,
+    writer: &mut PortableRecordingWriter<'_, D>,
     output: Output<'_>,
 ) -> Result<String, Fail> {
     let result = match output {

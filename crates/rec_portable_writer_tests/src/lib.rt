@@ -7,3 +7,5 @@ mod bundles;
 mod faults;
 #[cfg(test)]
 mod helpers;
+#[cfg(test)]
+mod real_files;
