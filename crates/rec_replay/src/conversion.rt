@@ -48,6 +48,8 @@ impl<'a> ReplayContext<'a> {
         ensures answer { (es : List Entry) → (0 < length (event_names load_output summary.now) → holds reader.old es)
             → ConvertsAs (first_refusal es (limit reader.old) (event_names load_output summary.now)) (replayed load_output self.now.test_list es summary.now) result }
         ensures same { Keeps (limit reader.old) (limit reader.new) (holds reader.old) (holds reader.new) }
+        // The object behind it is of the same kind.
+        ensures same_reader { reader.new.0 ≡ reader.old.0 }
         ensures cause { ConversionCause (failures reader.old) (failures reader.new) result }
         ensures refused { (e : ReplayConversionError) → event_refusal (is_registered self.now.tests) summary.now ≡ Some e → reader.new ≡ reader.old }
         ensures skipped { load_output ≡ Skip → (reader.new ≡ reader.old)
@@ -67,6 +69,7 @@ impl<'a> ReplayContext<'a> {
     ) -> Result<TestEvent<'cx>, ReplayConversionError>
         ensures replays { Replays (limit reader.old) (limit reader.new) (failures reader.old) (failures reader.new) (holds reader.old) (holds reader.new)
             (event_refusal (is_registered self.now.tests) summary.now) (event_names load summary.now) (λ es. replayed load self.now.test_list es summary.now) result }
+        ensures same_reader { reader.new.0 ≡ reader.old.0 }
         ensures skipped { load ≡ Skip → reader.new ≡ reader.old }
         ensures apart { IfOk result (λ event. event_unloaded event ≡ replayed Skip self.now.test_list [] summary.now) }
         ensures refused { (e : ReplayConversionError) → event_refusal (is_registered self.now.tests) summary.now ≡ Some e → reader.new ≡ reader.old }
@@ -89,6 +92,7 @@ impl<'a> ReplayContext<'a> {
     ) -> Result<TestEventKind<'cx>, ReplayConversionError>
         ensures replays { Replays (limit reader.old) (limit reader.new) (failures reader.old) (failures reader.new) (holds reader.old) (holds reader.new)
             (kind_refusal (is_registered self.now.tests) kind.now) (of_kind (description_names load) kind.now) (λ es. kind_replayed (description_loaded load es) self.now.test_list kind.now) result }
+        ensures same_reader { reader.new.0 ≡ reader.old.0 }
         ensures skipped { load ≡ Skip → reader.new ≡ reader.old }
         ensures apart { IfOk result (λ k. kind_unloaded k ≡ kind_replayed left_out self.now.test_list kind.now) }
         ensures refused { (e : ReplayConversionError) → kind_refusal (is_registered self.now.tests) kind.now ≡ Some e → reader.new ≡ reader.old }
@@ -109,6 +113,7 @@ impl<'a> ReplayContext<'a> {
     ) -> Result<TestEventKind<'cx>, ReplayConversionError>
         ensures replays { Replays (limit reader.old) (limit reader.new) (failures reader.old) (failures reader.new) (holds reader.old) (holds reader.new)
             (output_refusal (is_registered self.now.tests) kind.now) (of_output_kind (description_names load) kind.now) (λ es. output_replayed (description_loaded load es) kind.now) result }
+        ensures same_reader { reader.new.0 ≡ reader.old.0 }
         ensures skipped { load ≡ Skip → reader.new ≡ reader.old }
         ensures apart { IfOk result (λ k. kind_unloaded k ≡ output_replayed left_out kind.now) }
         ensures refused { (e : ReplayConversionError) → output_refusal (is_registered self.now.tests) kind.now ≡ Some e → reader.new ≡ reader.old }
@@ -135,6 +140,7 @@ impl<'a> ReplayContext<'a> {
         requires kind { is_failed_attempt kind.now ≡ true }
         ensures replays { Replays (limit reader.old) (limit reader.new) (failures reader.old) (failures reader.new) (holds reader.old) (holds reader.new)
             (output_refusal (is_registered self.now.tests) kind.now) (of_output_kind (description_names load) kind.now) (λ es. output_replayed (description_loaded load es) kind.now) result }
+        ensures same_reader { reader.new.0 ≡ reader.old.0 }
         ensures skipped { load ≡ Skip → reader.new ≡ reader.old }
         ensures apart { IfOk result (λ k. kind_unloaded k ≡ output_replayed left_out kind.now) }
         ensures refused { (e : ReplayConversionError) → output_refusal (is_registered self.now.tests) kind.now ≡ Some e → reader.new ≡ reader.old }
@@ -173,6 +179,7 @@ impl<'a> ReplayContext<'a> {
         requires kind { is_finished kind.now ≡ true }
         ensures replays { Replays (limit reader.old) (limit reader.new) (failures reader.old) (failures reader.new) (holds reader.old) (holds reader.new)
             (output_refusal (is_registered self.now.tests) kind.now) (of_output_kind (description_names load) kind.now) (λ es. output_replayed (description_loaded load es) kind.now) result }
+        ensures same_reader { reader.new.0 ≡ reader.old.0 }
         ensures skipped { load ≡ Skip → reader.new ≡ reader.old }
         ensures apart { IfOk result (λ k. kind_unloaded k ≡ output_replayed left_out kind.now) }
         ensures refused { (e : ReplayConversionError) → output_refusal (is_registered self.now.tests) kind.now ≡ Some e → reader.new ≡ reader.old }
@@ -219,6 +226,7 @@ fn script_finished<'cx>(
     requires kind { is_script_finished kind.now ≡ true }
     ensures replays { Replays (limit reader.old) (limit reader.new) (failures reader.old) (failures reader.new) (holds reader.old) (holds reader.new)
         None (of_output_kind (description_names load) kind.now) (λ es. output_replayed (description_loaded load es) kind.now) result }
+    ensures same_reader { reader.new.0 ≡ reader.old.0 }
     ensures skipped { load ≡ Skip → reader.new ≡ reader.old }
     ensures apart { IfOk result (λ k. kind_unloaded k ≡ output_replayed left_out kind.now) }
 {

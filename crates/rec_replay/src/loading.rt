@@ -23,8 +23,9 @@ fn load_named(
     reader: &mut dyn StoreReader,
     name: OutputFileName,
 ) -> Result<ChildSingleOutput, RecordReadError>
-    ensures { Loads (limit reader.old) (limit reader.new) (failures reader.old) (failures reader.new) (holds reader.old) (holds reader.new)
+    ensures loads { Loads (limit reader.old) (limit reader.new) (failures reader.old) (failures reader.new) (holds reader.old) (holds reader.new)
         (name ∷ []) (λ es. bytes_under es name) result }
+    ensures same_reader { reader.new.0 ≡ reader.old.0 }
 {
     let text = name.text(alloc)?;
     let bytes = reader.read_output(alloc, text.as_str())?;
@@ -37,8 +38,9 @@ fn load_output(
     reader: &mut dyn StoreReader,
     output: ZipStoreOutput,
 ) -> Result<ChildSingleOutput, RecordReadError>
-    ensures { Loads (limit reader.old) (limit reader.new) (failures reader.old) (failures reader.new) (holds reader.old) (holds reader.new)
+    ensures loads { Loads (limit reader.old) (limit reader.new) (failures reader.old) (failures reader.new) (holds reader.old) (holds reader.new)
         (output_names output) (λ es. output_loaded es output) result }
+    ensures same_reader { reader.new.0 ≡ reader.old.0 }
 {
     match output {
         ZipStoreOutput::Empty => Ok(ChildSingleOutput::new(Vec::new(alloc))),
@@ -53,8 +55,9 @@ fn load_captured(
     reader: &mut dyn StoreReader,
     output: Option<ZipStoreOutput>,
 ) -> Result<Option<ChildSingleOutput>, RecordReadError>
-    ensures { Loads (limit reader.old) (limit reader.new) (failures reader.old) (failures reader.new) (holds reader.old) (holds reader.new)
+    ensures loads { Loads (limit reader.old) (limit reader.new) (failures reader.old) (failures reader.new) (holds reader.old) (holds reader.new)
         (captured_names output) (λ es. option_map (output_loaded es) output) result }
+    ensures same_reader { reader.new.0 ≡ reader.old.0 }
 {
     match output {
         Some(output) => Ok(Some(load_output(alloc, reader, output)?)),
@@ -71,6 +74,7 @@ fn load_description(
 ) -> Result<ChildOutputDescription, RecordReadError>
     ensures loads { Loads (limit reader.old) (limit reader.new) (failures reader.old) (failures reader.new) (holds reader.old) (holds reader.new)
         (description_names load output.now) (λ es. description_loaded load es output.now) result }
+    ensures same_reader { reader.new.0 ≡ reader.old.0 }
     ensures skipped { load ≡ Skip → reader.new ≡ reader.old }
 {
     match load {
@@ -85,8 +89,9 @@ fn load_described(
     reader: &mut dyn StoreReader,
     output: &ZipStoreOutputDescription,
 ) -> Result<ChildOutputDescription, RecordReadError>
-    ensures { Loads (limit reader.old) (limit reader.new) (failures reader.old) (failures reader.new) (holds reader.old) (holds reader.new)
+    ensures loads { Loads (limit reader.old) (limit reader.new) (failures reader.old) (failures reader.new) (holds reader.old) (holds reader.new)
         (description_names Load output.now) (λ es. description_loaded Load es output.now) result }
+    ensures same_reader { reader.new.0 ≡ reader.old.0 }
 {
     match output {
         ZipStoreOutputDescription::Split { stdout, stderr } => {
@@ -110,6 +115,7 @@ fn load_execution(
 ) -> Result<ChildExecutionOutputDescription<LiveSpec>, RecordReadError>
     ensures loads { Loads (limit reader.old) (limit reader.new) (failures reader.old) (failures reader.new) (holds reader.old) (holds reader.new)
         (of_execution (description_names load) output.now) (λ es. execution_with (description_loaded load es) output.now) result }
+    ensures same_reader { reader.new.0 ≡ reader.old.0 }
     ensures skipped { load ≡ Skip → reader.new ≡ reader.old }
     ensures apart { IfOk result (λ y. execution_with {T = LiveSpec} unloaded y ≡ execution_with left_out output.now) }
 {
@@ -144,6 +150,7 @@ pub(crate) fn load_status(
 ) -> Result<ExecuteStatus<LiveSpec>, RecordReadError>
     ensures loads { Loads (limit reader.old) (limit reader.new) (failures reader.old) (failures reader.new) (holds reader.old) (holds reader.new)
         (of_status (description_names load) status.now) (λ es. status_with (description_loaded load es) status.now) result }
+    ensures same_reader { reader.new.0 ≡ reader.old.0 }
     ensures skipped { load ≡ Skip → reader.new ≡ reader.old }
     ensures apart { IfOk result (λ y. status_with {T = LiveSpec} unloaded y ≡ status_with left_out status.now) }
 {
@@ -173,6 +180,7 @@ pub(crate) fn load_script_status(
 ) -> Result<SetupScriptExecuteStatus<LiveSpec>, RecordReadError>
     ensures loads { Loads (limit reader.old) (limit reader.new) (failures reader.old) (failures reader.new) (holds reader.old) (holds reader.new)
         (of_execution (description_names load) status.now.output) (λ es. script_status_with (description_loaded load es) status.now) result }
+    ensures same_reader { reader.new.0 ≡ reader.old.0 }
     ensures skipped { load ≡ Skip → reader.new ≡ reader.old }
     ensures apart { IfOk result (λ y. script_status_with {T = LiveSpec} unloaded y ≡ script_status_with left_out status.now) }
 {
@@ -200,6 +208,7 @@ pub(crate) fn load_statuses(
 ) -> Result<ExecutionStatuses<LiveSpec>, RecordReadError>
     ensures loads { Loads (limit reader.old) (limit reader.new) (failures reader.old) (failures reader.new) (holds reader.old) (holds reader.new)
         (flat_map (of_status (description_names load)) statuses.now.statuses) (λ es. statuses_with (description_loaded load es) statuses.now) result }
+    ensures same_reader { reader.new.0 ≡ reader.old.0 }
     ensures skipped { load ≡ Skip → reader.new ≡ reader.old }
     ensures apart { IfOk result (λ y. statuses_with {T = LiveSpec} unloaded y ≡ statuses_with left_out statuses.now) }
 {
@@ -216,6 +225,7 @@ fn load_each(
 ) -> Result<Items<ExecuteStatus<LiveSpec>>, RecordReadError>
     ensures loads { Loads (limit reader.old) (limit reader.new) (failures reader.old) (failures reader.new) (holds reader.old) (holds reader.new)
         (flat_map (of_status (description_names load)) statuses.now) (λ es. map (status_with (description_loaded load es)) statuses.now) result }
+    ensures same_reader { reader.new.0 ≡ reader.old.0 }
     ensures skipped { load ≡ Skip → reader.new ≡ reader.old }
     ensures apart { IfOk result (λ y. map (status_with {T = LiveSpec} unloaded) y ≡ map (status_with left_out) statuses.now) }
     ensures as_many { IfOk result (λ loaded. length loaded ≡ length statuses.now) }

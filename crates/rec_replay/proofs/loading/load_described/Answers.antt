@@ -2,12 +2,12 @@ use Rattle.std.proofs.lemmas.Result.{err_from_is_err_and}
 use Rattle.rec_replay.proofs.Loaded.{loads_before, loads_after}
 use Rattle.rec_replay.proofs.loading.load_described.Goals as goal
 
-pub returns-in_err-stdout-in-Split : goal.returns-in_err-stdout-in-Split
-returns-in_err-stdout-in-Split g c =
+pub returns-in_err-stdout-in-Split-clause-loads : goal.returns-in_err-stdout-in-Split-clause-loads
+returns-in_err-stdout-in-Split-clause-loads g c =
     let p = err_from_is_err_and c.from_residual.result c.from_residual.ensures.1 in
-    rw (p.1, p.2, c.in-Split.is) (loads_before _ _ _ _ _ _ _ _ _ _ _ c.in_err-stdout-in-Split.ensures)
+    rw (p.1, p.2, c.in-Split.is) (loads_before _ _ _ _ _ _ _ _ _ _ _ c.in_err-stdout-in-Split.ensures.loads)
 
-pub returns-in_err-stderr-in-Split : goal.returns-in_err-stderr-in-Split
-returns-in_err-stderr-in-Split g c =
+pub returns-in_err-stderr-in-Split-clause-loads : goal.returns-in_err-stderr-in-Split-clause-loads
+returns-in_err-stderr-in-Split-clause-loads g c =
     let p = err_from_is_err_and c.from_residual-in_err-stderr-in-Split.result c.from_residual-in_err-stderr-in-Split.ensures.1 in
-    rw (p.1, p.2, c.in-Split.is) (loads_after _ _ _ _ _ _ _ _ _ _ _ _ _ _ _ c.in_ok-stdout-in-Split.ensures _ c.in_err-stderr-in-Split.ensures)
+    rw (p.1, p.2, c.in-Split.is) (loads_after _ _ _ _ _ _ _ _ _ _ _ _ _ _ _ c.in_ok-stdout-in-Split.ensures.loads _ c.in_err-stderr-in-Split.ensures.loads)

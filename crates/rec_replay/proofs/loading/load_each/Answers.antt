@@ -14,6 +14,9 @@ returns-in_err-status-clause-loads g c =
     rw (p.1, p.2) (loads_stop (of_status (description_names c.args.load)) (λ es. status_with (description_loaded c.args.load es)) _ _ _ _ _ _ _ _ _ _ c.args.statuses.now c.loop-status.status-index c.status-item.result
     c.loop-status.loaded.items _ c.loop-status-test.true c.status-item.is c.loop-status.invariant.loads c.in_err-status.ensures.loads)
 
+pub returns-in_err-status-clause-same_reader : goal.returns-in_err-status-clause-same_reader
+returns-in_err-status-clause-same_reader g c = c.in_err-status.ensures.same_reader ∙ c.loop-status.invariant.same_reader
+
 pub returns-in_err-status-clause-skipped : goal.returns-in_err-status-clause-skipped
 returns-in_err-status-clause-skipped g c = λ h. c.in_err-status.ensures.skipped h ∙ c.loop-status.invariant.skipped h
 
@@ -21,6 +24,9 @@ pub returns-in_err-push-clause-loads : goal.returns-in_err-push-clause-loads
 returns-in_err-push-clause-loads g c =
     let p = err_from_is_err_and c.from_residual-in_err-push.result c.from_residual-in_err-push.ensures.1 in
     rw (p.1, p.2) (loads_wanting _ _ _ _ _ _ _ _ _ _ _ _ _ _ _ _ _ c.loop-status.invariant.loads c.in_ok-status.ensures.loads)
+
+pub returns-in_err-push-clause-same_reader : goal.returns-in_err-push-clause-same_reader
+returns-in_err-push-clause-same_reader g c = c.in_ok-status.ensures.same_reader ∙ c.loop-status.invariant.same_reader
 
 pub returns-in_err-push-clause-skipped : goal.returns-in_err-push-clause-skipped
 returns-in_err-push-clause-skipped g c = λ h. c.in_ok-status.ensures.skipped h ∙ c.loop-status.invariant.skipped h
@@ -31,6 +37,7 @@ loop-status-preserved g c =
       loads =
           loads_more (of_status (description_names c.args.load)) (λ es. status_with (description_loaded c.args.load es)) _ _ _ _ _ _ _ _ _ c.args.statuses.now c.loop-status.status-index c.status-item.result
           c.loop-status.loaded.items _ c.in_ok-status.status c.loop-status-test.true c.status-item.is c.in_ok-push.ensures.items c.loop-status.invariant.loads c.in_ok-status.ensures.loads;
+      same_reader = c.in_ok-status.ensures.same_reader ∙ c.loop-status.invariant.same_reader;
       skipped = λ h. c.in_ok-status.ensures.skipped h ∙ c.loop-status.invariant.skipped h;
       apart =
           same_more (status_with left_out) (status_with {T = LiveSpec} unloaded) c.args.statuses.now c.loop-status.status-index c.status-item.result c.loop-status.loaded.items _ c.in_ok-status.status
