@@ -1,0 +1,70 @@
+-- What a run's events are printed from.
+use Rattle.std.specs.Prelude.{◌≡◌, ◌⊎◌, ℕ, List, Result, Ok, Err}
+use Rattle.rec_container.specs.Container.{Entry}
+use Rattle.rec_container.specs.Reading.{◌>>=◌}
+use Rattle.rec_events.specs.declared.recording.NextestRunMode.{NextestRunMode}
+use Rattle.rec_events.specs.declared.recording.RecordOpts.{RecordOpts}
+use Rattle.rec_events.specs.declared.recording.TestListSummary.{TestListSummary}
+use Rattle.rec_forms.specs.Recording.{test_list_form, record_opts_form}
+use Rattle.rec_codec.specs.declared.line_events.LineError.{LineError}
+use Rattle.rec_codec.specs.Event.{RecordedEvent}
+use Rattle.rec_codec.specs.LineReading.{log_items}
+use Rattle.rec_codec.specs.Lines.{lines, numbered}
+use Rattle.rec_store.specs.declared.read_error.RecordReadError.{RecordReadError}
+use Rattle.rec_store.specs.Entries.{record_opts_path, test_list_path}
+use Rattle.rec_store.specs.Parts.{metadata_part}
+use Rattle.rec_portable.specs.declared.errors.PortableRecordingReadError.{PortableRecordingReadError}
+use Rattle.rec_portable.specs.OuterEntries.{log_part}
+use Rattle.rec_reading.specs.declared.errors.ListingError.TheVariants.{OutOfMemory}
+use Rattle.rec_reading.specs.declared.errors.ListingError.{ListingError}
+use Rattle.rec_reading.specs.declared.parts.OpenRun.{OpenRun}
+use Rattle.rec_reading.specs.Errors.{bundle_error, part_error}
+use Rattle.rec_reading.specs.Stores.{store_part}
+
+-- the entries of the store, what the run did with its tests, which these are, and what the lines of the log give
+pub record RunParts : Type 0 where
+  pub store : List Entry
+  pub mode : NextestRunMode
+  pub tests : TestListSummary
+  pub items : List (Result RecordedEvent LineError)
+
+-- a part of a bundle, or why it isn't read
+abbrev pub of_bundle : {A : Type 0} → Result A PortableRecordingReadError → Result A ListingError
+of_bundle (Ok x) = Ok x
+of_bundle (Err e) = Err (bundle_error e)
+
+-- the same of a part of its store
+abbrev pub of_store : {A : Type 0} → Result A RecordReadError → Result A ListingError
+of_store (Ok x) = Ok x
+of_store (Err e) = Err (part_error e)
+
+abbrev pub opts_part : List Entry → ℕ → Result RecordOpts ListingError
+opts_part store limit = of_store (metadata_part record_opts_form record_opts_path store limit)
+
+abbrev pub tests_part : List Entry → ℕ → Result TestListSummary ListingError
+tests_part store limit = of_store (metadata_part test_list_form test_list_path store limit)
+
+-- the log comes first, then the store, the record options and the test list
+abbrev pub parts_of : ℕ → List Entry → Result RunParts ListingError
+parts_of limit es = do
+  log ← of_bundle (log_part limit es)
+  store ← of_bundle (store_part es)
+  opts ← opts_part store limit
+  tests ← tests_part store limit
+  Ok (record { store = store; mode = opts.run_mode; tests = tests; items = log_items (numbered 1 (lines log)) })
+
+-- ---- a run that is read
+
+-- a function answers this, but for want of memory
+abbrev pub Answers : {T : Type 0} → Result T ListingError → Result T ListingError → Type 0
+Answers expected (Ok x) = expected ≡ Ok x
+Answers expected (Err e) = (e ≡ OutOfMemory) ⊎ (expected ≡ Err e)
+
+-- the parts of a run that was read
+abbrev pub parts_in : OpenRun → RunParts
+parts_in run = record { store = run.store.entries; mode = run.mode; tests = run.tests; items = log_items (numbered 1 (lines run.log)) }
+
+-- a run with these parts was read under a limit, or they are refused
+abbrev pub OpensRun : ℕ → Result RunParts ListingError → Result OpenRun ListingError → Type 0
+OpensRun limit expected (Ok run) = (run.store.limit ≡ limit) × (expected ≡ Ok (parts_in run))
+OpensRun limit expected (Err e) = (e ≡ OutOfMemory) ⊎ (expected ≡ Err e)
