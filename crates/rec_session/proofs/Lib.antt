@@ -1,0 +1,7 @@
+pub mod Counts
+pub mod FirstEnded
+pub mod Knowing
+pub mod Refusals
+pub mod RunIdLists
+pub mod Stored
+pub mod WarningCauses

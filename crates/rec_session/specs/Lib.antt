@@ -1,0 +1,10 @@
+pub mod Asking
+pub mod Creating
+pub mod Endings
+pub mod Finalizing
+pub mod Keepers
+pub mod MemoryKeepers
+pub mod Reporting
+pub mod Sessions
+pub mod SettingUp
+pub mod Warnings
