@@ -1,0 +1,4 @@
+pub mod BareSlices
+pub mod Whole
+pub mod WholeEvents
+pub mod WithoutOutputs
