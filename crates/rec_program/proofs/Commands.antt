@@ -16,6 +16,8 @@ use Rattle.rec_format.specs.RunForms.{manifest_form}
 use Rattle.rec_format.specs.Runs.{store_version_in}
 use Rattle.rec_codec.specs.LineReading.{first_line_fault}
 use Rattle.rec_codec.specs.Lines.{NumberedLine}
+use Rattle.rec_store.specs.declared.read_error.RecordReadError.TheVariants as parts
+use Rattle.rec_store.specs.declared.read_error.RecordReadError.{RecordReadError}
 use Rattle.rec_store.specs.Entries.{log_name, manifest_name}
 use Rattle.rec_portable.specs.declared.errors.PortableRecordingReadError.TheVariants as bundles
 use Rattle.rec_portable.specs.declared.errors.PortableRecordingReadError.TheVariants.{FileTooLarge}
@@ -23,6 +25,10 @@ use Rattle.rec_portable.specs.declared.errors.PortableRecordingReadError.{Portab
 use Rattle.rec_portable.specs.Errors.{source_error}
 use Rattle.rec_portable.specs.Judging.{content_judged, format_checked, judged, manifest_found, manifest_read, store_checked, versions_checked, within}
 use Rattle.rec_portable.specs.OuterEntries.{log_found, log_part}
+use Rattle.rec_replay.specs.declared.conversion_error.ReplayConversionError.TheVariants as conversions
+use Rattle.rec_replay.specs.declared.conversion_error.ReplayConversionError.{ReplayConversionError}
+use Rattle.rec_junit.specs.declared.errors.JunitError.TheVariants as reports
+use Rattle.rec_junit.specs.declared.errors.JunitError.{JunitError}
 use Rattle.rec_trace.proofs.Timelines.{timeline}
 use Rattle.rec_trace.specs.declared.errors.ChromeTraceError.TheVariants as traces
 use Rattle.rec_trace.specs.declared.errors.ChromeTraceError.{ChromeTraceError}
@@ -35,22 +41,23 @@ use Rattle.rec_program.proofs.Complete.{no_more, same_session}
 use Rattle.rec_program.proofs.RecordedDrawn.{recorded-is_drawn}
 use Rattle.rec_program.specs.Bundle.{AreOf}
 use Rattle.rec_program.specs.declared.counts.Exported.{Exported}
-use Rattle.rec_program.specs.declared.reading_error.ReadingError.TheVariants.{Bundle, Trace, OutOfMemory}
+use Rattle.rec_program.specs.declared.reading_error.ReadingError.TheVariants.{Bundle, Trace, Part, Line, Conversion, Report, OutOfMemory}
 use Rattle.rec_program.specs.declared.reading_error.ReadingError.{ReadingError}
 use Rattle.rec_program.specs.declared.refusal.RecordExportError.TheVariants as exports
 use Rattle.rec_program.specs.declared.refusal.RecordExportError.{RecordExportError}
 use Rattle.rec_program.specs.declared.settings.Settings.{Settings}
 use Rattle.rec_program.specs.Export.{Exports}
+use Rattle.rec_program.specs.LineFaults.{line_fault}
 use Rattle.rec_program.specs.LogTraces.{bundle_trace, log_lines, log_refusal, plain_log}
 use Rattle.rec_program.specs.ReadingCommands.{IsPrintedOf, Shows, Withholds, info_of, manifest_line, part, trace_of, trace_of_parts, trace_unless}
 use Rattle.rec_program.specs.ReadingErrors.{bundle_error}
 use Rattle.rec_program.specs.Running.{Records, ShowsBundle}
-use Rattle.rec_program.specs.Status.{bundle_status, export_status, reading_status}
+use Rattle.rec_program.specs.Status.{bundle_status, conversion_status, export_status, junit_status, part_status, reading_status}
 use Rattle.rec_program.specs.TraceFaults.{trace_fault}
 
 -- ---- the statuses of refusals are above those of success and of faulty words
 
-export_above : (e : RecordExportError) → 2 < export_status e
+pub export_above : (e : RecordExportError) → 2 < export_status e
 export_above exports.SourceFault = lit< tt
 export_above (exports.SessionTooLarge limit) = lit< tt
 export_above exports.ParseHead = lit< tt
@@ -83,9 +90,40 @@ bundle_above (bundles.MissingFile file_name) = lit< tt
 bundle_above (bundles.ExtractFile file_name) = lit< tt
 bundle_above bundles.OutOfMemory = lit< tt
 
+part_above : (e : RecordReadError) → 2 < part_status e
+part_above (parts.RunNotFound path) = lit< tt
+part_above (parts.OpenArchive path) = lit< tt
+part_above (parts.ParseArchive path fault) = lit< tt
+part_above (parts.FileNotFound file_name) = lit< tt
+part_above (parts.FileTooLarge file_name size limit) = lit< tt
+part_above (parts.NotUtf8 file_name) = lit< tt
+part_above (parts.DeserializeMetadata file_name) = lit< tt
+part_above (parts.UnknownOutputType file_name) = lit< tt
+part_above (parts.ExtractFile store_path) = lit< tt
+part_above (parts.OpenRunLog path) = lit< tt
+part_above (parts.DiskFault path) = lit< tt
+part_above (parts.ReadRunLog line_number) = lit< tt
+part_above (parts.ParseEvent line_number) = lit< tt
+part_above parts.OutOfMemory = lit< tt
+
+conversion_above : (e : ReplayConversionError) → 2 < conversion_status e
+conversion_above (conversions.TestNotFound binary_id test_name) = lit< tt
+conversion_above (conversions.RecordRead e) = lit< tt
+conversion_above conversions.InvalidStressCount = lit< tt
+conversion_above conversions.OutOfMemory = lit< tt
+
+junit_above : (e : JunitError) → 2 < junit_status e
+junit_above reports.NotLoadedOutput = lit< tt
+junit_above reports.SuccessAsFailure = lit< tt
+junit_above reports.OutOfMemory = lit< tt
+
 pub reading_above : (e : ReadingError) → 2 < reading_status e
 reading_above (Bundle e) = bundle_above e
 reading_above (Trace e) = export_above (trace_fault e)
+reading_above (Part e) = part_above e
+reading_above (Line e) = export_above (line_fault e)
+reading_above (Conversion e) = conversion_above e
+reading_above (Report e) = junit_above e
 reading_above OutOfMemory = lit< tt
 
 -- ---- what was recorded
@@ -136,7 +174,7 @@ module _ {S T G : Type 0} (left : S → Option (List ℕ)) (source_faults : S �
 -- ---- what was printed, by the parts of the bundle
 
 -- a part that was read
-part_read : {A : Type 0} (r : Result A PortableRecordingReadError) (x : A) → part r ≡ Ok x → r ≡ Ok x
+pub part_read : {A : Type 0} (r : Result A PortableRecordingReadError) (x : A) → part r ≡ Ok x → r ≡ Ok x
 part_read (Ok y) x h = cc
 part_read (Err e) x h = absurd cc
 
@@ -159,7 +197,7 @@ trace_parts settings es text h =
     (m.0, l.0, part_read (judged settings.read_limit es) m.0 m.1, part_read (log_part settings.read_limit es) l.0 l.1, d.0, d.1)
 
 -- bytes that are a bundle whose entries have a text
-printed_of : (printed : List Entry → Result (List ℕ) ReadingError) (bytes text : List ℕ) → IsPrintedOf printed bytes (Ok text) → (es : List Entry) × IsContainer bytes es × (printed es ≡ Ok text)
+pub printed_of : (printed : List Entry → Result (List ℕ) ReadingError) (bytes text : List ℕ) → IsPrintedOf printed bytes (Ok text) → (es : List Entry) × IsContainer bytes es × (printed es ≡ Ok text)
 printed_of printed bytes text (inl p) = p
 printed_of printed bytes text (inr p) = absurd (let h = p.2 in cc)
 

@@ -3,6 +3,7 @@ pub mod BundlesShown
 pub mod Commands
 pub mod Complete
 pub mod EntrySizes
+pub mod EventsShown
 pub mod Judging
 pub mod Lines
 pub mod LogTraced
@@ -12,6 +13,7 @@ pub mod Recorded
 pub mod RecordedDrawn
 pub mod RecordedLines
 pub mod RecorderFaults
+pub mod SamplesRecorded
 pub mod SessionReads
 pub mod SessionTraced
 pub mod ShortLines

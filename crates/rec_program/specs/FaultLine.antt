@@ -1,11 +1,13 @@
 -- The line of a fault: names and fields, one after the other with a space between.
 use Rattle.std.specs.Fmt.{decimal}
 use Rattle.std.specs.Prelude.{ℕ, List, [], ◌∷◌, ◌++◌, Option, Some, None, codes}
+use Rattle.rec_container.specs.declared.errors.ContainerError.TheVariants as containers
+use Rattle.rec_container.specs.declared.errors.ContainerError.{ContainerError}
 use Rattle.rec_trace.specs.declared.spans.SpanKey.TheVariants as spans
 use Rattle.rec_trace.specs.declared.spans.SpanKey.{SpanKey}
 use Rattle.rec_program.specs.declared.refusal.RecordExportError.TheVariants.{SourceFault, SessionTooLarge, ParseHead, ReadRunLog, ParseEvent, NameCollision, CountOutOfRange, FileTooLarge, MissingTestStart, MissingScriptStart, MissingStressSubRunStart, SpanAlreadyOpen, SlotBusy, TimestampOutOfRange, RowOutOfRange, BundleFault, TraceFault, OutOfMemory}
 use Rattle.rec_program.specs.declared.refusal.RecordExportError.{RecordExportError}
-use Rattle.rec_program.specs.declared.words.WordsError.TheVariants.{NoCommand, UnknownCommand, MissingPositional, UnknownOption, RepeatedOption, MissingValue, BadValue}
+use Rattle.rec_program.specs.declared.words.WordsError.TheVariants.{NoCommand, UnknownCommand, MissingPositional, BadNumber, UnknownOption, RepeatedOption, MissingValue, BadValue}
 use Rattle.rec_program.specs.declared.words.WordsError.{WordsError}
 
 mutual
@@ -55,6 +57,7 @@ abbrev pub words_name : WordsError → List ℕ
 words_name NoCommand = codes "NoCommand"
 words_name (UnknownCommand at) = codes "UnknownCommand"
 words_name (MissingPositional at) = codes "MissingPositional"
+words_name (BadNumber at) = codes "BadNumber"
 words_name (UnknownOption at) = codes "UnknownOption"
 words_name (RepeatedOption at) = codes "RepeatedOption"
 words_name (MissingValue at) = codes "MissingValue"
@@ -68,10 +71,21 @@ abbrev pub words_fields : WordsError → Fields
 words_fields NoCommand = no_fields
 words_fields (UnknownCommand at) = at_place at
 words_fields (MissingPositional at) = at_place at
+words_fields (BadNumber at) = at_place at
 words_fields (UnknownOption at) = at_place at
 words_fields (RepeatedOption at) = at_place at
 words_fields (MissingValue at) = at_place at
 words_fields (BadValue at) = at_place at
+
+-- what is wrong with the bytes of a container
+abbrev pub container_shown : ContainerError → Shown
+container_shown containers.BadMagic = variant (codes "BadMagic") no_fields
+container_shown (containers.Truncated at) = variant (codes "Truncated") (at_place at)
+container_shown (containers.BadTag at) = variant (codes "BadTag") (at_place at)
+container_shown (containers.BadName at) = variant (codes "BadName") (at_place at)
+container_shown (containers.DuplicateName at) = variant (codes "DuplicateName") (at_place at)
+container_shown (containers.TrailingBytes at) = variant (codes "TrailingBytes") (at_place at)
+container_shown containers.OutOfMemory = variant (codes "OutOfMemory") no_fields
 
 -- the name and the fields of the refusal of a session
 abbrev pub export_name : RecordExportError → List ℕ

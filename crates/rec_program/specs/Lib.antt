@@ -12,8 +12,10 @@ pub mod ReadingErrors
 pub mod ReadingLine
 pub mod Recorded
 pub mod RecorderFaults
+pub mod ReplayLine
 pub mod Reporting
 pub mod Running
+pub mod Samples
 pub mod Session
 pub mod SessionTraces
 pub mod Settings

@@ -1,14 +1,16 @@
 -- The options of the commands, and the settings that they give.
 use Rattle.std.specs.Option.{ok_or}
-use Rattle.std.specs.Prelude.{ℕ, ◌+◌, ◌^◌, List, [], ◌∷◌, length, nat_lt, ◌&&◌, Bool, true, false, Option, Some, None, is_some, option_map, unwrap_or, Result, Ok, Err, codes, if◌then◌else◌}
+use Rattle.std.specs.Prelude.{ℕ, ◌+◌, ◌^◌, List, [], ◌∷◌, length, nat_lt, ◌&&◌, Bool, true, false, Option, Some, None, is_some, option_map, option_and_then, unwrap_or, Result, Ok, Err, codes, if◌then◌else◌}
 use Rattle.std.specs.Str.Parse.{digits_value}
 use Rattle.std.specs.Str.{bytes_eq, all_ascii_digits}
 use Rattle.rec_container.specs.Reading.{◌>>=◌}
+use Rattle.rec_replay.specs.declared.output_load.LoadOutput.TheVariants.{Load, Skip}
+use Rattle.rec_replay.specs.declared.output_load.LoadOutput.{LoadOutput}
 use Rattle.rec_trace.specs.declared.settings.ChromeTraceGroupBy.TheVariants.{Binary, Slot}
 use Rattle.rec_trace.specs.declared.settings.ChromeTraceGroupBy.{ChromeTraceGroupBy}
-use Rattle.rec_program.specs.declared.options.CommandName.TheVariants.{Record, Trace, Info}
+use Rattle.rec_program.specs.declared.options.CommandName.TheVariants.{Record, Trace, Replay, Report, Info, Sample}
 use Rattle.rec_program.specs.declared.options.CommandName.{CommandName}
-use Rattle.rec_program.specs.declared.options.OptionName.TheVariants.{GroupBy, MaxOutput, ReadLimit, SessionLimit}
+use Rattle.rec_program.specs.declared.options.OptionName.TheVariants.{GroupBy, MaxOutput, ReadLimit, SessionLimit, Output}
 use Rattle.rec_program.specs.declared.options.OptionName.{OptionName}
 use Rattle.rec_program.specs.declared.options.OptionValues.{OptionValues}
 use Rattle.rec_program.specs.declared.settings.Settings.{Settings}
@@ -23,16 +25,29 @@ option_named word =
     else if bytes_eq word (codes "--max-output") then Some MaxOutput
     else if bytes_eq word (codes "--read-limit") then Some ReadLimit
     else if bytes_eq word (codes "--session-limit") then Some SessionLimit
+    else if bytes_eq word (codes "--output") then Some Output
     else None
 
 -- which commands take an option
 abbrev pub takes : CommandName → OptionName → Bool
 takes Record GroupBy = true
 takes Trace GroupBy = true
+takes Replay GroupBy = false
+takes Report GroupBy = false
 takes Info GroupBy = false
+takes Sample GroupBy = true
 takes Record MaxOutput = true
 takes Trace MaxOutput = false
+takes Replay MaxOutput = false
+takes Report MaxOutput = false
 takes Info MaxOutput = false
+takes Sample MaxOutput = true
+takes Record Output = false
+takes Trace Output = false
+takes Replay Output = true
+takes Report Output = false
+takes Info Output = false
+takes Sample Output = false
 takes command ReadLimit = true
 takes command SessionLimit = true
 
@@ -40,20 +55,31 @@ takes command SessionLimit = true
 abbrev pub options_at : CommandName → ℕ
 options_at Record = 2
 options_at Trace = 1
+options_at Replay = 1
+options_at Report = 1
 options_at Info = 1
+options_at Sample = 3
 
 -- the number that one or more decimal digits write, where it fits 64 bits
 unfoldable pub number_of : List ℕ → Option ℕ
 number_of text =
     if all_ascii_digits text && nat_lt 0 (length text) && nat_lt (digits_value 10 text) (2 ^ 64) then Some (digits_value 10 text) else None
 
+-- the number of tests of a made session that digits write, up to 10000
+unfoldable pub tests_of : List ℕ → Option ℕ
+tests_of text = option_and_then (λ n. if nat_lt 10000 n then None else Some n) (number_of text)
+
 -- the grouping of a name
 unfoldable pub group_by_of : List ℕ → Option ChromeTraceGroupBy
 group_by_of word = if bytes_eq word (codes "binary") then Some Binary else if bytes_eq word (codes "slot") then Some Slot else None
 
+-- whether outputs are loaded, by a name for it
+unfoldable pub output_of : List ℕ → Option LoadOutput
+output_of word = if bytes_eq word (codes "load") then Some Load else if bytes_eq word (codes "skip") then Some Skip else None
+
 -- no option came yet
 abbrev pub no_values : OptionValues
-no_values = record { group_by = None; max_output = None; read_limit = None; session_limit = None }
+no_values = record { group_by = None; max_output = None; read_limit = None; session_limit = None; output = None }
 
 -- whether an option came
 abbrev pub has_come : OptionValues → OptionName → Bool
@@ -61,6 +87,7 @@ has_come values GroupBy = is_some values.group_by
 has_come values MaxOutput = is_some values.max_output
 has_come values ReadLimit = is_some values.read_limit
 has_come values SessionLimit = is_some values.session_limit
+has_come values Output = is_some values.output
 
 -- the values after an option and the text of its value, where the option takes it
 abbrev pub with_value : OptionValues → OptionName → List ℕ → Option OptionValues
@@ -68,6 +95,7 @@ with_value values GroupBy text = option_map (λ g. record values { group_by = So
 with_value values MaxOutput text = option_map (λ limit. record values { max_output = Some limit }) (number_of text)
 with_value values ReadLimit text = option_map (λ limit. record values { read_limit = Some limit }) (number_of text)
 with_value values SessionLimit text = option_map (λ limit. record values { session_limit = Some limit }) (number_of text)
+with_value values Output text = option_map (λ load. record values { output = Some load }) (output_of text)
 
 -- the values of options, and the defaults elsewhere
 abbrev pub settings_of : OptionValues → Settings
@@ -78,6 +106,10 @@ settings_of values = record {
   read_limit = unwrap_or values.read_limit default_settings.read_limit;
   session_limit = unwrap_or values.session_limit default_settings.session_limit;
 }
+
+-- whether outputs are loaded, by the values of options
+abbrev pub load_of : OptionValues → LoadOutput
+load_of values = unwrap_or values.output Load
 
 -- an option that a word names, that the command takes and that didn't come before, or what is wrong with it
 abbrev pub new_option : CommandName → OptionValues → ℕ → Option OptionName → Result OptionName WordsError

@@ -14,12 +14,15 @@ use Rattle.rec_portable.specs.declared.errors.PortableRecordingReadError.{Portab
 use Rattle.rec_portable.specs.Errors.{source_error}
 use Rattle.rec_portable.specs.Judging.{judged}
 use Rattle.rec_portable.specs.OuterEntries.{log_part}
+use Rattle.rec_replay.specs.declared.output_load.LoadOutput.{LoadOutput}
 use Rattle.rec_trace.specs.declared.errors.ChromeTraceError.{ChromeTraceError}
+use Rattle.rec_reading.specs.declared.errors.ListingError.{ListingError}
+use Rattle.rec_reading.specs.Listing.{replay_of, report_of}
 use Rattle.rec_program.specs.declared.reading_error.ReadingError.TheVariants.{OutOfMemory}
 use Rattle.rec_program.specs.declared.reading_error.ReadingError.{ReadingError}
 use Rattle.rec_program.specs.declared.settings.Settings.{Settings}
 use Rattle.rec_program.specs.LogTraces.{bundle_trace, log_lines, log_refusal}
-use Rattle.rec_program.specs.ReadingErrors.{bundle_error, trace_error}
+use Rattle.rec_program.specs.ReadingErrors.{bundle_error, listing_error, trace_error}
 
 -- ---- what each command prints of the entries of a bundle, or why it prints nothing
 
@@ -51,6 +54,19 @@ trace_of settings es =
     part (judged settings.read_limit es) >>= (λ manifest.
     part (log_part settings.read_limit es) >>= (λ log.
     trace_of_parts settings manifest log))
+
+-- what is printed of events, or why nothing is
+abbrev pub listed : {A : Type 0} → Result A ListingError → Result A ReadingError
+listed (Ok text) = Ok text
+listed (Err e) = Err (listing_error e)
+
+-- `replay` prints the lines of the events
+unfoldable pub replay_printed : LoadOutput → ℕ → List Entry → Result (List ℕ) ReadingError
+replay_printed load limit es = listed (replay_of load limit es)
+
+-- `report` prints the reports; the manifest is judged before, though nothing of it is printed
+unfoldable pub report_printed : ℕ → List Entry → Result (List ℕ) ReadingError
+report_printed limit es = part (judged limit es) >>= (λ manifest. listed (report_of limit es))
 
 -- a function answers this text or this refusal, but for want of memory
 abbrev pub Makes : Result (List ℕ) ReadingError → Result (Vec ℕ Global) ReadingError → Type 0

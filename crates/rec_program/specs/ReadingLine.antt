@@ -1,7 +1,5 @@
--- The line of a bundle that isn't read, or that has no trace.
+-- The line of a bundle that isn't read, or of which a command prints nothing.
 use Rattle.std.specs.Prelude.{ℕ, List, codes}
-use Rattle.rec_container.specs.declared.errors.ContainerError.TheVariants as containers
-use Rattle.rec_container.specs.declared.errors.ContainerError.{ContainerError}
 use Rattle.rec_format.specs.declared.incompatibility.PortableRecordingVersionIncompatibility.TheVariants as bundles
 use Rattle.rec_format.specs.declared.incompatibility.PortableRecordingVersionIncompatibility.{PortableRecordingVersionIncompatibility}
 use Rattle.rec_format.specs.declared.incompatibility.StoreVersionIncompatibility.TheVariants as stores
@@ -16,19 +14,10 @@ use Rattle.rec_trace.specs.declared.errors.ChromeTraceError.TheVariants.{ReadErr
 use Rattle.rec_trace.specs.declared.errors.ChromeTraceError.{ChromeTraceError}
 use Rattle.rec_program.specs.declared.reading_error.ReadingError.TheVariants as reading
 use Rattle.rec_program.specs.declared.reading_error.ReadingError.{ReadingError}
-use Rattle.rec_program.specs.FaultLine.{Shown, Fields, text, number, variant, no_fields, field, unnamed, at_place, line, export_name, export_fields}
+use Rattle.rec_program.specs.FaultLine.{Shown, Fields, text, number, variant, no_fields, field, unnamed, line, export_name, export_fields, container_shown}
 use Rattle.rec_program.specs.LineFaults.{line_fault}
+use Rattle.rec_program.specs.ReplayLine.{part_name, part_fields, conversion_name, conversion_fields, junit_name}
 use Rattle.rec_program.specs.TraceFaults.{trace_fault}
-
--- what is wrong with the bytes of a container
-abbrev pub container_shown : ContainerError → Shown
-container_shown containers.BadMagic = variant (codes "BadMagic") no_fields
-container_shown (containers.Truncated at) = variant (codes "Truncated") (at_place at)
-container_shown (containers.BadTag at) = variant (codes "BadTag") (at_place at)
-container_shown (containers.BadName at) = variant (codes "BadName") (at_place at)
-container_shown (containers.DuplicateName at) = variant (codes "DuplicateName") (at_place at)
-container_shown (containers.TrailingBytes at) = variant (codes "TrailingBytes") (at_place at)
-container_shown containers.OutOfMemory = variant (codes "OutOfMemory") no_fields
 
 -- what to do with a recording that is too old
 abbrev pub guidance_shown : TooOldRecordingGuidance → Shown
@@ -102,11 +91,19 @@ trace_fields e = export_fields (trace_fault e)
 abbrev pub reading_name : ReadingError → List ℕ
 reading_name (reading.Bundle e) = bundle_name e
 reading_name (reading.Trace e) = trace_name e
+reading_name (reading.Part e) = part_name e
+reading_name (reading.Line e) = export_name (line_fault e)
+reading_name (reading.Conversion e) = conversion_name e
+reading_name (reading.Report e) = junit_name e
 reading_name reading.OutOfMemory = codes "OutOfMemory"
 
 abbrev pub reading_fields : ReadingError → Fields
 reading_fields (reading.Bundle e) = bundle_fields e
 reading_fields (reading.Trace e) = trace_fields e
+reading_fields (reading.Part e) = part_fields e
+reading_fields (reading.Line e) = export_fields (line_fault e)
+reading_fields (reading.Conversion e) = conversion_fields e
+reading_fields (reading.Report e) = no_fields
 reading_fields reading.OutOfMemory = no_fields
 
 unfoldable pub reading_line : ReadingError → List ℕ

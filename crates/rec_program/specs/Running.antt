@@ -5,6 +5,7 @@ use Rattle.std.specs.Prelude.{◌≡◌, ℕ, List, Option, Ok, Err, Result, Vec
 use Rattle.rec_container.specs.Causes.{Rose}
 use Rattle.rec_container.specs.Container.{Entry}
 use Rattle.rec_container.specs.Taking.{TookPart}
+use Rattle.rec_sample.specs.Session.{sample_session}
 use Rattle.rec_program.specs.declared.counts.Exported.{Exported}
 use Rattle.rec_program.specs.declared.reading_error.ReadingError.{ReadingError}
 use Rattle.rec_program.specs.declared.refusal.RecordExportError.{RecordExportError}
@@ -13,12 +14,13 @@ use Rattle.rec_program.specs.declared.usage.TheConstants.{USAGE}
 use Rattle.rec_program.specs.declared.words.WordsError.{WordsError}
 use Rattle.rec_program.specs.Export.{Exports, Fails}
 use Rattle.rec_program.specs.FaultLine.{words_line, export_line, sink_line}
-use Rattle.rec_program.specs.ReadingCommands.{Shows, Withholds, info_of, trace_of}
+use Rattle.rec_program.specs.ReadingCommands.{Shows, Withholds, info_of, replay_printed, report_printed, trace_of}
 use Rattle.rec_program.specs.ReadingLine.{reading_line}
 use Rattle.rec_program.specs.Reporting.{Reports}
+use Rattle.rec_program.specs.Samples.{SampleFails, Samples}
 use Rattle.rec_program.specs.Status.{export_status, reading_status}
 use Rattle.rec_program.specs.Usage.{versions_text}
-use Rattle.rec_program.specs.Words.{Asked, recording, tracing, informing, help, version}
+use Rattle.rec_program.specs.Words.{Asked, recording, tracing, replaying, reporting, informing, sampling, help, version}
 
 module _ {T G : Type 0} (out_taken : T → Option (List ℕ)) (out_faults : T → ℕ) (diag_taken : G → Option (List ℕ)) (diag_faults : G → ℕ) where
   -- the text was printed; or the output failed, which was reported
@@ -49,6 +51,15 @@ module _ {S B T G : Type 0} (left : S → Option (List ℕ)) (source_faults : S 
       ⊎ ((e : RecordExportError) × (status ≡ export_status e) × Fails left source_faults taken bundle_faults out_taken out_faults number settings s0 s1 b0 b1 o0 o1 e
       × Reports diag_taken diag_faults d0 d1 (export_line e))
 
+module _ {B T G : Type 0} (taken : B → Option (List ℕ)) (bundle_faults : B → ℕ) (out_taken : T → Option (List ℕ)) (out_faults : T → ℕ)
+    (diag_taken : G → Option (List ℕ)) (diag_faults : G → ℕ) (number : List ℕ → ℕ) where
+  -- the made session was recorded, and the line with its counts was printed; or it wasn't, and the cause is the status and is reported
+  abbrev pub RecordsSample : Settings → List ℕ → ℕ → B → B → T → T → G → G → Type 0
+  RecordsSample settings session status b0 b1 o0 o1 d0 d1 =
+      ((line : List ℕ) × Samples taken number settings session b0 b1 line × Prints out_taken out_faults diag_taken diag_faults line status o0 o1 d0 d1)
+      ⊎ ((e : RecordExportError) × (status ≡ export_status e) × SampleFails taken bundle_faults number settings session b0 b1 e × (o1 ≡ o0)
+      × Reports diag_taken diag_faults d0 d1 (export_line e))
+
 module _ {S B T G : Type 0} (left : S → Option (List ℕ)) (source_faults : S → ℕ) (taken : B → Option (List ℕ)) (bundle_faults : B → ℕ)
     (out_taken : T → Option (List ℕ)) (out_faults : T → ℕ) (diag_taken : G → Option (List ℕ)) (diag_faults : G → ℕ) (number : List ℕ → ℕ) where
   -- what the program does for the command that its words are; faulty words touch nothing, and are reported
@@ -57,8 +68,14 @@ module _ {S B T G : Type 0} (left : S → Option (List ℕ)) (source_faults : S 
       Records left source_faults taken bundle_faults out_taken out_faults diag_taken diag_faults number settings status s0 s1 b0 b1 o0 o1 d0 d1
   Runs (Ok (tracing settings)) status s0 s1 b0 b1 o0 o1 d0 d1 =
       ShowsBundle left source_faults out_taken out_faults diag_taken diag_faults (trace_of settings) settings.session_limit status s0 s1 o0 o1 d0 d1 × (b1 ≡ b0)
+  Runs (Ok (replaying output settings)) status s0 s1 b0 b1 o0 o1 d0 d1 =
+      ShowsBundle left source_faults out_taken out_faults diag_taken diag_faults (replay_printed output settings.read_limit) settings.session_limit status s0 s1 o0 o1 d0 d1 × (b1 ≡ b0)
+  Runs (Ok (reporting settings)) status s0 s1 b0 b1 o0 o1 d0 d1 =
+      ShowsBundle left source_faults out_taken out_faults diag_taken diag_faults (report_printed settings.read_limit) settings.session_limit status s0 s1 o0 o1 d0 d1 × (b1 ≡ b0)
   Runs (Ok (informing settings)) status s0 s1 b0 b1 o0 o1 d0 d1 =
       ShowsBundle left source_faults out_taken out_faults diag_taken diag_faults (info_of settings.read_limit) settings.session_limit status s0 s1 o0 o1 d0 d1 × (b1 ≡ b0)
+  Runs (Ok (sampling n path settings)) status s0 s1 b0 b1 o0 o1 d0 d1 =
+      RecordsSample taken bundle_faults out_taken out_faults diag_taken diag_faults number settings (sample_session n) status b0 b1 o0 o1 d0 d1 × (s1 ≡ s0)
   Runs (Ok help) status s0 s1 b0 b1 o0 o1 d0 d1 = Prints out_taken out_faults diag_taken diag_faults USAGE.now status o0 o1 d0 d1 × (s1 ≡ s0) × (b1 ≡ b0)
   Runs (Ok version) status s0 s1 b0 b1 o0 o1 d0 d1 = Prints out_taken out_faults diag_taken diag_faults versions_text status o0 o1 d0 d1 × (s1 ≡ s0) × (b1 ≡ b0)
   Runs (Err fault) status s0 s1 b0 b1 o0 o1 d0 d1 =

@@ -54,6 +54,7 @@ fn words_name(fault: &WordsError) -> &'static str
         WordsError::NoCommand => "NoCommand",
         WordsError::UnknownCommand { .. } => "UnknownCommand",
         WordsError::MissingPositional { .. } => "MissingPositional",
+        WordsError::BadNumber { .. } => "BadNumber",
         WordsError::UnknownOption { .. } => "UnknownOption",
         WordsError::RepeatedOption { .. } => "RepeatedOption",
         WordsError::MissingValue { .. } => "MissingValue",
@@ -69,6 +70,7 @@ fn words_fields(fault: &WordsError) -> Fields<'_>
         WordsError::NoCommand => no_fields(),
         WordsError::UnknownCommand { at }
         | WordsError::MissingPositional { at }
+        | WordsError::BadNumber { at }
         | WordsError::UnknownOption { at }
         | WordsError::RepeatedOption { at }
         | WordsError::MissingValue { at }

@@ -4,10 +4,11 @@ ghost use Rattle.rec_format.specs.Incompatibility.{release_text};
 ghost use Rattle.rec_format.specs.Versions.{version_text};
 ghost use Rattle.rec_trace.specs.declared.spans.SpanKey.TheVariants.{Test};
 ghost use Rattle.rec_program.specs.declared.refusal.RecordExportError.TheVariants.{MissingScriptStart, MissingTestStart};
-ghost use Rattle.rec_program.specs.FaultLine.{export_fields, fields_text, optional_number, shown_text, span_shown};
+ghost use Rattle.rec_program.specs.FaultLine.{container_shown, export_fields, fields_text, optional_number, shown_text, span_shown};
 ghost use Rattle.rec_program.specs.LinePieces.{fields_bytes, value_bytes};
 
 use crate::line::{Field, FieldValue, Fields};
+use rec_container::ContainerError;
 use rec_events::{OwnedTestInstanceId, RustBinaryId, ScriptId, TestCaseName};
 use rec_format::Release;
 use rec_trace::SpanKey;
@@ -164,4 +165,26 @@ fn open_test(event: u64, test: &OwnedTestInstanceId) -> Fields<'_>
         NOTHING,
         NOTHING,
     ]
+}
+
+/// Returns what is wrong with the bytes of a container, and where.
+pub fn container_fault<'a>(fault: &ContainerError) -> (Field<'a>, Field<'a>)
+    ensures { (rest : List ℕ) → fields_bytes (result.0 ∷ result.1 ∷ []) rest ≡ codes " fault=" ++ shown_text (container_shown fault.now) rest }
+{
+    match fault {
+        ContainerError::BadMagic => (text(" fault=", "BadMagic"), NOTHING),
+        ContainerError::Truncated { at } => fault_at("Truncated", *at),
+        ContainerError::BadTag { at } => fault_at("BadTag", *at),
+        ContainerError::BadName { at } => fault_at("BadName", *at),
+        ContainerError::DuplicateName { at } => fault_at("DuplicateName", *at),
+        ContainerError::TrailingBytes { at } => fault_at("TrailingBytes", *at),
+        ContainerError::OutOfMemory => (text(" fault=", "OutOfMemory"), NOTHING),
+    }
+}
+
+/// Returns the name of a fault in bytes, and where it stands.
+fn fault_at(name: &str, at: usize) -> (Field<'_>, Field<'_>)
+    ensures { (rest : List ℕ) → fields_bytes (result.0 ∷ result.1 ∷ []) rest ≡ codes " fault=" ++ (name.now ++ (codes " at=" ++ (decimal at ++ rest))) }
+{
+    (text(" fault=", name), number(" at=", at as u64))
 }

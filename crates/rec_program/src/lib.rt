@@ -1,5 +1,6 @@
-//! What the program `rezovamy` does: it records a test run into a portable bundle, draws the trace of a run that
-//! it records or that a bundle holds, and prints the manifest of a bundle.
+//! What the program `rezovamy` does: it records a test run, or one that it makes, into a portable bundle, draws the
+//! trace of a run that it records or that a bundle holds, and prints the events, the reports and the manifest of a
+//! bundle.
 //!
 //! The program itself only hands over the words, the standard streams and the file. So whatever it promises is a
 //! clause of `run_program`, and others can call `record_and_export` with a source, a namer and sinks of their own.
@@ -24,6 +25,8 @@ mod reading_error;
 mod reading_line;
 mod record;
 mod refusal;
+mod replay_line;
+mod sample;
 mod settings;
 mod sizes;
 mod status;

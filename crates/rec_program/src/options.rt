@@ -1,10 +1,12 @@
 //! The options of the commands.
-ghost use Rattle.std.specs.Prelude.{◌≡◌};
-ghost use Rattle.rec_program.specs.Options.{group_by_of, has_come, new_option, no_values, number_of, option_named, options_at, settings_from, settings_of, takes, values_from, with_value};
+ghost use Rattle.std.specs.Prelude.{◌≡◌, ◌≤◌, IfSome};
+ghost use Rattle.rec_program.specs.Options.{group_by_of, has_come, load_of, new_option, no_values, number_of, option_named, options_at, output_of, settings_from, settings_of, takes, tests_of, values_from, with_value};
 ghost use Rattle.rec_program.specs.Words.{texts};
 
 use crate::settings::Settings;
 use crate::words::WordsError;
+use rec_replay::LoadOutput;
+use rec_sample::MAX_TESTS;
 use rec_trace::ChromeTraceGroupBy;
 
 /// Names a command that takes options.
@@ -12,7 +14,10 @@ use rec_trace::ChromeTraceGroupBy;
 pub enum CommandName {
     Record,
     Trace,
+    Replay,
+    Report,
     Info,
+    Sample,
 }
 
 impl CommandName {
@@ -22,12 +27,23 @@ impl CommandName {
     {
         match option {
             OptionName::GroupBy => match self {
-                CommandName::Record | CommandName::Trace => true,
-                CommandName::Info => false,
+                CommandName::Record | CommandName::Trace | CommandName::Sample => true,
+                CommandName::Replay | CommandName::Report | CommandName::Info => false,
             },
             OptionName::MaxOutput => match self {
-                CommandName::Record => true,
-                CommandName::Trace | CommandName::Info => false,
+                CommandName::Record | CommandName::Sample => true,
+                CommandName::Trace
+                | CommandName::Replay
+                | CommandName::Report
+                | CommandName::Info => false,
+            },
+            OptionName::Output => match self {
+                CommandName::Replay => true,
+                CommandName::Record
+                | CommandName::Trace
+                | CommandName::Report
+                | CommandName::Info
+                | CommandName::Sample => false,
             },
             OptionName::ReadLimit | OptionName::SessionLimit => true,
         }
@@ -38,8 +54,9 @@ impl CommandName {
         ensures { result ≡ options_at self }
     {
         match self {
+            CommandName::Sample => 3,
             CommandName::Record => 2,
-            CommandName::Trace | CommandName::Info => 1,
+            CommandName::Trace | CommandName::Replay | CommandName::Report | CommandName::Info => 1,
         }
     }
 }
@@ -51,6 +68,7 @@ pub enum OptionName {
     MaxOutput,
     ReadLimit,
     SessionLimit,
+    Output,
 }
 
 /// Holds the values that options have. One is `None` until its option comes.
@@ -60,6 +78,7 @@ pub struct OptionValues {
     pub max_output: Option<u64>,
     pub read_limit: Option<u64>,
     pub session_limit: Option<u64>,
+    pub output: Option<LoadOutput>,
 }
 
 impl OptionValues {
@@ -71,6 +90,7 @@ impl OptionValues {
             max_output: None,
             read_limit: None,
             session_limit: None,
+            output: None,
         }
     }
 
@@ -83,6 +103,7 @@ impl OptionValues {
             OptionName::MaxOutput => self.max_output.is_some(),
             OptionName::ReadLimit => self.read_limit.is_some(),
             OptionName::SessionLimit => self.session_limit.is_some(),
+            OptionName::Output => self.output.is_some(),
         }
     }
 
@@ -96,12 +117,13 @@ impl OptionValues {
             OptionName::MaxOutput => values.max_output = Some(number(text)?),
             OptionName::ReadLimit => values.read_limit = Some(number(text)?),
             OptionName::SessionLimit => values.session_limit = Some(number(text)?),
+            OptionName::Output => values.output = Some(output(text)?),
         }
         Some(values)
     }
 
     /// Returns the settings: these values, and the defaults where an option didn't come.
-    fn settings(&self) -> Settings
+    pub fn settings(&self) -> Settings
         ensures { result ≡ settings_of self.now }
     {
         let defaults = Settings::default();
@@ -112,6 +134,13 @@ impl OptionValues {
             read_limit: self.read_limit.unwrap_or(defaults.read_limit),
             session_limit: self.session_limit.unwrap_or(defaults.session_limit),
         }
+    }
+
+    /// Returns whether outputs are loaded: as the option says, or that they are.
+    pub fn load_output(&self) -> LoadOutput
+        ensures { result ≡ load_of self.now }
+    {
+        self.output.unwrap_or(LoadOutput::Load)
     }
 
     /// Returns the option that a word names, where the command takes it and it didn't come before.
@@ -149,8 +178,8 @@ pub fn read_settings(command: CommandName, words: &[String]) -> Result<Settings,
     Ok(values.settings())
 }
 
-/// Reads options and their values, up to the last word.
-fn read_options(command: CommandName, words: &[String]) -> Result<OptionValues, WordsError>
+/// Reads options of a command and their values, up to the last word.
+pub fn read_options(command: CommandName, words: &[String]) -> Result<OptionValues, WordsError>
     ensures { result ≡ values_from command no_values (options_at command) (texts words.now) }
 {
     let mut values = OptionValues::none();
@@ -181,6 +210,7 @@ fn option_named(word: &str) -> Option<OptionName>
         "--max-output" => Some(OptionName::MaxOutput),
         "--read-limit" => Some(OptionName::ReadLimit),
         "--session-limit" => Some(OptionName::SessionLimit),
+        "--output" => Some(OptionName::Output),
         _ => None,
     }
 }
@@ -195,6 +225,31 @@ fn group_by(word: &str) -> Option<ChromeTraceGroupBy>
         "slot" => Some(ChromeTraceGroupBy::Slot),
         _ => None,
     }
+}
+
+/// Returns whether outputs are loaded, by a word for it.
+#[tactic(auto, unfolding(crate::specs::Options::output_of))]
+fn output(word: &str) -> Option<LoadOutput>
+    ensures { result ≡ output_of word.now }
+{
+    match word {
+        "load" => Some(LoadOutput::Load),
+        "skip" => Some(LoadOutput::Skip),
+        _ => None,
+    }
+}
+
+/// Reads the number of tests of a made session, which is at most [`MAX_TESTS`].
+#[tactic(auto, unfolding(crate::specs::Options::tests_of))]
+pub fn tests(text: &str) -> Option<u64>
+    ensures value { result ≡ tests_of text.now }
+    ensures within { IfSome result (λ n. n ≤ 10000) }
+{
+    let number = number(text)?;
+    if number > MAX_TESTS {
+        return None;
+    }
+    Some(number)
 }
 
 /// Reads a number of one or more decimal digits. Unlike `parse`, it refuses a sign.

@@ -8,21 +8,26 @@ ghost use Rattle.rec_format.specs.declared.manifest.PortableManifest.{PortableMa
 ghost use Rattle.rec_store.specs.Namer.{sha256_number};
 ghost use Rattle.rec_portable.specs.Judging.{judged};
 ghost use Rattle.rec_portable.specs.OuterEntries.{log_part};
+ghost use Rattle.rec_replay.specs.declared.output_load.LoadOutput.{LoadOutput};
 ghost use Rattle.rec_trace.specs.Kinds.{history};
 ghost use Rattle.rec_trace.specs.Timeline.{IsTimeline};
+ghost use Rattle.rec_reading.specs.Listing.{replay_of, report_of};
+ghost use Rattle.rec_sample.specs.Session.{sample_session};
 ghost use Rattle.rec_program.specs.Bundle.{AreOf, session_refusal};
 ghost use Rattle.rec_program.specs.declared.counts.Exported.{Exported};
 ghost use Rattle.rec_program.specs.declared.settings.Settings.{Settings};
 ghost use Rattle.rec_program.specs.Export.{Exports};
 ghost use Rattle.rec_program.specs.LogTraces.{bundle_trace, log_lines, log_refusal, plain_log};
 ghost use Rattle.rec_program.specs.ReadingCommands.{manifest_line};
-ghost use Rattle.rec_program.specs.Running.{Prints, Records, Runs, ShowsMade};
-ghost use Rattle.rec_program.specs.Words.{command, informing, recording, texts, tracing};
+ghost use Rattle.rec_program.specs.Running.{Prints, Records, RecordsSample, Runs, ShowsMade};
+ghost use Rattle.rec_program.specs.Samples.{TakesSample, session_counts};
+ghost use Rattle.rec_program.specs.Words.{command, informing, recording, replaying, reporting, sampling, texts, tracing};
 
 use crate::export::record_and_export;
 use crate::fault_line::report;
-use crate::reading::{read_info, read_trace};
+use crate::reading::{read_info, read_replay, read_report, read_trace};
 use crate::reading_error::ReadingError;
+use crate::sample::record_sample;
 use crate::settings::Settings;
 use crate::status::{FAULTY_WORDS, OUTPUT_FAILED, SUCCESS, export_status, reading_status};
 use crate::usage::{USAGE, versions};
@@ -118,6 +123,36 @@ pub fn run_program<S: Source, B: Sink, T: Sink, G: Sink>(
         → result ≡ 0
         → Appends (T.taken out.old) (T.taken out.new) trace }
 
+    // Status 0 of `replay`: the source was read to its end, its bytes are a bundle, and `out` took the line of its head and the lines
+    // of the events of its log.
+    ensures replayed { (output : LoadOutput) (settings : Settings)
+        → command (texts words.now) ≡ Ok (replaying output settings)
+        → result ≡ 0
+        → (bytes : List ℕ) × (es : List Entry) × (text : List ℕ)
+        × Gave S.left S.faults settings.session_limit source.old source.new bytes
+        × IsContainer bytes es
+        × (replay_of output settings.read_limit es ≡ Ok text)
+        × Appends (T.taken out.old) (T.taken out.new) text }
+
+    // Status 0 of `report`: the source was read to its end, its bytes are a bundle, and `out` took its reports, a line each.
+    ensures reported { (settings : Settings)
+        → command (texts words.now) ≡ Ok (reporting settings)
+        → result ≡ 0
+        → (bytes : List ℕ) × (es : List Entry) × (manifest : PortableManifest) × (text : List ℕ)
+        × Gave S.left S.faults settings.session_limit source.old source.new bytes
+        × IsContainer bytes es
+        × (judged settings.read_limit es ≡ Ok manifest)
+        × (report_of settings.read_limit es ≡ Ok text)
+        × Appends (T.taken out.old) (T.taken out.new) text }
+
+    // Status 0 of `sample`: the bundle's sink took the bundle of the made session, and `out` the line that counts its events and the
+    // outputs that are stored of it.
+    ensures sampled { (n : ℕ) (path : List ℕ) (settings : Settings)
+        → command (texts words.now) ≡ Ok (sampling n path settings)
+        → result ≡ 0
+        → TakesSample B.taken sha256_number settings (sample_session n) bundle.old bundle.new
+        × Appends (T.taken out.old) (T.taken out.new) (session_counts sha256_number settings (sample_session n)) }
+
     // The manifest of a bundle within the limits is printed, unless memory runs out or an object fails.
     ensures informed_complete { (settings : Settings) (bytes : List ℕ) (es : List Entry) (manifest : PortableManifest)
         → command (texts words.now) ≡ Ok (informing settings)
@@ -139,6 +174,36 @@ pub fn run_program<S: Source, B: Sink, T: Sink, G: Sink>(
         → log_part settings.read_limit es ≡ Ok log
         → log_refusal settings.group_by (log_lines log) ≡ None
         → ¬ Rose (S.faults source.old) (S.faults source.new)
+        → ¬ Rose (T.faults out.old) (T.faults out.new)
+        → (result ≡ 0) ⊎ (result ≡ 70) }
+
+    // So are the events, where none of them is refused, and so are the reports.
+    ensures replayed_complete { (output : LoadOutput) (settings : Settings) (bytes : List ℕ) (es : List Entry) (text : List ℕ)
+        → command (texts words.now) ≡ Ok (replaying output settings)
+        → S.left source.old ≡ Some bytes
+        → length bytes ≤ settings.session_limit
+        → IsContainer bytes es
+        → replay_of output settings.read_limit es ≡ Ok text
+        → ¬ Rose (S.faults source.old) (S.faults source.new)
+        → ¬ Rose (T.faults out.old) (T.faults out.new)
+        → (result ≡ 0) ⊎ (result ≡ 70) }
+    ensures reported_complete { (settings : Settings) (bytes : List ℕ) (es : List Entry) (manifest : PortableManifest) (text : List ℕ)
+        → command (texts words.now) ≡ Ok (reporting settings)
+        → S.left source.old ≡ Some bytes
+        → length bytes ≤ settings.session_limit
+        → IsContainer bytes es
+        → judged settings.read_limit es ≡ Ok manifest
+        → report_of settings.read_limit es ≡ Ok text
+        → ¬ Rose (S.faults source.old) (S.faults source.new)
+        → ¬ Rose (T.faults out.old) (T.faults out.new)
+        → (result ≡ 0) ⊎ (result ≡ 70) }
+
+    // A made session within the limits is recorded, unless memory runs out or an object fails.
+    ensures sampled_complete { (n : ℕ) (path : List ℕ) (settings : Settings)
+        → command (texts words.now) ≡ Ok (sampling n path settings)
+        → length (sample_session n) ≤ settings.session_limit
+        → session_refusal sha256_number settings (sample_session n) ≡ None
+        → ¬ Rose (B.faults bundle.old) (B.faults bundle.new)
         → ¬ Rose (T.faults out.old) (T.faults out.new)
         → (result ≡ 0) ⊎ (result ≡ 70) }
 {
@@ -166,7 +231,18 @@ fn run<S: Source, B: Sink, T: Sink, G: Sink>(
             },
         ) => record(alloc, &settings, source, bundle, out, diag),
         Ok(Command::Trace { settings }) => show(read_trace(alloc, &settings, source), out, diag),
+        Ok(Command::Replay { output, settings }) => {
+            show(read_replay(alloc, output, &settings, source), out, diag)
+        }
+        Ok(Command::Report { settings }) => show(read_report(alloc, &settings, source), out, diag),
         Ok(Command::Info { settings }) => show(read_info(alloc, &settings, source), out, diag),
+        Ok(
+            Command::Sample {
+                n,
+                bundle: _,
+                settings,
+            },
+        ) => sample(alloc, n, &settings, bundle, out, diag),
         Ok(Command::Help) => print(USAGE.as_bytes(), out, diag),
         Ok(Command::Version) => print(versions().as_bytes(), out, diag),
         Err(fault) => {
@@ -197,6 +273,28 @@ fn record<S: Source, B: Sink, T: Sink, G: Sink>(
     }
 }
 
+/// Records a made session into the bundle, and prints how much was recorded.
+fn sample<B: Sink, T: Sink, G: Sink>(
+    alloc: Global,
+    tests: u64,
+    settings: &Settings,
+    bundle: &mut B,
+    out: &mut T,
+    diag: &mut G,
+) -> u8
+    requires { tests ≤ 10000 }
+    ensures { RecordsSample B.taken B.faults T.taken T.faults G.taken G.faults sha256_number settings.now (sample_session tests)
+        result bundle.old bundle.new out.old out.new diag.old diag.new }
+{
+    match record_sample(alloc, tests, settings, bundle) {
+        Ok(line) => print(line.as_bytes(), out, diag),
+        Err(error) => {
+            report(&error, diag);
+            export_status(&error)
+        }
+    }
+}
+
 /// Prints what was made of a bundle, or reports why nothing was.
 fn show<T: Sink, G: Sink>(made: Result<Vec<u8>, ReadingError>, out: &mut T, diag: &mut G) -> u8
     ensures { ShowsMade T.taken T.faults G.taken G.faults made result
@@ -206,7 +304,10 @@ fn show<T: Sink, G: Sink>(made: Result<Vec<u8>, ReadingError>, out: &mut T, diag
         Ok(text) => print(&text, out, diag),
         Err(error) => {
             report(&error, diag);
-            reading_status(&error)
+            let status = reading_status(&error);
+            // By a call: in place, each error inside would be a case of the proof.
+            drop(error);
+            status
         }
     }
 }

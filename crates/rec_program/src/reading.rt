@@ -3,7 +3,7 @@ ghost use Rattle.std.specs.Prelude.{◌≡◌, List, [], IfOk, IfErr};
 ghost use Rattle.rec_container.specs.Container.{Entry, IsContainer};
 ghost use Rattle.rec_portable.specs.declared.errors.PortableRecordingReadError.{PortableRecordingReadError};
 ghost use Rattle.rec_portable.specs.Opening.{Opens, Unopened};
-ghost use Rattle.rec_program.specs.ReadingCommands.{Makes, Shows, Withholds, info_of, trace_of};
+ghost use Rattle.rec_program.specs.ReadingCommands.{Makes, Shows, Withholds, info_of, listed, replay_printed, report_printed, trace_of};
 ghost use Rattle.rec_program.specs.ReadingErrors.{bundle_error};
 
 use crate::log_trace::trace_of_log;
@@ -12,6 +12,8 @@ use crate::settings::Settings;
 use rec_container::Source;
 use rec_forms::write_text;
 use rec_portable::PortableRecording;
+use rec_reading::{ListingError, replay_text, report_text};
+use rec_replay::LoadOutput;
 use std::alloc::Global;
 
 /// Reads the bundle of a source, and makes the text that `info` prints: its manifest and LF.
@@ -52,6 +54,60 @@ pub fn read_trace<S: Source>(
     // By a call, as in `read_info`.
     drop(bundle);
     result
+}
+
+/// Reads the bundle of a source, and makes the text that `replay` prints: a line for its head, and one for each
+/// event of its log.
+///
+/// # Errors
+///
+/// Why the bundle, its log or its store isn't read, why the first line of the log that fails gives no line, or
+/// `OutOfMemory`.
+pub fn read_replay<S: Source>(
+    alloc: Global,
+    load_output: LoadOutput,
+    settings: &Settings,
+    source: &mut S,
+) -> Result<Vec<u8>, ReadingError>
+    ensures ok { IfOk result (λ text. Shows S.left S.faults (replay_printed load_output settings.now.read_limit) settings.now.session_limit source.old source.new text.items) }
+    ensures err { IfErr result (Withholds S.left S.faults (replay_printed load_output settings.now.read_limit) settings.now.session_limit source.old source.new) }
+{
+    let bundle = open_bundle(alloc, settings, source)?;
+    let made = replay_text(alloc, &bundle, load_output);
+    // By a call, as in `read_info`.
+    drop(bundle);
+    listed(made)
+}
+
+/// Reads the bundle of a source, and makes the text that `report` prints: a line for each report.
+///
+/// # Errors
+///
+/// Why the bundle, its log or its store isn't read, why the first line of the log that fails can't be reported, or
+/// `OutOfMemory`.
+pub fn read_report<S: Source>(
+    alloc: Global,
+    settings: &Settings,
+    source: &mut S,
+) -> Result<Vec<u8>, ReadingError>
+    ensures ok { IfOk result (λ text. Shows S.left S.faults (report_printed settings.now.read_limit) settings.now.session_limit source.old source.new text.items) }
+    ensures err { IfErr result (Withholds S.left S.faults (report_printed settings.now.read_limit) settings.now.session_limit source.old source.new) }
+{
+    let bundle = open_bundle(alloc, settings, source)?;
+    let made = report_text(alloc, &bundle);
+    // By a call, as in `read_info`.
+    drop(bundle);
+    listed(made)
+}
+
+/// Returns what was made of a bundle's events, or why nothing was as a reading command says it.
+fn listed(made: Result<Vec<u8>, ListingError>) -> Result<Vec<u8>, ReadingError>
+    ensures { result ≡ listed made }
+{
+    match made {
+        Ok(text) => Ok(text),
+        Err(error) => Err(ReadingError::from(error)),
+    }
 }
 
 /// Reads the bundle of a source. It stands on no path.

@@ -1,20 +1,22 @@
-//! The line of a bundle that isn't read, or that has no trace.
+//! The line of a bundle that isn't read, or of which a command prints nothing.
 ghost use Rattle.std.specs.Prelude.{◌≡◌, ◌++◌, ◌∷◌, [], ℕ, List, codes, decimal};
 ghost use Rattle.rec_format.specs.declared.incompatibility.StoreVersionIncompatibility.TheVariants.{RecordingTooOld};
 ghost use Rattle.rec_format.specs.Versions.{version_text};
 ghost use Rattle.rec_portable.specs.declared.errors.PortableRecordingReadError.TheVariants.{NotAWrapperArchive, ReadArchive};
 ghost use Rattle.rec_trace.specs.declared.errors.ChromeTraceError.TheVariants.{ReadError};
-ghost use Rattle.rec_program.specs.FaultLine.{fields_text, no_fields, shown_text};
+ghost use Rattle.rec_program.specs.FaultLine.{export_fields, export_name, fields_text, no_fields, shown_text};
+ghost use Rattle.rec_program.specs.LineFaults.{line_fault};
 ghost use Rattle.rec_program.specs.LinePieces.{fields_bytes};
 ghost use Rattle.rec_program.specs.ReadingLine.{bundle_fields, bundle_name, bundle_version_shown, guidance_shown, majors, minors, reading_fields, reading_line, reading_name, store_version_shown, trace_fields, trace_name, unsupported};
 
 use crate::fault_line::FaultLine;
 use crate::fields::{
-    NOTHING, event_number, missing_script, missing_test, no_fields, number, one, open_span,
-    release, text, three, two, version,
+    NOTHING, container_fault, event_number, missing_script, missing_test, no_fields, number, one,
+    open_span, release, text, three, two, version,
 };
 use crate::line::{FaultText, Field, Fields};
 use crate::reading_error::ReadingError;
+use crate::replay_line::{conversion_fields, conversion_name, junit_name, part_line, part_name};
 use rec_codec::LineError;
 use rec_container::ContainerError;
 use rec_format::{
@@ -44,6 +46,10 @@ fn reading_name(error: &ReadingError) -> &'static str
     match error {
         ReadingError::Bundle(error) => bundle_name(error),
         ReadingError::Trace(error) => trace_name(error),
+        ReadingError::Part(error) => part_name(error),
+        ReadingError::Line(error) => line_name(*error),
+        ReadingError::Conversion(error) => conversion_name(error),
+        ReadingError::Report(error) => junit_name(*error),
         ReadingError::OutOfMemory => "OutOfMemory",
     }
 }
@@ -55,7 +61,10 @@ fn reading_fields(error: &ReadingError) -> Fields<'_>
     match error {
         ReadingError::Bundle(error) => bundle_fields(error),
         ReadingError::Trace(error) => trace_fields(error),
-        ReadingError::OutOfMemory => no_fields(),
+        ReadingError::Part(error) => part_line(error),
+        ReadingError::Line(error) => line_number(*error),
+        ReadingError::Conversion(error) => conversion_fields(error),
+        ReadingError::Report(_) | ReadingError::OutOfMemory => no_fields(),
     }
 }
 
@@ -134,22 +143,8 @@ fn entry_counts<'a>(file_count: usize, zip_count: usize) -> Fields<'a>
 fn archive_fields<'a>(fault: &ContainerError) -> Fields<'a>
     ensures { (rest : List ℕ) → fields_bytes result rest ≡ fields_text (bundle_fields (ReadArchive fault.now)) rest }
 {
-    match fault {
-        ContainerError::BadMagic => one(text(" fault=", "BadMagic")),
-        ContainerError::Truncated { at } => fault_at("Truncated", *at),
-        ContainerError::BadTag { at } => fault_at("BadTag", *at),
-        ContainerError::BadName { at } => fault_at("BadName", *at),
-        ContainerError::DuplicateName { at } => fault_at("DuplicateName", *at),
-        ContainerError::TrailingBytes { at } => fault_at("TrailingBytes", *at),
-        ContainerError::OutOfMemory => one(text(" fault=", "OutOfMemory")),
-    }
-}
-
-/// Returns what is wrong with bytes, and where.
-fn fault_at(name: &str, at: usize) -> Fields<'_>
-    ensures { (rest : List ℕ) → fields_bytes result rest ≡ codes " fault=" ++ (name.now ++ (codes " at=" ++ (decimal at ++ rest))) }
-{
-    two(text(" fault=", name), number(" at=", at as u64))
+    let (name, at) = container_fault(fault);
+    two(name, at)
 }
 
 /// Returns the version of a bundle that was found and the one that is supported, and why they don't fit.
@@ -358,6 +353,29 @@ fn trace_fields(error: &ChromeTraceError) -> Fields<'_>
         }
         ChromeTraceError::SpanAlreadyOpen { event, span } => open_span(*event, span),
         ChromeTraceError::OutOfMemory => no_fields(),
+    }
+}
+
+/// Returns the name of the fault of a line.
+fn line_name(fault: LineError) -> &'static str
+    ensures { result.now ≡ export_name (line_fault fault) }
+{
+    match fault {
+        LineError::ReadRunLog { .. } => "ReadRunLog",
+        LineError::ParseEvent { .. } => "ParseEvent",
+        LineError::OutOfMemory => "OutOfMemory",
+    }
+}
+
+/// Returns the number of the line.
+fn line_number<'a>(fault: LineError) -> Fields<'a>
+    ensures { (rest : List ℕ) → fields_bytes result rest ≡ fields_text (export_fields (line_fault fault)) rest }
+{
+    match fault {
+        LineError::ReadRunLog { line_number } | LineError::ParseEvent { line_number } => {
+            one(number(" line_number=", line_number))
+        }
+        LineError::OutOfMemory => no_fields(),
     }
 }
 

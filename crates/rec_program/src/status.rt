@@ -1,11 +1,15 @@
 //! The statuses that the program ends with.
 ghost use Rattle.std.specs.Prelude.{◌≡◌};
-ghost use Rattle.rec_program.specs.Status.{bundle_status, export_status, reading_status, trace_status};
+ghost use Rattle.rec_program.specs.LineFaults.{line_fault};
+ghost use Rattle.rec_program.specs.Status.{bundle_status, conversion_status, export_status, junit_status, part_status, reading_status, trace_status};
 
 use crate::reading_error::ReadingError;
 use crate::refusal::RecordExportError;
 use rec_codec::LineError;
+use rec_junit::JunitError;
 use rec_portable::PortableRecordingReadError;
+use rec_replay::ReplayConversionError;
+use rec_store::RecordReadError;
 use rec_trace::ChromeTraceError;
 
 /// Means that all was done.
@@ -32,6 +36,8 @@ const BUNDLE_FAILED: u8 = 10;
 pub const OUTPUT_FAILED: u8 = 11;
 /// Means that the bytes on standard input are no bundle that is read.
 const NO_BUNDLE: u8 = 12;
+/// Means that an event can't be replayed or reported.
+const NO_EVENT: u8 = 13;
 /// Means that memory ran out.
 pub const OUT_OF_MEMORY: u8 = 70;
 
@@ -68,6 +74,10 @@ pub fn reading_status(error: &ReadingError) -> u8
     match error {
         ReadingError::Bundle(error) => bundle_status(error),
         ReadingError::Trace(error) => trace_status(error),
+        ReadingError::Part(error) => part_status(error),
+        ReadingError::Line(error) => line_status(*error),
+        ReadingError::Conversion(error) => conversion_status(error),
+        ReadingError::Report(error) => junit_status(*error),
         ReadingError::OutOfMemory => OUT_OF_MEMORY,
     }
 }
@@ -109,5 +119,59 @@ fn trace_status(error: &ChromeTraceError) -> u8
         ChromeTraceError::ReadError(LineError::OutOfMemory) | ChromeTraceError::OutOfMemory => {
             OUT_OF_MEMORY
         }
+    }
+}
+
+/// Returns the status for a part of a store that isn't read.
+fn part_status(error: &RecordReadError) -> u8
+    ensures { result ≡ part_status error.now }
+{
+    match error {
+        RecordReadError::FileTooLarge { .. } => ABOVE_READ_LIMIT,
+        RecordReadError::RunNotFound { .. }
+        | RecordReadError::OpenArchive { .. }
+        | RecordReadError::ParseArchive { .. }
+        | RecordReadError::FileNotFound { .. }
+        | RecordReadError::NotUtf8 { .. }
+        | RecordReadError::DeserializeMetadata { .. }
+        | RecordReadError::UnknownOutputType { .. }
+        | RecordReadError::ExtractFile { .. }
+        | RecordReadError::OpenRunLog { .. }
+        | RecordReadError::DiskFault { .. }
+        | RecordReadError::ReadRunLog { .. }
+        | RecordReadError::ParseEvent { .. } => NO_BUNDLE,
+        RecordReadError::OutOfMemory => OUT_OF_MEMORY,
+    }
+}
+
+/// Returns the status for a line that gives no event.
+fn line_status(error: LineError) -> u8
+    ensures { result ≡ export_status (line_fault error) }
+{
+    match error {
+        LineError::ReadRunLog { .. } | LineError::ParseEvent { .. } => FAULTY_LINE,
+        LineError::OutOfMemory => OUT_OF_MEMORY,
+    }
+}
+
+/// Returns the status for an event that isn't replayed.
+fn conversion_status(error: &ReplayConversionError) -> u8
+    ensures { result ≡ conversion_status error.now }
+{
+    match error {
+        ReplayConversionError::TestNotFound { .. }
+        | ReplayConversionError::RecordRead(_)
+        | ReplayConversionError::InvalidStressCount => NO_EVENT,
+        ReplayConversionError::OutOfMemory => OUT_OF_MEMORY,
+    }
+}
+
+/// Returns the status for an event that isn't reported.
+fn junit_status(error: JunitError) -> u8
+    ensures { result ≡ junit_status error }
+{
+    match error {
+        JunitError::NotLoadedOutput | JunitError::SuccessAsFailure => NO_EVENT,
+        JunitError::OutOfMemory => OUT_OF_MEMORY,
     }
 }

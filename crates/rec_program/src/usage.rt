@@ -6,23 +6,33 @@ ghost use Rattle.rec_program.specs.Usage.{versions_text};
 pub const USAGE: &str = "\
 Usage: rezovamy record BUNDLE [OPTION VALUE]..
        rezovamy trace [OPTION VALUE]..
+       rezovamy replay [OPTION VALUE]..
+       rezovamy report [OPTION VALUE]..
        rezovamy info [OPTION VALUE]..
+       rezovamy sample N BUNDLE [OPTION VALUE]..
 
 record reads the session of a test run from standard input, and writes it into
 the file BUNDLE, a portable recording. Its trace, a timeline for trace viewers,
 goes to standard output.
 
-trace and info read such a bundle from standard input. trace prints the trace
-of its log, and info prints its manifest.
+trace, replay, report and info read such a bundle from standard input. trace
+prints the trace of its log, replay the events, a line for each, and report
+what came of the tests, a line of JSON for each run. info prints the manifest.
+
+sample makes a session of N tests, at most 10000, and writes it into the file
+BUNDLE as record does. It prints how many events and outputs were written.
 
 Options, each at most once, with a value after it; limits are in bytes:
-  --group-by       of record and trace: binary draws a process for each test
-                   binary, and slot one process for all (binary)
-  --max-output     of record alone: the most of an output that is kept whole
-                   (10485760)
-  --read-limit     the most of the manifest, of the log and, for record, of
-                   an entry of the store (268435456)
-  --session-limit  the most of what is read from standard input (268435456)
+  --group-by       of record, trace and sample: binary draws a process for each
+                   test binary, and slot one process for all (binary)
+  --max-output     of record and sample: the most of an output that is kept
+                   whole (10485760)
+  --read-limit     the most of the manifest, of the log and of an entry of the
+                   store (268435456)
+  --session-limit  the most of the session or the bundle that is read
+                   (268435456)
+  --output         of replay alone: load reads the outputs of tests, and skip
+                   leaves them out (load)
 
 Other words, each of them alone:
   --help     prints this text
@@ -33,9 +43,9 @@ read, 4 if it is too long, 5 for a faulty line, 6 for other bytes under the
 name of an output, 7 for what is above the read limit, 8 for an event that
 needs what isn't open, starts what is, or takes a slot that is held, 9 for a
 number out of range, 10 if the bundle can't be written, 11 if standard output
-fails, 12 for a bundle that is damaged, incomplete or of another version, and
-70 if memory runs out. With a status other than 0, a line on standard error
-names the cause.
+fails, 12 for a bundle that is damaged, incomplete or of another version, 13
+for an event that can't be replayed or reported, and 70 if memory runs out.
+With a status other than 0, a line on standard error names the cause.
 ";
 
 /// Returns the version of the program, and those of the formats that it writes.

@@ -9,7 +9,7 @@ use std::test::Fail;
 
 #[test]
 fn words_name_a_command_and_a_path(rt: HostRuntime) -> Result<(), Fail> {
-    let cases: [(&[&str], &str, &str); 20] = [
+    let cases: [(&[&str], &str, &str); 30] = [
         (&[], "none", "2 NoCommand\n"),
         (&["rec", "b"], "none", "2 UnknownCommand at=0\n"),
         (&["", "b"], "none", "2 UnknownCommand at=0\n"),
@@ -44,6 +44,16 @@ fn words_name_a_command_and_a_path(rt: HostRuntime) -> Result<(), Fail> {
             "4 SpoolTooLarge limit=9\n",
         ),
         (&["info"], "none", "12 ReadArchive fault=BadMagic\n"),
+        (&["replay", "b"], "none", "2 UnknownOption at=1\n"),
+        (&["replay"], "none", "12 ReadArchive fault=BadMagic\n"),
+        (&["report"], "none", "12 ReadArchive fault=BadMagic\n"),
+        (&["sample"], "none", "2 MissingPositional at=1\n"),
+        (&["sample", "5"], "none", "2 MissingPositional at=2\n"),
+        (&["sample", "10001"], "none", "2 BadNumber at=1\n"),
+        (&["sample", "10001", "b"], "none", "2 BadNumber at=1\n"),
+        (&["sample", "0", "b"], "b", "0 bundle out "),
+        (&["sample", "0", ""], "", "0 bundle out "),
+        (&["sample", "0", "--help"], "--help", "0 bundle out "),
         (&["--help"], "none", "0 out "),
         (&["--version"], "none", "0 out "),
     ];
@@ -73,7 +83,22 @@ fn asked(alloc: Global, text: &str) -> Result<String, AllocError> {
     match read_words(&words) {
         Ok(Command::Record { bundle, settings }) => limits(alloc, bundle, settings),
         Ok(Command::Trace { settings }) => limits(alloc, "trace", settings),
+        Ok(Command::Replay { output, settings }) => {
+            let name = format!(in alloc; "replay {output:?}")?;
+            limits(alloc, name.as_str(), settings)
+        }
+        Ok(Command::Report { settings }) => limits(alloc, "report", settings),
         Ok(Command::Info { settings }) => limits(alloc, "info", settings),
+        Ok(
+            Command::Sample {
+                n,
+                bundle,
+                settings,
+            },
+        ) => {
+            let name = format!(in alloc; "sample {n} {bundle}")?;
+            limits(alloc, name.as_str(), settings)
+        }
         Ok(_) => String::from_str(alloc, "a text"),
         Err(fault) => line_of(alloc, &fault),
     }
@@ -195,6 +220,113 @@ fn options_of_reading_commands(rt: HostRuntime) -> Result<(), Fail> {
     Ok(())
 }
 
+/// Words of the commands that print events, and what they ask for.
+fn event_commands() -> [(&'static str, &'static str); 22] {
+    [
+        ("replay", "replay Load 10485760 268435456 268435456"),
+        (
+            "replay --output load",
+            "replay Load 10485760 268435456 268435456",
+        ),
+        (
+            "replay --output skip",
+            "replay Skip 10485760 268435456 268435456",
+        ),
+        (
+            "replay --read-limit 2 --output skip --session-limit 3",
+            "replay Skip 10485760 2 3",
+        ),
+        (
+            "replay --session-limit 3 --read-limit 2",
+            "replay Load 10485760 2 3",
+        ),
+        ("replay --output", "MissingValue at=2\n"),
+        ("replay --output ", "BadValue at=2\n"),
+        ("replay --output Skip", "BadValue at=2\n"),
+        ("replay --output 1", "BadValue at=2\n"),
+        ("replay --output skip --output x", "RepeatedOption at=3\n"),
+        ("replay --group-by slot", "UnknownOption at=1\n"),
+        ("replay --max-output 1", "UnknownOption at=1\n"),
+        ("report", "report 10485760 268435456 268435456"),
+        ("report --read-limit 2", "report 10485760 2 268435456"),
+        (
+            "report --session-limit 3 --read-limit 2",
+            "report 10485760 2 3",
+        ),
+        ("report --output load", "UnknownOption at=1\n"),
+        ("report --group-by slot", "UnknownOption at=1\n"),
+        ("report --max-output 1", "UnknownOption at=1\n"),
+        ("report --read-limit", "MissingValue at=2\n"),
+        ("trace --output load", "UnknownOption at=1\n"),
+        ("info --output load", "UnknownOption at=1\n"),
+        ("record b --output load", "UnknownOption at=2\n"),
+    ]
+}
+
+#[test]
+fn options_of_commands_that_print_events(rt: HostRuntime) -> Result<(), Fail> {
+    for (text, expected) in event_commands() {
+        let got = asked(rt.alloc(), text)?;
+        assert!(rt; got.as_str() == expected, "{text}: {got}");
+    }
+    Ok(())
+}
+
+/// Words of `sample`, and what they ask for.
+fn samples() -> [(&'static str, &'static str); 22] {
+    [
+        ("sample 0 b", "sample 0 b 10485760 268435456 268435456"),
+        (
+            "sample 10000 b",
+            "sample 10000 b 10485760 268435456 268435456",
+        ),
+        (
+            "sample 00010000 b",
+            "sample 10000 b 10485760 268435456 268435456",
+        ),
+        (
+            "sample 7 --output",
+            "sample 7 --output 10485760 268435456 268435456",
+        ),
+        (
+            "sample 7 b --session-limit 3 --max-output 1 --read-limit 2",
+            "sample 7 b 1 2 3",
+        ),
+        ("sample 10001 b", "BadNumber at=1\n"),
+        ("sample 18446744073709551616 b", "BadNumber at=1\n"),
+        ("sample 18446744073709551615 b", "BadNumber at=1\n"),
+        ("sample  b", "BadNumber at=1\n"),
+        ("sample +1 b", "BadNumber at=1\n"),
+        ("sample -1 b", "BadNumber at=1\n"),
+        ("sample b 1", "BadNumber at=1\n"),
+        ("sample 1x b", "BadNumber at=1\n"),
+        ("sample x --read-limit x", "BadNumber at=1\n"),
+        ("sample --read-limit 1", "BadNumber at=1\n"),
+        ("sample 1", "MissingPositional at=2\n"),
+        ("sample 1 b 2", "UnknownOption at=3\n"),
+        ("sample 1 b --output load", "UnknownOption at=3\n"),
+        ("sample 1 b --read-limit", "MissingValue at=4\n"),
+        ("sample 1 b --max-output 1x", "BadValue at=4\n"),
+        (
+            "sample 1 b --read-limit 1 --read-limit 1",
+            "RepeatedOption at=5\n",
+        ),
+        (
+            "sample 1 b --read-limit 1 --session-limit x",
+            "BadValue at=6\n",
+        ),
+    ]
+}
+
+#[test]
+fn words_of_made_sessions(rt: HostRuntime) -> Result<(), Fail> {
+    for (text, expected) in samples() {
+        let got = asked(rt.alloc(), text)?;
+        assert!(rt; got.as_str() == expected, "{text}: {got}");
+    }
+    Ok(())
+}
+
 /// The grouping that words with a blank between them ask for, or the fault.
 fn grouping(alloc: Global, text: &str) -> Result<String, AllocError> {
     let mut words = Vec::new(alloc);
@@ -202,7 +334,11 @@ fn grouping(alloc: Global, text: &str) -> Result<String, AllocError> {
         words.push(String::from_str(alloc, word)?)?;
     }
     match read_words(&words) {
-        Ok(Command::Record { settings, .. } | Command::Trace { settings }) => {
+        Ok(
+            Command::Record { settings, .. }
+            | Command::Trace { settings }
+            | Command::Sample { settings, .. },
+        ) => {
             let group_by = settings.group_by;
             format!(in alloc; "{group_by:?}")
         }
@@ -212,8 +348,11 @@ fn grouping(alloc: Global, text: &str) -> Result<String, AllocError> {
 }
 
 /// Words with a grouping, and the one that they ask for.
-fn groupings() -> [(&'static str, &'static str); 14] {
+fn groupings() -> [(&'static str, &'static str); 17] {
     [
+        ("sample 1 b", "Binary"),
+        ("sample 1 b --group-by slot", "Slot"),
+        ("sample 1 b --group-by x", "BadValue at=4\n"),
         ("record b", "Binary"),
         ("record b --group-by binary", "Binary"),
         ("record b --group-by slot", "Slot"),
@@ -260,23 +399,33 @@ fn usage() -> &'static str {
     "\
 Usage: rezovamy record BUNDLE [OPTION VALUE]..
        rezovamy trace [OPTION VALUE]..
+       rezovamy replay [OPTION VALUE]..
+       rezovamy report [OPTION VALUE]..
        rezovamy info [OPTION VALUE]..
+       rezovamy sample N BUNDLE [OPTION VALUE]..
 
 record reads the session of a test run from standard input, and writes it into
 the file BUNDLE, a portable recording. Its trace, a timeline for trace viewers,
 goes to standard output.
 
-trace and info read such a bundle from standard input. trace prints the trace
-of its log, and info prints its manifest.
+trace, replay, report and info read such a bundle from standard input. trace
+prints the trace of its log, replay the events, a line for each, and report
+what came of the tests, a line of JSON for each run. info prints the manifest.
+
+sample makes a session of N tests, at most 10000, and writes it into the file
+BUNDLE as record does. It prints how many events and outputs were written.
 
 Options, each at most once, with a value after it; limits are in bytes:
-  --group-by       of record and trace: binary draws a process for each test
-                   binary, and slot one process for all (binary)
-  --max-output     of record alone: the most of an output that is kept whole
-                   (10485760)
-  --read-limit     the most of the manifest, of the log and, for record, of
-                   an entry of the store (268435456)
-  --session-limit  the most of what is read from standard input (268435456)
+  --group-by       of record, trace and sample: binary draws a process for each
+                   test binary, and slot one process for all (binary)
+  --max-output     of record and sample: the most of an output that is kept
+                   whole (10485760)
+  --read-limit     the most of the manifest, of the log and of an entry of the
+                   store (268435456)
+  --session-limit  the most of the session or the bundle that is read
+                   (268435456)
+  --output         of replay alone: load reads the outputs of tests, and skip
+                   leaves them out (load)
 
 Other words, each of them alone:
   --help     prints this text
@@ -287,9 +436,9 @@ read, 4 if it is too long, 5 for a faulty line, 6 for other bytes under the
 name of an output, 7 for what is above the read limit, 8 for an event that
 needs what isn't open, starts what is, or takes a slot that is held, 9 for a
 number out of range, 10 if the bundle can't be written, 11 if standard output
-fails, 12 for a bundle that is damaged, incomplete or of another version, and
-70 if memory runs out. With a status other than 0, a line on standard error
-names the cause.
+fails, 12 for a bundle that is damaged, incomplete or of another version, 13
+for an event that can't be replayed or reported, and 70 if memory runs out.
+With a status other than 0, a line on standard error names the cause.
 "
 }
 

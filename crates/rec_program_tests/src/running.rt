@@ -1,7 +1,7 @@
 //! Runs the program, and shows what it did as texts.
 
 use crate::texts::session_of;
-use rec_container::{FailingSink, MemorySink, SliceSource, Source};
+use rec_container::{FailingSink, GrowingSink, MemorySink, SliceSource, Source};
 use rec_program::{FaultLine, bundle_path, report, run_program};
 use std::alloc::{AllocError, Global};
 use std::str;
@@ -40,6 +40,11 @@ impl Ran {
     /// The line on `diag`.
     pub(crate) fn line(&self) -> &str {
         str::from_utf8(&self.diag).unwrap_or("no text")
+    }
+
+    /// The text on standard output.
+    pub(crate) fn printed(&self) -> &str {
+        str::from_utf8(&self.out).unwrap_or("no text")
     }
 
     /// The status, which sinks took something, and the line.
@@ -94,6 +99,25 @@ fn run_words<S: Source>(
     let mut diag = sink(alloc, faults.piece, faults.diag)?;
     let status = run_program(alloc, words, source, &mut bundle, &mut out, &mut diag);
     all_taken(alloc, status, &bundle, &out, &diag)
+}
+
+/// Runs the program with sinks that have room for whatever it writes.
+pub(crate) fn run_whole<S: Source>(
+    alloc: Global,
+    words: &[&str],
+    source: &mut S,
+) -> Result<Ran, AllocError> {
+    let words = words_of(alloc, words)?;
+    let mut bundle = GrowingSink::new(alloc);
+    let mut out = GrowingSink::new(alloc);
+    let mut diag = GrowingSink::new(alloc);
+    let status = run_program(alloc, &words, source, &mut bundle, &mut out, &mut diag);
+    Ok(Ran {
+        status,
+        bundle: bundle.into_bytes(),
+        out: out.into_bytes(),
+        diag: diag.into_bytes(),
+    })
 }
 
 /// A sink with room, of which a call fails.

@@ -1,0 +1,29 @@
+use Rattle.std.proofs.Common.{[], sym, subst}
+use Rattle.std.proofs.lemmas.Result.{err_from_is_err_and}
+use Rattle.rec_program.proofs.BundlesShown.{opened_shows, opened_withholds, unopened}
+use Rattle.rec_program.proofs.EventsShown.{report_made, report_refused}
+use Rattle.rec_program.proofs.reading.read_report.Goals as goal
+use Rattle.rec_program.specs.declared.reading_error.ReadingError.{ReadingError}
+use Rattle.rec_program.specs.ReadingCommands.{Withholds, report_printed}
+
+pub returns-in_err-bundle-clause-err : goal.returns-in_err-bundle-clause-err
+returns-in_err-bundle-clause-err g c =
+    let settings = c.args.settings.now in
+    let u = c.in_err-bundle.ensures.err in
+    let p = err_from_is_err_and c.from_residual.result c.from_residual.ensures.1 in
+    rw (p.1, p.2) (subst (λ (e : ReadingError). Withholds g.S.Source.left g.S.Source.faults (report_printed settings.read_limit) settings.session_limit c.args.source.now c.open_bundle.new.source e) (sym u.1)
+    (unopened g.S.Source.left g.S.Source.faults (report_printed settings.read_limit) settings.session_limit settings.read_limit c.args.source.now c.open_bundle.new.source u.0 (report_refused settings.read_limit) u.2))
+
+pub returns-clause-ok : goal.returns-clause-ok
+returns-clause-ok g c =
+    let settings = c.args.settings.now in
+    opened_shows g.S.Source.left g.S.Source.faults (report_printed settings.read_limit) settings.session_limit settings.read_limit c.args.source.now c.open_bundle.new.source [] c.in_ok-bundle.bundle c.in_ok-bundle.ensures.ok
+    c.listed.result
+    (report_made c.in_ok-bundle.bundle.bytes settings.read_limit c.in_ok-bundle.bundle.limit c.in_ok-bundle.ensures.ok.limit_is c.report_text-made.result c.listed.result c.listed.ensures c.in_ok-bundle.ensures.ok.manifest c.in_ok-bundle.ensures.ok.judged c.report_text-made.ensures)
+
+pub returns-clause-err : goal.returns-clause-err
+returns-clause-err g c =
+    let settings = c.args.settings.now in
+    opened_withholds g.S.Source.left g.S.Source.faults (report_printed settings.read_limit) settings.session_limit settings.read_limit c.args.source.now c.open_bundle.new.source [] c.in_ok-bundle.bundle c.in_ok-bundle.ensures.ok
+    c.listed.result
+    (report_made c.in_ok-bundle.bundle.bytes settings.read_limit c.in_ok-bundle.bundle.limit c.in_ok-bundle.ensures.ok.limit_is c.report_text-made.result c.listed.result c.listed.ensures c.in_ok-bundle.ensures.ok.manifest c.in_ok-bundle.ensures.ok.judged c.report_text-made.ensures)
