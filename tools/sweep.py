@@ -5,10 +5,10 @@
     tools/sweep.py crates/rezovamy/out/rezovamy
 
 It runs the built program: `record` on the session that ships with the repository, and on one with a
-cut output; `info` and `trace` on the bundles that these gave. Each run is that of a traced child
-whose calls of the C library are counted, and one of them is refused. Each is held to what a refusal
-has to leave; the first that leaves anything else ends the sweep with status 1. It needs Linux on
-x86-64.
+cut output; `info`, `trace`, `replay` and `report` on the bundles that these gave; and `sample`. Each
+run is that of a traced child whose calls of the C library are counted, and one of them is refused.
+Each is held to what a refusal has to leave; the first that leaves anything else ends the sweep with
+status 1. It needs Linux on x86-64.
 """
 
 import collections
@@ -55,6 +55,8 @@ def demand(condition, what):
 def refuse_memory(tool, name, words, source, whole):
     """Refuses each allocation, and says how many were done with less."""
     smaller = 0
+    # `sample` may want memory for its line when its bundle is written.
+    bundles = (OLD, whole.bundle) if words[0] == "sample" else (OLD,)
     for n in range(1, whole.calls["allocation"] + 1):
         run = tool.run(words, source, ("allocation", n))
         # A growth that was refused is tried once more with what is needed at least.
@@ -62,7 +64,7 @@ def refuse_memory(tool, name, words, source, whole):
             smaller += 1
             continue
         demand(run.status == 70, f"{name}: allocation {n} gives status {run.status}")
-        demand(run.bundle == OLD and run.out == b"", f"{name}: allocation {n} changes a sink")
+        demand(run.bundle in bundles and run.out == b"", f"{name}: allocation {n} changes a sink")
         demand(run.line in (b"AllocError\n", b"OutOfMemory\n"), f"{name}: allocation {n} is reported as {run.line}")
     return smaller
 
@@ -101,15 +103,24 @@ def sweep(tool, name, words, source, whole, fault):
 
 
 def sweep_all(tool, name, session, options):
-    """Refuses each call of `record` on a session, and of `info` and `trace` on its bundle."""
+    """Refuses each call of `record` on a session, and of the commands that read its bundle."""
     words = ["record", "bundle", *options]
     recorded = tool.run(words, session)
     demand(json.loads(recorded.out)["traceEvents"] != [], f"{name}: the run itself draws nothing")
     sweep(tool, f"{name}, record", words, session, recorded, b"TraceFault\n")
-    for command, text in (("info", manifest(recorded.bundle) + b"\n"), ("trace", recorded.out)):
+    begins = {"info": manifest(recorded.bundle) + b"\n", "trace": recorded.out, "replay": b"header 550e8400-", "report": b'{"name":"nextest-run",'}
+    for command, text in begins.items():
         shown = tool.run([command], recorded.bundle)
-        demand(shown.out == text and shown.bundle == OLD, f"{name}: {command} prints {shown.out}")
+        demand(shown.out.startswith(text) and shown.bundle == OLD, f"{name}: {command} prints {shown.out}")
         sweep(tool, f"{name}, {command}", [command], recorded.bundle, shown, b"SinkFailed\n")
+
+
+def sweep_sample(tool):
+    """Refuses each call of `sample`, which reads nothing."""
+    words = ["sample", "9", "bundle"]
+    made = tool.run(words, b"")
+    demand(made.out == b"events=20 outputs=9\n", f"sample: it prints {made.out}")
+    sweep(tool, "sample", words, b"", made, b"SinkFailed\n")
 
 
 def manifest(bundle):
@@ -139,6 +150,7 @@ def main():
         tool = Sweep(sys.argv[1], pathlib.Path(folder))
         sweep_all(tool, "example", example, [])
         sweep_all(tool, "cut output", cut_session(example), ["--max-output", "100"])
+        sweep_sample(tool)
 
 
 if __name__ == "__main__":

@@ -1,0 +1,130 @@
+#!/usr/bin/env python3
+"""Tries the commands of the built program on real and made sessions, and prints only what is wrong.
+
+    tools/try_commands.py [crates/rezovamy/out/rezovamy]
+
+The real session is that of `examples/`, of a run of a small crate's tests; the made one is of
+`tools/make_kinds.py`, with each kind of event. Each is recorded; its bundle is looked into, its trace
+is drawn again, its events are replayed, and its report is written as JUnit XML, which Python's own
+parser reads. What is printed is held to the session, event by event.
+"""
+
+import collections
+import json
+import pathlib
+import subprocess
+import sys
+import tempfile
+import xml.etree.ElementTree as ElementTree
+
+HERE = pathlib.Path(__file__).resolve().parent
+OUTPUT_KINDS = ("setup-script-finished", "test-attempt-failed-will-retry", "test-finished")
+
+
+class Program:
+    """The program, run in a folder."""
+
+    def __init__(self, path, folder):
+        self.path, self.folder = pathlib.Path(path).resolve(), folder
+
+    def run(self, words, source=b""):
+        """What a command prints that is done without a fault."""
+        done = subprocess.run([self.path, *words], cwd=self.folder, input=source, capture_output=True)
+        demand(done.returncode == 0 and done.stderr == b"", f"{words} ends with {done.returncode} and {done.stderr}")
+        return done.stdout
+
+
+def demand(condition, what):
+    if not condition:
+        sys.exit(f"FAULT: {what}")
+
+
+def try_session(program, name, session):
+    """Tries all commands on a session, and returns what its bundle's report holds as XML."""
+    head, *events = [json.loads(line) for line in session.splitlines()]
+    bundle_path = program.folder / f"{name}.bundle"
+    trace = program.run(["record", bundle_path.name], session)
+    bundle = bundle_path.read_bytes()
+    demand(program.run(["trace"], bundle) == trace, f"{name}: another trace is drawn of the bundle")
+    manifest = json.loads(program.run(["info"], bundle))
+    demand(manifest["run"]["run-id"] == head["run-id"], f"{name}: the manifest is of another run")
+    try_trace(name, json.loads(trace)["traceEvents"], events)
+    try_lines(name, program, bundle, events)
+    return xml_of(program, name, bundle, events)
+
+
+def try_trace(name, drawn, events):
+    """Each test and script begins as often as it ends; a run without a pause has one slice for each attempt."""
+    begins = collections.Counter(event["name"] for event in drawn if event["ph"] == "B")
+    ends = collections.Counter(event["name"] for event in drawn if event["ph"] == "E")
+    if any(event["kind"] == "run-paused" for event in events):
+        demand(sum(begins.values()) - sum(ends.values()) in (0, 1, 2), f"{name}: slices don't end")
+        return
+    starts = collections.Counter(event["test-instance"]["test-name"] for event in events if event["kind"] in ("test-started", "test-retry-started"))
+    demand(all(begins[test] == count for test, count in starts.items()), f"{name}: a test isn't drawn once an attempt")
+    demand(begins == ends, f"{name}: slices don't end")
+
+
+def try_lines(name, program, bundle, events):
+    """A replay has a line for the run and for each event, in order; those with outputs say how long these are."""
+    loaded = program.run(["replay"], bundle).decode().splitlines()
+    skipped = program.run(["replay", "--output", "skip"], bundle).decode().splitlines()
+    kinds = [event["kind"] for event in events]
+    for lines in (loaded, skipped):
+        demand(lines[0].startswith("header "), f"{name}: a replay without a header")
+        demand([line.split(" ")[1] for line in lines[1:]] == kinds, f"{name}: a replay of other events")
+    for kind, line in zip(kinds, skipped[1:]):
+        says = line.endswith((" not-loaded", " start-error"))
+        demand(says == (kind in OUTPUT_KINDS), f"{name}: outputs are loaded although they are skipped: {line}")
+
+
+def xml_of(program, name, bundle, events):
+    """The JUnit XML of each report of a bundle, as Python reads it."""
+    reports = program.folder / f"{name}.reports"
+    reports.write_bytes(program.run(["report"], bundle))
+    ended = sum(event["kind"] == "run-finished" for event in events)
+    demand(len(reports.read_bytes().splitlines()) == ended, f"{name}: not a report for each run that ended")
+    written = subprocess.run([HERE / "junit_xml.py", reports, program.folder / f"{name}-junit"], capture_output=True, text=True)
+    demand(written.returncode == 0, f"{name}: no XML: {written.stderr}")
+    return [ElementTree.parse(path).getroot() for path in written.stdout.split()]
+
+
+def try_example(program):
+    """The run of the example: seven tests ran, two of which failed, and one was skipped."""
+    session = (HERE.parent / "examples/sums.session").read_bytes()
+    root, = try_session(program, "sums", session)
+    cases = [case.get("name") for case in root.iter("testcase")]
+    demand(sorted(set(cases)) == sorted(cases) and len(cases) == 8, f"sums: the report has the tests {cases}")
+    failed = [case.get("name") for case in root.iter("testcase") if case.find("failure") is not None]
+    demand(len(failed) == 2, f"sums: the report has the failures {failed}")
+    skipped = [case.get("name") for case in root.iter("testcase") if case.find("skipped") is not None]
+    demand(skipped == ["tests::adds_very_many"], f"sums: the report has the skipped tests {skipped}")
+
+
+def try_kinds(program):
+    """The made session of each kind of event."""
+    made = subprocess.run([HERE / "make_kinds.py"], capture_output=True, check=True)
+    roots = try_session(program, "kinds", made.stdout)
+    demand(roots != [] and all(list(root.iter("testcase")) for root in roots), "kinds: a report without tests")
+
+
+def try_sample(program):
+    """A made session of twenty tests, all of which are reported."""
+    said = program.run(["sample", "20", "sample.bundle"])
+    demand(said == b"events=42 outputs=16\n", f"sample: it prints {said}")
+    bundle = (program.folder / "sample.bundle").read_bytes()
+    root, = xml_of(program, "sample", bundle, [{"kind": "run-finished"}])
+    demand(len(list(root.iter("testcase"))) == 20, "sample: not all tests are reported")
+
+
+def main():
+    path = sys.argv[1] if len(sys.argv) > 1 else HERE.parent / "crates/rezovamy/out/rezovamy"
+    with tempfile.TemporaryDirectory() as folder:
+        program = Program(path, pathlib.Path(folder))
+        try_example(program)
+        try_kinds(program)
+        try_sample(program)
+
+
+if __name__ == "__main__":
+    main()
