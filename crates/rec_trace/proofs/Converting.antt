@@ -6,38 +6,27 @@ use Rattle.semver.specs.Parse.{Parts}
 use Rattle.rec_codec.specs.declared.line_events.LineError.TheVariants as faults
 use Rattle.rec_codec.specs.declared.line_events.LineError.{LineError}
 use Rattle.rec_codec.specs.Event.{RecordedEvent}
-use Rattle.rec_trace.proofs.Acceptance.{accepted-prefix}
-use Rattle.rec_trace.proofs.Groupings.{groupings-agree}
-use Rattle.rec_trace.proofs.Histories.{history-append}
-use Rattle.rec_trace.proofs.Prefixes.{marks_after-append}
-use Rattle.rec_trace.proofs.Timelines.{timeline}
-use Rattle.rec_trace.proofs.TimesOfHistory.{times-add_up}
-use Rattle.rec_trace.specs.Converting.{Converts, HasNoTrace, KeepsPrefixes, fault_error}
+use Rattle.rec_spans.proofs.Groupings.{groupings-agree}
+use Rattle.rec_spans.proofs.Timelines.{timeline}
+use Rattle.rec_spans.proofs.TimesOfHistory.{times-add_up}
+use Rattle.rec_spans.specs.declared.errors.ChromeTraceError.TheVariants.{OutOfMemory, ReadError}
+use Rattle.rec_spans.specs.declared.errors.ChromeTraceError.{ChromeTraceError}
+use Rattle.rec_spans.specs.declared.settings.ChromeTraceGroupBy.{ChromeTraceGroupBy}
+use Rattle.rec_spans.specs.Faults.{fault_error}
+use Rattle.rec_spans.specs.Plain.{PlainEvent, plain}
+use Rattle.rec_spans.specs.Refusals.{events_refusal}
+use Rattle.rec_trace.proofs.Arrows.{arrows-pair}
+use Rattle.rec_trace.proofs.Groupings.{groupings-draw_alike}
+use Rattle.rec_trace.proofs.Marks.{marks-of-trace}
+use Rattle.rec_trace.proofs.Prefixes.{keeps-drawn}
+use Rattle.rec_trace.specs.Converting.{Converts, HasNoTrace}
 use Rattle.rec_trace.specs.declared.builder.TraceBuilder.{TraceBuilder}
-use Rattle.rec_trace.specs.declared.errors.ChromeTraceError.TheVariants.{OutOfMemory, ReadError}
-use Rattle.rec_trace.specs.declared.errors.ChromeTraceError.{ChromeTraceError}
-use Rattle.rec_trace.specs.declared.settings.ChromeTraceGroupBy.{ChromeTraceGroupBy}
 use Rattle.rec_trace.specs.declared.settings.ChromeTraceMessageFormat.{ChromeTraceMessageFormat}
-use Rattle.rec_trace.specs.History.{after, marks_after, trace_marks}
-use Rattle.rec_trace.specs.Kinds.{history, history_after}
-use Rattle.rec_trace.specs.Plain.{PlainEvent, plain}
-use Rattle.rec_trace.specs.Refusals.{history_refusal}
-use Rattle.rec_trace.specs.Traces.{HasTraced, events_refusal, trace_text}
+use Rattle.rec_trace.specs.Traces.{HasTraced, trace_text}
 
 -- the builder has traced the events that these items hold
-abbrev pub HasConverted : ChromeTraceGroupBy → List (Result RecordedEvent LineError) → TraceBuilder → Type 0
-HasConverted g items b = (events : List RecordedEvent) × (items ≡ map Ok events) × HasTraced g (map plain events) b
-
--- ---- what a trace keeps
-
--- each prefix of events that have a trace has one too
-pub keeps-prefixes : (g : ChromeTraceGroupBy) (events : List PlainEvent) → events_refusal g events ≡ None → KeepsPrefixes g events
-keeps-prefixes g events ok xs ys is =
-    let more = history_after g (after [] (history g xs)) ys in
-    let parts : history g events ≡ history g xs ++ more = ap (history g) is ∙ history-append g xs ys in (
-      accepted-prefix (history g xs) more (ap history_refusal (sym parts) ∙ ok),
-      (marks_after (after [] (history g xs)) more, ap trace_marks parts ∙ marks_after-append [] (history g xs) more),
-    )
+abbrev pub HasConverted : ChromeTraceMessageFormat → ChromeTraceGroupBy → Parts → List (Result RecordedEvent LineError) → TraceBuilder → Type 0
+HasConverted format g version items b = (events : List RecordedEvent) × (items ≡ map Ok events) × HasTraced format g version (map plain events) b
 
 -- plain events with one event more
 plain-push : (events : List RecordedEvent) (event : RecordedEvent) → map plain (events ++ event ∷ []) ≡ map plain events ++ plain event ∷ []
@@ -55,25 +44,29 @@ items-push : (items : List (Result RecordedEvent LineError)) (item : Result Reco
     items ≡ map Ok events → item ≡ Ok event → items ++ item ∷ [] ≡ map Ok (events ++ event ∷ [])
 items-push items item events event all is = ap (λ v. items ++ v ∷ []) is ∙ ap (λ v. v ++ Ok event ∷ []) all ∙ sym (map-append Ok events (event ∷ []))
 
-module _ (g : ChromeTraceGroupBy) (b : TraceBuilder) (items : List (Result RecordedEvent LineError)) (converted : HasConverted g items b) where
+module _ (format : ChromeTraceMessageFormat) (g : ChromeTraceGroupBy) (version : Parts) (b : TraceBuilder) (items : List (Result RecordedEvent LineError))
+    (converted : HasConverted format g version items b) where
   -- an event that was traced is converted with those before it
   pub converted-push : (new : TraceBuilder) (item : Result RecordedEvent LineError) (event : RecordedEvent) → item ≡ Ok event →
-      ((past : List PlainEvent) → HasTraced b.group_by past b → HasTraced b.group_by (past ++ plain event ∷ []) new) → HasConverted g (items ++ item ∷ []) new
+      ((past : List PlainEvent) → HasTraced format b.group_by version past b → HasTraced format b.group_by version (past ++ plain event ∷ []) new)
+      → HasConverted format g version (items ++ item ∷ []) new
   converted-push new item event is step =
       let events = converted.0 in
       let has = converted.2 in
-      let traced = subst (λ k. HasTraced k (map plain events ++ plain event ∷ []) new) has.group_kept (step (map plain events) (subst (λ k. HasTraced k (map plain events) b) (sym has.group_kept) has)) in
-      (events ++ event ∷ [], items-push items item events event converted.1 is, subst (λ v. HasTraced g v new) (sym (plain-push events event)) traced)
+      let traced = subst (λ k. HasTraced format k version (map plain events ++ plain event ∷ []) new) has.group_kept
+      (step (map plain events) (subst (λ k. HasTraced format k version (map plain events) b) (sym has.group_kept) has)) in
+      (events ++ event ∷ [], items-push items item events event converted.1 is, subst (λ v. HasTraced format g version v new) (sym (plain-push events event)) traced)
 
   module _ {S : Type 0} (steps : S → Option (Result RecordedEvent LineError) → S → Type 0) (s start mid rest : S) (from : start ≡ s) (yields : Yields steps start items mid) where
     -- an event that was refused is the first one
     pub refused-event : (new : TraceBuilder) (item : Result RecordedEvent LineError) (event : RecordedEvent) (e : ChromeTraceError) → item ≡ Ok event → steps mid (Some item) rest →
-        ((past : List PlainEvent) → HasTraced b.group_by past b → ((e ≡ OutOfMemory) ⊎ (events_refusal b.group_by (past ++ plain event ∷ []) ≡ Some e)) × HasTraced b.group_by past new) → HasNoTrace steps s g e
+        ((past : List PlainEvent) → HasTraced format b.group_by version past b
+        → ((e ≡ OutOfMemory) ⊎ (events_refusal b.group_by (past ++ plain event ∷ []) ≡ Some e)) × HasTraced format b.group_by version past new) → HasNoTrace steps s g e
     refused-event new item event e is step answer =
         let events = converted.0 in
         let has = converted.2 in
         elim (subst (λ k. (e ≡ OutOfMemory) ⊎ (events_refusal k (map plain events ++ plain event ∷ []) ≡ Some e)) has.group_kept
-        (answer (map plain events) (subst (λ k. HasTraced k (map plain events) b) (sym has.group_kept) has)).0) [
+        (answer (map plain events) (subst (λ k. HasTraced format k version (map plain events) b) (sym has.group_kept) has)).0) [
           | inl memory ↦ inl memory
           | inr refused ↦ inr (inr (record {
             before = events;
@@ -111,9 +104,10 @@ module _ (g : ChromeTraceGroupBy) (b : TraceBuilder) (items : List (Result Recor
         go faults.OutOfMemory is answer = inl answer
 
     -- events to the end, and the text of their trace
-    pub converts-all : (format : ChromeTraceMessageFormat) (version : Parts) (text : List ℕ) → steps mid None rest →
-        ((k : ChromeTraceGroupBy) (past : List PlainEvent) → HasTraced k past b → text ≡ trace_text format k version past) → Converts steps s g format version text
-    converts-all format version text step written =
+    pub converts-all : (text : List ℕ) → steps mid None rest →
+        ((f : ChromeTraceMessageFormat) (k : ChromeTraceGroupBy) (v : Parts) (past : List PlainEvent) → HasTraced f k v past b → text ≡ trace_text f k v past)
+        → Converts steps s g format version text
+    converts-all text step written =
         let events = converted.0 in
         let has = converted.2 in
         record {
@@ -123,9 +117,12 @@ module _ (g : ChromeTraceGroupBy) (b : TraceBuilder) (items : List (Result Recor
             (mid, subst (λ v. Yields steps v (map Ok events) mid) from (subst (λ v. Yields steps start v mid) converted.1 yields), step),
           );
           accepted = has.accepted;
-          written = written g (map plain events) has;
+          written = written format g version (map plain events) has;
+          marks = marks-of-trace version g (map plain events);
           timeline = timeline g (map plain events) has.accepted;
           times = times-add_up g (map plain events) has.accepted;
           groupings = groupings-agree (map plain events);
-          prefixes = keeps-prefixes g (map plain events) has.accepted;
+          drawn_alike = groupings-draw_alike version (map plain events);
+          prefixes = keeps-drawn version g (map plain events) has.accepted;
+          arrows = arrows-pair version g (map plain events) has.accepted;
         }

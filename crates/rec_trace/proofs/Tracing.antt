@@ -1,45 +1,34 @@
 -- What has been traced, with one event more.
-use Rattle.std.proofs.Common.{◌≡◌, inl, inr, List, [], ◌∷◌, ◌++◌, map, append-nil, Option, None, Some, Result, Ok, Err, ap, refl, sym, ◌∙◌}
-use Rattle.std.proofs.lemmas.List.{map-append}
-use Rattle.std.specs.Bool.{⊤}
-use Rattle.std.specs.Option.{option_or}
-use Rattle.serde_json.specs.View.{view}
-use Rattle.rec_trace.proofs.Acceptance.{history_refusal_after-append}
-use Rattle.rec_trace.proofs.Histories.{history-push}
-use Rattle.rec_trace.proofs.Prefixes.{after-append, marks_after-append}
+use Rattle.std.proofs.Common.{◌≡◌, ◌⊎◌, inl, inr, List, [], ◌∷◌, ◌++◌, None, Some, Err, ap, sym, ◌∙◌, subst}
+use Rattle.semver.specs.Parse.{Parts}
+use Rattle.serde_json.specs.Data.{Data}
+use Rattle.rec_spans.proofs.Histories.{history-push}
+use Rattle.rec_spans.proofs.Pushes.{events_refusal-push, state-push}
+use Rattle.rec_spans.specs.declared.errors.ChromeTraceError.TheVariants.{OutOfMemory}
+use Rattle.rec_spans.specs.declared.errors.ChromeTraceError.{ChromeTraceError}
+use Rattle.rec_spans.specs.declared.settings.ChromeTraceGroupBy.{ChromeTraceGroupBy}
+use Rattle.rec_spans.specs.History.{TraceState, after, next_state, state_after}
+use Rattle.rec_spans.specs.Kinds.{history, next_input, trace_input}
+use Rattle.rec_spans.specs.Past.{TraceInput}
+use Rattle.rec_spans.specs.Plain.{PlainEvent}
+use Rattle.rec_spans.specs.Refusals.{events_refusal, next_refusal}
+use Rattle.rec_trace.proofs.Pushes.{all_events-append, drawn-push, known-push}
+use Rattle.rec_trace.proofs.Same.{same-is}
 use Rattle.rec_trace.specs.declared.builder.TraceBuilder.{TraceBuilder}
-use Rattle.rec_trace.specs.declared.errors.ChromeTraceError.{ChromeTraceError}
-use Rattle.rec_trace.specs.declared.settings.ChromeTraceGroupBy.{ChromeTraceGroupBy}
-use Rattle.rec_trace.specs.Drawing.{mark_value}
-use Rattle.rec_trace.specs.History.{TraceState, after, next_marks, next_state, state_after, trace_marks}
-use Rattle.rec_trace.specs.Kinds.{history, next_input, trace_input}
-use Rattle.rec_trace.specs.Past.{TraceInput, event_marks}
-use Rattle.rec_trace.specs.Plain.{PlainEvent}
-use Rattle.rec_trace.specs.Refusals.{history_refusal, history_refusal_after, next_refusal}
-use Rattle.rec_trace.specs.Traces.{HasTraced, Traces, events_refusal}
-use Rattle.rec_trace.specs.Tracking.{Tracks}
+use Rattle.rec_trace.specs.declared.settings.ChromeTraceMessageFormat.{ChromeTraceMessageFormat}
+use Rattle.rec_trace.specs.Drawn.{all_events}
+use Rattle.rec_trace.specs.Histories.{known_of, known_after_event, trace_drawn}
+use Rattle.rec_trace.specs.Kept.{AreKept}
+use Rattle.rec_trace.specs.Known.{SameKnown, next_known}
+use Rattle.rec_trace.specs.KnownNews.{known_in}
+use Rattle.rec_trace.specs.Table.{drawn}
+use Rattle.rec_trace.specs.Traces.{HasTraced, Traces}
 
--- ---- histories with one event more
+module _ (format : ChromeTraceMessageFormat) (g : ChromeTraceGroupBy) (version : Parts) (events : List PlainEvent) (event : PlainEvent) (old : TraceBuilder)
+    (has : HasTraced format g version events old) where
+  abbrev pub past : List TraceInput
+  past = after [] (history g events)
 
--- the cause of the last event of a history is that of the history, where the events before have none
-pub history_refusal-push : (history : List TraceInput) (h : TraceInput) → history_refusal history ≡ None → history_refusal (history ++ h ∷ []) ≡ next_refusal (state_after (after [] history)) h
-history_refusal-push history h none =
-    history_refusal_after-append [] history (h ∷ [])
-    ∙ ap (λ o. option_or o (history_refusal_after (after [] history) (h ∷ []))) none
-    ∙ go (next_refusal (state_after (after [] history)) h)
-  where
-    go : (o : Option ChromeTraceError) → option_or o None ≡ o
-    go None = refl
-    go (Some e) = refl
-
--- the marks of a history with one event more
-marks-push : (history : List TraceInput) (h : TraceInput) → trace_marks (history ++ h ∷ []) ≡ trace_marks history ++ next_marks (state_after (after [] history)) h
-marks-push history h =
-    marks_after-append [] history (h ∷ []) ∙ ap (λ ms. trace_marks history ++ ms) (append-nil (event_marks (after [] history) h))
-
--- ---- events with one more
-
-module _ (g : ChromeTraceGroupBy) (events : List PlainEvent) (event : PlainEvent) (old : TraceBuilder) (has : HasTraced g events old) where
   abbrev pub input : TraceInput
   input = next_input g (history g events) event
 
@@ -47,33 +36,61 @@ module _ (g : ChromeTraceGroupBy) (events : List PlainEvent) (event : PlainEvent
   pub input-is : trace_input g old.tracker.binaries event ≡ input
   input-is = ap (λ (k : TraceState). trace_input g k.binaries event) has.stands
 
-  refusal-is : events_refusal g (events ++ event ∷ []) ≡ next_refusal old.tracker input
-  refusal-is = ap history_refusal (history-push g events event) ∙ history_refusal-push (history g events) input has.accepted ∙ ap (λ k. next_refusal k input) (sym has.stands)
+  pub refusal-is : events_refusal g (events ++ event ∷ []) ≡ next_refusal old.tracker input
+  refusal-is = events_refusal-push g events event has.accepted ∙ ap (λ k. next_refusal k input) (sym has.stands)
 
-  traced : (new : TraceBuilder) → new.group_by ≡ old.group_by → next_refusal old.tracker input ≡ None → new.tracker ≡ next_state input old.tracker
-      → map view new.events.items ≡ map view old.events.items ++ map mark_value (next_marks old.tracker input) → HasTraced g (events ++ event ∷ []) new
-  traced new same none moves draws = record {
-    group_kept = same ∙ has.group_kept;
-    stands = moves ∙ ap (next_state input) has.stands ∙ ap state_after (sym (after-append [] (history g events) (input ∷ [])) ∙ ap (after []) (sym (history-push g events event)));
-    drawn =
-        draws
-        ∙ ap (λ ds. ds ++ map mark_value (next_marks old.tracker input)) has.drawn
-        ∙ sym (map-append mark_value (trace_marks (history g events)) (next_marks old.tracker input))
-        ∙ ap (λ k. map mark_value (trace_marks (history g events) ++ next_marks k input)) has.stands
-        ∙ ap (map mark_value) (sym (marks-push (history g events) input) ∙ ap trace_marks (sym (history-push g events event)));
+  -- what the event draws, as the builder draws it
+  drawn-is : all_events (drawn old.version g old.tracker (known_in old.known) event) ≡ all_events (drawn version g (state_after past) (known_of g events) event)
+  drawn-is =
+      ap (λ v. all_events (drawn v g old.tracker (known_in old.known) event)) has.version_kept
+      ∙ ap (λ k. all_events (drawn version g k (known_in old.known) event)) has.stands
+      ∙ ap (λ k. all_events (drawn version g (state_after past) k event)) has.knows
+
+  -- all that is drawn then
+  all-drawn : all_events (trace_drawn version g events) ++ all_events (drawn old.version g old.tracker (known_in old.known) event)
+      ≡ all_events (trace_drawn version g (events ++ event ∷ []))
+  all-drawn =
+      ap (λ ds. all_events (trace_drawn version g events) ++ ds) drawn-is
+      ∙ sym (all_events-append (trace_drawn version g events) (drawn version g (state_after past) (known_of g events) event))
+      ∙ ap all_events (sym (drawn-push version g events event))
+
+  -- what is known then
+  all-known : next_known old.tracker.next_flow input event.kind (known_in old.known) ≡ known_of g (events ++ event ∷ [])
+  all-known =
+      ap (λ (k : TraceState). next_known k.next_flow input event.kind (known_in old.known)) has.stands
+      ∙ ap (known_after_event g past event) has.knows
+      ∙ sym (known-push g events event)
+
+  -- the event is traced, where the tracker has taken it, it is known, and what it draws is put behind what was drawn
+  pub traced : (new : TraceBuilder) → new.group_by ≡ old.group_by → new.version ≡ old.version → next_refusal old.tracker input ≡ None
+      → new.tracker ≡ next_state input old.tracker → SameKnown (known_in new.known) (next_known old.tracker.next_flow input event.kind (known_in old.known))
+      → ((kept : List Data) → AreKept format kept old.printed → AreKept format (kept ++ all_events (drawn old.version g old.tracker (known_in old.known) event)) new.printed)
+      → HasTraced format g version (events ++ event ∷ []) new
+  traced new same_group same_version none moves knows keeps = record {
+    group_kept = same_group ∙ has.group_kept;
+    version_kept = same_version ∙ has.version_kept;
+    stands = moves ∙ ap (next_state input) has.stands ∙ sym (ap (λ h. state_after (after [] h)) (history-push g events event) ∙ state-push (history g events) input);
+    knows = same-is knows ∙ all-known;
+    kept = subst (λ ds. AreKept format ds new.printed) all-drawn (keeps (all_events (trace_drawn version g events)) has.kept);
     accepted = refusal-is ∙ none;
   }
 
-  -- a tracker that tracks the event makes a trace of it, too; one that refuses it leaves what was traced
-  pub traces : (new : TraceBuilder) (answer : Result ⊤ ChromeTraceError) → new.group_by ≡ old.group_by
-      → Tracks (next_refusal old.tracker input) input old.tracker new.tracker old.events.items new.events.items answer → Traces g events event new answer
-  traces new (Ok u) same tracks = traced new same tracks.0 tracks.1 tracks.2
-  traces new (Err e) same tracks = (
-    elim tracks.0 [ inl memory ↦ inl memory | inr refused ↦ inr (refusal-is ∙ refused) ],
-    record {
-      group_kept = same ∙ has.group_kept;
-      stands = tracks.1 ∙ has.stands;
-      drawn = ap (map view) tracks.2 ∙ has.drawn;
-      accepted = has.accepted;
-    },
+  -- what was traced stays, where the same is known and kept
+  pub stays : (new : TraceBuilder) → new.group_by ≡ old.group_by → new.version ≡ old.version → new.tracker ≡ old.tracker → SameKnown (known_in new.known) (known_in old.known)
+      → ((kept : List Data) → AreKept format kept old.printed → AreKept format kept new.printed) → HasTraced format g version events new
+  stays new same_group same_version same knows keeps = record {
+    group_kept = same_group ∙ has.group_kept;
+    version_kept = same_version ∙ has.version_kept;
+    stands = same ∙ has.stands;
+    knows = same-is knows ∙ has.knows;
+    kept = keeps (all_events (trace_drawn version g events)) has.kept;
+    accepted = has.accepted;
+  }
+
+  -- an event that the tracker refuses, or for which it lacks memory, leaves what was traced
+  pub refused : (e : ChromeTraceError) → ((e ≡ OutOfMemory) ⊎ (next_refusal old.tracker (trace_input g old.tracker.binaries event) ≡ Some e))
+      → Traces format g version events event old (Err e)
+  refused e answer = (
+    elim answer [ inl memory ↦ inl memory | inr cause ↦ inr (refusal-is ∙ ap (next_refusal old.tracker) (sym input-is) ∙ cause) ],
+    has,
   )

@@ -5,41 +5,44 @@ use Rattle.semver.specs.Parse.{Parts}
 use Rattle.rec_codec.specs.declared.line_events.LineError.TheVariants as faults
 use Rattle.rec_codec.specs.declared.line_events.LineError.{LineError}
 use Rattle.rec_codec.specs.Event.{RecordedEvent}
-use Rattle.rec_trace.specs.declared.errors.ChromeTraceError.TheVariants.{OutOfMemory, ReadError}
-use Rattle.rec_trace.specs.declared.errors.ChromeTraceError.{ChromeTraceError}
-use Rattle.rec_trace.specs.declared.settings.ChromeTraceGroupBy.{ChromeTraceGroupBy}
+use Rattle.rec_spans.specs.declared.errors.ChromeTraceError.TheVariants.{OutOfMemory, ReadError}
+use Rattle.rec_spans.specs.declared.errors.ChromeTraceError.{ChromeTraceError}
+use Rattle.rec_spans.specs.declared.settings.ChromeTraceGroupBy.TheVariants.{Binary, Slot}
+use Rattle.rec_spans.specs.declared.settings.ChromeTraceGroupBy.{ChromeTraceGroupBy}
+use Rattle.rec_spans.specs.Groupings.{GroupingsAgree}
+use Rattle.rec_spans.specs.History.{trace_marks}
+use Rattle.rec_spans.specs.Kinds.{history}
+use Rattle.rec_spans.specs.Plain.{PlainEvent, plain}
+use Rattle.rec_spans.specs.Refusals.{events_refusal}
+use Rattle.rec_spans.specs.Timeline.{IsTimeline}
+use Rattle.rec_spans.specs.Times.{TimesAddUp}
+use Rattle.rec_trace.specs.Arrows.{ArrowsPair, arrow_ends}
 use Rattle.rec_trace.specs.declared.settings.ChromeTraceMessageFormat.{ChromeTraceMessageFormat}
-use Rattle.rec_trace.specs.Groupings.{GroupingsAgree}
-use Rattle.rec_trace.specs.History.{trace_marks}
-use Rattle.rec_trace.specs.Kinds.{history}
-use Rattle.rec_trace.specs.Past.{Mark}
-use Rattle.rec_trace.specs.Plain.{PlainEvent, plain}
-use Rattle.rec_trace.specs.Timeline.{IsTimeline}
-use Rattle.rec_trace.specs.Times.{TimesAddUp}
-use Rattle.rec_trace.specs.Traces.{events_refusal, trace_text}
+use Rattle.rec_trace.specs.Drawn.{Drawn, marks_of}
+use Rattle.rec_trace.specs.Groupings.{all_ungrouped}
+use Rattle.rec_trace.specs.Histories.{trace_drawn}
+use Rattle.rec_trace.specs.Traces.{trace_text}
 
--- what a fault of the history is answered as: want of memory as such, every other as a history that can't be read
-abbrev pub fault_error : LineError → ChromeTraceError
-fault_error (faults.ReadRunLog n) = ReadError (faults.ReadRunLog n)
-fault_error (faults.ParseEvent n) = ReadError (faults.ParseEvent n)
-fault_error faults.OutOfMemory = OutOfMemory
+-- each prefix of these events has a trace, and draws the first of what they draw
+abbrev pub KeepsDrawn : Parts → ChromeTraceGroupBy → List PlainEvent → Type 0
+KeepsDrawn version g events = (xs ys : List PlainEvent) → events ≡ xs ++ ys →
+    (events_refusal g xs ≡ None) × ((more : List Drawn) × (trace_drawn version g events ≡ trace_drawn version g xs ++ more))
 
--- each prefix of these events has a trace, whose marks are the first of theirs
-abbrev pub KeepsPrefixes : ChromeTraceGroupBy → List PlainEvent → Type 0
-KeepsPrefixes g events = (xs ys : List PlainEvent) → events ≡ xs ++ ys →
-    (events_refusal g xs ≡ None) × ((more : List Mark) × (trace_marks (history g events) ≡ trace_marks (history g xs) ++ more))
-
--- the iterator gave events and ended, and the text is that of their trace. Its marks are their timeline and add up, and both groupings give the
--- same marks but for the pids and the names of tests
+-- The iterator gave events and ended, and the text is that of their trace. Its begins and ends are the marks of the events, which are their
+-- timeline and add up. Both groupings accept the same events, and draw the same but for the names of processes and rows, the pids of the rows of
+-- tests, and the names of their slices. Its arrows pair
 pub record Converts {S : Type 0} (steps : S → Option (Result RecordedEvent LineError) → S → Type 0) (s : S) (g : ChromeTraceGroupBy) (format : ChromeTraceMessageFormat) (version : Parts) (text : List ℕ) : Type 0 where
   pub events : List RecordedEvent
   pub drained : Drains steps s (map Ok events)
   pub accepted : events_refusal g (map plain events) ≡ None
   pub written : text ≡ trace_text format g version (map plain events)
+  pub marks : marks_of (trace_drawn version g (map plain events)) ≡ trace_marks (history g (map plain events))
   pub timeline : IsTimeline (history g (map plain events))
   pub times : TimesAddUp (history g (map plain events))
   pub groupings : GroupingsAgree (map plain events)
-  pub prefixes : KeepsPrefixes g (map plain events)
+  pub drawn_alike : all_ungrouped (trace_drawn version Binary (map plain events)) ≡ all_ungrouped (trace_drawn version Slot (map plain events))
+  pub prefixes : KeepsDrawn version g (map plain events)
+  pub arrows : ArrowsPair (arrow_ends (trace_drawn version g (map plain events)))
 
 -- the iterator gave events without a cause to be refused, and then a fault, which is the error
 pub record IsUnread {S : Type 0} (steps : S → Option (Result RecordedEvent LineError) → S → Type 0) (s : S) (g : ChromeTraceGroupBy) (e : ChromeTraceError) : Type 0 where

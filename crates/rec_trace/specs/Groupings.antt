@@ -1,30 +1,34 @@
--- What both groupings show alike of events: all but the pids and the names of tests.
-use Rattle.std.specs.Prelude.{◌≡◌, ◌<◌, ◌^◌, List, [], length, map}
-use Rattle.rec_trace.specs.declared.settings.ChromeTraceGroupBy.TheVariants.{Binary, Slot}
-use Rattle.rec_trace.specs.declared.spans.Span.{Span}
-use Rattle.rec_trace.specs.declared.spans.SpanKey.TheVariants as keys
-use Rattle.rec_trace.specs.declared.spans.SpanKey.{SpanKey}
-use Rattle.rec_trace.specs.History.{trace_marks}
-use Rattle.rec_trace.specs.Kinds.{history}
-use Rattle.rec_trace.specs.Past.{Mark}
-use Rattle.rec_trace.specs.Plain.{PlainEvent}
-use Rattle.rec_trace.specs.Traces.{events_refusal}
+-- What both groupings draw alike: all but the names of processes and rows, the pids of the rows of tests, and the names of their slices.
+use Rattle.std.specs.List.{flat_map}
+use Rattle.std.specs.Prelude.{List, [], ◌∷◌}
+use Rattle.rec_trace_events.specs.declared.rows.Category.TheVariants as categories
+use Rattle.rec_trace_events.specs.declared.rows.Category.{Category}
+use Rattle.rec_trace_events.specs.declared.rows.Row.{Row}
+use Rattle.rec_spans.specs.Groupings.{ungrouped_mark}
+use Rattle.rec_trace.specs.Drawn.Drawn.{Slice, ProcessNamed, RowNamed, Running, Results, RunMarked, Slow, ArrowStarts, ArrowFinishes}
+use Rattle.rec_trace.specs.Drawn.{Drawn}
 
--- a span of this key without what the grouping decides, which is the pid and the name of a test
-abbrev pub ungrouped_of : SpanKey → Span → Span
-ungrouped_of keys.Run s = s
-ungrouped_of keys.SubRun s = s
-ungrouped_of (keys.Script index) s = s
-ungrouped_of (keys.Test test) s = record s { row = record { pid = 0; tid = s.row.tid }; name = [] }
+-- a row of a test without the pid, which the grouping decides
+abbrev pub ungrouped_row : Row → Row
+ungrouped_row row = record { pid = 0; tid = row.tid }
 
-abbrev pub ungrouped : Span → Span
-ungrouped s = ungrouped_of s.key s
+abbrev pub slow_row : Category → Row → Row
+slow_row categories.Run row = row
+slow_row categories.Stress row = row
+slow_row categories.SetupScript row = row
+slow_row categories.Test row = ungrouped_row row
 
-abbrev pub ungrouped_mark : Mark → Mark
-ungrouped_mark m = record m { span = ungrouped m.span }
+-- what is drawn without what the grouping decides
+abbrev pub ungrouped_drawn : Drawn → List Drawn
+ungrouped_drawn (Slice mark args) = Slice (ungrouped_mark mark) args ∷ []
+ungrouped_drawn (ProcessNamed pid name) = []
+ungrouped_drawn (RowNamed row name) = []
+ungrouped_drawn (Running counts at) = Running counts at ∷ []
+ungrouped_drawn (Results counts at) = Results counts at ∷ []
+ungrouped_drawn (RunMarked mark counts at) = RunMarked mark counts at ∷ []
+ungrouped_drawn (Slow category row at args) = Slow category (slow_row category row) at args ∷ []
+ungrouped_drawn (ArrowStarts test row at flow) = ArrowStarts test (ungrouped_row row) at flow ∷ []
+ungrouped_drawn (ArrowFinishes test row at flow) = ArrowFinishes test (ungrouped_row row) at flow ∷ []
 
--- both groupings give the same marks of events but for the pids and the names of tests, and the same refusal, if there is one, where
--- the events are fewer than 2^63
-pub record GroupingsAgree (events : List PlainEvent) : Type 0 where
-  pub refusal : length events < 2 ^ 63 → events_refusal Binary events ≡ events_refusal Slot events
-  pub marks : map ungrouped_mark (trace_marks (history Binary events)) ≡ map ungrouped_mark (trace_marks (history Slot events))
+abbrev pub all_ungrouped : List Drawn → List Drawn
+all_ungrouped drawn = flat_map ungrouped_drawn drawn

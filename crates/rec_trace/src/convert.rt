@@ -1,15 +1,17 @@
 //! Converts a history that comes event by event to its trace.
 ghost use Rattle.std.specs.Iterator.{IsFinite};
 ghost use Rattle.std.specs.Prelude.{List, IfOk, IfErr};
+ghost use Rattle.semver.specs.Parse.{Parts};
+ghost use Rattle.rec_spans.specs.Plain.{PlainEvent, plain};
 ghost use Rattle.rec_trace.specs.Converting.{Converts, HasNoTrace};
-ghost use Rattle.rec_trace.specs.Plain.{PlainEvent, plain};
+ghost use Rattle.rec_trace.specs.declared.settings.ChromeTraceMessageFormat.{ChromeTraceMessageFormat};
 ghost use Rattle.rec_trace.specs.Traces.{HasTraced, Traces};
 
 use crate::builder::TraceBuilder;
-use crate::errors::ChromeTraceError;
-use crate::settings::{ChromeTraceGroupBy, ChromeTraceMessageFormat};
+use crate::settings::ChromeTraceMessageFormat;
 use rec_codec::LineError;
-use rec_events::{RecordingSpec, TestEventSummary, Version};
+use rec_events::{RecordingSpec, TestEventSummary, TryClone, Version};
+use rec_spans::{ChromeTraceError, ChromeTraceGroupBy};
 use std::alloc::Global;
 
 /// Writes the Chrome trace of a history of recorded events, in UTF-8 and in the form asked for. The iterator
@@ -57,16 +59,13 @@ where
     ensures trace { IfOk result (λ bytes. Converts I.next_gives events group_by message_format version.now bytes.items) }
     ensures no_trace { IfErr result (λ error. HasNoTrace I.next_gives events group_by error) }
 {
-    let mut builder = TraceBuilder::new(alloc, group_by);
+    let runner = version.try_clone(alloc)?;
+    let mut builder = TraceBuilder::new(alloc, runner, group_by, message_format);
     for item in events {
         let event = item?;
         add_event(alloc, &mut builder, event)?;
     }
-    Ok(
-        builder
-            .into_text(alloc, version, message_format)?
-            .into_bytes(),
-    )
+    Ok(builder.into_text(alloc)?.into_bytes())
 }
 
 /// Adds the trace events of an event. The event is let go here and by a call: to drop one of that many kinds
@@ -76,8 +75,8 @@ pub(crate) fn add_event(
     builder: &mut TraceBuilder,
     event: TestEventSummary<RecordingSpec>,
 ) -> Result<(), ChromeTraceError>
-    ensures { (events : List PlainEvent) → HasTraced builder.old.group_by events builder.old
-        → Traces builder.old.group_by events (plain event) builder.new result }
+    ensures { (format : ChromeTraceMessageFormat) (version : Parts) (events : List PlainEvent) → HasTraced format builder.old.group_by version events builder.old
+        → Traces format builder.old.group_by version events (plain event) builder.new result }
 {
     let result = builder.process_event(alloc, &event);
     drop(event);

@@ -1,97 +1,123 @@
-//! Draws begins and ends of slices as trace events, and writes the text of a trace.
-ghost use Rattle.std.specs.Prelude.{◌≡◌, List, map, Some, IfOk, OnOk, string_bytes};
-ghost use Rattle.serde_json.specs.Data.{string};
-ghost use Rattle.serde_json.specs.View.{view, members_view};
-ghost use Rattle.rec_forms.specs.Shape.{with_member};
-ghost use Rattle.rec_trace.specs.Drawing.{category, mark_value, other_data, phase_text, text_in, trace_value};
-ghost use Rattle.rec_trace.specs.Past.{Mark, mark};
+//! Draws the trace events of an event, as the table of the trace says.
+ghost use Rattle.std.specs.Prelude.{◌≡◌, IfOk, OnOk, map};
+ghost use Rattle.serde_json.specs.View.{view};
+ghost use Rattle.rec_spans.specs.Acts.{act_of, core_act, output_act};
+ghost use Rattle.rec_spans.specs.Judged.{IsJudged};
+ghost use Rattle.rec_spans.specs.Kinds.{trace_input};
+ghost use Rattle.rec_spans.specs.Plain.{plain, plain_kind, plain_output_kind};
+ghost use Rattle.rec_trace.specs.Drawing.{Draws, IsJudgedAct, in_sight};
+ghost use Rattle.rec_trace.specs.Drawn.{all_events};
+ghost use Rattle.rec_trace.specs.KnownNews.{known_in};
+ghost use Rattle.rec_trace.specs.Table.{drawn, drawn_core, drawn_kind, drawn_output};
 
-use crate::settings::ChromeTraceMessageFormat;
-use crate::spans::{Phase, Span, SpanKey};
-use rec_events::Version;
-use rec_forms::{Object, put_field};
-use serde_json::{Map, Value};
+mod attempts;
+mod pauses;
+mod primitives;
+mod runs;
+mod scripts;
+mod sight;
+
+use crate::known::Known;
+use attempts::{
+    draw_failed_attempt, draw_retry_start, draw_slow_test, draw_test_end, draw_test_start,
+};
+use pauses::{draw_cancel, draw_run_continuation, draw_run_pause};
+use rec_events::{
+    CoreEventKind, OutputEventKind, OutputSpec, TestEventKindSummary, TestEventSummary, Version,
+};
+use rec_spans::{ChromeTraceGroupBy, JudgedEvent, SpanTracker};
+use runs::{draw_run_end, draw_run_start, draw_sub_run_end, draw_sub_run_start};
+use scripts::{draw_script_end, draw_script_start, draw_slow_script};
+use serde_json::Value;
+use sight::Sight;
 use std::alloc::{AllocError, Global};
 
-/// Names the category of a span, by which viewers can filter.
-fn category(key: &SpanKey) -> &'static str
-    ensures { result.now ≡ category key.now }
-{
-    match key {
-        SpanKey::Run => "run",
-        SpanKey::SubRun => "stress",
-        SpanKey::Script(_) => "setup-script",
-        SpanKey::Test(_) => "test",
-    }
-}
-
-/// Names the phase of a trace event.
-fn phase_text(phase: Phase) -> &'static str
-    ensures { result.now ≡ phase_text phase }
-{
-    match phase {
-        Phase::Begin => "B",
-        Phase::End => "E",
-    }
-}
-
-fn put_text(alloc: Global, object: &mut Object, key: &str, text: &str) -> Result<(), AllocError>
-    ensures { OnOk result (members_view object.new.entries
-        ≡ with_member key.now (Some (string text.now)) (members_view object.old.entries)) }
-{
-    let value = Value::try_from_str(alloc, text)?;
-    serde_json::put(object, alloc, key, value)
-}
-
-/// Draws the begin or the end of a slice of a span, at an instant in microseconds since the epoch.
-#[tactic(auto, unfolding(crate::specs::Drawing::mark_value, rec_forms::specs::Shape::members_of))]
-pub fn mark_value(alloc: Global, phase: Phase, span: &Span, at: i64) -> Result<Value, AllocError>
-    ensures { IfOk result (λ v. view v ≡ mark_value (mark phase at span.now)) }
-{
-    let mut object = Map::new(alloc);
-    put_text(alloc, &mut object, "cat", category(&span.key))?;
-    put_field(alloc, &mut object, "name", &span.name)?;
-    put_text(alloc, &mut object, "ph", phase_text(phase))?;
-    put_field(alloc, &mut object, "pid", &span.row.pid)?;
-    put_field(alloc, &mut object, "tid", &span.row.tid)?;
-    put_field(alloc, &mut object, "ts", &at)?;
-    Ok(Value::from(object))
-}
-
-/// Makes the part of a trace that speaks of the run beside its events.
-#[tactic(auto, unfolding(rec_forms::specs::Shape::members_of))]
-fn other_data(alloc: Global, version: &Version) -> Result<Value, AllocError>
-    ensures { IfOk result (λ v. view v ≡ other_data version.now) }
-{
-    let mut object = Map::new(alloc);
-    put_field(alloc, &mut object, "nextest_version", version)?;
-    Ok(Value::from(object))
-}
-
-/// Makes the trace of a run by this version of the runner, with these trace events.
-#[tactic(auto, unfolding(crate::specs::Drawing::trace_value, rec_forms::specs::Shape::members_of))]
-fn trace_value(alloc: Global, version: &Version, events: Vec<Value>) -> Result<Value, AllocError>
-    ensures { IfOk result (λ v. (marks : List Mark) → map view events.items ≡ map mark_value marks → view v ≡ trace_value version.now marks) }
-{
-    let mut object = Map::new(alloc);
-    put_text(alloc, &mut object, "displayTimeUnit", "ms")?;
-    let other_data = other_data(alloc, version)?;
-    serde_json::put(&mut object, alloc, "otherData", other_data)?;
-    serde_json::put(&mut object, alloc, "traceEvents", Value::from(events))?;
-    Ok(Value::from(object))
-}
-
-/// Writes the text of a trace with these trace events, in the form asked for.
-pub fn text_of_events(
+/// Draws the trace events of an event that was judged, of a run by this version of the runner, where this is open
+/// and known before it.
+///
+/// # Errors
+///
+/// `AllocError` if memory runs out.
+pub fn draw_event<S: OutputSpec>(
     alloc: Global,
-    format: ChromeTraceMessageFormat,
     version: &Version,
-    events: Vec<Value>,
-) -> Result<String, AllocError>
-    ensures { IfOk result (λ s. (marks : List Mark) → map view events.items ≡ map mark_value marks → string_bytes s ≡ text_in format (trace_value version.now marks)) }
+    group_by: ChromeTraceGroupBy,
+    tracker: &SpanTracker,
+    known: &Known,
+    step: &JudgedEvent,
+    event: &TestEventSummary<S>,
+) -> Result<Vec<Value>, AllocError>
+    requires { IsJudged tracker.now (trace_input group_by tracker.now.binaries (plain event.now)) step.now }
+    ensures { IfOk result (λ values. map view values.items ≡ all_events (drawn version.now group_by tracker.now (known_in known.now) (plain event.now))) }
 {
-    let value = trace_value(alloc, version, events)?;
-    match format {
-        ChromeTraceMessageFormat::Json => value.to_string(alloc),
+    let sight = Sight {
+        alloc,
+        version,
+        group_by,
+        tracker,
+        known,
+        step,
+    };
+    let mut events = Vec::new(alloc);
+    draw_kind(&sight, &event.kind, &mut events)?;
+    Ok(events)
+}
+
+/// Draws what a kind of event draws.
+fn draw_kind<S: OutputSpec>(
+    sight: &Sight<'_>,
+    kind: &TestEventKindSummary<S>,
+    events: &mut Vec<Value>,
+) -> Result<(), AllocError>
+    requires { IsJudgedAct sight.now (act_of (plain_kind kind.now)) }
+    ensures { OnOk result (Draws (in_sight sight.now drawn_kind (plain_kind kind.now)) events.old.items events.new.items) }
+{
+    match kind {
+        TestEventKindSummary::Core(kind) => draw_core(sight, kind, events),
+        TestEventKindSummary::Output(kind) => draw_output(sight, kind, events),
+    }
+}
+
+/// Draws what an event without outputs draws. A test that is skipped is not drawn.
+fn draw_core(
+    sight: &Sight<'_>,
+    kind: &CoreEventKind,
+    events: &mut Vec<Value>,
+) -> Result<(), AllocError>
+    requires { IsJudgedAct sight.now (core_act kind.now) }
+    ensures { OnOk result (Draws (in_sight sight.now drawn_core kind.now) events.old.items events.new.items) }
+{
+    match kind {
+        CoreEventKind::RunStarted { .. } => draw_run_start(sight, kind, events),
+        CoreEventKind::StressSubRunStarted { .. } => draw_sub_run_start(sight, kind, events),
+        CoreEventKind::SetupScriptStarted { .. } => draw_script_start(sight, kind, events),
+        CoreEventKind::SetupScriptSlow { .. } => draw_slow_script(sight, kind, events),
+        CoreEventKind::TestStarted { .. } => draw_test_start(sight, kind, events),
+        CoreEventKind::TestSlow { .. } => draw_slow_test(sight, kind, events),
+        CoreEventKind::TestRetryStarted { .. } => draw_retry_start(sight, kind, events),
+        CoreEventKind::TestSkipped { .. } => Ok(()),
+        CoreEventKind::RunBeginCancel { .. } => draw_cancel(sight, kind, events),
+        CoreEventKind::RunPaused { .. } => draw_run_pause(sight, kind, events),
+        CoreEventKind::RunContinued { .. } => draw_run_continuation(sight, kind, events),
+        CoreEventKind::StressSubRunFinished { .. } => draw_sub_run_end(sight, kind, events),
+        CoreEventKind::RunFinished { .. } => draw_run_end(sight, kind, events),
+    }
+}
+
+/// Draws what an event with outputs draws.
+fn draw_output<S: OutputSpec>(
+    sight: &Sight<'_>,
+    kind: &OutputEventKind<S>,
+    events: &mut Vec<Value>,
+) -> Result<(), AllocError>
+    requires { IsJudgedAct sight.now (output_act (plain_output_kind kind.now)) }
+    ensures { OnOk result (Draws (in_sight sight.now drawn_output (plain_output_kind kind.now)) events.old.items events.new.items) }
+{
+    match kind {
+        OutputEventKind::SetupScriptFinished { .. } => draw_script_end(sight, kind, events),
+        OutputEventKind::TestAttemptFailedWillRetry { .. } => {
+            draw_failed_attempt(sight, kind, events)
+        }
+        OutputEventKind::TestFinished { .. } => draw_test_end(sight, kind, events),
     }
 }

@@ -1,71 +1,46 @@
-//! Laws of the marks of a trace, as clauses of functions that do nothing.
-ghost use Rattle.std.specs.Prelude.{◌≡◌, ◌↔◌, ◌≤◌, ℕ, ℤ, true, List, [], ◌++◌, length, map, slice_get, Some, None};
-ghost use Rattle.rec_events.specs.declared.events.TestEventSummary.{TestEventSummary};
-ghost use Rattle.rec_events.specs.EventMaps.{event_with};
-ghost use Rattle.rec_trace.specs.Converting.{KeepsPrefixes};
-ghost use Rattle.rec_trace.specs.declared.settings.ChromeTraceGroupBy as group_by;
-ghost use Rattle.rec_trace.specs.declared.spans.Phase.TheVariants as phases;
-ghost use Rattle.rec_trace.specs.declared.spans.Span as spans;
-ghost use Rattle.rec_trace.specs.Groupings.{GroupingsAgree};
-ghost use Rattle.rec_trace.specs.History.{after, marks_after, trace_marks};
-ghost use Rattle.rec_trace.specs.Kinds as kinds;
-ghost use Rattle.rec_trace.specs.Past.{TraceInput, event_marks, is_paused, mark, open_spans};
-ghost use Rattle.rec_trace.specs.Plain.{PlainEvent, plain};
-ghost use Rattle.rec_trace.specs.Positions.{Has, IsInPause, IsOpen, SliceBegins, SliceEnds, past_at};
-ghost use Rattle.rec_trace.specs.Refusals.{history_refusal};
-ghost use Rattle.rec_trace.specs.Timeline.{IsTimeline};
-ghost use Rattle.rec_trace.specs.Times.{TimesAddUp};
-ghost use Rattle.rec_trace.specs.Traces.{events_refusal};
+//! Laws of the whole trace, as clauses of functions that do nothing.
+ghost use Rattle.std.specs.Prelude.{◌≡◌, List, [], ◌∷◌, ◌++◌, None};
+ghost use Rattle.semver.specs.Parse.{Parts};
+ghost use Rattle.rec_spans.specs.declared.settings.ChromeTraceGroupBy as group_by;
+ghost use Rattle.rec_spans.specs.declared.settings.ChromeTraceGroupBy.TheVariants as grouped_by;
+ghost use Rattle.rec_spans.specs.History.{TraceState, after, next_marks, state_after, trace_marks};
+ghost use Rattle.rec_spans.specs.Kinds.{history, trace_input};
+ghost use Rattle.rec_spans.specs.Plain.{PlainEvent};
+ghost use Rattle.rec_spans.specs.Refusals.{events_refusal};
+ghost use Rattle.rec_trace.specs.Arrows.{ArrowsPair, arrow_ends};
+ghost use Rattle.rec_trace.specs.Converting.{KeepsDrawn};
+ghost use Rattle.rec_trace.specs.Drawn.{marks_of};
+ghost use Rattle.rec_trace.specs.Groupings.{all_ungrouped};
+ghost use Rattle.rec_trace.specs.Histories.{known_of, known_after_event, trace_drawn};
+ghost use Rattle.rec_trace.specs.Known as knowns;
+ghost use Rattle.rec_trace.specs.Table.{drawn};
 
-use rec_events::OutputSpec;
-
-/// States that the past at a position of a history is in a pause exactly where the last event before it that is
-/// a pause or a continuation is a pause.
-pub fn pauses()
-    ensures { (history : List TraceInput) (i : ℕ) → i ≤ length history → (IsInPause history i ↔ (is_paused (past_at history i) ≡ true)) }
+/// States what a history draws and makes known with one event more, and that each prefix of a history that has a
+/// trace has one too, and draws the first of what the whole draws.
+pub fn drawn_prefixes()
+    ensures drawn { (version : Parts) (group : group_by.ChromeTraceGroupBy) (events : List PlainEvent) (event : PlainEvent)
+        → trace_drawn version group (events ++ event ∷ []) ≡ trace_drawn version group events ++ drawn version group (state_after (after [] (history group events))) (known_of group events) event }
+    ensures known { (group : group_by.ChromeTraceGroupBy) (events : List PlainEvent) (event : PlainEvent)
+        → known_of group (events ++ event ∷ []) ≡ known_after_event group (after [] (history group events)) event (known_of group events) }
+    ensures kept { (version : Parts) (group : group_by.ChromeTraceGroupBy) (events : List PlainEvent) → events_refusal group events ≡ None → KeepsDrawn version group events }
 {}
 
-/// States that a span is open after the past at a position exactly where some start of it before the position
-/// has no stop of its key between.
-pub fn open_at()
-    ensures { (history : List TraceInput) (i : ℕ) (s : spans.Span) → i ≤ length history → (IsOpen history i s ↔ Has (open_spans (past_at history i)) s) }
+/// States that the begins and ends of slices in a trace are the marks of its events: of the next event after any
+/// state, whatever is known, and of a whole history.
+pub fn marks()
+    ensures event { (version : Parts) (group : group_by.ChromeTraceGroupBy) (state : TraceState) (known : knowns.Known) (event : PlainEvent)
+        → marks_of (drawn version group state known event) ≡ next_marks state (trace_input group state.binaries event) }
+    ensures history { (version : Parts) (group : group_by.ChromeTraceGroupBy) (events : List PlainEvent) → marks_of (trace_drawn version group events) ≡ trace_marks (history group events) }
 {}
 
-/// States that the marks of an event are the begins and the ends of the slices of all spans there, at its
-/// instant.
-pub fn slices()
-    ensures begins { (history : List TraceInput) (i : ℕ) (input : TraceInput) → slice_get history i ≡ Some input → (s : spans.Span) (t : ℤ)
-        → Has (event_marks (past_at history i) input) (mark phases.Begin t s) ↔ ((t ≡ input.at) × SliceBegins history s i) }
-    ensures ends { (history : List TraceInput) (i : ℕ) (input : TraceInput) → slice_get history i ≡ Some input → (s : spans.Span) (t : ℤ)
-        → Has (event_marks (past_at history i) input) (mark phases.End t s) ↔ ((t ≡ input.at) × SliceEnds history s i) }
+/// States that the arrows of a history that has a trace pair: each number starts at most once, and each finish has a
+/// start of its number before it, for the same test, and no other finish of its number.
+pub fn arrows()
+    ensures { (version : Parts) (group : group_by.ChromeTraceGroupBy) (events : List PlainEvent) → events_refusal group events ≡ None → ArrowsPair (arrow_ends (trace_drawn version group events)) }
 {}
 
-/// States that the marks of a history of events that has a trace are a timeline.
-pub fn timeline()
-    ensures { (group : group_by.ChromeTraceGroupBy) (events : List PlainEvent) → events_refusal group events ≡ None → IsTimeline (kinds.history group events) }
-{}
-
-/// States that each prefix of a history that has a trace has one too, and that its marks are the first of those
-/// of the whole.
-pub fn prefixes()
-    ensures events { (group : group_by.ChromeTraceGroupBy) (events : List PlainEvent) → events_refusal group events ≡ None → KeepsPrefixes group events }
-    ensures accepted { (history more : List TraceInput) → history_refusal (history ++ more) ≡ None → history_refusal history ≡ None }
-    ensures marks { (history more : List TraceInput) → trace_marks (history ++ more) ≡ trace_marks history ++ marks_after (after [] history) more }
-{}
-
-/// States that the marks of each span that ends add up to its time less that of its pause windows, whether
-/// instants rise or fall.
-pub fn times()
-    ensures { (group : group_by.ChromeTraceGroupBy) (events : List PlainEvent) → events_refusal group events ≡ None → TimesAddUp (kinds.history group events) }
-{}
-
-/// States that both groupings give the same marks of events but for the pids and the names of tests, and refuse
-/// alike fewer than 2^63 events.
+/// States that both groupings draw the same of any events but for the names of processes and rows, the pids of the
+/// rows of tests, and the names of their slices.
 pub fn groupings()
-    ensures { (events : List PlainEvent) → GroupingsAgree events }
-{}
-
-/// States that the outputs of events are not drawn: an event is plain whatever becomes of its outputs.
-pub fn outputs_are_not_drawn<S: OutputSpec, T: OutputSpec>()
-    ensures { (becomes : S.ChildOutput → T.ChildOutput) (event : TestEventSummary S S.ChildOutput) → plain (event_with {T = T} becomes event) ≡ plain event }
+    ensures { (version : Parts) (events : List PlainEvent) → all_ungrouped (trace_drawn version grouped_by.Binary events) ≡ all_ungrouped (trace_drawn version grouped_by.Slot events) }
 {}

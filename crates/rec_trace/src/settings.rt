@@ -1,17 +1,10 @@
-//! The settings by which a trace is drawn and written.
-
-/// Says as which process and thread a test is drawn, and under which name.
-#[derive(Clone, Copy, PartialEq, Eq, Debug)]
-pub enum ChromeTraceGroupBy {
-    /// A process for each binary, with a thread for each slot. A test has its name.
-    Binary,
-    /// A thread for each slot, all of one process. A test has its binary and its name.
-    Slot,
-}
+//! The setting by which a trace is written.
 
 /// Says in which form the JSON is written.
 #[derive(Clone, Copy, PartialEq, Eq, Debug)]
 pub enum ChromeTraceMessageFormat {
     /// In one line, without spaces.
     Json,
+    /// Over several lines, with two spaces for each level.
+    JsonPretty,
 }

@@ -1,5 +1,5 @@
-use Rattle.rec_trace.proofs.Groupings.{groupings-agree}
+use Rattle.rec_trace.proofs.Groupings.{groupings-draw_alike}
 use Rattle.rec_trace.proofs.laws.groupings.Goals as goal
 
 pub returns : goal.returns
-returns c = groupings-agree
+returns c = groupings-draw_alike

@@ -1,0 +1,22 @@
+use Rattle.std.proofs.Common.{None, ap, refl, ◌∙◌}
+use Rattle.rec_spans.proofs.open_spans.OpenSpans.close_run.Goals as goal
+use Rattle.rec_spans.proofs.OpenTests.{closed}
+use Rattle.rec_spans.proofs.Orders.{span-remove, span-updates}
+use Rattle.rec_spans.specs.declared.spans.Place.TheVariants as places
+use Rattle.rec_spans.specs.declared.spans.SpanKey.TheVariants as keys
+use Rattle.rec_spans.specs.Past.{without}
+
+pub invariant_of-self : goal.invariant_of-self
+invariant_of-self c =
+    let spans = c.self.inside.spans in
+    (closed c.self.inside.slots.entries spans.entries c.remove.new.self.entries keys.Run places.Run c.self.invariant refl
+    (span-remove spans.entries c.remove.new.self.entries places.Run c.remove.ensures.entries)
+    (span-updates places.Run spans c.remove.new.self None c.remove.ensures.updates)).0
+
+pub returns : goal.returns
+returns c =
+    let spans = c.self.inside.spans in
+    (closed c.self.inside.slots.entries spans.entries c.remove.new.self.entries keys.Run places.Run c.self.invariant refl
+    (span-remove spans.entries c.remove.new.self.entries places.Run c.remove.ensures.entries)
+    (span-updates places.Run spans c.remove.new.self None c.remove.ensures.updates)).1
+    ∙ ap (without keys.Run) c.self.view_is

@@ -1,0 +1,251 @@
+//! Takes an event into what is kept, after it was judged.
+ghost use Rattle.std.specs.Prelude.{◌≡◌, ◌<◌, ◌≤◌, ℕ, ℤ, List, suc, [], None, Some, IfOk, OnOk, OnErr};
+ghost use Rattle.rec_spans.specs.declared.settings.ChromeTraceGroupBy.{ChromeTraceGroupBy};
+ghost use Rattle.rec_spans.specs.declared.spans.Place.TheVariants as places;
+ghost use Rattle.rec_spans.specs.declared.spans.Span.{Span};
+ghost use Rattle.rec_spans.specs.declared.spans.SpanKey.TheVariants as keys;
+ghost use Rattle.rec_spans.specs.History.{next_state};
+ghost use Rattle.rec_spans.specs.Judged.{IsJudged};
+ghost use Rattle.rec_spans.specs.Kinds.{act_input, change_of, trace_input};
+ghost use Rattle.rec_spans.specs.Past.{binaries_after, flow_after, in_place, of_key, open_after, pause_after, put_in, scripts_after, with_binary};
+ghost use Rattle.rec_spans.specs.Plain.{plain};
+ghost use Rattle.rec_spans.specs.Refusals.{act_refusal, open_refusal, scripts_refusal, slot_refusal};
+ghost use Rattle.rec_spans.specs.Seen.{seen};
+ghost use Rattle.rec_spans.specs.Starts.{started};
+
+use crate::acts::{Act, act_of};
+use crate::binaries::Binaries;
+use crate::judged::JudgedEvent;
+use crate::open_spans::OpenSpans;
+use crate::settings::ChromeTraceGroupBy;
+use crate::span_tracker::SpanTracker;
+use crate::spans::Span;
+use crate::starts::{run_span, script_span, sub_run_span, test_span};
+use rec_events::{OutputSpec, OwnedTestInstanceId, TestEventSummary};
+use std::alloc::{AllocError, Global};
+
+impl SpanTracker {
+    /// Makes the span that an event starts, if it starts one.
+    pub(crate) fn started(
+        &self,
+        alloc: Global,
+        group_by: ChromeTraceGroupBy,
+        number: u64,
+        act: Act<'_>,
+    ) -> Result<Option<Span>, AllocError>
+        requires { act_refusal number self.now (seen act) (change_of group_by self.now.binaries (seen act)) ≡ None }
+        ensures { IfOk result (λ span. span ≡ started (change_of group_by self.now.binaries (seen act.entry))) }
+    {
+        match act {
+            Act::RunStarts => Ok(Some(run_span(alloc)?)),
+            Act::SubRunStarts => Ok(Some(sub_run_span(alloc)?)),
+            Act::ScriptStarts { index, id } => Ok(Some(script_span(alloc, index, id)?)),
+            Act::AttemptStarts { test, slot } => {
+                let span = test_span(alloc, group_by, &self.binaries, test, slot)?;
+                Ok(Some(span))
+            }
+            _ => Ok(None),
+        }
+    }
+
+    /// Commits an event that was judged with this grouping, and no event since: the tracker moves on by it.
+    ///
+    /// # Errors
+    ///
+    /// Fails only where memory ran out. The tracker then stays as it was.
+    pub fn commit<S: OutputSpec>(
+        &mut self,
+        alloc: Global,
+        group_by: ChromeTraceGroupBy,
+        event: &TestEventSummary<S>,
+        judged: JudgedEvent,
+    ) -> Result<(), AllocError>
+        requires { IsJudged self.old (trace_input group_by self.old.binaries (plain event.now)) judged }
+        ensures ok { OnOk result (self.new ≡ next_state (trace_input group_by self.old.binaries (plain event.now)) self.old) }
+        ensures err { OnErr result (self.new ≡ self.old) }
+    {
+        self.take(
+            alloc,
+            group_by,
+            judged.number,
+            act_of(&event.kind),
+            judged.started,
+        )
+    }
+
+    /// Takes an event, which starts this span, if it starts one. Where memory is short, nothing changes.
+    fn take(
+        &mut self,
+        alloc: Global,
+        group_by: ChromeTraceGroupBy,
+        number: u64,
+        act: Act<'_>,
+        span: Option<Span>,
+    ) -> Result<(), AllocError>
+        requires number { number ≡ suc self.old.number }
+        requires judged { act_refusal number self.old (seen act) (change_of group_by self.old.binaries (seen act)) ≡ None }
+        requires span { span ≡ started (change_of group_by self.old.binaries (seen act)) }
+        ensures ok { (t : ℤ) → OnOk result (self.new ≡ next_state (act_input group_by self.old.binaries t (seen act.entry)) self.old) }
+        ensures err { OnErr result (self.new ≡ self.old) }
+    {
+        change_spans(
+            alloc,
+            group_by,
+            act,
+            span,
+            &mut self.open_spans,
+            &mut self.binaries,
+        )?;
+        self.number = number;
+        self.in_pause = pause_after(act, self.in_pause);
+        self.scripts = scripts_after(number, act, self.scripts);
+        self.next_flow = flow_after(number, act, self.next_flow);
+        Ok(())
+    }
+}
+
+/// Opens this span, which the event starts, or closes what it ends, and adds the binary of an attempt. Where
+/// memory is short, nothing changes.
+fn change_spans(
+    alloc: Global,
+    group_by: ChromeTraceGroupBy,
+    act: Act<'_>,
+    span: Option<Span>,
+    open_spans: &mut OpenSpans,
+    binaries: &mut Binaries,
+) -> Result<(), AllocError>
+    requires open { open_refusal 0 open_spans.old (change_of group_by binaries.old (seen act)) ≡ None }
+    requires slot { slot_refusal 0 open_spans.old (change_of group_by binaries.old (seen act)) ≡ None }
+    requires span { span ≡ started (change_of group_by binaries.old (seen act)) }
+    ensures spans { OnOk result (open_spans.new ≡ open_after (change_of group_by binaries.old (seen act.entry)) open_spans.old) }
+    ensures binaries { OnOk result (binaries.new ≡ binaries_after (change_of group_by binaries.old (seen act.entry)) binaries.old) }
+    ensures err_spans { OnErr result (open_spans.new ≡ open_spans.old) }
+    ensures err_binaries { OnErr result (binaries.new ≡ binaries.old) }
+{
+    match span {
+        Some(span) => open_started(alloc, group_by, act, span, open_spans, binaries),
+        None => {
+            close_stopped(group_by, act, open_spans, binaries);
+            Ok(())
+        }
+    }
+}
+
+/// Opens this span, which the event starts, and adds the binary of an attempt.
+fn open_started(
+    alloc: Global,
+    group_by: ChromeTraceGroupBy,
+    act: Act<'_>,
+    span: Span,
+    open_spans: &mut OpenSpans,
+    binaries: &mut Binaries,
+) -> Result<(), AllocError>
+    requires open { open_refusal 0 open_spans.old (change_of group_by binaries.old (seen act)) ≡ None }
+    requires slot { slot_refusal 0 open_spans.old (change_of group_by binaries.old (seen act)) ≡ None }
+    requires span { Some span ≡ started (change_of group_by binaries.old (seen act)) }
+    ensures spans { OnOk result (open_spans.new ≡ open_after (change_of group_by binaries.old (seen act.entry)) open_spans.old) }
+    ensures binaries { OnOk result (binaries.new ≡ binaries_after (change_of group_by binaries.old (seen act.entry)) binaries.old) }
+    ensures err_spans { OnErr result (open_spans.new ≡ open_spans.old) }
+    ensures err_binaries { OnErr result (binaries.new ≡ binaries.old) }
+{
+    match act {
+        Act::AttemptStarts { test, slot } => {
+            open_attempt(alloc, test, slot, span, open_spans, binaries)
+        }
+        Act::RunStarts => open_spans.open(span),
+        Act::SubRunStarts => open_spans.open(span),
+        Act::ScriptStarts { .. } => open_spans.open(span),
+        // no other event starts a span
+        _ => unreachable!(),
+    }
+}
+
+/// Closes the span that the event ends, if it ends one that is open.
+fn close_stopped(
+    group_by: ChromeTraceGroupBy,
+    act: Act<'_>,
+    open_spans: &mut OpenSpans,
+    binaries: &Binaries,
+)
+    requires { started (change_of group_by binaries.now (seen act)) ≡ None }
+    ensures { open_spans.new ≡ open_after (change_of group_by binaries.now (seen act.entry)) open_spans.old }
+{
+    match act {
+        Act::RunEnds => open_spans.close_run(),
+        Act::SubRunEnds => open_spans.close_sub_run(),
+        Act::ScriptEnds { index, .. } => open_spans.close_script(index),
+        Act::AttemptFails { test } => {
+            open_spans.close_test(test);
+        }
+        Act::TestEnds { test, .. } => {
+            open_spans.close_test(test);
+        }
+        _ => (),
+    }
+}
+
+/// Opens the span of an attempt of a test on a slot, and adds the test's binary.
+fn open_attempt(
+    alloc: Global,
+    test: &OwnedTestInstanceId,
+    slot: u64,
+    span: Span,
+    open_spans: &mut OpenSpans,
+    binaries: &mut Binaries,
+) -> Result<(), AllocError>
+    requires key { span.key ≡ keys.Test test.now }
+    requires place { span.place ≡ places.Slot slot }
+    requires key_free { of_key span.key open_spans.old ≡ [] }
+    requires place_free { in_place span.place open_spans.old ≡ [] }
+    ensures spans { OnOk result (open_spans.new ≡ put_in span open_spans.old) }
+    ensures binaries { OnOk result (binaries.new ≡ with_binary test.now.binary_id binaries.old) }
+    ensures err_spans { OnErr result (open_spans.new ≡ open_spans.old) }
+    ensures err_binaries { OnErr result (binaries.new ≡ binaries.old) }
+{
+    open_spans.open_test(alloc, test, slot, span)?;
+    match binaries.add(alloc, &test.binary_id) {
+        Ok(()) => Ok(()),
+        Err(AllocError) => {
+            open_spans.close_test(test);
+            Err(AllocError)
+        }
+    }
+}
+
+/// Returns whether the run is in a pause after the event, by whether it was before.
+fn pause_after(act: Act<'_>, before: bool) -> bool
+    ensures { (g : ChromeTraceGroupBy) (known : List (List ℕ × ℕ)) → result ≡ pause_after (change_of g known (seen act.entry)) before }
+{
+    match act {
+        Act::Pauses { .. } => true,
+        Act::Continues { .. } => false,
+        _ => before,
+    }
+}
+
+/// Returns how many setup scripts run after the event, by how many did before.
+pub fn scripts_after(number: u64, act: Act<'_>, before: usize) -> usize
+    requires { scripts_refusal number (seen act) before ≡ None }
+    ensures { result ≡ scripts_after (seen act.entry) before }
+{
+    match act {
+        Act::ScriptStarts { .. } => before + 1,
+        Act::ScriptEnds { .. } => before.saturating_sub(1),
+        Act::Pauses { scripts } => scripts,
+        Act::Continues { scripts } => scripts,
+        Act::Cancels { scripts } => scripts,
+        _ => before,
+    }
+}
+
+/// Returns how many attempts have failed after the event with this number, by how many had before.
+fn flow_after(number: u64, act: Act<'_>, before: u64) -> u64
+    requires { before < number }
+    ensures value { result ≡ flow_after (seen act.entry) before }
+    ensures bound { result ≤ number }
+{
+    match act {
+        Act::AttemptFails { .. } => before + 1,
+        _ => before,
+    }
+}

@@ -1,0 +1,197 @@
+//! The spans that are open at once.
+ghost use Rattle.std.specs.Prelude.{◌≡◌, [], Some, not, OnOk, OnErr, option_copied, option_to_list, slice_get};
+ghost use Rattle.rec_spans.specs.declared.spans.Place.TheVariants as places;
+ghost use Rattle.rec_spans.specs.declared.spans.SpanKey.TheVariants as keys;
+ghost use Rattle.rec_spans.specs.Past.{in_place, of_key, put_in, without};
+ghost use Rattle.rec_spans.specs.Refusals.{is_none_open, is_script, scripts_in, under};
+ghost use Rattle.rec_spans.specs.Tied.{place_of};
+
+use crate::spans::{Place, Span, SpanKey};
+use rec_events::{OwnedTestInstanceId, ScriptId, TryClone};
+use std::alloc::{AllocError, Global};
+use std::collections::BTreeMap;
+use std::collections::btree_map::Values;
+use std::marker::Model;
+
+/// Keeps the spans that are open, found by their place and by what they are of. Contracts see them in the
+/// order of their places.
+#[derive(Drop)]
+pub struct OpenSpans {
+    /// The slot of each test of which an attempt is open.
+    slots: BTreeMap<OwnedTestInstanceId, u64>,
+    spans: BTreeMap<Place, Span>,
+}
+
+impl Model for OpenSpans {
+    ghost use Rattle.std.specs.Map.{values_of};
+    ghost use Rattle.std.specs.Prelude.{List};
+    ghost use Rattle.rec_spans.specs.declared.spans.Span.{Span};
+    ghost use Rattle.rec_spans.specs.Tied.{AreTied};
+
+    ghost Value = { List Span };
+
+    ghost view = { λ o. values_of o.spans.entries };
+
+    ghost invariant = { λ o. AreTied o.slots.entries o.spans.entries };
+}
+
+impl OpenSpans {
+    /// Makes the collection without an open span.
+    pub(crate) fn new(alloc: Global) -> OpenSpans
+        ensures { result ≡ [] }
+    {
+        OpenSpans {
+            slots: BTreeMap::new(alloc),
+            spans: BTreeMap::new(alloc),
+        }
+    }
+
+    /// Gives the open spans in the order of their places.
+    pub fn iter(&self) -> Values<'_, Place, Span>
+        ensures { result ≡ self.now }
+    {
+        self.spans.values()
+    }
+
+    /// Returns the span of the run, where it is open.
+    pub fn run(&self) -> Option<&Span>
+        ensures { option_to_list (option_copied result) ≡ of_key keys.Run self.now }
+    {
+        self.spans.get(&Place::Run)
+    }
+
+    /// Returns the span of the sub-run, where it is open.
+    pub fn sub_run(&self) -> Option<&Span>
+        ensures { option_to_list (option_copied result) ≡ of_key keys.SubRun self.now }
+    {
+        self.spans.get(&Place::SubRun)
+    }
+
+    /// Returns the span of the setup script of an index, where it is open.
+    pub fn script(&self, index: usize) -> Option<&Span>
+        ensures { option_to_list (option_copied result) ≡ of_key (keys.Script index) self.now }
+    {
+        self.spans.get(&Place::Script(index))
+    }
+
+    /// Returns whether the setup script of an index is open under an id.
+    pub(crate) fn is_script_under(&self, index: usize, id: &ScriptId) -> bool
+        ensures { result ≡ not (is_none_open (under id.now (of_key (keys.Script index) self.now))) }
+    {
+        match self.script(index) {
+            Some(span) => span.name.as_str() == id.as_str(),
+            None => false,
+        }
+    }
+
+    /// Returns the open setup script of an id that has the smallest index, where there is one.
+    pub fn some_script(&self, id: &ScriptId) -> Option<&Span>
+        ensures { option_copied result ≡ slice_get (under id.now (scripts_in self.now)) 0 }
+    {
+        for span in self.iter() {
+            if is_script(&span.key) && span.name.as_str() == id.as_str() {
+                return Some(span);
+            }
+        }
+        None
+    }
+
+    /// Returns the span of the open attempt of a test, where there is one.
+    pub fn test(&self, test: &OwnedTestInstanceId) -> Option<&Span>
+        ensures { option_to_list (option_copied result) ≡ of_key (keys.Test test.now) self.now }
+    {
+        let slot = self.slots.get(test)?;
+        self.spans.get(&Place::Slot(*slot))
+    }
+
+    /// Returns the span of the test that runs on a slot, where one does.
+    pub(crate) fn on_slot(&self, slot: u64) -> Option<&Span>
+        ensures { option_to_list (option_copied result) ≡ in_place (places.Slot slot) self.now }
+    {
+        self.spans.get(&Place::Slot(slot))
+    }
+
+    /// Opens a span that is not of a test.
+    ///
+    /// # Errors
+    ///
+    /// Fails only where memory ran out. Nothing is opened then.
+    pub(crate) fn open(&mut self, span: Span) -> Result<(), AllocError>
+        requires place { place_of [] span.key ≡ Some span.place }
+        requires key_free { of_key span.key self.old ≡ [] }
+        ensures ok { OnOk result (self.new ≡ put_in span self.old) }
+        ensures err { OnErr result (self.new ≡ self.old) }
+    {
+        self.spans.insert(span.place, span)?;
+        Ok(())
+    }
+
+    /// Opens the span of an attempt of a test, on a slot.
+    ///
+    /// # Errors
+    ///
+    /// Fails only where memory ran out. Nothing is opened then.
+    pub(crate) fn open_test(
+        &mut self,
+        alloc: Global,
+        test: &OwnedTestInstanceId,
+        slot: u64,
+        span: Span,
+    ) -> Result<(), AllocError>
+        requires key { span.key ≡ keys.Test test.now }
+        requires place { span.place ≡ places.Slot slot }
+        requires key_free { of_key span.key self.old ≡ [] }
+        requires place_free { in_place span.place self.old ≡ [] }
+        ensures ok { OnOk result (self.new ≡ put_in span self.old) }
+        ensures err { OnErr result (self.new ≡ self.old) }
+    {
+        self.slots.insert(test.try_clone(alloc)?, slot)?;
+        match self.spans.insert(Place::Slot(slot), span) {
+            Ok(_) => Ok(()),
+            Err(_) => {
+                self.slots.remove(test);
+                Err(AllocError)
+            }
+        }
+    }
+
+    /// Closes the span of the open attempt of a test, and returns it, where there is one.
+    pub(crate) fn close_test(&mut self, test: &OwnedTestInstanceId) -> Option<Span>
+        ensures closed { self.new ≡ without (keys.Test test.now) self.old }
+        ensures span { option_to_list result ≡ of_key (keys.Test test.now) self.old }
+    {
+        let slot = self.slots.remove(test)?;
+        self.spans.remove(&Place::Slot(slot))
+    }
+
+    /// Closes the span of the run, if it is open.
+    pub(crate) fn close_run(&mut self)
+        ensures { self.new ≡ without keys.Run self.old }
+    {
+        self.spans.remove(&Place::Run);
+    }
+
+    /// Closes the span of the sub-run, if it is open.
+    pub(crate) fn close_sub_run(&mut self)
+        ensures { self.new ≡ without keys.SubRun self.old }
+    {
+        self.spans.remove(&Place::SubRun);
+    }
+
+    /// Closes the span of the setup script of an index, if it is open.
+    pub(crate) fn close_script(&mut self, index: usize)
+        ensures { self.new ≡ without (keys.Script index) self.old }
+    {
+        self.spans.remove(&Place::Script(index));
+    }
+}
+
+/// Returns whether a span of this key is of a setup script.
+fn is_script(key: &SpanKey) -> bool
+    ensures { result ≡ is_script key.now }
+{
+    match key {
+        SpanKey::Script(_) => true,
+        SpanKey::Run | SpanKey::SubRun | SpanKey::Test(_) => false,
+    }
+}

@@ -1,0 +1,78 @@
+-- What is drawn one after the other is drawn as one list, also where it is drawn from other names of the same values.
+use Rattle.std.proofs.Common.{◌≡◌, ◌∙◌, ℕ, ℤ, List, [], ◌∷◌, ◌++◌, map, Option, Some, ap, sym}
+use Rattle.std.proofs.lemmas.Grind.{flat_map-append}
+use Rattle.std.proofs.lemmas.List.{append_assoc}
+use Rattle.semver.specs.Parse.{Parts}
+use Rattle.serde_json.specs.Data.{Data}
+use Rattle.serde_json.specs.declared.value.Value.{Value}
+use Rattle.serde_json.specs.View.{view}
+use Rattle.rec_events.specs.declared.instances.OwnedTestInstanceId.{OwnedTestInstanceId}
+use Rattle.rec_trace_events.specs.declared.counts.TestCounts.{TestCounts}
+use Rattle.rec_spans.specs.declared.settings.ChromeTraceGroupBy.{ChromeTraceGroupBy}
+use Rattle.rec_spans.specs.declared.spans.Span.{Span}
+use Rattle.rec_spans.specs.History.{TraceState}
+use Rattle.rec_trace.specs.Drawing.{Draws}
+use Rattle.rec_trace.specs.Drawn.Drawn.{ArrowStarts, Results}
+use Rattle.rec_trace.specs.Drawn.{Drawn, all_events, events_of}
+use Rattle.rec_trace.specs.Known.{Known}
+use Rattle.rec_trace.specs.Table.{closes, counter, naming, opens}
+
+pub draws_then : (a b : List Drawn) (x y z : List Value) → Draws a x y → Draws b y z → Draws (a ++ b) x z
+draws_then a b x y z first second =
+    second
+    ∙ ap (λ events. events ++ all_events b) first
+    ∙ append_assoc (map view x) (all_events a) (all_events b)
+    ∙ ap (λ events. map view x ++ events) (sym (flat_map-append events_of a b))
+
+-- both are the span that starts
+pub span_is : (o : Option Span) (x y : Span) → o ≡ Some x → o ≡ Some y → x ≡ y
+span_is o x y e f = cc
+
+module _ (version : Parts) (g : ChromeTraceGroupBy) (state : TraceState) (known : Known) (t : ℤ) where
+  -- a span that starts, after the names of its row
+  pub start_of : (s span : Span) (p n : List ℕ) (a args : Option Data) (x y z : List Value)
+      → span ≡ s → args ≡ a
+      → Draws (naming version g state known t span.row p n) x y
+      → Draws (opens version g state known t span args []) y z
+      → Draws (naming version g state known t s.row p n ++ opens version g state known t s a []) x z
+  start_of s span p n a args x y z e f first second = rw (sym e, sym f) (draws_then _ _ x y z first second)
+
+  -- the same, and then how many tests and setup scripts run
+  pub counted_start_of : (s span : Span) (p n : List ℕ) (a args : Option Data) (l tests m scripts : ℕ) (w x y z : List Value)
+      → span ≡ s → args ≡ a → tests ≡ l → scripts ≡ m
+      → Draws (naming version g state known t span.row p n) w x
+      → Draws (opens version g state known t span args []) x y
+      → Draws (counter version g state known t tests scripts ∷ []) y z
+      → Draws (naming version g state known t s.row p n ++ opens version g state known t s a [] ++ counter version g state known t l m ∷ []) w z
+  counted_start_of s span p n a args l tests m scripts w x y z e f h i first second third =
+      rw (sym h, sym i) (draws_then _ _ w y z (start_of s span p n a args w x y e f first second) third)
+
+  -- spans that end, and then how many tests and setup scripts run
+  pub counted_end_of : (ss spans : List Span) (a args : Option Data) (l tests m scripts : ℕ) (x y z : List Value)
+      → spans ≡ ss → args ≡ a → tests ≡ l → scripts ≡ m
+      → Draws (closes version g state known t spans args) x y
+      → Draws (counter version g state known t tests scripts ∷ []) y z
+      → Draws (closes version g state known t ss a ++ counter version g state known t l m ∷ []) x z
+  counted_end_of ss spans a args l tests m scripts x y z e f h i first second = rw (sym e, sym f, sym h, sym i) (draws_then _ _ x y z first second)
+
+  -- attempts that failed
+  pub failed_of : (test : OwnedTestInstanceId) (running : ℕ) (ss spans : List Span) (a args : Option Data) (m scripts : ℕ) (w x y z : List Value)
+      → spans ≡ ss → args ≡ a → scripts ≡ m
+      → Draws (closes version g state known t spans args) w x
+      → Draws (map (λ s. ArrowStarts test s.row t state.next_flow) spans) x y
+      → Draws (counter version g state known t running scripts ∷ []) y z
+      → Draws (closes version g state known t ss a ++ map (λ s. ArrowStarts test s.row t state.next_flow) ss
+      ++ counter version g state known t running m ∷ []) w z
+  failed_of test running ss spans a args m scripts w x y z e f h first second third =
+      rw (sym e, sym f, sym h) (draws_then _ _ w y z (draws_then _ _ w x y first second) third)
+
+  -- tests that ended
+  pub finished_of : (running : ℕ) (ss spans : List Span) (a args : Option Data) (m scripts : ℕ) (n counts : TestCounts) (w x y z : List Value)
+      → spans ≡ ss → args ≡ a → scripts ≡ m → counts ≡ n
+      → Draws (closes version g state known t spans args) w x
+      → Draws (counter version g state known t running scripts ∷ []) x y
+      → Draws (Results counts t ∷ []) y z
+      → Draws (closes version g state known t ss a ++ counter version g state known t running m ∷ Results n t ∷ []) w z
+  finished_of running ss spans a args m scripts n counts w x y z e f h i first second third =
+      rw (sym e, sym f, sym h, sym i)
+      (draws_then _ (counter version g state known t running scripts ∷ Results counts t ∷ []) w x z first (draws_then (counter version g state known t running scripts ∷ []) (Results counts t ∷ []) x y z second third))

@@ -1,0 +1,66 @@
+-- The text of a trace.
+use Rattle.std.specs.Prelude.{ℕ, Bool, true, List, [], ◌∷◌, ◌++◌, length, nat_lt, Option, None, Some, codes}
+use Rattle.json.specs.Layout.{pretty}
+use Rattle.json.specs.Tree.{json_tokens}
+use Rattle.semver.specs.Parse.{Parts}
+use Rattle.serde_json.specs.Data.{Data, array, string}
+use Rattle.serde_json.specs.View.{items_of}
+use Rattle.serde_json.specs.Written.{comma_if, compact_text, outline}
+use Rattle.rec_forms.specs.Ids.{uuid_value, version_value}
+use Rattle.rec_forms.specs.Lists.{list_value}
+use Rattle.rec_forms.specs.Shape.{Field, field, only, optional, struct}
+use Rattle.rec_forms.specs.Stress.{stress_condition_value}
+use Rattle.rec_trace_events.specs.Args.{given}
+use Rattle.rec_trace.specs.declared.run_start.RunStart.{RunStart}
+use Rattle.rec_trace.specs.declared.settings.ChromeTraceMessageFormat.TheVariants.{Json, JsonPretty}
+use Rattle.rec_trace.specs.declared.settings.ChromeTraceMessageFormat.{ChromeTraceMessageFormat}
+
+-- the words of a command, where there are some
+abbrev pub words_field : List ℕ → List (List ℕ) → Field
+words_field key words = given key (only (nat_lt 0 (length words)) (list_value string words))
+
+-- the run that started last
+abbrev pub run_fields : Option RunStart → List Field
+run_fields None = []
+run_fields (Some run) =
+    field (codes "run_id") (uuid_value run.run_id)
+    ∷ field (codes "profile_name") (string run.profile_name)
+    ∷ words_field (codes "cli_args") run.cli_args
+    ∷ optional (codes "stress_condition") stress_condition_value run.stress_condition
+    ∷ []
+
+-- what a trace says of the run beside its events
+unfoldable pub other_data : Parts → Option RunStart → Data
+other_data version run = struct (field (codes "nextest_version") (version_value version) ∷ run_fields run)
+
+-- the trace with these events
+unfoldable pub trace_value : Data → List Data → Data
+trace_value other events = struct (field (codes "displayTimeUnit") (string (codes "ms"))
+    ∷ field (codes "otherData") other
+    ∷ field (codes "traceEvents") (array (items_of events))
+    ∷ [])
+
+-- the text over several lines, of a value without a number that has a fraction
+abbrev pub pretty_text : Data → List ℕ
+pretty_text d = pretty (json_tokens (outline d))
+
+abbrev pub text_in : ChromeTraceMessageFormat → Data → List ℕ
+text_in Json d = compact_text d
+text_in JsonPretty d = pretty_text d
+
+-- ---- parts of the text in one line
+
+-- the texts of trace events, each after a comma where something stands before it
+abbrev pub event_texts : Bool → List Data → List ℕ
+event_texts later [] = []
+event_texts later (d ∷ ds) = comma_if later ++ (compact_text d ++ event_texts true ds)
+
+-- what stands before the text of other data, between this and the events, and behind these
+abbrev pub trace_start : List ℕ
+trace_start = codes "{\"displayTimeUnit\":\"ms\",\"otherData\":"
+
+abbrev pub events_start : List ℕ
+events_start = codes ",\"traceEvents\":["
+
+abbrev pub trace_end : List ℕ
+trace_end = codes "]}"

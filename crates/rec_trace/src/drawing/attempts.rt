@@ -1,0 +1,269 @@
+//! Draws the begins and the ends of attempts of tests, and slow tests.
+ghost use Rattle.std.specs.Prelude.{◌≡◌, Some, IfOk, OnOk, codes, option_map, option_to_list};
+ghost use Rattle.serde_json.specs.View.{view};
+ghost use Rattle.rec_codec.specs.CoreKinds.{core_name};
+ghost use Rattle.rec_codec.specs.OutputKinds.{output_name};
+ghost use Rattle.rec_trace_events.specs.Args.{failed_attempt_args, finished_test_args};
+ghost use Rattle.rec_trace_events.specs.RowNames.{slot_name};
+ghost use Rattle.rec_spans.specs.Acts.Act.{AttemptStarts};
+ghost use Rattle.rec_spans.specs.Acts.{core_act, output_act};
+ghost use Rattle.rec_spans.specs.Kinds.{test_span};
+ghost use Rattle.rec_spans.specs.Plain.{plain_output_kind};
+ghost use Rattle.rec_trace.specs.Drawing.{Draws, IsJudgedAct, in_sight};
+ghost use Rattle.rec_trace.specs.Drawn.Drawn.{ArrowFinishes};
+ghost use Rattle.rec_trace.specs.Table.{attempt_starts, drawn_core, drawn_output, group_of, naming, test_process};
+
+use crate::drawing::primitives::{
+    draw_arrow_finish, draw_arrow_start, draw_counter, draw_end, draw_in_pause, draw_names,
+    draw_results, draw_slice, draw_slow,
+};
+use crate::drawing::sight::Sight;
+use rec_events::{
+    CoreEventKind, Duration, ExecuteStatus, ExecutionStatuses, OutputEventKind, OutputSpec,
+    OwnedTestInstanceId, StressIndexSummary, TestGroup,
+};
+use rec_spans::{ChromeTraceGroupBy, Phase};
+use rec_trace_events::{
+    Category, Row, TestCounts, failed_attempt_args, finished_test_args, retry_begin_args,
+    slot_name, slow_test_args, test_begin_args,
+};
+use serde_json::Value;
+use std::alloc::AllocError;
+
+/// Names the process of the row of a test: its binary, or that of all tests.
+fn test_process(group_by: ChromeTraceGroupBy, test: &OwnedTestInstanceId) -> &str
+    ensures { result.now ≡ test_process group_by test.now }
+{
+    match group_by {
+        ChromeTraceGroupBy::Binary => test.binary_id.as_str(),
+        ChromeTraceGroupBy::Slot => "tests",
+    }
+}
+
+/// Names the process of the row of a test, and the row of this slot, each where it wasn't named before.
+fn draw_attempt_names(
+    sight: &Sight<'_>,
+    row: Row,
+    test: &OwnedTestInstanceId,
+    slot: u64,
+    events: &mut Vec<Value>,
+) -> Result<(), AllocError>
+    ensures { OnOk result (Draws (in_sight sight.now naming row (test_process sight.now.group_by test.now) (slot_name slot)) events.old.items events.new.items) }
+{
+    let name = slot_name(sight.alloc, slot)?;
+    let process = test_process(sight.group_by, test);
+    draw_names(sight, row, process, name.as_str(), events)?;
+    Ok(())
+}
+
+/// Draws that an attempt of a test started on a slot, at which the arrow of this number finishes, if there is
+/// one. `running` is how many tests run with it.
+fn draw_attempt_start(
+    sight: &Sight<'_>,
+    test: &OwnedTestInstanceId,
+    slot: u64,
+    args: Value,
+    flow: Option<u64>,
+    running: usize,
+    events: &mut Vec<Value>,
+) -> Result<(), AllocError>
+    requires { IsJudgedAct sight.now (AttemptStarts test.now slot) }
+    ensures { OnOk result (Draws (in_sight sight.now attempt_starts test.now slot (view args)
+        (option_to_list (option_map (ArrowFinishes test.now (test_span sight.now.group_by sight.now.tracker.now.binaries test.now slot).row sight.now.step.now.at) flow)) running)
+        events.old.items events.new.items) }
+{
+    let Some(span) = &sight.step.started else {
+        unreachable!()
+    };
+    draw_attempt_names(sight, span.row, test, slot, events)?;
+    draw_slice(sight, Phase::Begin, span, Some(args), events)?;
+    draw_arrow_finish(sight, test, span.row, flow, events)?;
+    draw_in_pause(sight, Phase::End, span, events)?;
+    draw_counter(sight, running, sight.step.running_scripts, events)?;
+    Ok(())
+}
+
+/// Draws that the first attempt of a test started.
+pub fn draw_test_start(
+    sight: &Sight<'_>,
+    kind: &CoreEventKind,
+    events: &mut Vec<Value>,
+) -> Result<(), AllocError>
+    requires named { core_name kind.now ≡ codes "test-started" }
+    requires judged { IsJudgedAct sight.now (core_act kind.now) }
+    ensures { OnOk result (Draws (in_sight sight.now drawn_core kind.now) events.old.items events.new.items) }
+{
+    let CoreEventKind::TestStarted {
+        test_instance,
+        slot_assignment,
+        running,
+        command_line,
+        ..
+    } = kind
+    else {
+        unreachable!()
+    };
+    let args = test_begin_args(sight.alloc, test_instance, command_line)?;
+    let slot = slot_assignment.global_slot;
+    draw_attempt_start(sight, test_instance, slot, args, None, *running, events)?;
+    Ok(())
+}
+
+/// Draws that a further attempt of a test started.
+pub fn draw_retry_start(
+    sight: &Sight<'_>,
+    kind: &CoreEventKind,
+    events: &mut Vec<Value>,
+) -> Result<(), AllocError>
+    requires named { core_name kind.now ≡ codes "test-retry-started" }
+    requires judged { IsJudgedAct sight.now (core_act kind.now) }
+    ensures { OnOk result (Draws (in_sight sight.now drawn_core kind.now) events.old.items events.new.items) }
+{
+    let CoreEventKind::TestRetryStarted {
+        test_instance,
+        slot_assignment,
+        retry_data,
+        running,
+        command_line,
+        ..
+    } = kind
+    else {
+        unreachable!()
+    };
+    let args = retry_begin_args(sight.alloc, test_instance, retry_data, command_line)?;
+    let slot = slot_assignment.global_slot;
+    let flow = sight.known.arrow(test_instance);
+    draw_attempt_start(sight, test_instance, slot, args, flow, *running, events)?;
+    Ok(())
+}
+
+/// Draws that a test is slow.
+pub fn draw_slow_test(
+    sight: &Sight<'_>,
+    kind: &CoreEventKind,
+    events: &mut Vec<Value>,
+) -> Result<(), AllocError>
+    requires named { core_name kind.now ≡ codes "test-slow" }
+    ensures { OnOk result (Draws (in_sight sight.now drawn_core kind.now) events.old.items events.new.items) }
+{
+    let CoreEventKind::TestSlow {
+        stress_index,
+        test_instance,
+        retry_data,
+        elapsed,
+        will_terminate,
+    } = kind
+    else {
+        unreachable!()
+    };
+    let args = slow_test_args(
+        sight.alloc,
+        test_instance,
+        stress_index,
+        retry_data,
+        elapsed,
+        *will_terminate,
+    )?;
+    let span = sight.tracker.open_spans().test(test_instance);
+    draw_slow(sight, Category::Test, span, args, events)?;
+    Ok(())
+}
+
+/// Makes the args of the end of an attempt that failed, in the group of its start.
+fn failed_args<S: OutputSpec>(
+    sight: &Sight<'_>,
+    test: &OwnedTestInstanceId,
+    stress_index: &Option<StressIndexSummary>,
+    status: &ExecuteStatus<S>,
+    delay: &Duration,
+) -> Result<Value, AllocError>
+    ensures { IfOk result (λ v. view v ≡ failed_attempt_args test.now stress_index.now (in_sight sight.now group_of test.now) status.now delay.now) }
+{
+    match sight.known.group(test) {
+        Some(group) => failed_attempt_args(sight.alloc, test, stress_index, group, status, delay),
+        None => {
+            let global = TestGroup::Global;
+            failed_attempt_args(sight.alloc, test, stress_index, &global, status, delay)
+        }
+    }
+}
+
+/// Draws that an attempt of a test failed, after which another one follows.
+pub fn draw_failed_attempt<S: OutputSpec>(
+    sight: &Sight<'_>,
+    kind: &OutputEventKind<S>,
+    events: &mut Vec<Value>,
+) -> Result<(), AllocError>
+    requires named { output_name kind.now ≡ codes "test-attempt-failed-will-retry" }
+    requires judged { IsJudgedAct sight.now (output_act (plain_output_kind kind.now)) }
+    ensures { OnOk result (Draws (in_sight sight.now drawn_output (plain_output_kind kind.now)) events.old.items events.new.items) }
+{
+    let OutputEventKind::TestAttemptFailedWillRetry {
+        stress_index,
+        test_instance,
+        run_status,
+        delay_before_next_attempt,
+        running,
+        ..
+    } = kind
+    else {
+        unreachable!()
+    };
+    let delay = delay_before_next_attempt;
+    let args = failed_args(sight, test_instance, stress_index, run_status, delay)?;
+    let span = sight.tracker.open_spans().test(test_instance);
+    draw_end(sight, span, args, events)?;
+    draw_arrow_start(sight, test_instance, span, events)?;
+    draw_counter(sight, *running, sight.step.running_scripts, events)?;
+    Ok(())
+}
+
+/// Makes the args of the end of a test, in the group in which its last attempt was started.
+fn finished_args<S: OutputSpec>(
+    sight: &Sight<'_>,
+    test: &OwnedTestInstanceId,
+    stress_index: &Option<StressIndexSummary>,
+    statuses: &ExecutionStatuses<S>,
+) -> Result<Value, AllocError>
+    ensures { IfOk result (λ v. finished_test_args test.now stress_index.now (in_sight sight.now group_of test.now) statuses.now ≡ Some (view v)) }
+{
+    match sight.known.group(test) {
+        Some(group) => finished_test_args(sight.alloc, test, stress_index, group, statuses),
+        None => {
+            let global = TestGroup::Global;
+            finished_test_args(sight.alloc, test, stress_index, &global, statuses)
+        }
+    }
+}
+
+/// Draws that the last attempt of a test ended.
+pub fn draw_test_end<S: OutputSpec>(
+    sight: &Sight<'_>,
+    kind: &OutputEventKind<S>,
+    events: &mut Vec<Value>,
+) -> Result<(), AllocError>
+    requires named { output_name kind.now ≡ codes "test-finished" }
+    requires judged { IsJudgedAct sight.now (output_act (plain_output_kind kind.now)) }
+    ensures { OnOk result (Draws (in_sight sight.now drawn_output (plain_output_kind kind.now)) events.old.items events.new.items) }
+{
+    let OutputEventKind::TestFinished {
+        stress_index,
+        test_instance,
+        run_statuses,
+        current_stats,
+        running,
+        ..
+    } = kind
+    else {
+        unreachable!()
+    };
+    let Some(counts) = TestCounts::of(current_stats) else {
+        unreachable!()
+    };
+    let args = finished_args(sight, test_instance, stress_index, run_statuses)?;
+    let span = sight.tracker.open_spans().test(test_instance);
+    draw_end(sight, span, args, events)?;
+    draw_counter(sight, *running, sight.step.running_scripts, events)?;
+    draw_results(sight, counts, events)?;
+    Ok(())
+}

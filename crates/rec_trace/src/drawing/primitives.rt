@@ -1,0 +1,286 @@
+//! Draws the parts of which the trace events of every kind of event are made.
+ghost use Rattle.std.specs.Prelude.{◌≡◌, [], ◌∷◌, Some, IfOk, OnOk, if◌then◌else◌, map, option_copied, option_map, option_to_list};
+ghost use Rattle.serde_json.specs.View.{view};
+ghost use Rattle.rec_trace_events.specs.TraceEvents.{process_row};
+ghost use Rattle.rec_spans.specs.Past.{mark};
+ghost use Rattle.rec_trace.specs.Drawing.{Draws, in_sight};
+ghost use Rattle.rec_trace.specs.Drawn.Drawn.{ArrowStarts, ArrowFinishes, ProcessNamed, Results, RowNamed, Slice, Slow};
+ghost use Rattle.rec_trace.specs.Drawn.{category_of};
+ghost use Rattle.rec_trace.specs.KnownNews.{known_in};
+ghost use Rattle.rec_trace.specs.Table.{bare, closes, counter, naming, opens, run_marked, run_process};
+
+use crate::drawing::sight::Sight;
+use rec_events::{OwnedTestInstanceId, Text, TryClone};
+use rec_spans::{Phase, Span, SpanKey};
+use rec_trace_events::{
+    Category, Row, RunMark, RunningCounts, TestCounts, arrow_finish, arrow_start, begin_event,
+    concurrency_event, end_event, mark_event, process_metadata, results_event, run_process_name,
+    slow_event, thread_metadata,
+};
+use serde_json::Value;
+use std::alloc::AllocError;
+
+// ---- names
+
+/// Names a process, where it wasn't named before.
+fn name_process(
+    sight: &Sight<'_>,
+    pid: u64,
+    name: &str,
+    events: &mut Vec<Value>,
+) -> Result<(), AllocError>
+    ensures { OnOk result (Draws (if (known_in sight.now.known.now).is_named (process_row pid) then [] else ProcessNamed pid name.now ∷ [])
+        events.old.items events.new.items) }
+{
+    if !sight.known.is_named(Row { pid, tid: 0 }) {
+        let mut names = process_metadata(sight.alloc, pid, name)?;
+        events.append(&mut names)?;
+    }
+    Ok(())
+}
+
+/// Names a row, where it wasn't named before.
+fn name_row(
+    sight: &Sight<'_>,
+    row: Row,
+    name: &str,
+    events: &mut Vec<Value>,
+) -> Result<(), AllocError>
+    ensures { OnOk result (Draws (if (known_in sight.now.known.now).is_named row then [] else RowNamed row name.now ∷ [])
+        events.old.items events.new.items) }
+{
+    if !sight.known.is_named(row) {
+        let mut names = thread_metadata(sight.alloc, row, name)?;
+        events.append(&mut names)?;
+    }
+    Ok(())
+}
+
+/// Names the process of a row, and the row, each where it wasn't named before.
+pub fn draw_names(
+    sight: &Sight<'_>,
+    row: Row,
+    process: &str,
+    name: &str,
+    events: &mut Vec<Value>,
+) -> Result<(), AllocError>
+    ensures { OnOk result (Draws (in_sight sight.now naming row process.now name.now) events.old.items events.new.items) }
+{
+    name_process(sight, row.pid, process, events)?;
+    name_row(sight, row, name, events)?;
+    Ok(())
+}
+
+/// Makes the name of the process of the run, under the profile of the run that started last.
+fn run_process(sight: &Sight<'_>) -> Result<Text, AllocError>
+    ensures { IfOk result (λ name. name ≡ in_sight sight.now run_process) }
+{
+    let profile = match sight.known.last_run() {
+        Some(run) => Some(run.profile_name.try_clone(sight.alloc)?),
+        None => None,
+    };
+    run_process_name(sight.alloc, &profile)
+}
+
+/// Names the process of the run, and this row of it, each where it wasn't named before.
+pub fn draw_run_names(
+    sight: &Sight<'_>,
+    row: Row,
+    name: &str,
+    events: &mut Vec<Value>,
+) -> Result<(), AllocError>
+    ensures { OnOk result (Draws (in_sight sight.now naming row (in_sight sight.now run_process) name.now) events.old.items events.new.items) }
+{
+    let process = run_process(sight)?;
+    draw_names(sight, row, process.as_str(), name, events)?;
+    Ok(())
+}
+
+// ---- slices
+
+/// Returns the category of what a span is of.
+fn category_of(key: &SpanKey) -> Category
+    ensures { result ≡ category_of key.now }
+{
+    match key {
+        SpanKey::Run => Category::Run,
+        SpanKey::SubRun => Category::Stress,
+        SpanKey::Script(_) => Category::SetupScript,
+        SpanKey::Test(_) => Category::Test,
+    }
+}
+
+/// Draws the begin or the end of a slice of a span, with these args, where there are some.
+pub fn draw_slice(
+    sight: &Sight<'_>,
+    phase: Phase,
+    span: &Span,
+    args: Option<Value>,
+    events: &mut Vec<Value>,
+) -> Result<(), AllocError>
+    ensures { OnOk result (Draws (Slice (mark phase sight.now.step.now.at span.now) (option_map view args) ∷ [])
+        events.old.items events.new.items) }
+{
+    let (name, category) = (span.name.as_str(), category_of(&span.key));
+    let (row, at) = (span.row, sight.step.at);
+    let event = match phase {
+        Phase::Begin => begin_event(sight.alloc, name, category, row, at, args)?,
+        Phase::End => end_event(sight.alloc, name, category, row, at, args)?,
+    };
+    events.push(event)?;
+    Ok(())
+}
+
+/// Draws in a pause the begin or the end of a slice of a span without args, and else nothing.
+pub fn draw_in_pause(
+    sight: &Sight<'_>,
+    phase: Phase,
+    span: &Span,
+    events: &mut Vec<Value>,
+) -> Result<(), AllocError>
+    ensures { OnOk result (Draws (if sight.now.tracker.now.in_pause then bare phase sight.now.step.now.at (span.now ∷ []) else [])
+        events.old.items events.new.items) }
+{
+    if sight.tracker.in_pause() {
+        draw_slice(sight, phase, span, None, events)?;
+    }
+    Ok(())
+}
+
+/// Draws the begin of a span. In a pause the span ends at once.
+pub fn draw_start(
+    sight: &Sight<'_>,
+    span: &Span,
+    args: Option<Value>,
+    events: &mut Vec<Value>,
+) -> Result<(), AllocError>
+    ensures { OnOk result (Draws (in_sight sight.now opens span.now (option_map view args) [])
+        events.old.items events.new.items) }
+{
+    draw_slice(sight, Phase::Begin, span, args, events)?;
+    draw_in_pause(sight, Phase::End, span, events)?;
+    Ok(())
+}
+
+/// Draws the end of a span, where it is open. In a pause the span begins before that.
+pub fn draw_end(
+    sight: &Sight<'_>,
+    span: Option<&Span>,
+    args: Value,
+    events: &mut Vec<Value>,
+) -> Result<(), AllocError>
+    ensures { OnOk result (Draws (in_sight sight.now closes (option_to_list (option_copied span.entry)) (Some (view args)))
+        events.old.items events.new.items) }
+{
+    if let Some(span) = span {
+        draw_in_pause(sight, Phase::Begin, span, events)?;
+        draw_slice(sight, Phase::End, span, Some(args), events)?;
+    }
+    Ok(())
+}
+
+/// Draws the begins, or the ends, of all open spans without args.
+pub fn draw_all(sight: &Sight<'_>, phase: Phase, events: &mut Vec<Value>) -> Result<(), AllocError>
+    ensures { OnOk result (Draws (bare phase sight.now.step.now.at sight.now.tracker.now.spans) events.old.items events.new.items) }
+{
+    for span in sight.tracker.open_spans().iter() {
+        draw_slice(sight, phase, span, None, events)?;
+    }
+    Ok(())
+}
+
+// ---- counters and instants
+
+/// Draws how many tests and setup scripts run.
+pub fn draw_counter(
+    sight: &Sight<'_>,
+    tests: usize,
+    scripts: usize,
+    events: &mut Vec<Value>,
+) -> Result<(), AllocError>
+    ensures { OnOk result (Draws (in_sight sight.now counter tests scripts ∷ []) events.old.items events.new.items) }
+{
+    let running = RunningCounts { tests, scripts };
+    events.push(concurrency_event(sight.alloc, running, sight.step.at)?)?;
+    Ok(())
+}
+
+/// Draws how many tests ended, and how.
+pub fn draw_results(
+    sight: &Sight<'_>,
+    counts: TestCounts,
+    events: &mut Vec<Value>,
+) -> Result<(), AllocError>
+    ensures { OnOk result (Draws (Results counts sight.now.step.now.at ∷ []) events.old.items events.new.items) }
+{
+    events.push(results_event(sight.alloc, counts, sight.step.at)?)?;
+    Ok(())
+}
+
+/// Draws a mark over the run, with so many tests and setup scripts running.
+pub fn draw_run_mark(
+    sight: &Sight<'_>,
+    what: RunMark,
+    tests: usize,
+    scripts: usize,
+    events: &mut Vec<Value>,
+) -> Result<(), AllocError>
+    ensures { OnOk result (Draws (in_sight sight.now run_marked what tests scripts) events.old.items events.new.items) }
+{
+    draw_run_names(sight, Row { pid: 0, tid: 1 }, "run", events)?;
+    let running = RunningCounts { tests, scripts };
+    events.push(mark_event(sight.alloc, what, running, sight.step.at)?)?;
+    Ok(())
+}
+
+/// Draws that a span is slow, where it is open.
+pub fn draw_slow(
+    sight: &Sight<'_>,
+    category: Category,
+    span: Option<&Span>,
+    args: Value,
+    events: &mut Vec<Value>,
+) -> Result<(), AllocError>
+    ensures { OnOk result (Draws (map (λ s. Slow category s.row sight.now.step.now.at (view args)) (option_to_list (option_copied span.entry)))
+        events.old.items events.new.items) }
+{
+    if let Some(span) = span {
+        events.push(slow_event(sight.alloc, category, span.row, sight.step.at, args)?)?;
+    }
+    Ok(())
+}
+
+// ---- arrows
+
+/// Draws the start of the arrow of a test, of the next flow number, on the row of its attempt, where one is open.
+pub fn draw_arrow_start(
+    sight: &Sight<'_>,
+    test: &OwnedTestInstanceId,
+    span: Option<&Span>,
+    events: &mut Vec<Value>,
+) -> Result<(), AllocError>
+    ensures { OnOk result (Draws (map (λ s. ArrowStarts test.now s.row sight.now.step.now.at sight.now.tracker.now.next_flow) (option_to_list (option_copied span.entry)))
+        events.old.items events.new.items) }
+{
+    if let Some(span) = span {
+        let flow = sight.tracker.next_flow();
+        events.push(arrow_start(sight.alloc, span.row, sight.step.at, flow)?)?;
+    }
+    Ok(())
+}
+
+/// Draws the finish of the arrow of this number, if there is one, for a test on a row.
+pub fn draw_arrow_finish(
+    sight: &Sight<'_>,
+    test: &OwnedTestInstanceId,
+    row: Row,
+    flow: Option<u64>,
+    events: &mut Vec<Value>,
+) -> Result<(), AllocError>
+    ensures { OnOk result (Draws (option_to_list (option_map (ArrowFinishes test.now row sight.now.step.now.at) flow)) events.old.items events.new.items) }
+{
+    if let Some(flow) = flow {
+        events.push(arrow_finish(sight.alloc, row, sight.step.at, flow)?)?;
+    }
+    Ok(())
+}

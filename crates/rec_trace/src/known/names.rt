@@ -1,0 +1,96 @@
+//! The rows that were named.
+ghost use Rattle.std.specs.Prelude.{◌≡◌, ◌||◌, false, OnOk};
+ghost use Rattle.rec_trace_events.specs.declared.rows.Row.{Row};
+ghost use Rattle.rec_trace_events.specs.TraceEvents.{process_row};
+ghost use Rattle.rec_spans.specs.Keys.{row_eq};
+ghost use Rattle.rec_trace.specs.Known.{names};
+ghost use Rattle.rec_trace.specs.KnownMaps.{HasRow, HasRows, row_named};
+
+use rec_trace_events::Row;
+use std::alloc::{AllocError, Global};
+use std::collections::BTreeMap;
+
+/// Says of rows whether they were named. The first row of a process stands for the process.
+#[derive(Drop)]
+pub struct Names {
+    rows: BTreeMap<Row, bool>,
+}
+
+impl Names {
+    /// Makes the collection without a row that was named.
+    pub fn new(alloc: Global) -> Names
+        ensures { (row : Row) → row_named result row ≡ false }
+    {
+        Names {
+            rows: BTreeMap::new(alloc),
+        }
+    }
+
+    /// Returns whether a row was named.
+    pub fn is_named(&self, row: Row) -> bool
+        ensures { result ≡ row_named self.now row }
+    {
+        self.rows.get(&row).copied().unwrap_or(false)
+    }
+
+    /// Makes room for the names of a row and of its process. None is named by that, whatever the answer is.
+    ///
+    /// # Errors
+    ///
+    /// Fails only where memory ran out.
+    pub fn make_room(&mut self, row: Option<Row>) -> Result<(), AllocError>
+        ensures same { (other : Row) → row_named self.new other ≡ row_named self.old other }
+        ensures room { OnOk result (HasRows row self.new) }
+    {
+        let Some(row) = row else { return Ok(()) };
+        self.make_row(row)?;
+        self.make_row(first_row(row))
+    }
+
+    /// Makes room for the name of one row.
+    fn make_row(&mut self, row: Row) -> Result<(), AllocError>
+        ensures same { (other : Row) → row_named self.new other ≡ row_named self.old other }
+        ensures room { OnOk result (HasRow row self.new) }
+        ensures kept { (other : Row) → HasRow other self.old → HasRow other self.new }
+    {
+        if self.rows.contains_key(&row) {
+            return Ok(());
+        }
+        // This says as much of the row as no entry.
+        self.rows.insert(row, false)?;
+        Ok(())
+    }
+
+    /// Names a row and its process, for which there is room. It takes no memory.
+    pub fn name(&mut self, row: Option<Row>)
+        requires { HasRows row self.old }
+        ensures { (other : Row) → row_named self.new other ≡ (names row other || row_named self.old other) }
+    {
+        if let Some(row) = row {
+            self.name_row(first_row(row));
+            self.name_row(row);
+        }
+    }
+
+    /// Names one row.
+    fn name_row(&mut self, row: Row)
+        requires { HasRow row self.old }
+        ensures named { (other : Row) → row_named self.new other ≡ (row_eq row other || row_named self.old other) }
+        ensures kept { (other : Row) → HasRow other self.old → HasRow other self.new }
+    {
+        // Only a new row can want memory.
+        let Ok(_) = self.rows.insert(row, true) else {
+            unreachable!()
+        };
+    }
+}
+
+/// Returns the first row of a row's process, which stands for it.
+fn first_row(row: Row) -> Row
+    ensures { result ≡ process_row row.pid }
+{
+    Row {
+        pid: row.pid,
+        tid: 0,
+    }
+}
