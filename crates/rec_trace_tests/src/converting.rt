@@ -9,10 +9,11 @@ use rec_trace::{
 use std::alloc::Global;
 use std::test::Fail;
 
-// The trace of a log, or why it has none.
-pub(crate) fn traced(
+// The trace of a log in this form, or why it has none.
+pub(crate) fn written(
     alloc: Global,
     group_by: ChromeTraceGroupBy,
+    message_format: ChromeTraceMessageFormat,
     lines: &[Line],
 ) -> Result<Result<Vec<u8>, ChromeTraceError>, Fail> {
     let log = log(alloc, lines)?;
@@ -22,6 +23,15 @@ pub(crate) fn traced(
         &version,
         LineIter::<RecordingSpec>::new(alloc, log.as_str().as_bytes(), 1),
         group_by,
-        ChromeTraceMessageFormat::Json,
+        message_format,
     ))
+}
+
+// The trace of a log in one line, or why it has none.
+pub(crate) fn traced(
+    alloc: Global,
+    group_by: ChromeTraceGroupBy,
+    lines: &[Line],
+) -> Result<Result<Vec<u8>, ChromeTraceError>, Fail> {
+    written(alloc, group_by, ChromeTraceMessageFormat::Json, lines)
 }

@@ -4,9 +4,12 @@ use std::alloc::Global;
 use std::test::Fail;
 
 // A line of a log, with the second of its event. Tests, setup scripts, slots and counts are numbers. The first
-// two tests are of one binary, the others of another.
+// two tests are of one binary, the others of another. What an event says of the number of tests that run is
+// how many attempts were started and not ended in the log so far.
 #[derive(Clone, Copy)]
 pub(crate) enum Line {
+    // Any event, by its members.
+    Event(i64, &'static str),
     // The run starts, so many nanoseconds later.
     Run(i64, u32),
     RunEnd(i64),
@@ -87,6 +90,10 @@ fn script_event(
     event(alloc, secs, 0, members.as_str())
 }
 
+fn script_started() -> &'static str {
+    r#""kind":"setup-script-started""#
+}
+
 fn script_passed() -> &'static str {
     r#""kind":"setup-script-finished","run-status":{"output":{"start-error":"none"},"result":"exec-fail","start-time":{"secs":1001,"nanos":0,"offset":0},"time-taken":{"secs":1,"nanos":0},"is-slow":false}"#
 }
@@ -112,36 +119,66 @@ fn test_event(alloc: Global, secs: i64, test: u32, members: &str) -> Result<Stri
     event(alloc, secs, 0, members.as_str())
 }
 
-fn test_start(alloc: Global, secs: i64, test: u32, slot: u64) -> Result<String, Fail> {
-    let stats = stats(alloc, 0)?;
-    let members = format!(in alloc;
-        r#""kind":"test-started","slot-assignment":{{"global-slot":{slot},"test-group":"@global"}},"current-stats":{stats},"running":0,"command-line":[]"#
-    )?;
+// An event of a test that says how many run.
+fn counted_test_event(
+    alloc: Global,
+    secs: i64,
+    test: u32,
+    running: u64,
+    members: &str,
+) -> Result<String, Fail> {
+    let members = format!(in alloc; r#""running":{running},{members}"#)?;
     test_event(alloc, secs, test, members.as_str())
 }
 
-fn test_retry(alloc: Global, secs: i64, test: u32, slot: u64) -> Result<String, Fail> {
+fn test_start(
+    alloc: Global,
+    secs: i64,
+    test: u32,
+    slot: u64,
+    running: u64,
+) -> Result<String, Fail> {
+    let stats = stats(alloc, 0)?;
     let members = format!(in alloc;
-        r#""kind":"test-retry-started","slot-assignment":{{"global-slot":{slot},"test-group":"@global"}},"retry-data":{{"attempt":2,"total-attempts":3}},"running":0,"command-line":[]"#
+        r#""kind":"test-started","slot-assignment":{{"global-slot":{slot},"test-group":"@global"}},"current-stats":{stats},"command-line":[]"#
     )?;
-    test_event(alloc, secs, test, members.as_str())
+    counted_test_event(alloc, secs, test, running, members.as_str())
+}
+
+fn test_retry(
+    alloc: Global,
+    secs: i64,
+    test: u32,
+    slot: u64,
+    running: u64,
+) -> Result<String, Fail> {
+    let members = format!(in alloc;
+        r#""kind":"test-retry-started","slot-assignment":{{"global-slot":{slot},"test-group":"@global"}},"retry-data":{{"attempt":2,"total-attempts":3}},"command-line":[]"#
+    )?;
+    counted_test_event(alloc, secs, test, running, members.as_str())
 }
 
 fn attempt_failed() -> &'static str {
-    r#""kind":"test-attempt-failed-will-retry","run-status":{"retry-data":{"attempt":1,"total-attempts":3},"output":{"start-error":"none"},"result":"exec-fail","start-time":{"secs":1001,"nanos":0,"offset":0},"time-taken":{"secs":1,"nanos":0},"is-slow":false,"delay-before-start":{"secs":0,"nanos":0}},"delay-before-next-attempt":{"secs":0,"nanos":0},"failure-output":"never","running":0"#
+    r#""kind":"test-attempt-failed-will-retry","run-status":{"retry-data":{"attempt":1,"total-attempts":3},"output":{"start-error":"none"},"result":"exec-fail","start-time":{"secs":1001,"nanos":0,"offset":0},"time-taken":{"secs":1,"nanos":0},"is-slow":false,"delay-before-start":{"secs":0,"nanos":0}},"delay-before-next-attempt":{"secs":0,"nanos":0},"failure-output":"never""#
 }
 
 fn passing_attempt() -> &'static str {
     r#"{"retry-data":{"attempt":1,"total-attempts":1},"output":{"output":{"output":{"split":{}}}},"result":"pass","start-time":{"secs":1001,"nanos":0,"offset":0},"time-taken":{"secs":1,"nanos":0},"is-slow":false,"delay-before-start":{"secs":0,"nanos":0}}"#
 }
 
-fn test_end(alloc: Global, secs: i64, test: u32, failed: u64) -> Result<String, Fail> {
+fn test_end(
+    alloc: Global,
+    secs: i64,
+    test: u32,
+    failed: u64,
+    running: u64,
+) -> Result<String, Fail> {
     let stats = stats(alloc, failed)?;
     let attempt = passing_attempt();
     let members = format!(in alloc;
-        r#""kind":"test-finished","success-output":"never","failure-output":"immediate","junit-store-success-output":false,"junit-store-failure-output":true,"junit-flaky-fail-status":"failure","run-statuses":{{"statuses":[{attempt}],"flaky-result":"pass"}},"current-stats":{stats},"running":0"#
+        r#""kind":"test-finished","success-output":"never","failure-output":"immediate","junit-store-success-output":false,"junit-store-failure-output":true,"junit-flaky-fail-status":"failure","run-statuses":{{"statuses":[{attempt}],"flaky-result":"pass"}},"current-stats":{stats}"#
     )?;
-    test_event(alloc, secs, test, members.as_str())
+    counted_test_event(alloc, secs, test, running, members.as_str())
 }
 
 fn test_slow() -> &'static str {
@@ -152,49 +189,81 @@ fn test_skipped() -> &'static str {
     r#""kind":"test-skipped","reason":"ignored","junit-report-skipped":"none""#
 }
 
-// An event that says how many setup scripts run.
-fn count_event(alloc: Global, secs: i64, scripts: u64, members: &str) -> Result<String, Fail> {
-    let members = format!(in alloc; r#""setup-scripts-running":{scripts},"running":0,{members}"#)?;
+// An event that says how many setup scripts and tests run.
+fn count_event(
+    alloc: Global,
+    secs: i64,
+    scripts: u64,
+    running: u64,
+    members: &str,
+) -> Result<String, Fail> {
+    let members = format!(in alloc;
+        r#""setup-scripts-running":{scripts},"running":{running},{members}"#
+    )?;
     event(alloc, secs, 0, members.as_str())
+}
+
+fn paused() -> &'static str {
+    r#""kind":"run-paused""#
+}
+
+fn continued() -> &'static str {
+    r#""kind":"run-continued""#
 }
 
 fn cancelled() -> &'static str {
     r#""kind":"run-begin-cancel","reason":"signal""#
 }
 
-fn line_text(alloc: Global, line: Line) -> Result<String, Fail> {
+// The text of a line about the run or a setup script, at which so many tests run.
+fn run_line(alloc: Global, line: Line, running: u64) -> Result<String, Fail> {
     match line {
+        Line::Event(secs, members) => event(alloc, secs, 0, members),
         Line::Run(secs, nanos) => event(alloc, secs, nanos, run_started()),
         Line::RunEnd(secs) => run_finished(alloc, secs),
         Line::SubRun(secs) => event(alloc, secs, 0, sub_run_started()),
         Line::SubRunEnd(secs) => sub_run_finished(alloc, secs),
-        Line::Script(secs, index, id) => {
-            script_event(alloc, secs, index, id, "\"kind\":\"setup-script-started\"")
-        }
+        Line::Script(secs, index, id) => script_event(alloc, secs, index, id, script_started()),
         Line::ScriptEnd(secs, index, id) => script_event(alloc, secs, index, id, script_passed()),
         Line::ScriptSlow(secs, id) => script_slow(alloc, secs, id),
-        Line::Start(secs, test, slot) => test_start(alloc, secs, test, slot),
-        Line::Fail(secs, test) => test_event(alloc, secs, test, attempt_failed()),
-        Line::Retry(secs, test, slot) => test_retry(alloc, secs, test, slot),
-        Line::End(secs, test, failed) => test_end(alloc, secs, test, failed),
+        Line::Pause(secs, scripts) => count_event(alloc, secs, scripts, running, paused()),
+        Line::Continue(secs, scripts) => count_event(alloc, secs, scripts, running, continued()),
+        Line::Cancel(secs, scripts) => count_event(alloc, secs, scripts, running, cancelled()),
+        _ => Ok(String::from_str(alloc, "{}")?),
+    }
+}
+
+// The text of a line, at which so many tests run.
+fn line_text(alloc: Global, line: Line, running: u64) -> Result<String, Fail> {
+    match line {
+        Line::Start(secs, test, slot) => test_start(alloc, secs, test, slot, running),
+        Line::Fail(secs, test) => {
+            counted_test_event(alloc, secs, test, running, attempt_failed())
+        }
+        Line::Retry(secs, test, slot) => test_retry(alloc, secs, test, slot, running),
+        Line::End(secs, test, failed) => test_end(alloc, secs, test, failed, running),
         Line::Slow(secs, test) => test_event(alloc, secs, test, test_slow()),
         Line::Skip(secs, test) => test_event(alloc, secs, test, test_skipped()),
-        Line::Pause(secs, scripts) => {
-            count_event(alloc, secs, scripts, "\"kind\":\"run-paused\"")
-        }
-        Line::Continue(secs, scripts) => {
-            count_event(alloc, secs, scripts, "\"kind\":\"run-continued\"")
-        }
-        Line::Cancel(secs, scripts) => count_event(alloc, secs, scripts, cancelled()),
-        Line::Faulty => Ok(String::from_str(alloc, "{}")?),
+        _ => run_line(alloc, line, running),
+    }
+}
+
+// How many tests run at a line, after so many.
+fn running_at(line: Line, before: u64) -> u64 {
+    match line {
+        Line::Start(..) | Line::Retry(..) => before.saturating_add(1),
+        Line::Fail(..) | Line::End(..) => before.saturating_sub(1),
+        _ => before,
     }
 }
 
 // A log of these lines.
 pub(crate) fn log(alloc: Global, lines: &[Line]) -> Result<String, Fail> {
     let mut text = String::new(alloc);
+    let mut running = 0;
     for line in lines {
-        text.push_str(line_text(alloc, *line)?.as_str())?;
+        running = running_at(*line, running);
+        text.push_str(line_text(alloc, *line, running)?.as_str())?;
         text.push_str("\n")?;
     }
     Ok(text)

@@ -1,4 +1,4 @@
-//! Begins and ends, and the trace that they are.
+//! Begins and ends, and their outline.
 
 use crate::lines::binary;
 use rec_trace::ChromeTraceGroupBy;
@@ -24,16 +24,16 @@ pub(crate) enum Mark {
 }
 
 // The category and the name of what is drawn.
-fn names(alloc: Global, group_by: ChromeTraceGroupBy, of: Of) -> Result<String, Fail> {
+fn name(alloc: Global, group_by: ChromeTraceGroupBy, of: Of) -> Result<String, Fail> {
     Ok(match of {
-        Of::Run => String::from_str(alloc, r#""cat":"run","name":"test run""#)?,
-        Of::SubRun => String::from_str(alloc, r#""cat":"stress","name":"sub-run""#)?,
-        Of::Script(_, id) => format!(in alloc; r#""cat":"setup-script","name":"db{id}""#)?,
+        Of::Run => String::from_str(alloc, "run:test run")?,
+        Of::SubRun => String::from_str(alloc, "stress:sub-run")?,
+        Of::Script(_, id) => format!(in alloc; "setup-script:db{id}")?,
         Of::Test(test, _, _) => match group_by {
-            ChromeTraceGroupBy::Binary => format!(in alloc; r#""cat":"test","name":"t{test}""#)?,
+            ChromeTraceGroupBy::Binary => format!(in alloc; "test:t{test}")?,
             ChromeTraceGroupBy::Slot => {
                 let binary = binary(test);
-                format!(in alloc; r#""cat":"test","name":"{binary} t{test}""#)?
+                format!(in alloc; "test:{binary} t{test}")?
             }
         },
     })
@@ -52,35 +52,26 @@ fn row(group_by: ChromeTraceGroupBy, of: Of) -> (u64, u64) {
     }
 }
 
+// The outline of a begin or an end.
 fn mark_text(alloc: Global, group_by: ChromeTraceGroupBy, mark: Mark) -> Result<String, Fail> {
     let (phase, of, secs) = match mark {
         Mark::B(of, secs) => ("B", of, secs),
         Mark::E(of, secs) => ("E", of, secs),
     };
-    let names = names(alloc, group_by, of)?;
+    let name = name(alloc, group_by, of)?;
     let (pid, tid) = row(group_by, of);
-    Ok(format!(in alloc;
-        r#"{{{names},"ph":"{phase}","pid":{pid},"tid":{tid},"ts":{secs}000000}}"#
-    )?)
+    Ok(format!(in alloc; "{phase} {name} {pid}/{tid} {secs}000000\n")?)
 }
 
-fn before_marks() -> &'static str {
-    r#"{"displayTimeUnit":"ms","otherData":{"nextest_version":"0.9.111"},"traceEvents":["#
-}
-
-// The trace with these begins and ends.
-pub(crate) fn trace_text(
+// The outline of these begins and ends.
+pub(crate) fn marks_text(
     alloc: Global,
     group_by: ChromeTraceGroupBy,
     marks: &[Mark],
 ) -> Result<String, Fail> {
-    let mut text = String::from_str(alloc, before_marks())?;
-    let mut comma = "";
+    let mut text = String::new(alloc);
     for mark in marks {
-        text.push_str(comma)?;
         text.push_str(mark_text(alloc, group_by, *mark)?.as_str())?;
-        comma = ",";
     }
-    text.push_str("]}")?;
     Ok(text)
 }

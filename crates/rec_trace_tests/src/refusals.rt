@@ -1,16 +1,13 @@
-//! Histories that are refused, and what a refusal leaves.
+//! Histories that are refused.
 
 use crate::converting::traced;
+use crate::lines::Line;
 use crate::lines::Line::{
     Cancel, Continue, End, Fail, Faulty, Pause, Retry, Run, RunEnd, Script, ScriptEnd, ScriptSlow,
     Skip, Slow, Start, SubRun, SubRunEnd,
 };
-use crate::lines::{Line, log};
-use crate::marks::Mark::{B, E};
-use crate::marks::{Of, trace_text};
-use rec_codec::{LineError, LineIter};
-use rec_events::{RecordingSpec, TestEventSummary, Version};
-use rec_trace::{ChromeTraceError, ChromeTraceGroupBy, ChromeTraceMessageFormat, TraceBuilder};
+use rec_codec::LineError;
+use rec_trace::{ChromeTraceError, ChromeTraceGroupBy};
 use std::alloc::Global;
 use std::test;
 
@@ -306,60 +303,6 @@ fn instants_out_of_range(rt: HostRuntime) -> Result<(), test::Fail> {
         let got = refused(alloc, ChromeTraceGroupBy::Binary, lines)?;
         assert!(rt; got.as_str() == "TimestampOutOfRange 1", "{got}");
     }
-    Ok(())
-}
-
-// Adds the events of these lines to the builder, and counts those that are refused.
-fn added(alloc: Global, builder: &mut TraceBuilder, lines: &[Line]) -> Result<u64, test::Fail> {
-    let log = log(alloc, lines)?;
-    let mut refused: u64 = 0;
-    for event in LineIter::<RecordingSpec>::new(alloc, log.as_str().as_bytes(), 1) {
-        if add_event(alloc, builder, event?).is_err() {
-            refused = refused.saturating_add(1);
-        }
-    }
-    Ok(refused)
-}
-
-// Adds an event, and lets it go here and by a call: in place, each of its kinds would be a case of the proof.
-fn add_event(
-    alloc: Global,
-    builder: &mut TraceBuilder,
-    event: TestEventSummary<RecordingSpec>,
-) -> Result<(), ChromeTraceError> {
-    let result = builder.process_event(alloc, &event);
-    drop(event);
-    result
-}
-
-// Three events that are drawn, among six that are refused.
-fn with_refusals() -> [Line; 9] {
-    [
-        SubRunEnd(1000),
-        Run(1000, 0),
-        Run(1001, 0),
-        Start(1001, 1, 0),
-        Retry(1002, 3, 0),
-        Start(1002, 3, 18446744073709551615),
-        ScriptSlow(1002, 1),
-        End(1002, 1, 18446744073709551615),
-        End(1002, 1, 0),
-    ]
-}
-
-#[test]
-fn a_refused_event_leaves_the_trace(rt: HostRuntime) -> Result<(), test::Fail> {
-    const T1: Of = Of::Test(1, 2, 10000);
-    let alloc = rt.alloc();
-    let group_by = ChromeTraceGroupBy::Binary;
-    let mut builder = TraceBuilder::new(alloc, group_by);
-    let refused = added(alloc, &mut builder, &with_refusals())?;
-    assert!(rt; refused == 6);
-    let marks = [B(Of::Run, 1000), B(T1, 1001), E(T1, 1002)];
-    let want = trace_text(alloc, group_by, &marks)?;
-    let version = Version::parse(alloc, "0.9.111")?;
-    let text = builder.into_text(alloc, &version, ChromeTraceMessageFormat::Json)?;
-    assert!(rt; text.as_str() == want.as_str(), "{text}");
     Ok(())
 }
 

@@ -1,13 +1,13 @@
 //! Histories, and the begins and ends of each under both groupings.
 
-use crate::converting::traced;
+use crate::drawn::outline;
 use crate::lines::Line;
 use crate::lines::Line::{
     Cancel, Continue, End, Fail, Pause, Retry, Run, RunEnd, Script, ScriptEnd, ScriptSlow, Skip,
     Slow, Start, SubRun, SubRunEnd,
 };
 use crate::marks::Mark::{B, E};
-use crate::marks::{Mark, Of, trace_text};
+use crate::marks::{Mark, Of, marks_text};
 use rec_trace::ChromeTraceGroupBy;
 use std::alloc::Global;
 use std::test;
@@ -267,59 +267,13 @@ fn other_spans() -> [Case; 4] {
     ]
 }
 
-// Two binaries with two tests each, a retry and a pause.
-fn whole_run() -> [Case; 1] {
-    const T1: Of = Of::Test(1, 2, 10000);
-    const T2: Of = Of::Test(2, 2, 10001);
-    const T3: Of = Of::Test(3, 3, 10000);
-    const T4: Of = Of::Test(4, 3, 10001);
-    [(
-        &[
-            Run(1000, 0),
-            Start(1000, 1, 0),
-            Start(1001, 2, 1),
-            End(1002, 1, 0),
-            Start(1002, 3, 0),
-            Pause(1003, 0),
-            Continue(1006, 0),
-            Fail(1007, 2),
-            Retry(1008, 2, 1),
-            End(1009, 3, 0),
-            End(1010, 2, 0),
-            Start(1010, 4, 1),
-            End(1011, 4, 0),
-            RunEnd(1011),
-        ],
-        &[
-            B(Of::Run, 1000),
-            B(T1, 1000),
-            B(T2, 1001),
-            E(T1, 1002),
-            B(T3, 1002),
-            E(Of::Run, 1003),
-            E(T3, 1003),
-            E(T2, 1003),
-            B(Of::Run, 1006),
-            B(T3, 1006),
-            B(T2, 1006),
-            E(T2, 1007),
-            B(T2, 1008),
-            E(T3, 1009),
-            E(T2, 1010),
-            B(T4, 1010),
-            E(T4, 1011),
-            E(Of::Run, 1011),
-        ],
-    )]
-}
-
-// Whether each history has the trace with these begins and ends under both groupings, or the first that hasn't.
+// Whether each history has these begins and ends under both groupings, or the first outline that it hasn't.
 fn are_drawn(alloc: Global, cases: &[Case]) -> Result<String, test::Fail> {
     for (lines, marks) in cases {
         for group_by in [ChromeTraceGroupBy::Binary, ChromeTraceGroupBy::Slot] {
-            let want = trace_text(alloc, group_by, marks)?;
-            let got = traced(alloc, group_by, lines)??;
-            if got.as_slice() != want.as_str().as_bytes() {
+            let want = marks_text(alloc, group_by, marks)?;
+            let got = outline(alloc, group_by, lines, "BE")?;
+            if got.as_str() != want.as_str() {
                 return Ok(want);
             }
         }
@@ -333,39 +287,9 @@ fn begins_and_ends(rt: HostRuntime) -> Result<(), test::Fail> {
     let paused = paused_tests();
     let attempts = attempts();
     let others = other_spans();
-    let whole = whole_run();
-    for cases in [paused.as_slice(), &attempts, &others, &whole] {
+    for cases in [paused.as_slice(), &attempts, &others] {
         let got = are_drawn(alloc, cases)?;
         assert!(rt; got.as_str() == "drawn", "{got}");
     }
-    Ok(())
-}
-
-fn no_events() -> &'static str {
-    r#"{"displayTimeUnit":"ms","otherData":{"nextest_version":"0.9.111"},"traceEvents":[]}"#
-}
-
-fn one_test_by_binary() -> &'static str {
-    r#"{"displayTimeUnit":"ms","otherData":{"nextest_version":"0.9.111"},"traceEvents":[{"cat":"run","name":"test run","ph":"B","pid":0,"tid":1,"ts":-1},{"cat":"test","name":"t1","ph":"B","pid":2,"tid":10000,"ts":0},{"cat":"test","name":"t1","ph":"E","pid":2,"tid":10000,"ts":1002000000}]}"#
-}
-
-fn one_test_by_slot() -> &'static str {
-    r#"{"displayTimeUnit":"ms","otherData":{"nextest_version":"0.9.111"},"traceEvents":[{"cat":"run","name":"test run","ph":"B","pid":0,"tid":1,"ts":-1},{"cat":"test","name":"alpha::a t1","ph":"B","pid":2,"tid":10000,"ts":0},{"cat":"test","name":"alpha::a t1","ph":"E","pid":2,"tid":10000,"ts":1002000000}]}"#
-}
-
-#[test]
-fn traces_by_their_texts(rt: HostRuntime) -> Result<(), test::Fail> {
-    let alloc = rt.alloc();
-    let one = [Run(-1, 999999999), Start(0, 1, 0), End(1002, 1, 0)];
-    for (group_by, lines, want) in [
-        (ChromeTraceGroupBy::Binary, [].as_slice(), no_events()),
-        (ChromeTraceGroupBy::Slot, &[], no_events()),
-        (ChromeTraceGroupBy::Binary, &one, one_test_by_binary()),
-        (ChromeTraceGroupBy::Slot, &one, one_test_by_slot()),
-    ] {
-        let bytes = traced(alloc, group_by, lines)??;
-        assert!(rt; bytes.as_slice() == want.as_bytes(), "{want}");
-    }
-    assert!(rt; no_events().len() == 83);
     Ok(())
 }

@@ -30,5 +30,6 @@ fn settings_are_plain_values(rt: HostRuntime) -> Result<(), Fail> {
     let alloc = rt.alloc();
     assert!(rt; is_plain(alloc, ChromeTraceGroupBy::Binary)?);
     assert!(rt; is_plain(alloc, ChromeTraceMessageFormat::Json)?);
+    assert!(rt; is_plain(alloc, ChromeTraceMessageFormat::JsonPretty)?);
     Ok(())
 }
