@@ -11,8 +11,8 @@ use Rattle.rec_portable.specs.declared.errors.PortableRecordingReadError.{Portab
 use Rattle.rec_portable.specs.Judging.{judged, IsJudged, Refuses}
 use Rattle.rec_portable.specs.Opening.{Opening, Opens, Unopened}
 use Rattle.rec_portable.specs.OuterEntries.{log_part}
-use Rattle.rec_trace.specs.declared.errors.ChromeTraceError.TheVariants as traces
-use Rattle.rec_trace.specs.declared.errors.ChromeTraceError.{ChromeTraceError}
+use Rattle.rec_spans.specs.declared.errors.ChromeTraceError.TheVariants as traces
+use Rattle.rec_spans.specs.declared.errors.ChromeTraceError.{ChromeTraceError}
 use Rattle.rec_program.specs.declared.reading_error.ReadingError.TheVariants.{OutOfMemory}
 use Rattle.rec_program.specs.declared.reading_error.ReadingError.{ReadingError}
 use Rattle.rec_program.specs.declared.settings.Settings.{Settings}

@@ -2,6 +2,7 @@
 use Rattle.std.proofs.Common.{◌≡◌, ◌⊎◌, inl, inr, ℕ, ◌≤◌, ◌<◌, lit<, List, length, nat_lt, Option, None, Some, Result, Ok, Err, refl, sym, ap, subst, ◌∙◌, arith}
 use Rattle.std.specs.Io.KnownBytes.{Appends}
 use Rattle.std.specs.Option.{option_map, option_or}
+use Rattle.semver.specs.Parse.{Parts}
 use Rattle.rec_container.proofs.Results.{Ok-injective, then_ok, unless_ok}
 use Rattle.rec_container.proofs.Unique.{no_fault, one_reading_spec}
 use Rattle.rec_container.specs.Causes.{Rose}
@@ -29,16 +30,14 @@ use Rattle.rec_replay.specs.declared.conversion_error.ReplayConversionError.TheV
 use Rattle.rec_replay.specs.declared.conversion_error.ReplayConversionError.{ReplayConversionError}
 use Rattle.rec_junit.specs.declared.errors.JunitError.TheVariants as reports
 use Rattle.rec_junit.specs.declared.errors.JunitError.{JunitError}
-use Rattle.rec_trace.proofs.Timelines.{timeline}
-use Rattle.rec_trace.specs.declared.errors.ChromeTraceError.TheVariants as traces
-use Rattle.rec_trace.specs.declared.errors.ChromeTraceError.{ChromeTraceError}
-use Rattle.rec_trace.specs.declared.settings.ChromeTraceGroupBy.{ChromeTraceGroupBy}
-use Rattle.rec_trace.specs.Kinds.{history}
-use Rattle.rec_trace.specs.Timeline.{IsTimeline}
-use Rattle.rec_trace.specs.Traces.{events_refusal}
+use Rattle.rec_spans.specs.declared.errors.ChromeTraceError.TheVariants as traces
+use Rattle.rec_spans.specs.declared.errors.ChromeTraceError.{ChromeTraceError}
+use Rattle.rec_spans.specs.declared.settings.ChromeTraceGroupBy.{ChromeTraceGroupBy}
+use Rattle.rec_spans.specs.Refusals.{events_refusal}
 use Rattle.rec_program.proofs.BundlesShown.{trace_drawn}
 use Rattle.rec_program.proofs.Complete.{no_more, same_session}
 use Rattle.rec_program.proofs.RecordedDrawn.{recorded-is_drawn}
+use Rattle.rec_program.proofs.TimelinesDrawn.{draws_timeline}
 use Rattle.rec_program.specs.Bundle.{AreOf}
 use Rattle.rec_program.specs.declared.counts.Exported.{Exported}
 use Rattle.rec_program.specs.declared.reading_error.ReadingError.TheVariants.{Bundle, Trace, Part, Line, Conversion, Report, OutOfMemory}
@@ -53,6 +52,7 @@ use Rattle.rec_program.specs.ReadingCommands.{IsPrintedOf, Shows, Withholds, inf
 use Rattle.rec_program.specs.ReadingErrors.{bundle_error}
 use Rattle.rec_program.specs.Running.{Records, ShowsBundle}
 use Rattle.rec_program.specs.Status.{bundle_status, conversion_status, export_status, junit_status, part_status, reading_status}
+use Rattle.rec_program.specs.Timelines.{DrawsTimeline}
 use Rattle.rec_program.specs.TraceFaults.{trace_fault}
 
 -- ---- the statuses of refusals are above those of success and of faulty words
@@ -243,15 +243,15 @@ same_trace settings recorded number session bytes trace es text are group format
     let drawn = recorded-is_drawn number recorded settings session bytes trace es manifest m.0 log group format are is m.1 m.2 (log_is settings.read_limit (content_of es log_name) log p.3) in
     sym p.5 ∙ drawn.1
 
--- ---- the marks of a log's trace
+-- ---- what a log's trace draws
 
 first_none : {E : Type 0} (a b : Option E) → option_or a b ≡ None → a ≡ None
 first_none None b h = refl
 first_none (Some x) b h = absurd cc
 
-log_timeline : (g : ChromeTraceGroupBy) (ls : List NumberedLine) → log_refusal g ls ≡ None → IsTimeline (history g (plain_log ls))
+log_timeline : (version : Parts) (g : ChromeTraceGroupBy) (ls : List NumberedLine) → log_refusal g ls ≡ None → DrawsTimeline version g (plain_log ls)
 unfolding log_refusal
-log_timeline g ls none = timeline g (plain_log ls) (first_none (events_refusal g (plain_log ls)) (option_map traces.ReadError (first_line_fault ls)) none)
+log_timeline version g ls none = draws_timeline version g (plain_log ls) (first_none (events_refusal g (plain_log ls)) (option_map traces.ReadError (first_line_fault ls)) none)
 
 -- ---- what the status 0 of each command says
 
@@ -269,12 +269,12 @@ module _ {S T G : Type 0} (left : S → Option (List ℕ)) (source_faults : S �
   pub traced : ShowsBundle left source_faults out_taken out_faults diag_taken diag_faults (trace_of settings) settings.session_limit status s0 s1 o0 o1 d0 d1
       → (bytes : List ℕ) × (es : List Entry) × (manifest : PortableManifest) × (log : List ℕ) × Gave left source_faults settings.session_limit s0 s1 bytes × IsContainer bytes es
       × (judged settings.read_limit es ≡ Ok manifest) × (log_part settings.read_limit es ≡ Ok log) × (log_refusal settings.group_by (log_lines log) ≡ None)
-      × IsTimeline (history settings.group_by (plain_log (log_lines log))) × Appends (out_taken o0) (out_taken o1) (bundle_trace settings manifest log)
+      × DrawsTimeline manifest.run.nextest_version settings.group_by (plain_log (log_lines log)) × Appends (out_taken o0) (out_taken o1) (bundle_trace settings manifest log)
   traced runs =
       let w = shown_whole left source_faults out_taken out_faults diag_taken diag_faults (trace_of settings) settings.session_limit status s0 s1 o0 o1 d0 d1 zeroed runs in
       let p = printed_of (trace_of settings) w.1.0 w.0 w.1.2 in
       let m = trace_parts settings p.0 w.0 p.2 in
-      (w.1.0, p.0, m.0, m.1, w.1.1, p.1, m.2, m.3, m.4, log_timeline settings.group_by (log_lines m.1) m.4, subst (λ (t : List ℕ). Appends (out_taken o0) (out_taken o1) t) (sym m.5) w.2)
+      (w.1.0, p.0, m.0, m.1, w.1.1, p.1, m.2, m.3, m.4, log_timeline m.0.run.nextest_version settings.group_by (log_lines m.1) m.4, subst (λ (t : List ℕ). Appends (out_taken o0) (out_taken o1) t) (sym m.5) w.2)
 
   pub redrawn : (recorded : Settings) (number : List ℕ → ℕ) (session bytes trace : List ℕ) → AreOf number recorded session bytes trace
       → settings.group_by ≡ recorded.group_by → settings.message_format ≡ recorded.message_format → left s0 ≡ Some bytes

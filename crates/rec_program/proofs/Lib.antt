@@ -21,3 +21,4 @@ pub mod ShortOutputs
 pub mod ShortTexts
 pub mod ShortTokens
 pub mod ShortValues
+pub mod TimelinesDrawn

@@ -11,17 +11,17 @@ use Rattle.rec_codec.specs.EventForms.{event_form}
 use Rattle.rec_codec.specs.LineItems.{GivesNext}
 use Rattle.rec_codec.specs.LineReading.{events_before_fault, first_line_fault, log_items}
 use Rattle.rec_codec.specs.Lines.{NumberedLine}
+use Rattle.rec_spans.specs.declared.errors.ChromeTraceError.TheVariants.{OutOfMemory, ReadError}
+use Rattle.rec_spans.specs.declared.errors.ChromeTraceError.{ChromeTraceError}
+use Rattle.rec_spans.specs.declared.settings.ChromeTraceGroupBy.{ChromeTraceGroupBy}
+use Rattle.rec_spans.specs.Plain.{plain}
+use Rattle.rec_spans.specs.Refusals.{events_refusal}
 use Rattle.rec_trace.specs.Converting.{Converts, HasNoTrace, IsRefused, IsUnread}
-use Rattle.rec_trace.specs.declared.errors.ChromeTraceError.TheVariants.{OutOfMemory, ReadError}
-use Rattle.rec_trace.specs.declared.errors.ChromeTraceError.{ChromeTraceError}
-use Rattle.rec_trace.specs.declared.settings.ChromeTraceGroupBy.{ChromeTraceGroupBy}
 use Rattle.rec_trace.specs.declared.settings.ChromeTraceMessageFormat.{ChromeTraceMessageFormat}
-use Rattle.rec_trace.specs.Kinds.{history}
-use Rattle.rec_trace.specs.Plain.{plain}
-use Rattle.rec_trace.specs.Timeline.{IsTimeline}
-use Rattle.rec_trace.specs.Traces.{events_refusal, trace_text}
+use Rattle.rec_trace.specs.Traces.{trace_text}
 use Rattle.rec_program.proofs.SessionTraced.{refused_more}
 use Rattle.rec_program.specs.LogTraces.{TracesLog, log_refusal, log_trace, plain_log}
+use Rattle.rec_program.specs.Timelines.{DrawsTimeline}
 
 -- ---- the refusal of a log
 
@@ -51,14 +51,14 @@ module _ (g : ChromeTraceGroupBy) (format : ChromeTraceMessageFormat) (version :
   abbrev steps : List NumberedLine → Option (Result RecordedEvent LineError) → List NumberedLine → Type 0
   steps = GivesNext (event_form stored_outputs_form)
 
-  drawn : (text : List ℕ) → Converts steps ls g format version text → (log_refusal g ls ≡ None) × (text ≡ log_trace g format version ls) × IsTimeline (history g (plain_log ls))
+  drawn : (text : List ℕ) → Converts steps ls g format version text → (log_refusal g ls ≡ None) × (text ≡ log_trace g format version ls) × DrawsTimeline version g (plain_log ls)
   unfolding log_items log_trace
   drawn text c =
       let is = drained (event_form stored_outputs_form) c.events ls c.drained in
       let all : events_before_fault ls ≡ c.events = is.0 in (
         refusal-whole g ls is.1 ∙ ap (λ es. events_refusal g (map plain es)) all ∙ c.accepted,
         c.written ∙ ap (λ es. trace_text format g version (map plain es)) (sym all),
-        subst (λ (es : List RecordedEvent). IsTimeline (history g (map plain es))) (sym all) c.timeline,
+        subst (λ (es : List RecordedEvent). DrawsTimeline version g (map plain es)) (sym all) (record { marks = c.marks; timeline = c.timeline; arrows = c.arrows }),
       )
 
   unread : (e : ChromeTraceError) → IsUnread steps ls g e → log_refusal g ls ≡ Some e

@@ -23,10 +23,11 @@ use Rattle.rec_codec.specs.Lines.{NumberedLine, lines}
 use Rattle.rec_store.specs.Entries.{build_scope_path, bundle_entries, cargo_metadata_path, log_name, manifest_name, record_opts_path, rerun_info_path, test_list_path}
 use Rattle.rec_store.specs.Kept.{event_resolved, outputs_kept, outputs_resolved}
 use Rattle.rec_store.specs.Reading.{RunRecord, maybe_part, outputs_of, part, record_of, recorded, text_part}
-use Rattle.rec_trace.proofs.Plains.{event-plain}
-use Rattle.rec_trace.specs.declared.settings.ChromeTraceGroupBy.{ChromeTraceGroupBy}
-use Rattle.rec_trace.specs.Plain.{plain}
-use Rattle.rec_trace.specs.Traces.{events_refusal, trace_text}
+use Rattle.rec_spans.proofs.Plains.{event-plain}
+use Rattle.rec_spans.specs.declared.settings.ChromeTraceGroupBy.{ChromeTraceGroupBy}
+use Rattle.rec_spans.specs.Plain.{plain}
+use Rattle.rec_spans.specs.Refusals.{events_refusal}
+use Rattle.rec_trace.specs.Traces.{trace_text}
 use Rattle.rec_program.proofs.Judging.{after_count, after_head, after_lines, events_after}
 use Rattle.rec_program.proofs.LogTraced.{refusal-whole}
 use Rattle.rec_program.specs.Bundle.{AreOf, count_refusal, refusal_after, session_events, size_refusal}

@@ -10,15 +10,14 @@ use Rattle.rec_codec.specs.Lines.{NumberedLine}
 use Rattle.rec_store.specs.Bundle.{manifest_text, run_bundle, run_log, run_store}
 use Rattle.rec_store.specs.Entries.{log_name, manifest_name}
 use Rattle.rec_store.specs.Reading.{IsReading, recorded}
-use Rattle.rec_trace.specs.Kinds.{history}
-use Rattle.rec_trace.specs.Plain.{plain}
-use Rattle.rec_trace.specs.Timeline.{IsTimeline}
+use Rattle.rec_spans.specs.Plain.{plain}
 use Rattle.rec_program.specs.declared.refusal.RecordExportError.TheVariants.{ParseHead, CountOutOfRange}
 use Rattle.rec_program.specs.declared.refusal.RecordExportError.{RecordExportError}
 use Rattle.rec_program.specs.declared.settings.Settings.{Settings}
 use Rattle.rec_program.specs.Session.{session_lines, head_text, event_lines, lines_refusal, events_of}
 use Rattle.rec_program.specs.SessionTraces.{run_trace, trace_refusal}
 use Rattle.rec_program.specs.Sizes.{entries_refusal}
+use Rattle.rec_program.specs.Timelines.{DrawsTimeline}
 
 -- the head that a line's text is read as
 abbrev pub head_in : Option (List ℕ) → Option SessionHead
@@ -62,7 +61,8 @@ module _ (number : List ℕ → ℕ) (settings : Settings) where
   session_refusal session = refusal_after (session_head session) (event_lines (session_lines session))
 
   -- The session is valid, this is its bundle, and the bundle is read as what was recorded of the session. This is the text of its
-  -- trace: begins and ends on every row take turns, and are the slices that the pauses leave, at their events' instants
+  -- trace: begins and ends on every row take turns, and are the slices that the pauses leave, at their events' instants; and each arrow
+  -- starts before it finishes
   pub record AreOf (session bundle trace : List ℕ) : Type 0 where
     pub head : SessionHead
     pub has_head : session_head session ≡ Some head
@@ -70,4 +70,4 @@ module _ (number : List ℕ → ℕ) (settings : Settings) where
     pub spelled : bundle ≡ run_bundle number settings.max_output head (session_events session)
     pub reads : IsReading bundle (recorded number settings.max_output head (session_events session))
     pub traced : trace ≡ run_trace settings head (session_events session)
-    pub timeline : IsTimeline (history settings.group_by (map plain (session_events session)))
+    pub drawn : DrawsTimeline head.nextest_version settings.group_by (map plain (session_events session))

@@ -3,8 +3,8 @@ use Rattle.std.specs.Fmt.{decimal}
 use Rattle.std.specs.Prelude.{ℕ, List, [], ◌∷◌, ◌++◌, Option, Some, None, codes}
 use Rattle.rec_container.specs.declared.errors.ContainerError.TheVariants as containers
 use Rattle.rec_container.specs.declared.errors.ContainerError.{ContainerError}
-use Rattle.rec_trace.specs.declared.spans.SpanKey.TheVariants as spans
-use Rattle.rec_trace.specs.declared.spans.SpanKey.{SpanKey}
+use Rattle.rec_spans.specs.declared.spans.SpanKey.TheVariants as spans
+use Rattle.rec_spans.specs.declared.spans.SpanKey.{SpanKey}
 use Rattle.rec_program.specs.declared.refusal.RecordExportError.TheVariants.{SourceFault, SessionTooLarge, ParseHead, ReadRunLog, ParseEvent, NameCollision, CountOutOfRange, FileTooLarge, MissingTestStart, MissingScriptStart, MissingStressSubRunStart, SpanAlreadyOpen, SlotBusy, TimestampOutOfRange, RowOutOfRange, BundleFault, TraceFault, OutOfMemory}
 use Rattle.rec_program.specs.declared.refusal.RecordExportError.{RecordExportError}
 use Rattle.rec_program.specs.declared.words.WordsError.TheVariants.{NoCommand, UnknownCommand, MissingPositional, BadNumber, UnknownOption, RepeatedOption, MissingValue, BadValue}

@@ -21,6 +21,7 @@ pub mod SessionTraces
 pub mod Settings
 pub mod Sizes
 pub mod Status
+pub mod Timelines
 pub mod TraceFaults
 pub mod Usage
 pub mod Words

@@ -10,16 +10,16 @@ use Rattle.rec_format.specs.RunForms.{manifest_form}
 use Rattle.rec_codec.specs.LineReading.{events_before_fault, first_line_fault}
 use Rattle.rec_codec.specs.Lines.{NumberedLine, lines, numbered}
 use Rattle.rec_store.specs.Entries.{log_name, manifest_name}
-use Rattle.rec_trace.specs.declared.errors.ChromeTraceError.TheVariants.{OutOfMemory, ReadError}
-use Rattle.rec_trace.specs.declared.errors.ChromeTraceError.{ChromeTraceError}
-use Rattle.rec_trace.specs.declared.settings.ChromeTraceGroupBy.{ChromeTraceGroupBy}
+use Rattle.rec_spans.specs.declared.errors.ChromeTraceError.TheVariants.{OutOfMemory, ReadError}
+use Rattle.rec_spans.specs.declared.errors.ChromeTraceError.{ChromeTraceError}
+use Rattle.rec_spans.specs.declared.settings.ChromeTraceGroupBy.{ChromeTraceGroupBy}
+use Rattle.rec_spans.specs.Plain.{PlainEvent, plain}
+use Rattle.rec_spans.specs.Refusals.{events_refusal}
 use Rattle.rec_trace.specs.declared.settings.ChromeTraceMessageFormat.{ChromeTraceMessageFormat}
-use Rattle.rec_trace.specs.Kinds.{history}
-use Rattle.rec_trace.specs.Plain.{PlainEvent, plain}
-use Rattle.rec_trace.specs.Timeline.{IsTimeline}
-use Rattle.rec_trace.specs.Traces.{events_refusal, trace_text}
+use Rattle.rec_trace.specs.Traces.{trace_text}
 use Rattle.rec_program.specs.Bundle.{AreOf}
 use Rattle.rec_program.specs.declared.settings.Settings.{Settings}
+use Rattle.rec_program.specs.Timelines.{DrawsTimeline}
 
 -- the lines of a log, numbered from 1
 abbrev pub log_lines : List ℕ → List NumberedLine
@@ -38,10 +38,10 @@ log_refusal g lines = option_or (events_refusal g (plain_log lines)) (option_map
 unfoldable pub log_trace : ChromeTraceGroupBy → ChromeTraceMessageFormat → Parts → List NumberedLine → List ℕ
 log_trace g format version lines = trace_text format g version (plain_log lines)
 
--- a log that isn't refused is answered by the text of its trace, whose marks are the timeline of its events; one that is, by why it
--- is; or memory ran out
+-- a log that isn't refused is answered by the text of its trace, which draws the timeline of its events; one that is, by why it is; or
+-- memory ran out
 abbrev pub TracesLog : ChromeTraceGroupBy → ChromeTraceMessageFormat → Parts → List NumberedLine → Result (Vec ℕ Global) ChromeTraceError → Type 0
-TracesLog g format version lines (Ok text) = (log_refusal g lines ≡ None) × (text.items ≡ log_trace g format version lines) × IsTimeline (history g (plain_log lines))
+TracesLog g format version lines (Ok text) = (log_refusal g lines ≡ None) × (text.items ≡ log_trace g format version lines) × DrawsTimeline version g (plain_log lines)
 TracesLog g format version lines (Err e) = (e ≡ OutOfMemory) ⊎ (log_refusal g lines ≡ Some e)
 
 -- the text of the trace of a bundle with this manifest and this log

@@ -6,11 +6,13 @@ use Rattle.std.specs.Str.{bytes_eq, all_ascii_digits}
 use Rattle.rec_container.specs.Reading.{◌>>=◌}
 use Rattle.rec_replay.specs.declared.output_load.LoadOutput.TheVariants.{Load, Skip}
 use Rattle.rec_replay.specs.declared.output_load.LoadOutput.{LoadOutput}
-use Rattle.rec_trace.specs.declared.settings.ChromeTraceGroupBy.TheVariants.{Binary, Slot}
-use Rattle.rec_trace.specs.declared.settings.ChromeTraceGroupBy.{ChromeTraceGroupBy}
+use Rattle.rec_spans.specs.declared.settings.ChromeTraceGroupBy.TheVariants.{Binary, Slot}
+use Rattle.rec_spans.specs.declared.settings.ChromeTraceGroupBy.{ChromeTraceGroupBy}
+use Rattle.rec_trace.specs.declared.settings.ChromeTraceMessageFormat.TheVariants.{Json, JsonPretty}
+use Rattle.rec_trace.specs.declared.settings.ChromeTraceMessageFormat.{ChromeTraceMessageFormat}
 use Rattle.rec_program.specs.declared.options.CommandName.TheVariants.{Record, Trace, Replay, Report, Info, Sample}
 use Rattle.rec_program.specs.declared.options.CommandName.{CommandName}
-use Rattle.rec_program.specs.declared.options.OptionName.TheVariants.{GroupBy, MaxOutput, ReadLimit, SessionLimit, Output}
+use Rattle.rec_program.specs.declared.options.OptionName.TheVariants.{GroupBy, MessageFormat, MaxOutput, ReadLimit, SessionLimit, Output}
 use Rattle.rec_program.specs.declared.options.OptionName.{OptionName}
 use Rattle.rec_program.specs.declared.options.OptionValues.{OptionValues}
 use Rattle.rec_program.specs.declared.settings.Settings.{Settings}
@@ -22,6 +24,7 @@ use Rattle.rec_program.specs.Settings.{default_settings}
 unfoldable pub option_named : List ℕ → Option OptionName
 option_named word =
     if bytes_eq word (codes "--group-by") then Some GroupBy
+    else if bytes_eq word (codes "--message-format") then Some MessageFormat
     else if bytes_eq word (codes "--max-output") then Some MaxOutput
     else if bytes_eq word (codes "--read-limit") then Some ReadLimit
     else if bytes_eq word (codes "--session-limit") then Some SessionLimit
@@ -36,6 +39,12 @@ takes Replay GroupBy = false
 takes Report GroupBy = false
 takes Info GroupBy = false
 takes Sample GroupBy = true
+takes Record MessageFormat = true
+takes Trace MessageFormat = true
+takes Replay MessageFormat = false
+takes Report MessageFormat = false
+takes Info MessageFormat = false
+takes Sample MessageFormat = true
 takes Record MaxOutput = true
 takes Trace MaxOutput = false
 takes Replay MaxOutput = false
@@ -73,17 +82,22 @@ tests_of text = option_and_then (λ n. if nat_lt 10000 n then None else Some n) 
 unfoldable pub group_by_of : List ℕ → Option ChromeTraceGroupBy
 group_by_of word = if bytes_eq word (codes "binary") then Some Binary else if bytes_eq word (codes "slot") then Some Slot else None
 
+-- the form of a name
+unfoldable pub message_format_of : List ℕ → Option ChromeTraceMessageFormat
+message_format_of word = if bytes_eq word (codes "json") then Some Json else if bytes_eq word (codes "json-pretty") then Some JsonPretty else None
+
 -- whether outputs are loaded, by a name for it
 unfoldable pub output_of : List ℕ → Option LoadOutput
 output_of word = if bytes_eq word (codes "load") then Some Load else if bytes_eq word (codes "skip") then Some Skip else None
 
 -- no option came yet
 abbrev pub no_values : OptionValues
-no_values = record { group_by = None; max_output = None; read_limit = None; session_limit = None; output = None }
+no_values = record { group_by = None; message_format = None; max_output = None; read_limit = None; session_limit = None; output = None }
 
 -- whether an option came
 abbrev pub has_come : OptionValues → OptionName → Bool
 has_come values GroupBy = is_some values.group_by
+has_come values MessageFormat = is_some values.message_format
 has_come values MaxOutput = is_some values.max_output
 has_come values ReadLimit = is_some values.read_limit
 has_come values SessionLimit = is_some values.session_limit
@@ -92,6 +106,7 @@ has_come values Output = is_some values.output
 -- the values after an option and the text of its value, where the option takes it
 abbrev pub with_value : OptionValues → OptionName → List ℕ → Option OptionValues
 with_value values GroupBy text = option_map (λ g. record values { group_by = Some g }) (group_by_of text)
+with_value values MessageFormat text = option_map (λ format. record values { message_format = Some format }) (message_format_of text)
 with_value values MaxOutput text = option_map (λ limit. record values { max_output = Some limit }) (number_of text)
 with_value values ReadLimit text = option_map (λ limit. record values { read_limit = Some limit }) (number_of text)
 with_value values SessionLimit text = option_map (λ limit. record values { session_limit = Some limit }) (number_of text)
@@ -101,7 +116,7 @@ with_value values Output text = option_map (λ load. record values { output = So
 abbrev pub settings_of : OptionValues → Settings
 settings_of values = record {
   group_by = unwrap_or values.group_by default_settings.group_by;
-  message_format = default_settings.message_format;
+  message_format = unwrap_or values.message_format default_settings.message_format;
   max_output = unwrap_or values.max_output default_settings.max_output;
   read_limit = unwrap_or values.read_limit default_settings.read_limit;
   session_limit = unwrap_or values.session_limit default_settings.session_limit;

@@ -15,7 +15,7 @@ use Rattle.rec_portable.specs.Errors.{source_error}
 use Rattle.rec_portable.specs.Judging.{judged}
 use Rattle.rec_portable.specs.OuterEntries.{log_part}
 use Rattle.rec_replay.specs.declared.output_load.LoadOutput.{LoadOutput}
-use Rattle.rec_trace.specs.declared.errors.ChromeTraceError.{ChromeTraceError}
+use Rattle.rec_spans.specs.declared.errors.ChromeTraceError.{ChromeTraceError}
 use Rattle.rec_reading.specs.declared.errors.ListingError.{ListingError}
 use Rattle.rec_reading.specs.Listing.{replay_of, report_of}
 use Rattle.rec_program.specs.declared.reading_error.ReadingError.TheVariants.{OutOfMemory}

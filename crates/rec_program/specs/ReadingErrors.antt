@@ -1,8 +1,8 @@
 -- Why a command prints nothing of a bundle, by what was refused.
 use Rattle.rec_portable.specs.declared.errors.PortableRecordingReadError.TheVariants as bundles
 use Rattle.rec_portable.specs.declared.errors.PortableRecordingReadError.{PortableRecordingReadError}
-use Rattle.rec_trace.specs.declared.errors.ChromeTraceError.TheVariants as traces
-use Rattle.rec_trace.specs.declared.errors.ChromeTraceError.{ChromeTraceError}
+use Rattle.rec_spans.specs.declared.errors.ChromeTraceError.TheVariants as traces
+use Rattle.rec_spans.specs.declared.errors.ChromeTraceError.{ChromeTraceError}
 use Rattle.rec_reading.specs.declared.errors.ListingError.TheVariants as listings
 use Rattle.rec_reading.specs.declared.errors.ListingError.{ListingError}
 use Rattle.rec_program.specs.declared.reading_error.ReadingError.TheVariants.{Bundle, Trace, Part, Line, Conversion, Report, OutOfMemory}

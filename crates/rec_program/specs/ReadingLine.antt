@@ -10,8 +10,8 @@ use Rattle.rec_format.specs.Incompatibility.{release_text}
 use Rattle.rec_format.specs.Versions.{version_text}
 use Rattle.rec_portable.specs.declared.errors.PortableRecordingReadError.TheVariants.{SourceFault, SpoolTooLarge, ReadArchive, NotAWrapperArchive, FileTooLarge, ParseManifest, UnsupportedFormatVersion, UnsupportedStoreFormatVersion, MissingFile, ExtractFile, OutOfMemory}
 use Rattle.rec_portable.specs.declared.errors.PortableRecordingReadError.{PortableRecordingReadError}
-use Rattle.rec_trace.specs.declared.errors.ChromeTraceError.TheVariants.{ReadError}
-use Rattle.rec_trace.specs.declared.errors.ChromeTraceError.{ChromeTraceError}
+use Rattle.rec_spans.specs.declared.errors.ChromeTraceError.TheVariants.{ReadError}
+use Rattle.rec_spans.specs.declared.errors.ChromeTraceError.{ChromeTraceError}
 use Rattle.rec_program.specs.declared.reading_error.ReadingError.TheVariants as reading
 use Rattle.rec_program.specs.declared.reading_error.ReadingError.{ReadingError}
 use Rattle.rec_program.specs.FaultLine.{Shown, Fields, text, number, variant, no_fields, field, unnamed, line, export_name, export_fields, container_shown}

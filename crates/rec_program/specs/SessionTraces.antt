@@ -1,13 +1,16 @@
 -- The trace of a session's events.
 use Rattle.std.specs.declared.alloc.Global.{Global}
 use Rattle.std.specs.Prelude.{◌≡◌, ◌⊎◌, List, ℕ, map, Option, None, Some, option_map, Result, Ok, Err, String, string_bytes}
+use Rattle.semver.specs.Parse.{Parts}
 use Rattle.rec_format.specs.declared.head.SessionHead.{SessionHead}
 use Rattle.rec_codec.specs.Event.{LiveEvent}
+use Rattle.rec_spans.specs.declared.errors.ChromeTraceError.{ChromeTraceError}
+use Rattle.rec_spans.specs.declared.settings.ChromeTraceGroupBy.{ChromeTraceGroupBy}
+use Rattle.rec_spans.specs.Plain.{PlainEvent, plain}
+use Rattle.rec_spans.specs.Refusals.{events_refusal}
 use Rattle.rec_trace.specs.declared.builder.TraceBuilder.{TraceBuilder}
-use Rattle.rec_trace.specs.declared.errors.ChromeTraceError.{ChromeTraceError}
-use Rattle.rec_trace.specs.declared.settings.ChromeTraceGroupBy.{ChromeTraceGroupBy}
-use Rattle.rec_trace.specs.Plain.{PlainEvent, plain}
-use Rattle.rec_trace.specs.Traces.{HasTraced, events_refusal, trace_text}
+use Rattle.rec_trace.specs.declared.settings.ChromeTraceMessageFormat.{ChromeTraceMessageFormat}
+use Rattle.rec_trace.specs.Traces.{HasTraced, trace_text}
 use Rattle.rec_program.specs.declared.refusal.RecordExportError.TheVariants.{OutOfMemory}
 use Rattle.rec_program.specs.declared.refusal.RecordExportError.{RecordExportError}
 use Rattle.rec_program.specs.declared.settings.Settings.{Settings}
@@ -23,13 +26,13 @@ unfoldable pub run_trace : Settings → SessionHead → List LiveEvent → List 
 run_trace settings head events = trace_text settings.message_format settings.group_by head.nextest_version (map plain events)
 
 -- the builder has traced these events, or they are refused
-abbrev pub IsTracedOr : ChromeTraceGroupBy → List PlainEvent → TraceBuilder → Option ChromeTraceError → Type 0
-IsTracedOr g events builder None = HasTraced g events builder
-IsTracedOr g events builder (Some refusal) = events_refusal g events ≡ Some refusal
+abbrev pub IsTracedOr : ChromeTraceMessageFormat → ChromeTraceGroupBy → Parts → List PlainEvent → TraceBuilder → Option ChromeTraceError → Type 0
+IsTracedOr format g version events builder None = HasTraced format g version events builder
+IsTracedOr format g version events builder (Some refusal) = events_refusal g events ≡ Some refusal
 
--- this is the trace of these events, or it holds why there is none
-abbrev pub IsTraceOf : ChromeTraceGroupBy → List PlainEvent → SessionTrace → Type 0
-IsTraceOf g events t = IsTracedOr g events t.builder t.refusal
+-- this is the trace of these events, of runs by this version of the runner, or it holds why there is none
+abbrev pub IsTraceOf : ChromeTraceMessageFormat → ChromeTraceGroupBy → Parts → List PlainEvent → SessionTrace → Type 0
+IsTraceOf format g version events t = IsTracedOr format g version events t.builder t.refusal
 
 -- the text of the trace of these events is answered, or why there is none, or memory ran out
 abbrev pub AnswersTrace : ChromeTraceGroupBy → List PlainEvent → List ℕ → Result (String Global) RecordExportError → Type 0

@@ -1,5 +1,5 @@
 -- The settings that hold where no word sets them.
-use Rattle.rec_trace.specs.declared.settings.ChromeTraceGroupBy.TheVariants.{Binary}
+use Rattle.rec_spans.specs.declared.settings.ChromeTraceGroupBy.TheVariants.{Binary}
 use Rattle.rec_trace.specs.declared.settings.ChromeTraceMessageFormat.TheVariants.{Json}
 use Rattle.rec_program.specs.declared.settings.Settings.{Settings}
 

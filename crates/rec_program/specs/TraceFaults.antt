@@ -1,7 +1,7 @@
 -- The refusal of a session for its trace.
 use Rattle.std.specs.Prelude.{Some}
-use Rattle.rec_trace.specs.declared.errors.ChromeTraceError.TheVariants as traces
-use Rattle.rec_trace.specs.declared.errors.ChromeTraceError.{ChromeTraceError}
+use Rattle.rec_spans.specs.declared.errors.ChromeTraceError.TheVariants as traces
+use Rattle.rec_spans.specs.declared.errors.ChromeTraceError.{ChromeTraceError}
 use Rattle.rec_program.specs.declared.refusal.RecordExportError.TheVariants.{CountOutOfRange, MissingScriptStart, MissingStressSubRunStart, MissingTestStart, OutOfMemory, RowOutOfRange, SlotBusy, SpanAlreadyOpen, TimestampOutOfRange}
 use Rattle.rec_program.specs.declared.refusal.RecordExportError.{RecordExportError}
 use Rattle.rec_program.specs.LineFaults.{line_fault}

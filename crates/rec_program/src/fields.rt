@@ -2,7 +2,7 @@
 ghost use Rattle.std.specs.Prelude.{◌≡◌, ◌++◌, ◌∷◌, [], ℕ, List, codes, decimal};
 ghost use Rattle.rec_format.specs.Incompatibility.{release_text};
 ghost use Rattle.rec_format.specs.Versions.{version_text};
-ghost use Rattle.rec_trace.specs.declared.spans.SpanKey.TheVariants.{Test};
+ghost use Rattle.rec_spans.specs.declared.spans.SpanKey.TheVariants.{Test};
 ghost use Rattle.rec_program.specs.declared.refusal.RecordExportError.TheVariants.{MissingScriptStart, MissingTestStart};
 ghost use Rattle.rec_program.specs.FaultLine.{container_shown, export_fields, fields_text, optional_number, shown_text, span_shown};
 ghost use Rattle.rec_program.specs.LinePieces.{fields_bytes, value_bytes};

@@ -1,13 +1,13 @@
 //! The options of the commands.
 ghost use Rattle.std.specs.Prelude.{◌≡◌, ◌≤◌, IfSome};
-ghost use Rattle.rec_program.specs.Options.{group_by_of, has_come, load_of, new_option, no_values, number_of, option_named, options_at, output_of, settings_from, settings_of, takes, tests_of, values_from, with_value};
+ghost use Rattle.rec_program.specs.Options.{group_by_of, has_come, load_of, message_format_of, new_option, no_values, number_of, option_named, options_at, output_of, settings_from, settings_of, takes, tests_of, values_from, with_value};
 ghost use Rattle.rec_program.specs.Words.{texts};
 
 use crate::settings::Settings;
 use crate::words::WordsError;
 use rec_replay::LoadOutput;
 use rec_sample::MAX_TESTS;
-use rec_trace::ChromeTraceGroupBy;
+use rec_trace::{ChromeTraceGroupBy, ChromeTraceMessageFormat};
 
 /// Names a command that takes options.
 #[derive(Clone, Copy)]
@@ -26,7 +26,7 @@ impl CommandName {
         ensures { result ≡ takes self option }
     {
         match option {
-            OptionName::GroupBy => match self {
+            OptionName::GroupBy | OptionName::MessageFormat => match self {
                 CommandName::Record | CommandName::Trace | CommandName::Sample => true,
                 CommandName::Replay | CommandName::Report | CommandName::Info => false,
             },
@@ -65,6 +65,7 @@ impl CommandName {
 #[derive(Clone, Copy)]
 pub enum OptionName {
     GroupBy,
+    MessageFormat,
     MaxOutput,
     ReadLimit,
     SessionLimit,
@@ -75,6 +76,7 @@ pub enum OptionName {
 #[derive(Clone, Copy)]
 pub struct OptionValues {
     pub group_by: Option<ChromeTraceGroupBy>,
+    pub message_format: Option<ChromeTraceMessageFormat>,
     pub max_output: Option<u64>,
     pub read_limit: Option<u64>,
     pub session_limit: Option<u64>,
@@ -87,6 +89,7 @@ impl OptionValues {
     {
         OptionValues {
             group_by: None,
+            message_format: None,
             max_output: None,
             read_limit: None,
             session_limit: None,
@@ -100,6 +103,7 @@ impl OptionValues {
     {
         match name {
             OptionName::GroupBy => self.group_by.is_some(),
+            OptionName::MessageFormat => self.message_format.is_some(),
             OptionName::MaxOutput => self.max_output.is_some(),
             OptionName::ReadLimit => self.read_limit.is_some(),
             OptionName::SessionLimit => self.session_limit.is_some(),
@@ -114,6 +118,7 @@ impl OptionValues {
         let mut values = self;
         match name {
             OptionName::GroupBy => values.group_by = Some(group_by(text)?),
+            OptionName::MessageFormat => values.message_format = Some(message_format(text)?),
             OptionName::MaxOutput => values.max_output = Some(number(text)?),
             OptionName::ReadLimit => values.read_limit = Some(number(text)?),
             OptionName::SessionLimit => values.session_limit = Some(number(text)?),
@@ -129,7 +134,7 @@ impl OptionValues {
         let defaults = Settings::default();
         Settings {
             group_by: self.group_by.unwrap_or(defaults.group_by),
-            message_format: defaults.message_format,
+            message_format: self.message_format.unwrap_or(defaults.message_format),
             max_output: self.max_output.unwrap_or(defaults.max_output),
             read_limit: self.read_limit.unwrap_or(defaults.read_limit),
             session_limit: self.session_limit.unwrap_or(defaults.session_limit),
@@ -207,6 +212,7 @@ fn option_named(word: &str) -> Option<OptionName>
 {
     match word {
         "--group-by" => Some(OptionName::GroupBy),
+        "--message-format" => Some(OptionName::MessageFormat),
         "--max-output" => Some(OptionName::MaxOutput),
         "--read-limit" => Some(OptionName::ReadLimit),
         "--session-limit" => Some(OptionName::SessionLimit),
@@ -223,6 +229,18 @@ fn group_by(word: &str) -> Option<ChromeTraceGroupBy>
     match word {
         "binary" => Some(ChromeTraceGroupBy::Binary),
         "slot" => Some(ChromeTraceGroupBy::Slot),
+        _ => None,
+    }
+}
+
+/// Returns the form of JSON that a word names.
+#[tactic(auto, unfolding(crate::specs::Options::message_format_of))]
+fn message_format(word: &str) -> Option<ChromeTraceMessageFormat>
+    ensures { result ≡ message_format_of word.now }
+{
+    match word {
+        "json" => Some(ChromeTraceMessageFormat::Json),
+        "json-pretty" => Some(ChromeTraceMessageFormat::JsonPretty),
         _ => None,
     }
 }

@@ -8,8 +8,8 @@ ghost use Rattle.rec_format.specs.Runs.{manifest_of, recorded_info};
 ghost use Rattle.rec_store.specs.Bundle.{outputs_stored, run_bundle};
 ghost use Rattle.rec_store.specs.Reading.{IsReading, recorded};
 ghost use Rattle.rec_store.specs.Store.{store_entries};
-ghost use Rattle.rec_trace.specs.Plain.{plain};
-ghost use Rattle.rec_trace.specs.Traces.{events_refusal};
+ghost use Rattle.rec_spans.specs.Plain.{plain};
+ghost use Rattle.rec_spans.specs.Refusals.{events_refusal};
 ghost use Rattle.rec_program.specs.Bundle.{AreOf, session_refusal, refusal_after};
 ghost use Rattle.rec_program.specs.declared.refusal.RecordExportError.TheVariants.{OutOfMemory};
 ghost use Rattle.rec_program.specs.Export.{CountsOf};
@@ -120,7 +120,7 @@ fn prepare_run<N: OutputNamer>(
             return Err(error);
         }
     };
-    let trace = trace.into_text(alloc, &head.nextest_version, settings.message_format)?;
+    let trace = trace.into_text(alloc)?;
     let exported = Exported {
         events: sizes.log.entries,
         outputs: sizes.store.entries - metadata_count(head),

@@ -9,8 +9,6 @@ ghost use Rattle.rec_store.specs.Namer.{sha256_number};
 ghost use Rattle.rec_portable.specs.Judging.{judged};
 ghost use Rattle.rec_portable.specs.OuterEntries.{log_part};
 ghost use Rattle.rec_replay.specs.declared.output_load.LoadOutput.{LoadOutput};
-ghost use Rattle.rec_trace.specs.Kinds.{history};
-ghost use Rattle.rec_trace.specs.Timeline.{IsTimeline};
 ghost use Rattle.rec_reading.specs.Listing.{replay_of, report_of};
 ghost use Rattle.rec_sample.specs.Session.{sample_session};
 ghost use Rattle.rec_program.specs.Bundle.{AreOf, session_refusal};
@@ -21,6 +19,7 @@ ghost use Rattle.rec_program.specs.LogTraces.{bundle_trace, log_lines, log_refus
 ghost use Rattle.rec_program.specs.ReadingCommands.{manifest_line};
 ghost use Rattle.rec_program.specs.Running.{Prints, Records, RecordsSample, Runs, ShowsMade};
 ghost use Rattle.rec_program.specs.Samples.{TakesSample, session_counts};
+ghost use Rattle.rec_program.specs.Timelines.{DrawsTimeline};
 ghost use Rattle.rec_program.specs.Words.{command, informing, recording, replaying, reporting, sampling, texts, tracing};
 
 use crate::export::record_and_export;
@@ -68,7 +67,8 @@ pub fn run_program<S: Source, B: Sink, T: Sink, G: Sink>(
 
     // Status 0 of a recording: nothing of the session is left to read; what the bundle's sink took is read as the head and the events
     // of the session, with long outputs cut; and `out` took the text of their trace, in which begins and ends of equal names take
-    // turns on each row, and mark, at their events' instants, the slices outside pauses and no others.
+    // turns on each row, and mark, at their events' instants, the slices outside pauses and no others; and each arrow starts before it
+    // finishes.
     ensures recorded { (path : List ℕ) (settings : Settings)
         → command (texts words.now) ≡ Ok (recording path settings)
         → result ≡ 0
@@ -100,7 +100,7 @@ pub fn run_program<S: Source, B: Sink, T: Sink, G: Sink>(
         × Appends (T.taken out.old) (T.taken out.new) (manifest_line manifest) }
 
     // Status 0 of `trace`: the source was read to its end, its bytes are a bundle, and `out` took the text of the trace of its log,
-    // with the version of the runner that the manifest names. Its begins and ends are the timeline of the events of the log.
+    // with the version of the runner that the manifest names. It draws the timeline of the events of the log, as that of a recording does.
     ensures traced { (settings : Settings)
         → command (texts words.now) ≡ Ok (tracing settings)
         → result ≡ 0
@@ -110,7 +110,7 @@ pub fn run_program<S: Source, B: Sink, T: Sink, G: Sink>(
         × (judged settings.read_limit es ≡ Ok manifest)
         × (log_part settings.read_limit es ≡ Ok log)
         × (log_refusal settings.group_by (log_lines log) ≡ None)
-        × IsTimeline (history settings.group_by (plain_log (log_lines log)))
+        × DrawsTimeline manifest.run.nextest_version settings.group_by (plain_log (log_lines log))
         × Appends (T.taken out.old) (T.taken out.new) (bundle_trace settings manifest log) }
 
     // Of a bundle that a recording wrote, `trace` prints the text that the recording printed, where both draw and write it alike.

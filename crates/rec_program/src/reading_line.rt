@@ -3,7 +3,7 @@ ghost use Rattle.std.specs.Prelude.{◌≡◌, ◌++◌, ◌∷◌, [], ℕ, Lis
 ghost use Rattle.rec_format.specs.declared.incompatibility.StoreVersionIncompatibility.TheVariants.{RecordingTooOld};
 ghost use Rattle.rec_format.specs.Versions.{version_text};
 ghost use Rattle.rec_portable.specs.declared.errors.PortableRecordingReadError.TheVariants.{NotAWrapperArchive, ReadArchive};
-ghost use Rattle.rec_trace.specs.declared.errors.ChromeTraceError.TheVariants.{ReadError};
+ghost use Rattle.rec_spans.specs.declared.errors.ChromeTraceError.TheVariants.{ReadError};
 ghost use Rattle.rec_program.specs.FaultLine.{export_fields, export_name, fields_text, no_fields, shown_text};
 ghost use Rattle.rec_program.specs.LineFaults.{line_fault};
 ghost use Rattle.rec_program.specs.LinePieces.{fields_bytes};

@@ -1,6 +1,7 @@
 //! Records a session into memory.
 ghost use Rattle.std.specs.Option.{option_to_list};
 ghost use Rattle.std.specs.Prelude.{◌≡◌, ◌⊎◌, ◌++◌, ◌∷◌, [], List, map, ℕ, false, true, None, Some, Ok, length, IfOk, IfErr, OnOk};
+ghost use Rattle.semver.specs.Parse.{Parts};
 ghost use Rattle.rec_container.specs.Memory.{GrowingSinkState};
 ghost use Rattle.rec_format.specs.declared.head.SessionHead.{SessionHead};
 ghost use Rattle.rec_codec.specs.Event.{LiveEvent};
@@ -10,8 +11,9 @@ ghost use Rattle.rec_codec.specs.Live.{is_loaded};
 ghost use Rattle.rec_store.specs.Bundle.{run_store};
 ghost use Rattle.rec_store.specs.Recording.{Stores, Unstored, has_failed};
 ghost use Rattle.rec_store.specs.Store.{rerun_entries, store_entries};
-ghost use Rattle.rec_trace.specs.declared.settings.ChromeTraceGroupBy.{ChromeTraceGroupBy};
-ghost use Rattle.rec_trace.specs.Plain.{PlainEvent, plain};
+ghost use Rattle.rec_spans.specs.declared.settings.ChromeTraceGroupBy.{ChromeTraceGroupBy};
+ghost use Rattle.rec_spans.specs.Plain.{PlainEvent, plain};
+ghost use Rattle.rec_trace.specs.declared.settings.ChromeTraceMessageFormat.{ChromeTraceMessageFormat};
 ghost use Rattle.rec_program.specs.declared.refusal.RecordExportError.TheVariants.{OutOfMemory};
 ghost use Rattle.rec_program.specs.Recorded.{HasRecorded, IsRunOf, RecordsEvent, RecordsLine, RecordsLines};
 ghost use Rattle.rec_program.specs.RecorderFaults.{ComesAtEnd, ComesOfEvent, ComesOfHead, event_fault};
@@ -25,7 +27,7 @@ use crate::sizes::first_too_large;
 use crate::trace::SessionTrace;
 use rec_codec::{Line, Lines, read_line};
 use rec_container::{GrowingSink, Sink};
-use rec_events::{LiveSpec, TestEventSummary};
+use rec_events::{LiveSpec, TestEventSummary, TryClone};
 use rec_format::{RecordedSizes, RerunInfo, SessionHead};
 use rec_store::{OutputNamer, RunRecorder, RunStoreError, StoreSizes};
 use std::alloc::{AllocError, Global};
@@ -65,10 +67,12 @@ pub fn record_run<N: OutputNamer>(
     ensures run { IfOk result (λ r. IsRunOf (N.number namer.now) settings.now.max_output head.now (events_of lines.entry) r.store.bytes r.log.bytes r.sizes) }
     ensures too_large { IfOk result (λ r. r.too_large
         ≡ entries_refusal settings.now.read_limit (run_store (N.number namer.now) settings.now.max_output head.now (events_of lines.entry))) }
-    ensures traced { IfOk result (λ r. IsTraceOf settings.now.group_by (map plain (events_of lines.entry)) r.trace) }
+    ensures traced { IfOk result (λ r. IsTraceOf settings.now.message_format settings.now.group_by head.now.nextest_version
+        (map plain (events_of lines.entry)) r.trace) }
     ensures err { IfErr result (λ e. (e ≡ OutOfMemory)
         ⊎ (lines_refusal (N.number namer.now) settings.now.max_output [] lines.entry ≡ Some e)) }
 {
+    let mut trace = new_trace(alloc, settings, head)?;
     let mut recorder = RunRecorder::new(
         alloc,
         GrowingSink::new(alloc),
@@ -79,9 +83,9 @@ pub fn record_run<N: OutputNamer>(
     // Recorder and trace are let go of by calls: in place, each of their parts would be a case of the proof.
     let Ok(()) = record_head(&mut recorder, head) else {
         drop(recorder);
+        drop(trace);
         return Err(RecordExportError::OutOfMemory);
     };
-    let mut trace = SessionTrace::new(alloc, settings.group_by);
     match record_lines(alloc, lines, &mut recorder, &mut trace) {
         Ok(()) => end_run(alloc, settings.read_limit, recorder, trace),
         Err(error) => {
@@ -90,6 +94,18 @@ pub fn record_run<N: OutputNamer>(
             Err(error)
         }
     }
+}
+
+/// Makes the trace of a run with this head, without an event so far.
+fn new_trace(
+    alloc: Global,
+    settings: &Settings,
+    head: &SessionHead,
+) -> Result<SessionTrace, AllocError>
+    ensures { IfOk result (IsTraceOf settings.now.message_format settings.now.group_by head.now.nextest_version []) }
+{
+    let version = head.nextest_version.try_clone(alloc)?;
+    Ok(SessionTrace::new(alloc, version, settings.group_by, settings.message_format))
 }
 
 /// Judges the sizes of the store's entries, and ends a recording.
@@ -172,8 +188,8 @@ fn record_lines<N: OutputNamer>(
     ensures recorded { (head : SessionHead) (events : List LiveEvent)
         → HasRecorded N.number recorder.old.namer recorder.old.max_output head events recorder.old
         → RecordsLines N.number recorder.old.namer recorder.old.max_output head events lines.entry recorder.new result }
-    ensures traced { (g : ChromeTraceGroupBy) (before : List PlainEvent) → IsTraceOf g before trace.old
-        → OnOk result (IsTraceOf g (before ++ map plain (events_of lines.entry)) trace.new) }
+    ensures traced { (format : ChromeTraceMessageFormat) (g : ChromeTraceGroupBy) (version : Parts) (before : List PlainEvent)
+        → IsTraceOf format g version before trace.old → OnOk result (IsTraceOf format g version (before ++ map plain (events_of lines.entry)) trace.new) }
 {
     for line in lines {
         record_line(alloc, line, recorder, trace)?;
@@ -193,8 +209,8 @@ fn record_line<N: OutputNamer>(
     ensures recorded { (head : SessionHead) (events : List LiveEvent)
         → HasRecorded N.number recorder.old.namer recorder.old.max_output head events recorder.old
         → RecordsLine N.number recorder.old.namer recorder.old.max_output head events (line_view line.entry) recorder.new result }
-    ensures traced { (g : ChromeTraceGroupBy) (before : List PlainEvent) → IsTraceOf g before trace.old
-        → OnOk result (IsTraceOf g (before ++ map plain (option_to_list (event_at (line_view line.entry)))) trace.new) }
+    ensures traced { (format : ChromeTraceMessageFormat) (g : ChromeTraceGroupBy) (version : Parts) (before : List PlainEvent)
+        → IsTraceOf format g version before trace.old → OnOk result (IsTraceOf format g version (before ++ map plain (option_to_list (event_at (line_view line.entry)))) trace.new) }
 {
     match read_line(alloc, line) {
         None => Ok(()),
@@ -215,8 +231,8 @@ fn record_event<N: OutputNamer>(
     ensures recorded { (head : SessionHead) (events : List LiveEvent)
         → HasRecorded N.number recorder.old.namer recorder.old.max_output head events recorder.old
         → RecordsEvent N.number recorder.old.namer recorder.old.max_output head events event recorder.new result }
-    ensures traced { (g : ChromeTraceGroupBy) (before : List PlainEvent) → IsTraceOf g before trace.old
-        → OnOk result (IsTraceOf g (before ++ plain event ∷ []) trace.new) }
+    ensures traced { (format : ChromeTraceMessageFormat) (g : ChromeTraceGroupBy) (version : Parts) (before : List PlainEvent)
+        → IsTraceOf format g version before trace.old → OnOk result (IsTraceOf format g version (before ++ plain event ∷ []) trace.new) }
 {
     let Ok(()) = trace.add(alloc, &event) else {
         // By a call: in place, each kind of event would be a case of the proof.

@@ -23,16 +23,18 @@ sample makes a session of N tests, at most 10000, and writes it into the file
 BUNDLE as record does. It prints how many events and outputs were written.
 
 Options, each at most once, with a value after it; limits are in bytes:
-  --group-by       of record, trace and sample: binary draws a process for each
-                   test binary, and slot one process for all (binary)
-  --max-output     of record and sample: the most of an output that is kept
-                   whole (10485760)
-  --read-limit     the most of the manifest, of the log and of an entry of the
-                   store (268435456)
-  --session-limit  the most of the session or the bundle that is read
-                   (268435456)
-  --output         of replay alone: load reads the outputs of tests, and skip
-                   leaves them out (load)
+  --group-by        of record, trace and sample: binary draws a process for
+                    each test binary, and slot one process for all (binary)
+  --message-format  of record, trace and sample: json writes the trace in one
+                    line, and json-pretty over several (json)
+  --max-output      of record and sample: the most of an output that is kept
+                    whole (10485760)
+  --read-limit      the most of the manifest, of the log and of an entry of the
+                    store (268435456)
+  --session-limit   the most of the session or the bundle that is read
+                    (268435456)
+  --output          of replay alone: load reads the outputs of tests, and skip
+                    leaves them out (load)
 
 Other words, each of them alone:
   --help     prints this text

@@ -327,8 +327,8 @@ fn words_of_made_sessions(rt: HostRuntime) -> Result<(), Fail> {
     Ok(())
 }
 
-/// The grouping that words with a blank between them ask for, or the fault.
-fn grouping(alloc: Global, text: &str) -> Result<String, AllocError> {
+/// The grouping and the form that words with a blank between them ask for, or the fault.
+fn drawing(alloc: Global, text: &str) -> Result<String, AllocError> {
     let mut words = Vec::new(alloc);
     for word in text.split(' ') {
         words.push(String::from_str(alloc, word)?)?;
@@ -340,25 +340,26 @@ fn grouping(alloc: Global, text: &str) -> Result<String, AllocError> {
             | Command::Sample { settings, .. },
         ) => {
             let group_by = settings.group_by;
-            format!(in alloc; "{group_by:?}")
+            let message_format = settings.message_format;
+            format!(in alloc; "{group_by:?} {message_format:?}")
         }
         Ok(_) => String::from_str(alloc, "none"),
         Err(fault) => line_of(alloc, &fault),
     }
 }
 
-/// Words with a grouping, and the one that they ask for.
+/// Words with a grouping, and what they ask for.
 fn groupings() -> [(&'static str, &'static str); 17] {
     [
-        ("sample 1 b", "Binary"),
-        ("sample 1 b --group-by slot", "Slot"),
+        ("sample 1 b", "Binary Json"),
+        ("sample 1 b --group-by slot", "Slot Json"),
         ("sample 1 b --group-by x", "BadValue at=4\n"),
-        ("record b", "Binary"),
-        ("record b --group-by binary", "Binary"),
-        ("record b --group-by slot", "Slot"),
-        ("record b --max-output 1 --group-by slot", "Slot"),
-        ("trace", "Binary"),
-        ("trace --group-by slot --read-limit 1", "Slot"),
+        ("record b", "Binary Json"),
+        ("record b --group-by binary", "Binary Json"),
+        ("record b --group-by slot", "Slot Json"),
+        ("record b --max-output 1 --group-by slot", "Slot Json"),
+        ("trace", "Binary Json"),
+        ("trace --group-by slot --read-limit 1", "Slot Json"),
         ("record b --group-by", "MissingValue at=3\n"),
         ("record b --group-by ", "BadValue at=3\n"),
         ("record b --group-by Slot", "BadValue at=3\n"),
@@ -373,10 +374,50 @@ fn groupings() -> [(&'static str, &'static str); 17] {
     ]
 }
 
+/// Words with a form, and what they ask for.
+fn message_formats() -> [(&'static str, &'static str); 16] {
+    [
+        ("record b --message-format json", "Binary Json"),
+        ("record b --message-format json-pretty", "Binary JsonPretty"),
+        ("trace --message-format json", "Binary Json"),
+        ("trace --message-format json-pretty", "Binary JsonPretty"),
+        (
+            "sample 1 b --message-format json-pretty",
+            "Binary JsonPretty",
+        ),
+        (
+            "trace --message-format json-pretty --group-by slot",
+            "Slot JsonPretty",
+        ),
+        ("record b --message-format", "MissingValue at=3\n"),
+        ("record b --message-format ", "BadValue at=3\n"),
+        ("record b --message-format pretty", "BadValue at=3\n"),
+        ("record b --message-format json_pretty", "BadValue at=3\n"),
+        ("record b --message-format Json", "BadValue at=3\n"),
+        (
+            "trace --message-format json --message-format json-pretty",
+            "RepeatedOption at=3\n",
+        ),
+        ("replay --message-format json", "UnknownOption at=1\n"),
+        ("report --message-format json", "UnknownOption at=1\n"),
+        ("info --message-format json", "UnknownOption at=1\n"),
+        ("trace --group-by json", "BadValue at=2\n"),
+    ]
+}
+
 #[test]
 fn groupings_of_words(rt: HostRuntime) -> Result<(), Fail> {
     for (text, expected) in groupings() {
-        let got = grouping(rt.alloc(), text)?;
+        let got = drawing(rt.alloc(), text)?;
+        assert!(rt; got.as_str() == expected, "{text}: {got}");
+    }
+    Ok(())
+}
+
+#[test]
+fn message_formats_of_words(rt: HostRuntime) -> Result<(), Fail> {
+    for (text, expected) in message_formats() {
+        let got = drawing(rt.alloc(), text)?;
         assert!(rt; got.as_str() == expected, "{text}: {got}");
     }
     Ok(())
@@ -416,16 +457,18 @@ sample makes a session of N tests, at most 10000, and writes it into the file
 BUNDLE as record does. It prints how many events and outputs were written.
 
 Options, each at most once, with a value after it; limits are in bytes:
-  --group-by       of record, trace and sample: binary draws a process for each
-                   test binary, and slot one process for all (binary)
-  --max-output     of record and sample: the most of an output that is kept
-                   whole (10485760)
-  --read-limit     the most of the manifest, of the log and of an entry of the
-                   store (268435456)
-  --session-limit  the most of the session or the bundle that is read
-                   (268435456)
-  --output         of replay alone: load reads the outputs of tests, and skip
-                   leaves them out (load)
+  --group-by        of record, trace and sample: binary draws a process for
+                    each test binary, and slot one process for all (binary)
+  --message-format  of record, trace and sample: json writes the trace in one
+                    line, and json-pretty over several (json)
+  --max-output      of record and sample: the most of an output that is kept
+                    whole (10485760)
+  --read-limit      the most of the manifest, of the log and of an entry of the
+                    store (268435456)
+  --session-limit   the most of the session or the bundle that is read
+                    (268435456)
+  --output          of replay alone: load reads the outputs of tests, and skip
+                    leaves them out (load)
 
 Other words, each of them alone:
   --help     prints this text

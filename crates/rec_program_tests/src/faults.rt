@@ -134,7 +134,7 @@ fn pieces_of_one_byte(rt: HostRuntime) -> Result<(), Fail> {
     let alloc = rt.alloc();
     // No call has the number 0.
     for (failed_read, failed_write, expected) in [
-        (0, 0, "0 3014 299 "),
+        (0, 0, "0 3014 1835 "),
         (2, 0, "3 0 0 SourceFault\n"),
         (0, 1, "10 0 0 BundleFault\n"),
         (0, 3014, "10 3013 0 BundleFault\n"),
@@ -156,8 +156,8 @@ fn faults_of_the_trace_leave_the_bundle_whole(rt: HostRuntime) -> Result<(), Fai
     for (fail_at, expected) in [
         (1, "11 3014 0 TraceFault\n"),
         (2, "11 3014 100 TraceFault\n"),
-        (3, "11 3014 200 TraceFault\n"),
-        (4, "0 3014 299 "),
+        (19, "11 3014 1800 TraceFault\n"),
+        (20, "0 3014 1835 "),
     ] {
         let faults = Faults {
             piece: 100,

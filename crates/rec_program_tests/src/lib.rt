@@ -16,6 +16,8 @@ mod lines;
 #[cfg(test)]
 mod part_lines;
 #[cfg(test)]
+mod pause_and_retry;
+#[cfg(test)]
 mod reading;
 #[cfg(test)]
 mod running;

@@ -15,7 +15,23 @@ fn empty_trace() -> &'static str {
 
 /// The trace of a test on the last slot that has a row.
 fn last_row() -> &'static str {
-    r#"{"displayTimeUnit":"ms","otherData":{"nextest_version":"0.9.111"},"traceEvents":[{"cat":"test","name":"t1","ph":"B","pid":2,"tid":18446744073709551615,"ts":1001000000}]}"#
+    r#"{"displayTimeUnit":"ms","otherData":{"nextest_version":"0.9.111"},"traceEvents":[{"args":{"name":"alpha::a"},"cat":"","name":"process_name","ph":"M","pid":2,"tid":0,"ts":0},{"args":{"sort_index":2},"cat":"","name":"process_sort_index","ph":"M","pid":2,"tid":0,"ts":0},{"args":{"name":"slot-18446744073709541615"},"cat":"","name":"thread_name","ph":"M","pid":2,"tid":18446744073709551615,"ts":0},{"args":{"sort_index":18446744073709551615},"cat":"","name":"thread_sort_index","ph":"M","pid":2,"tid":18446744073709551615,"ts":0},{"args":{"binary_id":"alpha::a","test_name":"t1"},"cat":"test","name":"t1","ph":"B","pid":2,"tid":18446744073709551615,"ts":1001000000},{"args":{"running_scripts":0,"running_tests":1},"cat":"run","name":"concurrency","ph":"C","pid":0,"tid":0,"ts":1001000000}]}"#
+}
+
+/// The same over several lines.
+fn empty_trace_in_lines() -> &'static str {
+    r#"{
+  "displayTimeUnit": "ms",
+  "otherData": {
+    "nextest_version": "0.9.111"
+  },
+  "traceEvents": []
+}"#
+}
+
+/// The trace of a pause alone.
+fn pause_alone() -> &'static str {
+    r#"{"displayTimeUnit":"ms","otherData":{"nextest_version":"0.9.111"},"traceEvents":[{"args":{"running_scripts":0,"running_tests":1},"cat":"run","name":"concurrency","ph":"C","pid":0,"tid":0,"ts":1002000000},{"args":{"name":"nextest run"},"cat":"","name":"process_name","ph":"M","pid":0,"tid":0,"ts":0},{"args":{"sort_index":0},"cat":"","name":"process_sort_index","ph":"M","pid":0,"tid":0,"ts":0},{"args":{"name":"run"},"cat":"","name":"thread_name","ph":"M","pid":0,"tid":1,"ts":0},{"args":{"sort_index":1},"cat":"","name":"thread_sort_index","ph":"M","pid":0,"tid":1,"ts":0},{"args":{"running":1,"setup_scripts_running":0},"cat":"run","name":"paused","ph":"i","pid":0,"s":"p","tid":1,"ts":1002000000}]}"#
 }
 
 /// A test that starts on a slot.
@@ -44,7 +60,15 @@ fn is_drawn(
 fn traces_are_written(rt: HostRuntime) -> Result<(), Fail> {
     let alloc = rt.alloc();
     let none = session_of(alloc, &[])?;
-    assert!(rt; is_drawn(alloc, &[], none.as_str(), empty_trace())?);
+    for (format, trace) in [
+        ("json", empty_trace()),
+        ("json-pretty", empty_trace_in_lines()),
+    ] {
+        let options = &["--message-format", format];
+        assert!(rt; is_drawn(alloc, options, none.as_str(), trace)?, "{format}");
+    }
+    let pause = session_of(alloc, &[run_paused()])?;
+    assert!(rt; is_drawn(alloc, &[], pause.as_str(), pause_alone())?);
     let small = small_session(alloc)?;
     for (options, trace) in [
         ([].as_slice(), small_trace()),

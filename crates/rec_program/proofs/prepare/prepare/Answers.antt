@@ -3,11 +3,11 @@ use Rattle.std.proofs.lemmas.Result.{err_from_is_err_and}
 use Rattle.rec_codec.specs.Event.{LiveEvent}
 use Rattle.rec_store.specs.Bundle.{outputs_stored, run_bundle}
 use Rattle.rec_store.specs.Reading.{IsReading, recorded}
-use Rattle.rec_trace.proofs.Timelines.{timeline}
-use Rattle.rec_trace.specs.Plain.{plain}
-use Rattle.rec_trace.specs.Traces.{events_refusal}
+use Rattle.rec_spans.specs.Plain.{plain}
+use Rattle.rec_spans.specs.Refusals.{events_refusal}
 use Rattle.rec_program.proofs.Judging.{after_head, events_after, refused_head}
 use Rattle.rec_program.proofs.prepare.prepare.Goals as goal
+use Rattle.rec_program.proofs.TimelinesDrawn.{draws_timeline}
 use Rattle.rec_program.specs.Bundle.{head_in, refusal_after, session_events}
 use Rattle.rec_program.specs.declared.refusal.RecordExportError.TheVariants.{OutOfMemory}
 use Rattle.rec_program.specs.declared.refusal.RecordExportError.{RecordExportError}
@@ -51,7 +51,7 @@ returns-clause-texts g c =
       spelled = spelled ∙ ap (run_bundle number settings.max_output head) events;
       reads = subst (λ (es : List LiveEvent). IsReading (prepared_bundle prepared) (recorded number settings.max_output head es)) events reads;
       traced = traced ∙ ap (run_trace settings head) events;
-      timeline = timeline settings.group_by (map plain (session_events session))
+      drawn = draws_timeline head.nextest_version settings.group_by (map plain (session_events session))
           (subst (λ (es : List LiveEvent). events_refusal settings.group_by (map plain es) ≡ None) events accepted);
     }) c.prepare_run-result.ensures.bundle (c.prepare_run-result.ensures.reads c.in_ok-head.ensures.known) c.prepare_run-result.ensures.trace c.prepare_run-result.ensures.valid c.prepare_run-result.ensures.accepted
 

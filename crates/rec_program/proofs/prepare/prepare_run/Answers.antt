@@ -6,7 +6,7 @@ use Rattle.rec_format.specs.declared.sizes.RecordedSizes.{RecordedSizes}
 use Rattle.rec_store.proofs.ReadLaws.{bundle_reads_logged}
 use Rattle.rec_store.specs.Entries.{bundle_entries}
 use Rattle.rec_store.specs.Reading.{IsReading, recorded}
-use Rattle.rec_trace.specs.Plain.{plain}
+use Rattle.rec_spans.specs.Plain.{plain}
 use Rattle.rec_program.proofs.Bundles.{same_entries, same_judged}
 use Rattle.rec_program.proofs.Judging.{refused_sizes, trace_left}
 use Rattle.rec_program.proofs.prepare.prepare_run.Goals as goal
@@ -59,7 +59,7 @@ returns-clause-valid g c =
     let run = c.in_ok-run.ensures in
     let same = same_judged number settings c.args.head.now events c.in_ok-run.run'.sizes run.run.sized c.bytes.result.now c.bytes-2.result.now c.in_ok-run.run'.too_large
     (c.bytes.ensures ∙ run.run.log_written) (c.bytes-2.ensures ∙ run.run.store_spelled) run.too_large in
-    let traced = c.in_ok-trace.ensures settings.group_by (map plain events) run.traced in
+    let traced = c.in_ok-trace.ensures settings.message_format settings.group_by c.args.head.now.nextest_version (map plain events) run.traced in
     trace_left number settings c.args.head.now c.args.lines run.valid (sym same ∙ c.in-Ok.ensures.judged) ∙ ap (option_map trace_fault) traced.0
 
 pub returns-in_err-trace-clause-err : goal.returns-in_err-trace-clause-err
@@ -72,7 +72,7 @@ returns-in_err-trace-clause-err g c =
     (c.bytes.ensures ∙ run.run.log_written) (c.bytes-2.ensures ∙ run.run.store_spelled) run.too_large in
     let left = trace_left number settings c.args.head.now c.args.lines run.valid (sym same ∙ c.in-Ok.ensures.judged) in
     let e = c.in_err-trace.field-0.0 in
-    let refused = c.in_err-trace.ensures settings.group_by (map plain events) run.traced in
+    let refused = c.in_err-trace.ensures settings.message_format settings.group_by c.args.head.now.nextest_version (map plain events) run.traced in
     let p = err_from_is_err_and c.from_residual-in_err-trace.result c.from_residual-in_err-trace.ensures.1 in
     rw (p.1, p.2) (subst (λ (o : Option RecordExportError). (e ≡ OutOfMemory) ⊎ (o ≡ Some e)) (sym left) refused)
 
@@ -80,9 +80,9 @@ pub returns-clause-trace : goal.returns-clause-trace
 unfolding run_trace
 returns-clause-trace g c =
     let settings = c.args.settings.now in
-    (c.in_ok-trace.ensures settings.group_by (map plain (events_of c.args.lines)) c.in_ok-run.ensures.traced).1
+    (c.in_ok-trace.ensures settings.message_format settings.group_by c.args.head.now.nextest_version (map plain (events_of c.args.lines)) c.in_ok-run.ensures.traced).1
 
 pub returns-clause-accepted : goal.returns-clause-accepted
 returns-clause-accepted g c =
     let settings = c.args.settings.now in
-    (c.in_ok-trace.ensures settings.group_by (map plain (events_of c.args.lines)) c.in_ok-run.ensures.traced).0
+    (c.in_ok-trace.ensures settings.message_format settings.group_by c.args.head.now.nextest_version (map plain (events_of c.args.lines)) c.in_ok-run.ensures.traced).0

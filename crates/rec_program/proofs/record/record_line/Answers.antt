@@ -9,7 +9,7 @@ use Rattle.rec_codec.specs.Lines.{text_of}
 use Rattle.rec_codec.specs.LineView.{line_view}
 use Rattle.rec_codec.specs.Live.{live_form}
 use Rattle.rec_store.specs.Bundle.{outputs_stored}
-use Rattle.rec_trace.specs.Plain.{plain}
+use Rattle.rec_spans.specs.Plain.{plain}
 use Rattle.rec_program.proofs.record.record_line.Goals as goal
 use Rattle.rec_program.proofs.RecordedLines.{event_is_loaded, line_of_event, line_of_fault, line_recorded}
 use Rattle.rec_program.specs.SessionTraces.{IsTraceOf}
@@ -41,12 +41,12 @@ returns-in_ok-event-in-Some-clause-recorded g c = λ head events has.
     (c.record_event.ensures.recorded head events has)
 
 pub returns-in_ok-event-in-Some-clause-traced : goal.returns-in_ok-event-in-Some-clause-traced
-returns-in_ok-event-in-Some-clause-traced g c = λ group before had.
+returns-in_ok-event-in-Some-clause-traced g c = λ format group version before had.
     let number = g.N.OutputNamer.number c.args.recorder.now.namer in
     let m = c.args.recorder.now.max_output in
     let text = text_of c.args.line.bytes.now in
     let event = c.in_ok-event-in-Some.field-0 in
     let answered = subst (λ (r : Result LiveEvent LineError). Answers (event_form live_form) (Some r) c.args.line.number text) c.in_ok-event-in-Some.was c.in-Some.ensures in
     let line = line_of_event number m [] c.args.line.number text event answered.0 answered.1 in
-    subst (λ (o : Option LiveEvent). OnOk c.record_event.result (IsTraceOf group (before ++ map plain (option_to_list o)) c.record_event.new.trace))
-    (sym line.1) (c.record_event.ensures.traced group before had)
+    subst (λ (o : Option LiveEvent). OnOk c.record_event.result (IsTraceOf format group version (before ++ map plain (option_to_list o)) c.record_event.new.trace))
+    (sym line.1) (c.record_event.ensures.traced format group version before had)

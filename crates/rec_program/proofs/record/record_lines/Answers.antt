@@ -3,7 +3,7 @@ use Rattle.std.specs.Option.{option_to_list}
 use Rattle.rec_codec.specs.Event.{LiveEvent}
 use Rattle.rec_codec.specs.Lines.{NumberedLine}
 use Rattle.rec_codec.specs.LineView.{line_view}
-use Rattle.rec_trace.specs.Plain.{PlainEvent, plain}
+use Rattle.rec_spans.specs.Plain.{PlainEvent, plain}
 use Rattle.rec_program.proofs.record.record_lines.Goals as goal
 use Rattle.rec_program.proofs.RecordedLines.{line_with, made_with, recorded_here}
 use Rattle.rec_program.proofs.SessionTraced.{plain_next}
@@ -17,7 +17,7 @@ loop-line-init g c =
     record {
       sound = c.requires.sound;
       recorded = λ head events had. (events, had, λ r new all. subst (λ (ls : List NumberedLine). RecordsLines g.N.OutputNamer.number c.args.recorder.now.namer c.args.recorder.now.max_output head events ls new r) lines all);
-      traced = λ group before had. (before, had, ap (λ (ls : List NumberedLine). before ++ map plain (events_of ls)) (sym lines));
+      traced = λ format group version before had. (before, had, ap (λ (ls : List NumberedLine). before ++ map plain (events_of ls)) (sym lines));
     }
 
 pub loop-line-preserved : goal.loop-line-preserved
@@ -38,12 +38,12 @@ loop-line-preserved g c = record {
         λ r new after. before.2 r new (subst (λ (ls : List NumberedLine). RecordsLines number namer m head before.0 ls new r) (sym c.in-Some.ensures.steps)
             (recorded_here number namer m head before.0 line rest new r here.0 after)),
       );
-  traced = λ group events had.
+  traced = λ format group version events had.
       let line = line_view c.in-Some.line in
       let rest = c.next.new.self in
-      let before = c.loop-line.invariant.traced group events had in (
+      let before = c.loop-line.invariant.traced format group version events had in (
         before.0 ++ map plain (option_to_list (event_at line)),
-        c.in_ok-record_line.ensures.traced group before.0 before.1,
+        c.in_ok-record_line.ensures.traced format group version before.0 before.1,
         before.2
             ∙ ap (λ (ls : List NumberedLine). before.0 ++ map plain (events_of ls)) c.in-Some.ensures.steps
             ∙ plain_next before.0 (event_at line) (events_of rest),
@@ -61,7 +61,7 @@ returns-clause-recorded g c = λ head events had.
     before.2 (Ok tt) now (subst (λ (ls : List NumberedLine). RecordsLines number namer m head before.0 ls now (Ok tt)) (sym c.in-None.ensures.steps.0) none)
 
 pub returns-clause-traced : goal.returns-clause-traced
-returns-clause-traced g c = λ group events had.
-    let before = c.loop-line.invariant.traced group events had in
+returns-clause-traced g c = λ format group version events had.
+    let before = c.loop-line.invariant.traced format group version events had in
     let all = before.2 ∙ ap (λ (ls : List NumberedLine). before.0 ++ map plain (events_of ls)) c.in-None.ensures.steps.0 ∙ append-nil before.0 in
-    subst (λ (es : List PlainEvent). IsTraceOf group es c.loop-line.trace) (sym all) before.1
+    subst (λ (es : List PlainEvent). IsTraceOf format group version es c.loop-line.trace) (sym all) before.1

@@ -3,7 +3,7 @@ use Rattle.std.proofs.lemmas.Result.{IfErr-weaker, IfOk-weaker}
 use Rattle.rec_container.specs.Memory.{GrowingSinkState}
 use Rattle.rec_store.specs.Recording.{Recording, Stores}
 use Rattle.rec_store.specs.Store.{store_entries}
-use Rattle.rec_trace.specs.Plain.{plain}
+use Rattle.rec_spans.specs.Plain.{plain}
 use Rattle.rec_program.proofs.record.record_run.Goals as goal
 use Rattle.rec_program.proofs.Recorded.{always, begun, text_taken}
 use Rattle.rec_program.proofs.RecordedLines.{lines_with, made_with}
@@ -60,11 +60,13 @@ returns-in-Ok-record_lines-clause-too_large g c =
 
 pub returns-in-Ok-record_lines-clause-traced : goal.returns-in-Ok-record_lines-clause-traced
 returns-in-Ok-record_lines-clause-traced g c =
+    let format = c.args.settings.now.message_format in
     let group_by = c.args.settings.now.group_by in
+    let version = c.args.head.now.nextest_version in
     let events = map plain (events_of c.args.lines) in
-    let traced = c.in-Ok-record_lines.ensures.traced group_by [] c.new-trace.ensures in
-    IfOk-weaker c.end_run.result (λ (r : RecordedInMemory). r.trace ≡ c.record_lines.new.trace) (λ (r : RecordedInMemory). IsTraceOf group_by events r.trace)
-    (λ r same. subst (IsTraceOf group_by events) (sym same) traced) c.end_run.ensures.traced
+    let traced = c.in-Ok-record_lines.ensures.traced format group_by version [] c.in_ok-trace.ensures in
+    IfOk-weaker c.end_run.result (λ (r : RecordedInMemory). r.trace ≡ c.record_lines.new.trace) (λ (r : RecordedInMemory). IsTraceOf format group_by version events r.trace)
+    (λ r same. subst (IsTraceOf format group_by version events) (sym same) traced) c.end_run.ensures.traced
 
 pub returns-in-Ok-record_lines-clause-err : goal.returns-in-Ok-record_lines-clause-err
 returns-in-Ok-record_lines-clause-err g c =
