@@ -3,8 +3,8 @@
 
     tools/try_commands.py [crates/rezovamy/out/rezovamy]
 
-The real session is that of `examples/`, of a run of a small crate's tests; the made one is of
-`tools/make_kinds.py`, with each kind of event. Each is recorded; its bundle is looked into, its trace
+The real session is that of `examples/`, of a run of a small crate's tests. Of the made ones one is of
+`tools/make_kinds.py`, with each kind of event, and one has a pause and a retry, with its trace written by hand. Each is recorded; its bundle is looked into, its trace
 is drawn again, its events are replayed, and its report is written as JUnit XML, which Python's own
 parser reads. What is printed is held to the session, event by event.
 """
@@ -101,6 +101,29 @@ def try_example(program):
     demand(skipped == ["tests::adds_very_many"], f"sums: the report has the skipped tests {skipped}")
 
 
+def try_pause_and_retry(program):
+    """Four tests, one of which is tried twice, beside a pause: the trace, event by event, and what the bundle counts."""
+    session = (HERE.parent / "examples/pause_and_retry.session").read_bytes()
+    trace = program.run(["record", "pause.bundle"], session)
+    demand(trace == (HERE.parent / "examples/pause_and_retry.trace.json").read_bytes(), f"pause: the trace is {trace}")
+    demand(len(json.loads(trace)["traceEvents"]) == 54, "pause: not 54 trace events")
+    bundle = (program.folder / "pause.bundle").read_bytes()
+    demand(program.run(["trace"], bundle) == trace, "pause: another trace is drawn of the bundle")
+    sizes = json.loads(program.run(["info"], bundle))["run"]["sizes"]
+    demand((sizes["log"]["entries"], sizes["store"]["entries"]) == (14, 6), f"pause: the bundle has {sizes}")
+    passed, failed = (bundle.find(b"out/%s-stdout" % name) for name in (b"ba7816bf8f01cfea", b"2cf24dba5fb0a30e"))
+    demand(0 < passed < failed, "pause: the outputs are not stored in the order of their first use")
+
+
+def try_log_line(program):
+    """A line of a session is logged with its members in order."""
+    head = (HERE.parent / "examples/pause_and_retry.session").read_bytes().splitlines()[0]
+    paused = b'{"timestamp":{"secs":1002,"nanos":0,"offset":0},"elapsed":{"secs":2,"nanos":0},"kind":"run-paused","setup-scripts-running":0,"running":1}'
+    logged = b'{"elapsed":{"nanos":0,"secs":2},"kind":"run-paused","running":1,"setup-scripts-running":0,"timestamp":{"nanos":0,"offset":0,"secs":1002}}'
+    program.run(["record", "line.bundle"], head + b"\n" + paused)
+    demand((program.folder / "line.bundle").read_bytes().count(logged) == 1, "line: it is logged as another")
+
+
 def try_kinds(program):
     """The made session of each kind of event."""
     made = subprocess.run([HERE / "make_kinds.py"], capture_output=True, check=True)
@@ -122,6 +145,8 @@ def main():
     with tempfile.TemporaryDirectory() as folder:
         program = Program(path, pathlib.Path(folder))
         try_example(program)
+        try_pause_and_retry(program)
+        try_log_line(program)
         try_kinds(program)
         try_sample(program)
 
