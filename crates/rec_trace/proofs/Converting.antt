@@ -1,6 +1,7 @@
 -- The trace of what an iterator gives, event by event.
 use Rattle.std.proofs.Common.{◌≡◌, ◌⊎◌, inl, inr, ℕ, List, [], ◌∷◌, ◌++◌, map, Option, None, Some, Result, Ok, Err, ap, refl, sym, ◌∙◌, subst}
 use Rattle.std.proofs.lemmas.List.{map-append}
+use Rattle.std.specs.Bool.{⊤}
 use Rattle.std.specs.Iterator.{Yields}
 use Rattle.semver.specs.Parse.{Parts}
 use Rattle.rec_codec.specs.declared.line_events.LineError.TheVariants as faults
@@ -19,7 +20,7 @@ use Rattle.rec_trace.proofs.Arrows.{arrows-pair}
 use Rattle.rec_trace.proofs.Groupings.{groupings-draw_alike}
 use Rattle.rec_trace.proofs.Marks.{marks-of-trace}
 use Rattle.rec_trace.proofs.Prefixes.{keeps-drawn}
-use Rattle.rec_trace.specs.Converting.{Converts, HasNoTrace}
+use Rattle.rec_trace.specs.Converting.{AddsItem, Converts, HasNoTrace}
 use Rattle.rec_trace.specs.declared.builder.TraceBuilder.{TraceBuilder}
 use Rattle.rec_trace.specs.declared.settings.ChromeTraceMessageFormat.{ChromeTraceMessageFormat}
 use Rattle.rec_trace.specs.Traces.{HasTraced, trace_text}
@@ -27,6 +28,10 @@ use Rattle.rec_trace.specs.Traces.{HasTraced, trace_text}
 -- the builder has traced the events that these items hold
 abbrev pub HasConverted : ChromeTraceMessageFormat → ChromeTraceGroupBy → Parts → List (Result RecordedEvent LineError) → TraceBuilder → Type 0
 HasConverted format g version items b = (events : List RecordedEvent) × (items ≡ map Ok events) × HasTraced format g version (map plain events) b
+
+error_or : ChromeTraceError → Result ⊤ ChromeTraceError → ChromeTraceError
+error_or other (Ok u) = other
+error_or other (Err e) = e
 
 -- plain events with one event more
 plain-push : (events : List RecordedEvent) (event : RecordedEvent) → map plain (events ++ event ∷ []) ≡ map plain events ++ plain event ∷ []
@@ -47,7 +52,7 @@ items-push items item events event all is = ap (λ v. items ++ v ∷ []) is ∙ 
 module _ (format : ChromeTraceMessageFormat) (g : ChromeTraceGroupBy) (version : Parts) (b : TraceBuilder) (items : List (Result RecordedEvent LineError))
     (converted : HasConverted format g version items b) where
   -- an event that was traced is converted with those before it
-  pub converted-push : (new : TraceBuilder) (item : Result RecordedEvent LineError) (event : RecordedEvent) → item ≡ Ok event →
+  converted-push : (new : TraceBuilder) (item : Result RecordedEvent LineError) (event : RecordedEvent) → item ≡ Ok event →
       ((past : List PlainEvent) → HasTraced format b.group_by version past b → HasTraced format b.group_by version (past ++ plain event ∷ []) new)
       → HasConverted format g version (items ++ item ∷ []) new
   converted-push new item event is step =
@@ -57,9 +62,14 @@ module _ (format : ChromeTraceMessageFormat) (g : ChromeTraceGroupBy) (version :
       (step (map plain events) (subst (λ k. HasTraced format k version (map plain events) b) (sym has.group_kept) has)) in
       (events ++ event ∷ [], items-push items item events event converted.1 is, subst (λ v. HasTraced format g version v new) (sym (plain-push events event)) traced)
 
+  -- and so is an item that was added
+  pub converted-item : (new : TraceBuilder) (item : Result RecordedEvent LineError) (u : ⊤) → AddsItem b new item (Ok u) → HasConverted format g version (items ++ item ∷ []) new
+  converted-item new (Ok event) u adds = converted-push new (Ok event) event refl (adds format version)
+  converted-item new (Err fault) u adds = cc
+
   module _ {S : Type 0} (steps : S → Option (Result RecordedEvent LineError) → S → Type 0) (s start mid rest : S) (from : start ≡ s) (yields : Yields steps start items mid) where
     -- an event that was refused is the first one
-    pub refused-event : (new : TraceBuilder) (item : Result RecordedEvent LineError) (event : RecordedEvent) (e : ChromeTraceError) → item ≡ Ok event → steps mid (Some item) rest →
+    refused-event : (new : TraceBuilder) (item : Result RecordedEvent LineError) (event : RecordedEvent) (e : ChromeTraceError) → item ≡ Ok event → steps mid (Some item) rest →
         ((past : List PlainEvent) → HasTraced format b.group_by version past b
         → ((e ≡ OutOfMemory) ⊎ (events_refusal b.group_by (past ++ plain event ∷ []) ≡ Some e)) × HasTraced format b.group_by version past new) → HasNoTrace steps s g e
     refused-event new item event e is step answer =
@@ -80,7 +90,7 @@ module _ (format : ChromeTraceMessageFormat) (g : ChromeTraceGroupBy) (version :
         ]
 
     -- a fault after events that have a trace
-    pub unread-event : (item : Result RecordedEvent LineError) (fault : LineError) (e : ChromeTraceError) → item ≡ Err fault → steps mid (Some item) rest → e ≡ fault_error fault → HasNoTrace steps s g e
+    unread-event : (item : Result RecordedEvent LineError) (fault : LineError) (e : ChromeTraceError) → item ≡ Err fault → steps mid (Some item) rest → e ≡ fault_error fault → HasNoTrace steps s g e
     unread-event item fault e is step answer = go fault is answer
       where
         unread : (fault : LineError) → item ≡ Err fault → e ≡ ReadError fault → (fault ≡ faults.OutOfMemory → ⊥) → HasNoTrace steps s g e
@@ -102,6 +112,12 @@ module _ (format : ChromeTraceMessageFormat) (g : ChromeTraceGroupBy) (version :
         go (faults.ReadRunLog n) is answer = unread (faults.ReadRunLog n) is answer (λ same. cc)
         go (faults.ParseEvent n) is answer = unread (faults.ParseEvent n) is answer (λ same. cc)
         go faults.OutOfMemory is answer = inl answer
+
+    -- an item that was not added
+    pub refused-item : (new : TraceBuilder) (item : Result RecordedEvent LineError) (e : ChromeTraceError) → steps mid (Some item) rest → AddsItem b new item (Err e) → HasNoTrace steps s g e
+    unfolding error_or
+    refused-item new (Ok event) e step adds = refused-event new (Ok event) event e refl step (adds format version)
+    refused-item new (Err fault) e step adds = unread-event (Err fault) fault e refl step (ap (λ r. error_or e r) adds)
 
     -- events to the end, and the text of their trace
     pub converts-all : (text : List ℕ) → steps mid None rest →

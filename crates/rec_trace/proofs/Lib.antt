@@ -9,6 +9,7 @@ pub mod KnownNews
 pub mod Marks
 pub mod Prefixes
 pub mod Pushes
+pub mod Readable
 pub mod Same
 pub mod TextsKept
 pub mod TextsOfEvents

@@ -1,61 +1,24 @@
--- What is kept becomes the text of the trace.
-use Rattle.std.proofs.Common.{◌≡◌, ℕ, List, ◌++◌, map, Vec, String, string_bytes, Bool, false, Global, sym, ap, ◌∙◌, subst}
-use Rattle.json.specs.Layout.{pretty}
-use Rattle.json.specs.Lex.{tokens}
+-- The texts that are kept become the text of the trace.
+use Rattle.std.proofs.Common.{◌≡◌, ℕ, List, ◌++◌, string_bytes, false, ap, ◌∙◌, subst}
 use Rattle.serde_json.specs.Data.{Data}
-use Rattle.serde_json.specs.declared.value.Value.{Value}
-use Rattle.serde_json.specs.View.{view}
-use Rattle.serde_json.specs.Written.{IsInOrder, compact_text, has_float}
-use Rattle.rec_trace.proofs.TextsOfEvents.{pretty-text, texts-behind}
-use Rattle.rec_trace.proofs.Wholes.{trace_value_whole}
-use Rattle.rec_trace.specs.declared.printed.Piece.TheVariants as pieces
+use Rattle.serde_json.specs.Written.{has_float}
+use Rattle.rec_trace.proofs.TextsOfEvents.{texts-behind}
 use Rattle.rec_trace.specs.declared.printed.Piece.{Piece}
-use Rattle.rec_trace.specs.declared.printed.Printed.TheVariants.{Compact, Pretty}
 use Rattle.rec_trace.specs.declared.printed.Printed.{Printed}
-use Rattle.rec_trace.specs.declared.settings.ChromeTraceMessageFormat.TheVariants.{Json, JsonPretty}
-use Rattle.rec_trace.specs.declared.settings.ChromeTraceMessageFormat.{ChromeTraceMessageFormat}
-use Rattle.rec_trace.specs.Kept.{AreKept, Continues, EventsAreWhole}
-use Rattle.rec_trace.specs.Texts.{event_texts, pretty_text, text_in, trace_value}
+use Rattle.rec_trace.specs.Kept.{AreKept, AreReadable, Continues, EventsAreWhole, IsLineOf}
+use Rattle.rec_trace.specs.Texts.{event_texts, trace_value}
 
--- a piece of text is put behind what is kept
-pub kept-append : (format : ChromeTraceMessageFormat) (kept events : List Data) (old : Printed) (piece : Piece) (text with_more more : String Global) (has has_more : Bool)
-    → old ≡ Compact text has → piece ≡ pieces.Compact more has_more → string_bytes with_more ≡ string_bytes text ++ string_bytes more
-    → AreKept format kept old → Continues old events piece → AreKept format (kept ++ events) (Compact with_more has_more)
-kept-append Json kept events old piece text with_more more has has_more old_is piece_is bytes are_kept continues =
-    let before : AreKept Json kept (Compact text has) = subst (λ p. AreKept Json kept p) old_is are_kept in
-    let behind : Continues (Compact text has) events (pieces.Compact more has_more) =
-    subst (λ p. Continues (Compact text has) events p) piece_is (subst (λ p. Continues p events piece) old_is continues) in
-    let after = texts-behind has has_more (string_bytes text) (string_bytes more) kept events before behind in
-    (after.0, λ whole. bytes ∙ after.1 whole)
-kept-append JsonPretty kept events old piece text with_more more has has_more old_is piece_is bytes are_kept continues =
-    absurd (subst (λ p. AreKept JsonPretty kept p) old_is are_kept)
+-- a piece is put behind what is kept
+pub kept-append : (kept events : List Data) (old new : Printed) (piece : Piece) → string_bytes new.text ≡ string_bytes old.text ++ string_bytes piece.text
+    → new.has_events ≡ piece.has_events → AreKept kept old → Continues old events piece → AreKept (kept ++ events) new
+kept-append kept events old new piece bytes has are_kept continues =
+    let behind = texts-behind old.has_events piece.has_events (string_bytes old.text) (string_bytes piece.text) kept events are_kept continues in
+    (has ∙ behind.0, λ whole. let after = behind.1 whole in (bytes ∙ after.0, after.1))
 
--- what is kept as text is written in one line
-pub compact-written : (format : ChromeTraceMessageFormat) (events : List Data) (printed : Printed) (text : String Global) (has : Bool) (value other : Data) (s : List ℕ)
-    → printed ≡ Compact text has → value ≡ other → has_float other ≡ false
-    → ((kept : List Data) → has_float value ≡ false → string_bytes text ≡ event_texts false kept → s ≡ compact_text (trace_value value kept))
-    → AreKept format events printed → EventsAreWhole events → s ≡ text_in format (trace_value other events)
-compact-written Json events printed text has value other s printed_is value_is other_whole written are_kept whole =
-    let kept : AreKept Json events (Compact text has) = subst (λ p. AreKept Json events p) printed_is are_kept in
-    written events (ap has_float value_is ∙ other_whole) (kept.1 whole) ∙ ap (λ d. compact_text (trace_value d events)) value_is
-compact-written JsonPretty events printed text has value other s printed_is value_is other_whole written are_kept whole =
-    absurd (subst (λ p. AreKept JsonPretty events p) printed_is are_kept)
-
--- what is kept as values is written over several lines
-pub pretty-written : (format : ChromeTraceMessageFormat) (events : List Data) (printed : Printed) (values : Vec Value Global) (value other : Data) (s : List ℕ)
-    → printed ≡ Pretty values → value ≡ other → has_float other ≡ false
-    → (has_float value ≡ false → EventsAreWhole (map view values.items) → s ≡ pretty_text (trace_value value (map view values.items)))
-    → AreKept format events printed → EventsAreWhole events → s ≡ text_in format (trace_value other events)
-pretty-written Json events printed values value other s printed_is value_is other_whole written are_kept whole =
-    absurd (subst (λ p. AreKept Json events p) printed_is are_kept)
-pretty-written JsonPretty events printed values value other s printed_is value_is other_whole written are_kept whole =
-    let kept : map view values.items ≡ events = subst (λ p. AreKept JsonPretty events p) printed_is are_kept in
-    let these_whole : EventsAreWhole (map view values.items) = subst (λ es. EventsAreWhole es) (sym kept) whole in
-    written (ap has_float value_is ∙ other_whole) these_whole ∙ ap (λ d. pretty_text (trace_value d (map view values.items))) value_is
-    ∙ ap (λ es. pretty_text (trace_value other es)) kept
-
--- the value of a trace without a number with a fraction is written over several lines
-pub pretty-trace : (value other : Data) (events : List Data) (s : List ℕ) → value ≡ trace_value other events → s ≡ pretty (tokens s) → IsInOrder s value
-    → has_float other ≡ false → EventsAreWhole events → s ≡ pretty_text (trace_value other events)
-pretty-trace value other events s value_is layout order other_whole whole =
-    pretty-text s value layout order (ap has_float value_is ∙ trace_value_whole other events other_whole whole) ∙ ap pretty_text value_is
+-- what is written for what is kept is the line of the trace
+pub line-written : (printed : Printed) (value other : Data) (text : List ℕ) → value ≡ other → has_float other ≡ false
+    → ((events : List Data) → has_float value ≡ false → string_bytes printed.text ≡ event_texts false events → AreReadable events → IsLineOf (trace_value value events) text)
+    → (events : List Data) → AreKept events printed → EventsAreWhole events → IsLineOf (trace_value other events) text
+line-written printed value other text is whole written events kept events_whole =
+    let k = kept.1 events_whole in
+    subst (λ d. IsLineOf (trace_value d events) text) is (written events (ap has_float is ∙ whole) k.0 k.1)

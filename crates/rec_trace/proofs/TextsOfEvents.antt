@@ -2,16 +2,13 @@
 use Rattle.std.proofs.Common.{◌≡◌, ℕ, List, [], ◌∷◌, ◌++◌, Bool, true, false, ◌||◌, refl, sym, ap, ◌∙◌, append_assoc}
 use Rattle.std.proofs.lemmas.Bool.{or_parts}
 use Rattle.std.specs.List.{insert_slice}
-use Rattle.json.specs.Layout.{pretty}
-use Rattle.json.specs.Lex.{tokens}
 use Rattle.json.specs.Print.{escape_byte}
-use Rattle.serde_json.proofs.Texts.{tokens_from_order}
 use Rattle.serde_json.specs.Data.{Data}
 use Rattle.serde_json.specs.View.{items_of}
-use Rattle.serde_json.specs.Written.{IsInOrder, comma_if, compact_text, has_float, items_text}
+use Rattle.serde_json.specs.Written.{comma_if, compact_text, has_float, items_text}
 use Rattle.rec_forms.specs.Shape.{members_of}
-use Rattle.rec_trace.specs.Kept.{EventsAreWhole, has_some}
-use Rattle.rec_trace.specs.Texts.{event_texts, events_start, pretty_text, trace_end, trace_start, trace_value}
+use Rattle.rec_trace.specs.Kept.{AreReadable, EventsAreWhole, IsReadable, has_some}
+use Rattle.rec_trace.specs.Texts.{event_texts, events_start, trace_end, trace_start, trace_value}
 
 regroup : (a b c d : List ℕ) → a ++ (b ++ (c ++ d)) ≡ (a ++ (b ++ c)) ++ d
 regroup a b c d = simp append_assoc
@@ -37,32 +34,42 @@ texts-append true (x ∷ xs) ys =
 texts-append false (x ∷ xs) ys =
     ap (λ s. comma_if false ++ (compact_text x ++ s)) (texts-append true xs ys) ∙ regroup (comma_if false) (compact_text x) (event_texts true xs) (event_texts true ys)
 
+readable-append : (xs ys : List Data) → AreReadable xs → AreReadable ys → AreReadable (xs ++ ys)
+readable-append [] ys h hs = hs
+readable-append (x ∷ xs) ys h hs = (h.0, readable-append xs ys h.1 hs)
+
 -- events and their texts are put behind others
 pub texts-behind : (has has_more : Bool) (text more : List ℕ) (kept events : List Data)
-    → (has ≡ has_some kept) × (EventsAreWhole kept → text ≡ event_texts false kept)
-    → (has_more ≡ (has || has_some events)) × (EventsAreWhole events → more ≡ event_texts has events)
-    → (has_more ≡ has_some (kept ++ events)) × (EventsAreWhole (kept ++ events) → text ++ more ≡ event_texts false (kept ++ events))
+    → (has ≡ has_some kept) × (EventsAreWhole kept → (text ≡ event_texts false kept) × AreReadable kept)
+    → (has_more ≡ (has || has_some events)) × (EventsAreWhole events → (more ≡ event_texts has events) × AreReadable events)
+    → (has_more ≡ has_some (kept ++ events)) × (EventsAreWhole (kept ++ events) → (text ++ more ≡ event_texts false (kept ++ events)) × AreReadable (kept ++ events))
 texts-behind has has_more text more kept events old new = (
   new.0 ∙ ap (λ b. b || has_some events) old.0 ∙ sym (some-append kept events),
   λ whole. let parts = whole-parts kept events whole in
-      ap (λ s. s ++ more) (old.1 parts.0) ∙ ap (λ s. event_texts false kept ++ s) (new.1 parts.1 ∙ ap (λ b. event_texts b events) old.0) ∙ sym (texts-append false kept events),
+      let first = old.1 parts.0 in
+      let later = new.1 parts.1 in (
+        ap (λ s. s ++ more) first.0 ∙ ap (λ s. event_texts false kept ++ s) (later.0 ∙ ap (λ b. event_texts b events) old.0) ∙ sym (texts-append false kept events),
+        readable-append kept events first.1 later.1,
+      ),
 )
 
 -- ---- event by event
 
 -- what is left completes the texts of all
 abbrev pub Completes : (all left : List Data) (first later : Bool) (texts : List ℕ) → Type 0
-Completes all left first later texts = EventsAreWhole all → EventsAreWhole left × (texts ++ event_texts later left ≡ event_texts first all)
+Completes all left first later texts =
+    EventsAreWhole all → EventsAreWhole left × (texts ++ event_texts later left ≡ event_texts first all) × (AreReadable left → AreReadable all)
 
 pub completes-push : (all left : List Data) (d : Data) (first later : Bool) (texts text : List ℕ)
-    → Completes all (d ∷ left) first later texts → (has_float d ≡ false → text ≡ compact_text d)
+    → Completes all (d ∷ left) first later texts → (has_float d ≡ false → text ≡ compact_text d) → (has_float d ≡ false → IsReadable d)
     → Completes all left first true ((texts ++ comma_if later) ++ text)
-completes-push all left d first later texts text so_far is whole =
+completes-push all left d first later texts text so_far is readable whole =
     let here = so_far whole in
     let p = or_parts (has_float d) _ here.0 in (
       p.1,
       ap (λ s. ((texts ++ comma_if later) ++ s) ++ event_texts true left) (is p.0)
           ∙ onwards texts (comma_if later) (compact_text d) (event_texts true left) ∙ here.1,
+      λ rest. here.2 (readable p.0, rest),
     )
   where
     onwards : (a b c d : List ℕ) → ((a ++ b) ++ c) ++ d ≡ a ++ (b ++ (c ++ d))
@@ -98,7 +105,3 @@ trace-around other events front front_begun front_ended text text_begun text_end
     ended ∙ ap (λ s. s ++ events_start) (begun ∙ insert-front front trace_start ∙ ap (λ s. trace_start ++ s) front_is) in
     text_ends ∙ ap (λ s. s ++ trace_end) (text_begins ∙ insert-front text front_ended ∙ ap (λ s. front_ended ++ s) text_is ∙ ap (λ s. s ++ event_texts false events) whole_front)
     ∙ regroup_whole trace_start (compact_text other) events_start (event_texts false events) trace_end ∙ sym (trace-text other events)
-
--- what is written over several lines, in order and without a number with a fraction, is the pretty text
-pub pretty-text : (text : List ℕ) (d : Data) → text ≡ pretty (tokens text) → IsInOrder text d → has_float d ≡ false → text ≡ pretty_text d
-pretty-text text d layout order whole = layout ∙ ap pretty (tokens_from_order text d order whole)

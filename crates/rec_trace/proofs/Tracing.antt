@@ -21,8 +21,22 @@ use Rattle.rec_trace.specs.Histories.{known_of, known_after_event, trace_drawn}
 use Rattle.rec_trace.specs.Kept.{AreKept}
 use Rattle.rec_trace.specs.Known.{SameKnown, next_known}
 use Rattle.rec_trace.specs.KnownNews.{known_in}
+use Rattle.rec_trace.specs.Prepared.{StaysTraced}
 use Rattle.rec_trace.specs.Table.{drawn}
 use Rattle.rec_trace.specs.Traces.{HasTraced, Traces}
+
+-- what was traced stays, whatever room was made
+pub stays : (format : ChromeTraceMessageFormat) (g : ChromeTraceGroupBy) (version : Parts) (events : List PlainEvent) (old new : TraceBuilder)
+    → HasTraced format g version events old → StaysTraced old new → HasTraced format g version events new
+stays format g version events old new has stay = record {
+  group_kept = stay.group ∙ has.group_kept;
+  format_kept = stay.format ∙ has.format_kept;
+  version_kept = stay.version ∙ has.version_kept;
+  stands = stay.stands ∙ has.stands;
+  knows = same-is stay.knows ∙ has.knows;
+  kept = stay.kept (all_events (trace_drawn version g events)) has.kept;
+  accepted = has.accepted;
+}
 
 module _ (format : ChromeTraceMessageFormat) (g : ChromeTraceGroupBy) (version : Parts) (events : List PlainEvent) (event : PlainEvent) (old : TraceBuilder)
     (has : HasTraced format g version events old) where
@@ -62,29 +76,18 @@ module _ (format : ChromeTraceMessageFormat) (g : ChromeTraceGroupBy) (version :
       ∙ sym (known-push g events event)
 
   -- the event is traced, where the tracker has taken it, it is known, and what it draws is put behind what was drawn
-  pub traced : (new : TraceBuilder) → new.group_by ≡ old.group_by → new.version ≡ old.version → next_refusal old.tracker input ≡ None
+  pub traced : (new : TraceBuilder) → new.group_by ≡ old.group_by → new.message_format ≡ old.message_format → new.version ≡ old.version → next_refusal old.tracker input ≡ None
       → new.tracker ≡ next_state input old.tracker → SameKnown (known_in new.known) (next_known old.tracker.next_flow input event.kind (known_in old.known))
-      → ((kept : List Data) → AreKept format kept old.printed → AreKept format (kept ++ all_events (drawn old.version g old.tracker (known_in old.known) event)) new.printed)
+      → ((kept : List Data) → AreKept kept old.printed → AreKept (kept ++ all_events (drawn old.version g old.tracker (known_in old.known) event)) new.printed)
       → HasTraced format g version (events ++ event ∷ []) new
-  traced new same_group same_version none moves knows keeps = record {
+  traced new same_group same_format same_version none moves knows keeps = record {
     group_kept = same_group ∙ has.group_kept;
+    format_kept = same_format ∙ has.format_kept;
     version_kept = same_version ∙ has.version_kept;
     stands = moves ∙ ap (next_state input) has.stands ∙ sym (ap (λ h. state_after (after [] h)) (history-push g events event) ∙ state-push (history g events) input);
     knows = same-is knows ∙ all-known;
-    kept = subst (λ ds. AreKept format ds new.printed) all-drawn (keeps (all_events (trace_drawn version g events)) has.kept);
+    kept = subst (λ ds. AreKept ds new.printed) all-drawn (keeps (all_events (trace_drawn version g events)) has.kept);
     accepted = refusal-is ∙ none;
-  }
-
-  -- what was traced stays, where the same is known and kept
-  pub stays : (new : TraceBuilder) → new.group_by ≡ old.group_by → new.version ≡ old.version → new.tracker ≡ old.tracker → SameKnown (known_in new.known) (known_in old.known)
-      → ((kept : List Data) → AreKept format kept old.printed → AreKept format kept new.printed) → HasTraced format g version events new
-  stays new same_group same_version same knows keeps = record {
-    group_kept = same_group ∙ has.group_kept;
-    version_kept = same_version ∙ has.version_kept;
-    stands = same ∙ has.stands;
-    knows = same-is knows ∙ has.knows;
-    kept = keeps (all_events (trace_drawn version g events)) has.kept;
-    accepted = has.accepted;
   }
 
   -- an event that the tracker refuses, or for which it lacks memory, leaves what was traced

@@ -1,6 +1,6 @@
 -- What becomes of the recorded events that an iterator gives: the text of their trace, or why there is none.
 use Rattle.std.specs.Iterator.{Drains, Yields, YieldsThen}
-use Rattle.std.specs.Prelude.{◌≡◌, ◌⊎◌, ℕ, List, [], ◌∷◌, ◌++◌, map, Option, Some, None, Result, Ok, Err}
+use Rattle.std.specs.Prelude.{◌≡◌, ◌⊎◌, ⊤, ℕ, List, [], ◌∷◌, ◌++◌, map, Option, Some, None, Result, Ok, Err}
 use Rattle.semver.specs.Parse.{Parts}
 use Rattle.rec_codec.specs.declared.line_events.LineError.TheVariants as faults
 use Rattle.rec_codec.specs.declared.line_events.LineError.{LineError}
@@ -9,6 +9,7 @@ use Rattle.rec_spans.specs.declared.errors.ChromeTraceError.TheVariants.{OutOfMe
 use Rattle.rec_spans.specs.declared.errors.ChromeTraceError.{ChromeTraceError}
 use Rattle.rec_spans.specs.declared.settings.ChromeTraceGroupBy.TheVariants.{Binary, Slot}
 use Rattle.rec_spans.specs.declared.settings.ChromeTraceGroupBy.{ChromeTraceGroupBy}
+use Rattle.rec_spans.specs.Faults.{fault_error}
 use Rattle.rec_spans.specs.Groupings.{GroupingsAgree}
 use Rattle.rec_spans.specs.History.{trace_marks}
 use Rattle.rec_spans.specs.Kinds.{history}
@@ -17,11 +18,12 @@ use Rattle.rec_spans.specs.Refusals.{events_refusal}
 use Rattle.rec_spans.specs.Timeline.{IsTimeline}
 use Rattle.rec_spans.specs.Times.{TimesAddUp}
 use Rattle.rec_trace.specs.Arrows.{ArrowsPair, arrow_ends}
+use Rattle.rec_trace.specs.declared.builder.TraceBuilder.{TraceBuilder}
 use Rattle.rec_trace.specs.declared.settings.ChromeTraceMessageFormat.{ChromeTraceMessageFormat}
 use Rattle.rec_trace.specs.Drawn.{Drawn, marks_of}
 use Rattle.rec_trace.specs.Groupings.{all_ungrouped}
 use Rattle.rec_trace.specs.Histories.{trace_drawn}
-use Rattle.rec_trace.specs.Traces.{trace_text}
+use Rattle.rec_trace.specs.Traces.{HasTraced, Traces, trace_text}
 
 -- each prefix of these events has a trace, and draws the first of what they draw
 abbrev pub KeepsDrawn : Parts → ChromeTraceGroupBy → List PlainEvent → Type 0
@@ -43,6 +45,13 @@ pub record Converts {S : Type 0} (steps : S → Option (Result RecordedEvent Lin
   pub drawn_alike : all_ungrouped (trace_drawn version Binary (map plain events)) ≡ all_ungrouped (trace_drawn version Slot (map plain events))
   pub prefixes : KeepsDrawn version g (map plain events)
   pub arrows : ArrowsPair (arrow_ends (trace_drawn version g (map plain events)))
+
+-- an item of the iterator is traced after others, or it is a fault
+abbrev pub AddsItem : TraceBuilder → TraceBuilder → Result RecordedEvent LineError → Result ⊤ ChromeTraceError → Type 0
+AddsItem old new (Ok event) r =
+    (format : ChromeTraceMessageFormat) (version : Parts) (events : List PlainEvent) → HasTraced format old.group_by version events old
+    → Traces format old.group_by version events (plain event) new r
+AddsItem old new (Err fault) r = r ≡ Err (fault_error fault)
 
 -- the iterator gave events without a cause to be refused, and then a fault, which is the error
 pub record IsUnread {S : Type 0} (steps : S → Option (Result RecordedEvent LineError) → S → Type 0) (s : S) (g : ChromeTraceGroupBy) (e : ChromeTraceError) : Type 0 where

@@ -1,41 +1,40 @@
--- The trace events so far, as they are kept until they are written.
-use Rattle.std.specs.Prelude.{◌≡◌, ◌≤◌, ◌+◌, ◌||◌, List, [], ◌∷◌, map, Bool, true, false, string_bytes, string_len, string_capacity, vec_len, vec_capacity}
+-- The texts of the trace events so far, as they are kept.
+use Rattle.std.specs.Prelude.{◌≡◌, ℕ, ◌≤◌, ◌+◌, ◌||◌, List, [], ◌∷◌, Bool, true, false, string_bytes, string_len, string_capacity}
+use Rattle.json.specs.Tree.{HasNumbers, ItemsHaveNumbers}
 use Rattle.serde_json.specs.Data.{Data}
-use Rattle.serde_json.specs.View.{items_of, view}
-use Rattle.serde_json.specs.Written.{items_have_float}
-use Rattle.rec_trace.specs.declared.printed.Piece.TheVariants as pieces
+use Rattle.serde_json.specs.View.{items_of}
+use Rattle.serde_json.specs.Written.{compact_text, items_have_float, items_outline, outline}
 use Rattle.rec_trace.specs.declared.printed.Piece.{Piece}
-use Rattle.rec_trace.specs.declared.printed.Printed.TheVariants.{Compact, Pretty}
 use Rattle.rec_trace.specs.declared.printed.Printed.{Printed}
-use Rattle.rec_trace.specs.declared.settings.ChromeTraceMessageFormat.TheVariants.{Json, JsonPretty}
-use Rattle.rec_trace.specs.declared.settings.ChromeTraceMessageFormat.{ChromeTraceMessageFormat}
 use Rattle.rec_trace.specs.Texts.{event_texts}
 
 -- no event holds a number with a fraction, of which no text is known
 abbrev pub EventsAreWhole : List Data → Type 0
 EventsAreWhole events = items_have_float (items_of events) ≡ false
 
+-- the text of each number is one that JSON reads
+abbrev pub IsReadable : Data → Type 0
+IsReadable d = HasNumbers (outline d)
+
+abbrev pub AreReadable : List Data → Type 0
+AreReadable events = ItemsHaveNumbers (items_outline (items_of events))
+
+-- this is the text of a value in one line, and it is read as that value again
+abbrev pub IsLineOf : Data → List ℕ → Type 0
+IsLineOf d text = (text ≡ compact_text d) × IsReadable d
+
 abbrev pub has_some : List Data → Bool
 has_some [] = false
 has_some (d ∷ ds) = true
 
--- these trace events are kept as they are to be written in this form: as their texts with commas between them, or as values
-abbrev pub AreKept : ChromeTraceMessageFormat → List Data → Printed → Type 0
-AreKept Json events (Compact text has_events) = (has_events ≡ has_some events) × (EventsAreWhole events → string_bytes text ≡ event_texts false events)
-AreKept Json events (Pretty values) = ⊥
-AreKept JsonPretty events (Compact text has_events) = ⊥
-AreKept JsonPretty events (Pretty values) = map view values.items ≡ events
+-- the texts of these trace events are kept, with commas between them
+abbrev pub AreKept : List Data → Printed → Type 0
+AreKept events p = (p.has_events ≡ has_some events) × (EventsAreWhole events → (string_bytes p.text ≡ event_texts false events) × AreReadable events)
 
--- what is to be put behind the events so far, so that these events stand there too
+-- what is to be put behind the texts so far, so that those of these events stand there too
 abbrev pub Continues : Printed → List Data → Piece → Type 0
-Continues (Compact text has_events) events (pieces.Compact more has_more) = (has_more ≡ (has_events || has_some events)) × (EventsAreWhole events → string_bytes more ≡ event_texts has_events events)
-Continues (Compact text has_events) events (pieces.Pretty values) = ⊥
-Continues (Pretty values) events (pieces.Compact more has_more) = ⊥
-Continues (Pretty values) events (pieces.Pretty more) = map view more.items ≡ events
+Continues p events piece = (piece.has_events ≡ (p.has_events || has_some events)) × (EventsAreWhole events → (string_bytes piece.text ≡ event_texts p.has_events events) × AreReadable events)
 
 -- there is room for it
 abbrev pub HasRoom : Printed → Piece → Type 0
-HasRoom (Compact text has_events) (pieces.Compact more has_more) = string_len text + string_len more ≤ string_capacity text
-HasRoom (Compact text has_events) (pieces.Pretty values) = ⊥
-HasRoom (Pretty values) (pieces.Compact more has_more) = ⊥
-HasRoom (Pretty values) (pieces.Pretty more) = vec_len values + vec_len more ≤ vec_capacity values
+HasRoom p piece = string_len p.text + string_len piece.text ≤ string_capacity p.text

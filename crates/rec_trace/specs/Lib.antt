@@ -9,5 +9,6 @@ pub mod Groupings
 pub mod Texts
 pub mod Kept
 pub mod Drawing
+pub mod Prepared
 pub mod Traces
 pub mod Converting

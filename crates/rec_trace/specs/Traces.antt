@@ -27,10 +27,11 @@ trace_text format g version events =
 -- the trace that is built is that of these events so far, which have no cause to be refused
 pub record HasTraced (format : ChromeTraceMessageFormat) (g : ChromeTraceGroupBy) (version : Parts) (events : List PlainEvent) (b : TraceBuilder) : Type 0 where
   pub group_kept : b.group_by ≡ g
+  pub format_kept : b.message_format ≡ format
   pub version_kept : b.version ≡ version
   pub stands : b.tracker ≡ state_after (after [] (history g events))
   pub knows : known_in b.known ≡ known_of g events
-  pub kept : AreKept format (all_events (trace_drawn version g events)) b.printed
+  pub kept : AreKept (all_events (trace_drawn version g events)) b.printed
   pub accepted : events_refusal g events ≡ None
 
 -- an event is traced after others; or they are refused with it, or memory runs out, and what was traced stays

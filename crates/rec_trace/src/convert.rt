@@ -1,11 +1,7 @@
 //! Converts a history that comes event by event to its trace.
 ghost use Rattle.std.specs.Iterator.{IsFinite};
-ghost use Rattle.std.specs.Prelude.{List, IfOk, IfErr};
-ghost use Rattle.semver.specs.Parse.{Parts};
-ghost use Rattle.rec_spans.specs.Plain.{PlainEvent, plain};
-ghost use Rattle.rec_trace.specs.Converting.{Converts, HasNoTrace};
-ghost use Rattle.rec_trace.specs.declared.settings.ChromeTraceMessageFormat.{ChromeTraceMessageFormat};
-ghost use Rattle.rec_trace.specs.Traces.{HasTraced, Traces};
+ghost use Rattle.std.specs.Prelude.{IfOk, IfErr};
+ghost use Rattle.rec_trace.specs.Converting.{AddsItem, Converts, HasNoTrace};
 
 use crate::builder::TraceBuilder;
 use crate::settings::ChromeTraceMessageFormat;
@@ -62,22 +58,25 @@ where
     let runner = version.try_clone(alloc)?;
     let mut builder = TraceBuilder::new(alloc, runner, group_by, message_format);
     for item in events {
-        let event = item?;
-        add_event(alloc, &mut builder, event)?;
+        if let Err(error) = add_item(alloc, &mut builder, item) {
+            drop(builder);
+            return Err(error);
+        }
     }
-    Ok(builder.into_text(alloc)?.into_bytes())
+    let text = builder.into_text(alloc)?;
+    Ok(text.into_bytes())
 }
 
-/// Adds the trace events of an event. The event is let go here and by a call: to drop one of that many kinds
-/// in place is too much for a proof.
-pub(crate) fn add_event(
+/// Adds the trace events of an event, or answers the fault that was read in its place. The event is let go here and
+/// by a call: to drop one of that many kinds in place is too much for a proof.
+fn add_item(
     alloc: Global,
     builder: &mut TraceBuilder,
-    event: TestEventSummary<RecordingSpec>,
+    item: Result<TestEventSummary<RecordingSpec>, LineError>,
 ) -> Result<(), ChromeTraceError>
-    ensures { (format : ChromeTraceMessageFormat) (version : Parts) (events : List PlainEvent) → HasTraced format builder.old.group_by version events builder.old
-        → Traces format builder.old.group_by version events (plain event) builder.new result }
+    ensures { AddsItem builder.old builder.new item result }
 {
+    let event = item?;
     let result = builder.process_event(alloc, &event);
     drop(event);
     result

@@ -1,14 +1,16 @@
 //! Writes the text of a trace.
-ghost use Rattle.std.specs.Prelude.{◌≡◌, List, map, Bool, false, Some, IfOk, OnOk, string_bytes};
-ghost use Rattle.serde_json.specs.Data.{Data, string};
-ghost use Rattle.serde_json.specs.View.{view, members_view};
-ghost use Rattle.serde_json.specs.Written.{comma_if, compact_text, has_float};
-ghost use Rattle.rec_forms.specs.Shape.{with_member};
-ghost use Rattle.rec_trace.specs.Kept.{EventsAreWhole};
-ghost use Rattle.rec_trace.specs.Texts.{event_texts, pretty_text, trace_value};
+ghost use Rattle.json.specs.Layout.{pretty};
+ghost use Rattle.json.specs.Lex.{tokens};
+ghost use Rattle.json.specs.Print.{ArePrintable};
+ghost use Rattle.serde_json.specs.Data.{Data};
+ghost use Rattle.serde_json.specs.View.{view};
+ghost use Rattle.serde_json.specs.Written.{comma_if, has_float};
+ghost use Rattle.std.specs.Prelude.{◌≡◌, List, ◌++◌, map, Bool, false, IfOk, OnOk, string_bytes};
+ghost use Rattle.rec_trace.specs.Kept.{AreReadable, EventsAreWhole, IsLineOf};
+ghost use Rattle.rec_trace.specs.Texts.{event_texts, trace_value};
 
-use rec_forms::Object;
-use serde_json::{Map, Value};
+use json::{Pretty, Reader, Scratch, Token};
+use serde_json::Value;
 use std::alloc::{AllocError, Global};
 
 /// Names what stands before a trace event, where others may stand before it.
@@ -20,7 +22,8 @@ fn separator(later: bool) -> &'static str
 
 /// Writes trace events in one line with commas between them, and one before them where others stand there.
 pub fn event_texts(alloc: Global, mut later: bool, events: &[Value]) -> Result<String, AllocError>
-    ensures { IfOk result (λ s. EventsAreWhole (map view events.now) → string_bytes s ≡ event_texts later (map view events.now)) }
+    ensures { IfOk result (λ s. EventsAreWhole (map view events.now)
+            → (string_bytes s ≡ event_texts later (map view events.now)) × AreReadable (map view events.now)) }
 {
     let mut texts = String::new(alloc);
     for event in events {
@@ -39,8 +42,8 @@ pub fn compact_trace(
     mut text: String,
     other_data: &Value,
 ) -> Result<String, AllocError>
-    ensures { IfOk result (λ s. (events : List Data) → has_float (view other_data.now) ≡ false → string_bytes text ≡ event_texts false events
-        → string_bytes s ≡ compact_text (trace_value (view other_data.now) events)) }
+    ensures { IfOk result (λ s. (events : List Data) → has_float (view other_data.now) ≡ false → string_bytes text ≡ event_texts false events → AreReadable events
+            → IsLineOf (trace_value (view other_data.now) events) (string_bytes s)) }
 {
     let mut front = other_data.to_string(alloc)?;
     front.insert_str(0, "{\"displayTimeUnit\":\"ms\",\"otherData\":")?;
@@ -52,36 +55,34 @@ pub fn compact_trace(
     Ok(text)
 }
 
-/// Writes a text.
-fn put_text(alloc: Global, object: &mut Object, key: &str, text: &str) -> Result<(), AllocError>
-    ensures { OnOk result (members_view object.new.entries
-        ≡ with_member key.now (Some (string text.now)) (members_view object.old.entries)) }
+/// Writes the tokens of a JSON text.
+fn write_tokens(mut reader: Reader<'_>, lines: &mut Pretty) -> Result<(), AllocError>
+    ensures { OnOk result (ArePrintable reader.entry → lines.new ≡ lines.old ++ reader.entry) }
 {
-    let value = Value::try_from_str(alloc, text)?;
-    serde_json::put(object, alloc, key, value)
+    while let Some(token) = reader.next() {
+        // No token of a JSON text is bad.
+        if let Token::Bad = token {
+            return Ok(());
+        }
+        lines.token(token)?;
+    }
+    Ok(())
 }
 
-/// Makes the trace with these events.
-#[tactic(auto, unfolding(crate::specs::Texts::trace_value, rec_forms::specs::Shape::members_of))]
-fn trace_value(alloc: Global, other_data: Value, events: Vec<Value>) -> Result<Value, AllocError>
-    ensures { IfOk result (λ v. view v ≡ trace_value (view other_data) (map view events.items)) }
+/// Lays a JSON text in one line out over several.
+///
+/// # Errors
+///
+/// Fails only where memory ran out.
+pub fn lay_out(alloc: Global, text: &str) -> Result<String, AllocError>
+    ensures { IfOk result (λ s. ArePrintable (tokens text.now) → string_bytes s ≡ pretty (tokens text.now)) }
 {
-    let mut object = Map::new(alloc);
-    put_text(alloc, &mut object, "displayTimeUnit", "ms")?;
-    serde_json::put(&mut object, alloc, "otherData", other_data)?;
-    serde_json::put(&mut object, alloc, "traceEvents", Value::from(events))?;
-    Ok(Value::from(object))
-}
-
-/// Writes the trace with these events over several lines.
-pub fn pretty_trace(
-    alloc: Global,
-    events: Vec<Value>,
-    other_data: Value,
-) -> Result<String, AllocError>
-    ensures { IfOk result (λ s. has_float (view other_data) ≡ false → EventsAreWhole (map view events.items)
-        → string_bytes s ≡ pretty_text (trace_value (view other_data) (map view events.items))) }
-{
-    let value = trace_value(alloc, other_data, events)?;
-    value.to_string_pretty(alloc)
+    let mut scratch = Scratch::new(alloc);
+    let reader = Reader::new(text, &mut scratch)?;
+    let mut lines = Pretty::new(alloc);
+    write_tokens(reader, &mut lines)?;
+    let Ok(text) = String::from_utf8(lines.into_inner()) else {
+        unreachable!()
+    };
+    Ok(text)
 }

@@ -1,5 +1,5 @@
 //! The names of processes and of their rows.
-ghost use Rattle.std.specs.Prelude.{◌≡◌, IfOk};
+ghost use Rattle.std.specs.Prelude.{◌≡◌, IfOk, option_copied};
 ghost use Rattle.rec_trace_events.specs.RowNames.{run_process_name, script_name, slot_name};
 
 use rec_events::Text;
@@ -10,8 +10,8 @@ use std::alloc::{AllocError, Global};
 /// # Errors
 ///
 /// `AllocError` if memory runs out.
-pub fn run_process_name(alloc: Global, profile: &Option<Text>) -> Result<Text, AllocError>
-    ensures { IfOk result (λ name. name ≡ run_process_name profile.now) }
+pub fn run_process_name(alloc: Global, profile: Option<&Text>) -> Result<Text, AllocError>
+    ensures { IfOk result (λ name. name ≡ run_process_name (option_copied profile.entry)) }
 {
     match profile {
         Some(profile) => {

@@ -16,7 +16,7 @@ fn check_name(rt: &impl Abort, name: Result<Text, AllocError>, expected: &str) -
 #[test]
 fn names(rt: HostRuntime) -> Result<(), Fail> {
     let alloc = rt.alloc();
-    check_name(&rt, run_process_name(alloc, &None), "nextest run")?;
+    check_name(&rt, run_process_name(alloc, None), "nextest run")?;
     check_name(&rt, slot_name(alloc, 12), "slot-12")?;
     check_name(&rt, script_name(alloc, 0), "script-0")
 }
@@ -24,6 +24,10 @@ fn names(rt: HostRuntime) -> Result<(), Fail> {
 #[test]
 fn process_of_a_profile(rt: HostRuntime) -> Result<(), Fail> {
     let alloc = rt.alloc();
-    let profile = Some(Text::from_str(alloc, "ci")?);
-    check_name(&rt, run_process_name(alloc, &profile), "nextest run (ci)")
+    let profile = Text::from_str(alloc, "ci")?;
+    check_name(
+        &rt,
+        run_process_name(alloc, Some(&profile)),
+        "nextest run (ci)",
+    )
 }

@@ -10,7 +10,7 @@ ghost use Rattle.rec_trace.specs.KnownNews.{known_in};
 ghost use Rattle.rec_trace.specs.Table.{bare, closes, counter, naming, opens, run_marked, run_process};
 
 use crate::drawing::sight::Sight;
-use rec_events::{OwnedTestInstanceId, Text, TryClone};
+use rec_events::{OwnedTestInstanceId, Text};
 use rec_spans::{Phase, Span, SpanKey};
 use rec_trace_events::{
     Category, Row, RunMark, RunningCounts, TestCounts, arrow_finish, arrow_start, begin_event,
@@ -76,10 +76,10 @@ fn run_process(sight: &Sight<'_>) -> Result<Text, AllocError>
     ensures { IfOk result (λ name. name ≡ in_sight sight.now run_process) }
 {
     let profile = match sight.known.last_run() {
-        Some(run) => Some(run.profile_name.try_clone(sight.alloc)?),
+        Some(run) => Some(&run.profile_name),
         None => None,
     };
-    run_process_name(sight.alloc, &profile)
+    run_process_name(sight.alloc, profile)
 }
 
 /// Names the process of the run, and this row of it, each where it wasn't named before.

@@ -1,6 +1,6 @@
 //! Draws the begins and the ends of runs, and of the runs of a stress run.
 ghost use Rattle.std.specs.Option.{unwrap_or};
-ghost use Rattle.std.specs.Prelude.{◌≡◌, [], Some, IfOk, OnOk, codes, option_map};
+ghost use Rattle.std.specs.Prelude.{◌≡◌, [], Some, OnOk, codes, option_map};
 ghost use Rattle.rec_codec.specs.CoreKinds.{core_name};
 ghost use Rattle.rec_trace_events.specs.RowNames.{run_process_name};
 ghost use Rattle.rec_spans.specs.Acts.{core_act};
@@ -11,20 +11,12 @@ ghost use Rattle.rec_trace.specs.Table.{drawn_core, naming};
 use crate::drawing::primitives::{draw_end, draw_names, draw_run_names, draw_start};
 use crate::drawing::sight::Sight;
 use crate::known::Known;
-use rec_events::{CoreEventKind, Text, TryClone};
+use rec_events::{CoreEventKind, Text};
 use rec_trace_events::{
     Row, run_begin_args, run_end_args, run_process_name, sub_run_begin_args, sub_run_end_args,
 };
 use serde_json::Value;
 use std::alloc::{AllocError, Global};
-
-/// Makes the name of the process of the run, under this profile.
-fn profile_process(alloc: Global, profile: &Text) -> Result<Text, AllocError>
-    ensures { IfOk result (λ name. name ≡ run_process_name (Some profile.now)) }
-{
-    let profile = Some(profile.try_clone(alloc)?);
-    run_process_name(alloc, &profile)
-}
 
 /// Names the process of the run, under the profile that its start names, and its row, each where it wasn't named
 /// before.
@@ -36,7 +28,7 @@ fn draw_profile_names(
 ) -> Result<(), AllocError>
     ensures { OnOk result (Draws (in_sight sight.now naming row (run_process_name (Some profile.now)) (codes "run")) events.old.items events.new.items) }
 {
-    let process = profile_process(sight.alloc, profile)?;
+    let process = run_process_name(sight.alloc, Some(profile))?;
     draw_names(sight, row, process.as_str(), "run", events)?;
     Ok(())
 }

@@ -3,6 +3,7 @@ use Rattle.std.proofs.lemmas.List.{drop_more}
 use Rattle.serde_json.specs.View.{view}
 use Rattle.serde_json.specs.Written.{comma_if}
 use Rattle.rec_trace.proofs.text.event_texts.Goals as goal
+use Rattle.rec_trace.proofs.Readable.{readable-in_order}
 use Rattle.rec_trace.proofs.TextsOfEvents.{Completes, completes-push}
 
 pub loop-event-preserved : goal.loop-event-preserved
@@ -19,4 +20,5 @@ loop-event-preserved c =
     let written : string_bytes c.push_str-in-loop-event.new.self ≡ (texts ++ comma_if c.loop-event.later) ++ string_bytes c.in_ok-text.text =
     c.in_ok-push_str-2.ensures.bytes ∙ ap₂ (λ a b. a ++ b) comma c.deref.ensures in
     subst (λ s. Completes (map view events) (map view rest) c.args.later true s) (sym written)
-    (completes-push (map view events) (map view rest) (view event) c.args.later c.loop-event.later texts (string_bytes c.in_ok-text.text) left c.in_ok-text.ensures.text)
+    (completes-push (map view events) (map view rest) (view event) c.args.later c.loop-event.later texts (string_bytes c.in_ok-text.text) left c.in_ok-text.ensures.text
+    (readable-in_order (string_bytes c.in_ok-text.text) (view event) c.in_ok-text.ensures.order))

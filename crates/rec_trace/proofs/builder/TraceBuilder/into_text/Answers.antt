@@ -7,6 +7,6 @@ use Rattle.rec_trace.specs.Known.{Known}
 pub returns : goal.returns
 returns c =
     IfOk-weaker c.into_text.result _ _
-    (λ s written format g version events traced. trace-written format g version events _ _ _ (string_bytes s)
-    traced.version_kept (c.last_run.ensures ∙ ap (λ (k : Known). k.last_run) traced.knows) written traced.kept)
+    (λ s written format g version events traced. trace-written format g version events c.args.self.printed c.args.self.message_format c.args.self.version c.last_run.result.now (string_bytes s)
+    traced.format_kept traced.version_kept (c.last_run.ensures ∙ ap (λ (k : Known). k.last_run) traced.knows) written traced.kept)
     c.into_text.ensures

@@ -1,25 +1,19 @@
-use Rattle.std.proofs.Common.{string_bytes}
+use Rattle.std.proofs.Common.{◌≡◌, string_bytes, subst}
 use Rattle.std.proofs.lemmas.Result.{IfOk-weaker}
-use Rattle.serde_json.specs.View.{view}
+use Rattle.json.specs.Layout.{pretty}
+use Rattle.json.specs.Lex.{tokens}
+use Rattle.json.specs.Print.{ArePrintable}
 use Rattle.rec_trace.proofs.printed.Printed.into_text.Goals as goal
-use Rattle.rec_trace.proofs.TextsKept.{compact-written, pretty-written}
-use Rattle.rec_trace.proofs.Wholes.{other_data_whole}
-use Rattle.rec_trace.specs.Texts.{other_data}
+use Rattle.rec_trace.proofs.Readable.{laid_out-pretty}
+use Rattle.rec_trace.specs.Texts.{other_data, trace_value}
 
-pub returns-in-Compact : goal.returns-in-Compact
-returns-in-Compact c =
-    let version = c.args.version.now in
-    let run = c.args.last_run.now in
-    IfOk-weaker c.compact_trace.result _ _
-    (λ s written format events. compact-written format events c.args.self c.in-Compact.text c.in-Compact.has_events (view c.in_ok-other_data.other_data) (other_data version run)
-    (string_bytes s) c.in-Compact.is c.in_ok-other_data.ensures (other_data_whole version run) written)
-    c.compact_trace.ensures
+pub returns-in-Json : goal.returns-in-Json
+returns-in-Json c = λ events kept whole. rw c.in-Json.is (c.in_ok-text.ensures events kept whole).0
 
-pub returns-in-Pretty : goal.returns-in-Pretty
-returns-in-Pretty c =
-    let version = c.args.version.now in
-    let run = c.args.last_run.now in
-    IfOk-weaker c.pretty_trace.result _ _
-    (λ s written format events. pretty-written format events c.args.self c.in-Pretty.values (view c.in_ok-other_data.other_data) (other_data version run)
-    (string_bytes s) c.in-Pretty.is c.in_ok-other_data.ensures (other_data_whole version run) written)
-    c.pretty_trace.ensures
+pub returns-in-JsonPretty : goal.returns-in-JsonPretty
+returns-in-JsonPretty c =
+    IfOk-weaker c.lay_out.result _ _
+    (λ s laid_out events kept whole. rw c.in-JsonPretty.is
+    (laid_out-pretty (string_bytes c.in_ok-text.text) (string_bytes s) (trace_value (other_data c.args.version.now c.args.last_run.now) events) (c.in_ok-text.ensures events kept whole)
+    (subst (λ t. ArePrintable (tokens t) → string_bytes s ≡ pretty (tokens t)) c.deref.ensures laid_out)))
+    c.lay_out.ensures
