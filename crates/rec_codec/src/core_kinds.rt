@@ -22,7 +22,7 @@ use crate::test_kinds::{
     test_retry_started_from, test_skipped_from, test_slow_from, test_started_from,
 };
 use rec_events::CoreEventKind;
-use rec_forms::{FromValueError, Held, Object};
+use rec_forms::{FromValueError, Held, Object, put_text};
 use serde_json::Value;
 use std::alloc::{AllocError, Global};
 
@@ -31,8 +31,7 @@ pub fn put_kind_name(alloc: Global, object: &mut Object, name: &str) -> Result<(
     ensures { OnOk result (members_view object.new.entries
         ≡ with_members (members_view object.old.entries) (kind_field name.now ∷ [])) }
 {
-    let name = Value::try_from_str(alloc, name)?;
-    serde_json::put(object, alloc, "kind", name)
+    put_text(alloc, object, "kind", name)
 }
 
 /// The name of a kind.

@@ -1,5 +1,6 @@
 //! The members of an object, written and read one at a time.
 ghost use Rattle.std.specs.Prelude.{◌≡◌, OnOk, Some, option_map, IfSome, IfOk};
+ghost use Rattle.serde_json.specs.Data.{string};
 ghost use Rattle.serde_json.specs.Find.{get_member};
 ghost use Rattle.serde_json.specs.View.{view, members_view};
 ghost use Rattle.rec_forms.specs.Gives.{Gives};
@@ -50,6 +51,19 @@ pub fn put_optional<T: Form>(
         Some(item) => put_field(alloc, object, key, item),
         None => Ok(()),
     }
+}
+
+/// Writes a field that is a text.
+///
+/// # Errors
+///
+/// `AllocError` if memory runs out; then `object` may lack the field.
+pub fn put_text(alloc: Global, object: &mut Object, key: &str, text: &str) -> Result<(), AllocError>
+    ensures { OnOk result (members_view object.new.entries
+        ≡ with_member key.now (Some (string text.now)) (members_view object.old.entries)) }
+{
+    let value = Value::try_from_str(alloc, text)?;
+    serde_json::put(object, alloc, key, value)
 }
 
 /// Reads a field that has to be there.

@@ -31,7 +31,7 @@ mod times;
 pub use errors::FromValueError;
 pub use fields::{
     Object, defaulted_field, member, only_member, optional_field, put_field, put_optional,
-    required_field, tagged,
+    put_text, required_field, tagged,
 };
 pub use form::Form;
 pub use held::{Held, held_optional};

@@ -12,7 +12,7 @@ use crate::{
     JunitSuite,
 };
 use rec_events::{Duration, Items, Stamp, Text};
-use rec_forms::{Form, Object, put_field, put_optional, tagged};
+use rec_forms::{Form, Object, put_field, put_optional, put_text, tagged};
 use serde_json::{Map, Value};
 use std::alloc::{AllocError, Global};
 
@@ -229,15 +229,6 @@ fn put_run(
     put_optional(alloc, object, "system-out", system_out)?;
     put_optional(alloc, object, "system-err", system_err)?;
     Ok(())
-}
-
-/// Writes a text.
-fn put_text(alloc: Global, object: &mut Object, key: &str, text: &str) -> Result<(), AllocError>
-    ensures { OnOk result (members_view object.new.entries
-        ≡ with_member key.now (Some (string text.now)) (members_view object.old.entries)) }
-{
-    let value = Value::try_from_str(alloc, text)?;
-    serde_json::put(object, alloc, key, value)
 }
 
 /// Writes a part of a report.

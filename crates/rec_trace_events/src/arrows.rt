@@ -5,9 +5,8 @@ ghost use Rattle.rec_forms.specs.Shape.{members_of};
 ghost use Rattle.rec_trace_events.specs.TraceEvents.{arrow_fields, arrow_finish, arrow_start};
 
 use crate::event::event;
-use crate::members::put_text;
 use crate::rows::{Category, Row};
-use rec_forms::{Object, put_field};
+use rec_forms::{Object, put_field, put_text};
 use serde_json::Value;
 use std::alloc::{AllocError, Global};
 

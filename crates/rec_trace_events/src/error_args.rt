@@ -4,9 +4,9 @@ ghost use Rattle.serde_json.specs.View.{view, members_view};
 ghost use Rattle.rec_forms.specs.Shape.{with_member};
 ghost use Rattle.rec_trace_events.specs.Args.{error_of, error_value, flaky_error, summary_error};
 
-use crate::members::{put_given, put_text};
+use crate::members::put_given;
 use rec_events::{ErrorSummary, FlakyResult, RetryData};
-use rec_forms::Object;
+use rec_forms::{Object, put_text};
 use serde_json::{Map, Value};
 use std::alloc::{AllocError, Global};
 

@@ -4,9 +4,8 @@ ghost use Rattle.serde_json.specs.View.{members_view};
 ghost use Rattle.rec_forms.specs.Shape.{members_of};
 ghost use Rattle.rec_trace_events.specs.TraceEvents.{event_fields};
 
-use crate::members::put_text;
 use crate::rows::Row;
-use rec_forms::{Object, put_field};
+use rec_forms::{Object, put_field, put_text};
 use serde_json::Map;
 use std::alloc::{AllocError, Global};
 

@@ -5,10 +5,9 @@ ghost use Rattle.rec_trace_events.specs.TraceEvents.{instant_event, mark_args, m
 
 use crate::counts::RunningCounts;
 use crate::event::event;
-use crate::members::put_text;
 use crate::rows::{Category, Row};
 use rec_events::CancelReason;
-use rec_forms::{put_field, put_optional};
+use rec_forms::{put_field, put_optional, put_text};
 use serde_json::{Map, Value};
 use std::alloc::{AllocError, Global};
 

@@ -14,15 +14,6 @@ use rec_forms::{Form, Object, put_field};
 use serde_json::{Map, Value};
 use std::alloc::{AllocError, Global};
 
-/// Writes a text.
-pub fn put_text(alloc: Global, object: &mut Object, key: &str, text: &str) -> Result<(), AllocError>
-    ensures { OnOk result (members_view object.new.entries
-        ≡ with_member key.now (Some (string text.now)) (members_view object.old.entries)) }
-{
-    let value = Value::try_from_str(alloc, text)?;
-    serde_json::put(object, alloc, key, value)
-}
-
 /// Writes a value, where there is one.
 pub fn put_given(
     alloc: Global,

@@ -4,9 +4,8 @@ ghost use Rattle.serde_json.specs.View.{view};
 ghost use Rattle.rec_trace_events.specs.TraceEvents.{metadata_event, name_event, place_event, process_metadata, thread_metadata};
 
 use crate::event::event;
-use crate::members::put_text;
 use crate::rows::Row;
-use rec_forms::put_field;
+use rec_forms::{put_field, put_text};
 use serde_json::{Map, Value};
 use std::alloc::{AllocError, Global};
 

@@ -3,12 +3,12 @@ ghost use Rattle.std.specs.Prelude.{◌≡◌, option_map, IfOk};
 ghost use Rattle.serde_json.specs.View.{view};
 ghost use Rattle.rec_trace_events.specs.Args.{not_seen_args, run_begin_args, run_end_args, sub_run_begin_args, sub_run_end_args};
 
-use crate::members::{put_given, put_text};
+use crate::members::put_given;
 use rec_events::{
     Duration, Items, ReportUuid, RunFinishedStats, RunStats, StressConditionSummary,
     StressProgress, TestsNotSeenSummary, Text, Version,
 };
-use rec_forms::{put_field, put_optional};
+use rec_forms::{put_field, put_optional, put_text};
 use serde_json::{Map, Value};
 use std::alloc::{AllocError, Global};
 

@@ -11,7 +11,7 @@ ghost use Rattle.rec_format.specs.StatusForms.{bare_value, completed_value, stre
 use crate::{
     CompletedRunStats, RecordedRunStatus, RecordedRunStatusFormat, StressCompletedRunStats,
 };
-use rec_forms::{Form, FromValueError, Held, Object, member};
+use rec_forms::{Form, FromValueError, Held, Object, member, put_text};
 use serde_json::{Map, Value};
 use std::alloc::{AllocError, Global};
 
@@ -20,12 +20,7 @@ fn named(alloc: Global, name: &str) -> Result<Object, AllocError>
     ensures { IfOk result (λ object. members_view object.entries ≡ with_members no_members (field (codes "status") (string name.now) ∷ [])) }
 {
     let mut object = Map::new(alloc);
-    serde_json::put(
-        &mut object,
-        alloc,
-        "status",
-        Value::try_from_str(alloc, name)?,
-    )?;
+    put_text(alloc, &mut object, "status", name)?;
     Ok(object)
 }
 
