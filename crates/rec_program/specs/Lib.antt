@@ -13,7 +13,7 @@ pub mod ReadingLine
 pub mod Recorded
 pub mod RecorderFaults
 pub mod ReplayLine
-pub mod Reporting
+pub mod WritingFaults
 pub mod Running
 pub mod Samples
 pub mod Session

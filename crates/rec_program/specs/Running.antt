@@ -16,31 +16,31 @@ use Rattle.rec_program.specs.Export.{Exports, Fails}
 use Rattle.rec_program.specs.FaultLine.{words_line, export_line, sink_line}
 use Rattle.rec_program.specs.ReadingCommands.{Shows, Withholds, info_of, replay_printed, report_printed, trace_of}
 use Rattle.rec_program.specs.ReadingLine.{reading_line}
-use Rattle.rec_program.specs.Reporting.{Reports}
 use Rattle.rec_program.specs.Samples.{SampleFails, Samples}
 use Rattle.rec_program.specs.Status.{export_status, reading_status}
 use Rattle.rec_program.specs.Usage.{versions_text}
 use Rattle.rec_program.specs.Words.{Asked, recording, tracing, replaying, reporting, informing, sampling, help, version}
+use Rattle.rec_program.specs.WritingFaults.{WritesFault}
 
 module _ {T G : Type 0} (out_taken : T → Option (List ℕ)) (out_faults : T → ℕ) (diag_taken : G → Option (List ℕ)) (diag_faults : G → ℕ) where
   -- the text was printed; or the output failed, which was reported
   abbrev pub Prints : List ℕ → ℕ → T → T → G → G → Type 0
   Prints text status o0 o1 d0 d1 =
       ((status ≡ 0) × Appends (out_taken o0) (out_taken o1) text × (d1 ≡ d0))
-      ⊎ ((status ≡ 11) × Rose (out_faults o0) (out_faults o1) × TookPart (out_taken o0) (out_taken o1) text × Reports diag_taken diag_faults d0 d1 sink_line)
+      ⊎ ((status ≡ 11) × Rose (out_faults o0) (out_faults o1) × TookPart (out_taken o0) (out_taken o1) text × WritesFault diag_taken diag_faults d0 d1 sink_line)
 
 module _ {T G : Type 0} (out_taken : T → Option (List ℕ)) (out_faults : T → ℕ) (diag_taken : G → Option (List ℕ)) (diag_faults : G → ℕ) where
   -- what was made was printed; or nothing was made, and the cause is the status and is reported
   abbrev pub ShowsMade : Result (Vec ℕ Global) ReadingError → ℕ → T → T → G → G → Type 0
   ShowsMade (Ok text) status o0 o1 d0 d1 = Prints out_taken out_faults diag_taken diag_faults text.items status o0 o1 d0 d1
-  ShowsMade (Err e) status o0 o1 d0 d1 = (status ≡ reading_status e) × (o1 ≡ o0) × Reports diag_taken diag_faults d0 d1 (reading_line e)
+  ShowsMade (Err e) status o0 o1 d0 d1 = (status ≡ reading_status e) × (o1 ≡ o0) × WritesFault diag_taken diag_faults d0 d1 (reading_line e)
 
 module _ {S T G : Type 0} (left : S → Option (List ℕ)) (source_faults : S → ℕ) (out_taken : T → Option (List ℕ)) (out_faults : T → ℕ) (diag_taken : G → Option (List ℕ)) (diag_faults : G → ℕ) where
   -- the bundle was read, and what the command prints of it was printed; or nothing is printed of it, and the cause is the status and is reported
   abbrev pub ShowsBundle : (List Entry → Result (List ℕ) ReadingError) → ℕ → ℕ → S → S → T → T → G → G → Type 0
   ShowsBundle printed limit status s0 s1 o0 o1 d0 d1 =
       ((text : List ℕ) × Shows left source_faults printed limit s0 s1 text × Prints out_taken out_faults diag_taken diag_faults text status o0 o1 d0 d1)
-      ⊎ ((e : ReadingError) × (status ≡ reading_status e) × Withholds left source_faults printed limit s0 s1 e × (o1 ≡ o0) × Reports diag_taken diag_faults d0 d1 (reading_line e))
+      ⊎ ((e : ReadingError) × (status ≡ reading_status e) × Withholds left source_faults printed limit s0 s1 e × (o1 ≡ o0) × WritesFault diag_taken diag_faults d0 d1 (reading_line e))
 
 module _ {S B T G : Type 0} (left : S → Option (List ℕ)) (source_faults : S → ℕ) (taken : B → Option (List ℕ)) (bundle_faults : B → ℕ)
     (out_taken : T → Option (List ℕ)) (out_faults : T → ℕ) (diag_taken : G → Option (List ℕ)) (diag_faults : G → ℕ) (number : List ℕ → ℕ) where
@@ -49,7 +49,7 @@ module _ {S B T G : Type 0} (left : S → Option (List ℕ)) (source_faults : S 
   Records settings status s0 s1 b0 b1 o0 o1 d0 d1 =
       ((status ≡ 0) × ((exported : Exported) × Exports left source_faults taken bundle_faults out_taken out_faults number settings s0 s1 b0 b1 o0 o1 exported) × (d1 ≡ d0))
       ⊎ ((e : RecordExportError) × (status ≡ export_status e) × Fails left source_faults taken bundle_faults out_taken out_faults number settings s0 s1 b0 b1 o0 o1 e
-      × Reports diag_taken diag_faults d0 d1 (export_line e))
+      × WritesFault diag_taken diag_faults d0 d1 (export_line e))
 
 module _ {B T G : Type 0} (taken : B → Option (List ℕ)) (bundle_faults : B → ℕ) (out_taken : T → Option (List ℕ)) (out_faults : T → ℕ)
     (diag_taken : G → Option (List ℕ)) (diag_faults : G → ℕ) (number : List ℕ → ℕ) where
@@ -58,7 +58,7 @@ module _ {B T G : Type 0} (taken : B → Option (List ℕ)) (bundle_faults : B �
   RecordsSample settings session status b0 b1 o0 o1 d0 d1 =
       ((line : List ℕ) × Samples taken number settings session b0 b1 line × Prints out_taken out_faults diag_taken diag_faults line status o0 o1 d0 d1)
       ⊎ ((e : RecordExportError) × (status ≡ export_status e) × SampleFails taken bundle_faults number settings session b0 b1 e × (o1 ≡ o0)
-      × Reports diag_taken diag_faults d0 d1 (export_line e))
+      × WritesFault diag_taken diag_faults d0 d1 (export_line e))
 
 module _ {S B T G : Type 0} (left : S → Option (List ℕ)) (source_faults : S → ℕ) (taken : B → Option (List ℕ)) (bundle_faults : B → ℕ)
     (out_taken : T → Option (List ℕ)) (out_faults : T → ℕ) (diag_taken : G → Option (List ℕ)) (diag_faults : G → ℕ) (number : List ℕ → ℕ) where
@@ -79,4 +79,4 @@ module _ {S B T G : Type 0} (left : S → Option (List ℕ)) (source_faults : S 
   Runs (Ok help) status s0 s1 b0 b1 o0 o1 d0 d1 = Prints out_taken out_faults diag_taken diag_faults USAGE.now status o0 o1 d0 d1 × (s1 ≡ s0) × (b1 ≡ b0)
   Runs (Ok version) status s0 s1 b0 b1 o0 o1 d0 d1 = Prints out_taken out_faults diag_taken diag_faults versions_text status o0 o1 d0 d1 × (s1 ≡ s0) × (b1 ≡ b0)
   Runs (Err fault) status s0 s1 b0 b1 o0 o1 d0 d1 =
-      (status ≡ 2) × (s1 ≡ s0) × (b1 ≡ b0) × (o1 ≡ o0) × Reports diag_taken diag_faults d0 d1 (words_line fault)
+      (status ≡ 2) × (s1 ≡ s0) × (b1 ≡ b0) × (o1 ≡ o0) × WritesFault diag_taken diag_faults d0 d1 (words_line fault)

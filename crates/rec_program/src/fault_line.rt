@@ -2,7 +2,7 @@
 ghost use Rattle.std.specs.Prelude.{◌≡◌, ℕ, List};
 ghost use Rattle.rec_program.specs.FaultLine.{words_line, words_name, words_fields, export_line, export_name, export_fields, sink_line, memory_line, fields_text};
 ghost use Rattle.rec_program.specs.LinePieces.{fields_bytes, line_bytes};
-ghost use Rattle.rec_program.specs.Reporting.{Reports};
+ghost use Rattle.rec_program.specs.WritingFaults.{WritesFault};
 
 use crate::fields::{
     event_number, missing_script, missing_test, no_fields, number, one, open_span, optional_event,
@@ -26,8 +26,8 @@ pub trait FaultLine {
 /// Writes the line of a fault to `diag`. It takes no memory.
 ///
 /// A fault of `diag` ends the writing, and is written nowhere.
-pub fn report<F: FaultLine, G: Sink>(fault: &F, diag: &mut G)
-    ensures { Reports G.taken G.faults diag.old diag.new (F.line_of fault.now) }
+pub fn write_fault<F: FaultLine, G: Sink>(fault: &F, diag: &mut G)
+    ensures { WritesFault G.taken G.faults diag.old diag.new (F.line_of fault.now) }
 {
     let text = fault.text();
     let _ = write_line(text.name, &text.fields, diag);

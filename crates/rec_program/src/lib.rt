@@ -36,7 +36,7 @@ mod words;
 
 pub use counts::Exported;
 pub use export::record_and_export;
-pub use fault_line::{FaultLine, report};
+pub use fault_line::{FaultLine, write_fault};
 pub use line::{FaultText, Field, FieldValue, Fields};
 pub use program::run_program;
 pub use reading_error::ReadingError;

@@ -23,7 +23,7 @@ ghost use Rattle.rec_program.specs.Timelines.{DrawsTimeline};
 ghost use Rattle.rec_program.specs.Words.{command, informing, recording, replaying, reporting, sampling, texts, tracing};
 
 use crate::export::record_and_export;
-use crate::fault_line::report;
+use crate::fault_line::write_fault;
 use crate::reading::{read_info, read_replay, read_report, read_trace};
 use crate::reading_error::ReadingError;
 use crate::sample::record_sample;
@@ -246,7 +246,7 @@ fn run<S: Source, B: Sink, T: Sink, G: Sink>(
         Ok(Command::Help) => print(USAGE.as_bytes(), out, diag),
         Ok(Command::Version) => print(versions().as_bytes(), out, diag),
         Err(fault) => {
-            report(&fault, diag);
+            write_fault(&fault, diag);
             FAULTY_WORDS
         }
     }
@@ -267,7 +267,7 @@ fn record<S: Source, B: Sink, T: Sink, G: Sink>(
     match record_and_export(alloc, settings, &Sha256Namer, source, bundle, out) {
         Ok(_) => SUCCESS,
         Err(error) => {
-            report(&error, diag);
+            write_fault(&error, diag);
             export_status(&error)
         }
     }
@@ -289,7 +289,7 @@ fn sample<B: Sink, T: Sink, G: Sink>(
     match record_sample(alloc, tests, settings, bundle) {
         Ok(line) => print(line.as_bytes(), out, diag),
         Err(error) => {
-            report(&error, diag);
+            write_fault(&error, diag);
             export_status(&error)
         }
     }
@@ -303,7 +303,7 @@ fn show<T: Sink, G: Sink>(made: Result<Vec<u8>, ReadingError>, out: &mut T, diag
     match made {
         Ok(text) => print(&text, out, diag),
         Err(error) => {
-            report(&error, diag);
+            write_fault(&error, diag);
             let status = reading_status(&error);
             // By a call: in place, each error inside would be a case of the proof.
             drop(error);
@@ -320,7 +320,7 @@ fn print<T: Sink, G: Sink>(text: &[u8], out: &mut T, diag: &mut G) -> u8
     match write_all(out, text) {
         Ok(()) => SUCCESS,
         Err(fault) => {
-            report(&fault, diag);
+            write_fault(&fault, diag);
             OUTPUT_FAILED
         }
     }

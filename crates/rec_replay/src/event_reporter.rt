@@ -147,22 +147,3 @@ pub fn write_event_dyn(
 {
     reporter.write_event(event)
 }
-
-/// Shows an event as [`EventReporter::write_event`] does, on a reporter in a box.
-///
-/// # Errors
-///
-/// Those of the reporter's own call.
-pub fn write_event_boxed(
-    reporter: &mut Box<dyn EventReporter>,
-    event: &TestEvent<'_>,
-) -> Result<(), WriteEventError>
-    ensures own { (after : _) × ((⟦<dyn EventReporter as EventReporter>⟧ reporter.old.vtable).writes_event reporter.old.value event.now result after)
-        × (reporter.new ≡ record reporter.old { value = after }) }
-    ensures shown { Shows (written reporter.old) (written reporter.new) (faults reporter.old) (faults reporter.new)
-        ((⟦<dyn EventReporter as EventReporter>⟧ reporter.old.vtable).event_text (known (configured reporter.old)) event.now) result }
-    ensures wants { wants reporter.new ≡ wants reporter.old }
-    ensures later { faults reporter.old ≤ faults reporter.new }
-{
-    write_event_dyn(&mut **reporter, event)
-}

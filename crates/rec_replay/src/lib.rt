@@ -17,7 +17,7 @@ mod settings;
 
 pub use context::ReplayContext;
 pub use conversion_error::ReplayConversionError;
-pub use event_reporter::{EventReporter, WriteEventError, write_event_boxed, write_event_dyn};
+pub use event_reporter::{EventReporter, WriteEventError, write_event_dyn};
 pub use header::ReplayHeader;
 pub use line_reporter::LineReporter;
 pub use output_load::{LoadOutput, OutputLoadDecider};

@@ -83,13 +83,6 @@ impl SpanTracker {
         &self.open_spans
     }
 
-    /// Returns how many setup scripts run.
-    pub fn running_scripts(&self) -> usize
-        ensures { result ≡ self.now.scripts }
-    {
-        self.scripts
-    }
-
     /// Returns the number of the next flow, which is how many attempts failed.
     pub fn next_flow(&self) -> u64
         ensures { result ≡ self.now.next_flow }

@@ -1,11 +1,11 @@
 //! Writes the text of a trace.
+ghost use Rattle.std.specs.Prelude.{◌≡◌, List, ◌++◌, map, Bool, false, IfOk, OnOk, string_bytes};
 ghost use Rattle.json.specs.Layout.{pretty};
 ghost use Rattle.json.specs.Lex.{tokens};
 ghost use Rattle.json.specs.Print.{ArePrintable};
 ghost use Rattle.serde_json.specs.Data.{Data};
 ghost use Rattle.serde_json.specs.View.{view};
 ghost use Rattle.serde_json.specs.Written.{comma_if, has_float};
-ghost use Rattle.std.specs.Prelude.{◌≡◌, List, ◌++◌, map, Bool, false, IfOk, OnOk, string_bytes};
 ghost use Rattle.rec_trace.specs.Kept.{AreReadable, EventsAreWhole, IsLineOf};
 ghost use Rattle.rec_trace.specs.Texts.{event_texts, trace_value};
 

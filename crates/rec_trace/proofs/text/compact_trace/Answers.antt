@@ -1,8 +1,8 @@
 use Rattle.std.proofs.Common.{string_bytes, ◌∙◌, ap}
 use Rattle.std.specs.List.{insert_slice}
 use Rattle.serde_json.specs.View.{view}
-use Rattle.rec_trace.proofs.text.compact_trace.Goals as goal
 use Rattle.rec_trace.proofs.Readable.{readable-in_order, readable-trace}
+use Rattle.rec_trace.proofs.text.compact_trace.Goals as goal
 use Rattle.rec_trace.proofs.TextsOfEvents.{trace-around}
 
 pub returns : goal.returns

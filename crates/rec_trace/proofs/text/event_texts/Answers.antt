@@ -2,8 +2,8 @@ use Rattle.std.proofs.Common.{◌≡◌, ◌∷◌, ◌++◌, ◌+◌, drop, map
 use Rattle.std.proofs.lemmas.List.{drop_more}
 use Rattle.serde_json.specs.View.{view}
 use Rattle.serde_json.specs.Written.{comma_if}
-use Rattle.rec_trace.proofs.text.event_texts.Goals as goal
 use Rattle.rec_trace.proofs.Readable.{readable-in_order}
+use Rattle.rec_trace.proofs.text.event_texts.Goals as goal
 use Rattle.rec_trace.proofs.TextsOfEvents.{Completes, completes-push}
 
 pub loop-event-preserved : goal.loop-event-preserved

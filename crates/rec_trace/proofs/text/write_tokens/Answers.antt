@@ -2,8 +2,8 @@ use Rattle.std.proofs.Common.{◌≡◌, [], ◌∷◌, ◌++◌, sym, refl, ap,
 use Rattle.json.specs.Print.{ArePrintable}
 use Rattle.json.specs.Reads.{token_of}
 use Rattle.json.specs.Token.{bad}
-use Rattle.rec_trace.proofs.text.write_tokens.Goals as goal
 use Rattle.rec_trace.proofs.Readable.{no-bad}
+use Rattle.rec_trace.proofs.text.write_tokens.Goals as goal
 
 pub loop-token-init : goal.loop-token-init
 loop-token-init c = ([], sym (append-nil c.args.lines.now), refl)
