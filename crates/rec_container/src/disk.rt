@@ -8,7 +8,8 @@ ghost use Rattle.rec_container.specs.Disks.{Files, HasDiskCause, Exists, IsLengt
 use std::alloc::{AllocError, AllocFailed};
 use thiserror::Error;
 
-/// Says why a disk did not do what it was asked. Its files are as they were.
+/// Says why a disk did not do what it was asked. Its files are as they were, where they are
+/// known.
 #[derive(Clone, Copy, Debug, PartialEq, Eq, Error)]
 pub enum DiskError {
     /// No file stands at the path that was named. `exists` and `create` never answer this.
@@ -41,7 +42,8 @@ impl<T: Drop> From<AllocFailed<T>> for DiskError {
 /// Keeps files, by their paths.
 ///
 /// An implementation counts its faults, and answers `DiskFailed` only where that count rises. A
-/// call changes no file that it doesn't name, and none where it answers an error.
+/// call changes no file that it doesn't name, and none where it answers an error, as far as the files
+/// are known.
 pub trait Disk {
     /// Names the files, where they are known.
     ghost files: { Self → Option Files };
@@ -90,7 +92,7 @@ pub trait Disk {
     /// # Errors
     ///
     /// `DiskFailed` means that the disk failed and counted it, and `OutOfMemory` that memory ran
-    /// out. `Missing` never comes. The files are as they were.
+    /// out. `Missing` never comes. The files are as they were, where they are known.
     fn create(&mut self, path: &str) -> Result<(), DiskError>
         ensures answer { Creates (files self.old) (files self.new) path.now result }
         ensures present { IfErr result NotMissing }
@@ -102,7 +104,8 @@ pub trait Disk {
     /// # Errors
     ///
     /// `Missing` means that no file stands at the path, `DiskFailed` that the disk failed and
-    /// counted it, and `OutOfMemory` that memory ran out. The files are as they were.
+    /// counted it, and `OutOfMemory` that memory ran out. The files are as they were, where they are
+    /// known.
     fn append(&mut self, path: &str, piece: &[u8]) -> Result<usize, DiskError>
         ensures bound { IfOk result (λ n. n ≤ length piece.now) }
         ensures progress { IfOk result (λ n. 0 < length piece.now → 0 < n) }
@@ -114,7 +117,7 @@ pub trait Disk {
     /// # Errors
     ///
     /// `Missing` means that no file stands at `from`, `DiskFailed` that the disk failed and counted
-    /// it, and `OutOfMemory` that memory ran out. The files are as they were.
+    /// it, and `OutOfMemory` that memory ran out. The files are as they were, where they are known.
     fn rename(&mut self, from: &str, to: &str) -> Result<(), DiskError>
         ensures answer { Renames (files self.old) (files self.new) from.now to.now result }
         ensures cause { HasDiskCause (faults self.old) (faults self.new) result };

@@ -56,7 +56,8 @@ pub trait Sink {
     ///
     /// # Errors
     ///
-    /// `SinkFailed` means that the sink failed: its count of faults rose, and it took nothing.
+    /// `SinkFailed` means that the sink failed: its count of faults rose, and it took nothing, where its
+    /// bytes are known.
     fn write(&mut self, piece: &[u8]) -> Result<usize, SinkFailed>
         ensures bound { IfOk result (λ n. n ≤ length piece.now) }
         ensures progress { IfOk result (λ n. 0 < length piece.now → 0 < n) }
@@ -69,7 +70,7 @@ pub trait Sink {
 /// # Errors
 ///
 /// `SinkFailed` means that the sink failed at one of the writes: its count of faults rose, and it
-/// took a proper prefix of the bytes.
+/// took a proper prefix of the bytes, where its bytes are known.
 pub fn write_all<K: Sink>(sink: &mut K, bytes: &[u8]) -> Result<(), SinkFailed>
     ensures ok { OnOk result (Appends (K.taken sink.old) (K.taken sink.new) bytes.now) }
     ensures fault { OnErr result (TookPart (K.taken sink.old) (K.taken sink.new) bytes.now) }
@@ -87,7 +88,7 @@ pub fn write_all<K: Sink>(sink: &mut K, bytes: &[u8]) -> Result<(), SinkFailed>
 /// # Errors
 ///
 /// `SinkFailed` means that the sink failed at one of the writes: its count of faults rose, and it
-/// took a proper prefix of the bytes.
+/// took a proper prefix of the bytes, where its bytes are known.
 pub fn write_all_dyn(sink: &mut dyn Sink, bytes: &[u8]) -> Result<(), SinkFailed>
     ensures ok { OnOk result (Appends (taken sink.old) (taken sink.new) bytes.now) }
     ensures fault { OnErr result (TookPart (taken sink.old) (taken sink.new) bytes.now) }

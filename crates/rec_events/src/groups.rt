@@ -51,7 +51,9 @@ impl TryClone for GroupName {
 /// Names the group that a test is in.
 #[derive(PartialEq, Eq, Drop)]
 pub enum TestGroup {
+    /// The group of all tests that are in no other group.
     Global,
+    /// A group of one's own.
     Custom(GroupName),
 }
 

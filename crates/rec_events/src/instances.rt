@@ -8,7 +8,9 @@ use std::alloc::{AllocError, Global};
 /// those of one binary in the order of their names.
 #[derive(PartialEq, Eq, PartialOrd, Ord, Debug, Drop)]
 pub struct OwnedTestInstanceId {
+    /// The id of the test's binary.
     pub binary_id: RustBinaryId,
+    /// The name of the test in its binary.
     pub test_name: TestCaseName,
 }
 
@@ -16,22 +18,29 @@ pub struct OwnedTestInstanceId {
 /// has slots.
 #[derive(PartialEq, Eq, Drop)]
 pub struct TestSlotAssignment {
+    /// The slot among all tests, from 0.
     pub global_slot: u64,
+    /// The slot within the group, from 0; `None` where the group has no slots.
     pub group_slot: Option<u64>,
+    /// The group that the test is in.
     pub test_group: TestGroup,
 }
 
 /// Says which attempt it is, of how many.
 #[derive(Clone, Copy, PartialEq, Eq, Drop)]
 pub struct RetryData {
+    /// The number of the attempt, from 1 to `total_attempts`.
     pub attempt: u32,
+    /// How many attempts the test has at most, the first included.
     pub total_attempts: u32,
 }
 
 /// Says which run of a stress run it is, and of how many where that is known.
 #[derive(Clone, Copy, PartialEq, Eq, Drop)]
 pub struct StressIndexSummary {
+    /// How many sub-runs came before it, from 0.
     pub current: u32,
+    /// How many sub-runs there are to be; `None` where that isn't known.
     pub total: Option<NonZeroCount>,
 }
 

@@ -12,131 +12,212 @@ use crate::{
 pub enum TestEventKind<'a> {
     /// The run began.
     RunStarted {
+        /// The tests of the run.
         test_list: &'a TestList<'a>,
+        /// The id of the run.
         run_id: ReportUuid,
+        /// The name of the profile that the run uses.
         profile_name: Text,
+        /// The command line of the run.
         cli_args: Items<Text>,
+        /// What ends the stress run; `None` where the run is none.
         stress_condition: Option<StressCondition>,
     },
     /// One of a stress run's runs began.
     StressSubRunStarted {
+        /// How far the stress run had got by then.
         progress: StressProgress,
     },
     /// A setup script began: the one with `index` others before it, of `total`.
     SetupScriptStarted {
+        /// The sub-run that it belongs to; `None` outside a stress run.
         stress_index: Option<StressIndex>,
+        /// How many setup scripts come before this one, from 0.
         index: usize,
+        /// How many setup scripts there are.
         total: usize,
+        /// The setup script.
         script_id: ScriptId,
+        /// The program that the script runs.
         program: Text,
+        /// The arguments of the program.
         args: Items<Text>,
+        /// Whether the outputs of the script are not captured.
         no_capture: bool,
     },
     /// A setup script has run for longer than it should.
     SetupScriptSlow {
+        /// The sub-run that it belongs to; `None` outside a stress run.
         stress_index: Option<StressIndex>,
+        /// The setup script.
         script_id: ScriptId,
+        /// The program that the script runs.
         program: Text,
+        /// The arguments of the program.
         args: Items<Text>,
+        /// How long the script has run.
         elapsed: Duration,
+        /// Whether it is about to be stopped for its time.
         will_terminate: bool,
     },
     /// A setup script ended.
     SetupScriptFinished {
+        /// The sub-run that it belongs to; `None` outside a stress run.
         stress_index: Option<StressIndex>,
+        /// How many setup scripts come before this one, from 0.
         index: usize,
+        /// How many setup scripts there are.
         total: usize,
+        /// The setup script.
         script_id: ScriptId,
+        /// The program that the script runs.
         program: Text,
+        /// The arguments of the program.
         args: Items<Text>,
+        /// Whether the outputs of the script are not captured.
         no_capture: bool,
+        /// Whether a JUnit report holds the output where it passed.
         junit_store_success_output: bool,
+        /// Whether a JUnit report holds the output where it failed.
         junit_store_failure_output: bool,
+        /// The run of the script.
         run_status: SetupScriptExecuteStatus<LiveSpec>,
     },
     /// The first attempt of a test began.
     TestStarted {
+        /// The sub-run that it belongs to; `None` outside a stress run.
         stress_index: Option<StressIndex>,
+        /// The test.
         test_instance: TestInstanceId<'a>,
+        /// Where the test runs.
         slot_assignment: TestSlotAssignment,
+        /// The counts of the run, or of the sub-run, after the event.
         current_stats: RunStats,
+        /// How many tests run after the event.
         running: usize,
+        /// The program of the test, and its arguments.
         command_line: Items<Text>,
     },
     /// An attempt of a test has run for longer than it should.
     TestSlow {
+        /// The sub-run that it belongs to; `None` outside a stress run.
         stress_index: Option<StressIndex>,
+        /// The test.
         test_instance: TestInstanceId<'a>,
+        /// Which attempt it is, of how many.
         retry_data: RetryData,
+        /// How long the attempt has run.
         elapsed: Duration,
+        /// Whether it is about to be stopped for its time.
         will_terminate: bool,
     },
     /// An attempt of a test failed, and another one follows.
     TestAttemptFailedWillRetry {
+        /// The sub-run that it belongs to; `None` outside a stress run.
         stress_index: Option<StressIndex>,
+        /// The test.
         test_instance: TestInstanceId<'a>,
+        /// The attempt that failed.
         run_status: ExecuteStatus<LiveSpec>,
+        /// How long the next attempt is waited for.
         delay_before_next_attempt: Duration,
+        /// When the output of the attempt is shown.
         failure_output: TestOutputDisplay,
+        /// How many tests run after the event.
         running: usize,
     },
     /// A further attempt of a test began.
     TestRetryStarted {
+        /// The sub-run that it belongs to; `None` outside a stress run.
         stress_index: Option<StressIndex>,
+        /// The test.
         test_instance: TestInstanceId<'a>,
+        /// Where the test runs.
         slot_assignment: TestSlotAssignment,
+        /// Which attempt it is, of how many.
         retry_data: RetryData,
+        /// How many tests run after the event.
         running: usize,
+        /// The program of the test, and its arguments.
         command_line: Items<Text>,
     },
     /// The last attempt of a test ended.
     TestFinished {
+        /// The sub-run that it belongs to; `None` outside a stress run.
         stress_index: Option<StressIndex>,
+        /// The test.
         test_instance: TestInstanceId<'a>,
+        /// When the output is shown where the test passed.
         success_output: TestOutputDisplay,
+        /// When the output is shown where the test failed.
         failure_output: TestOutputDisplay,
+        /// Whether a JUnit report holds the output where it passed.
         junit_store_success_output: bool,
+        /// Whether a JUnit report holds the output where it failed.
         junit_store_failure_output: bool,
+        /// How the test stands in a JUnit report where it is flaky and counts as failed.
         junit_flaky_fail_status: JunitFlakyFailStatus,
+        /// All attempts of the test.
         run_statuses: ExecutionStatuses<LiveSpec>,
+        /// The counts of the run, or of the sub-run, after the event.
         current_stats: RunStats,
+        /// How many tests run after the event.
         running: usize,
     },
     /// A test doesn't run.
     TestSkipped {
+        /// The sub-run that it belongs to; `None` outside a stress run.
         stress_index: Option<StressIndex>,
+        /// The test.
         test_instance: TestInstanceId<'a>,
+        /// Why it doesn't run.
         reason: MismatchReason,
+        /// Which skipped tests a JUnit report names.
         junit_report_skipped: ReportSkipPolicy,
     },
     /// No further test is to begin. The reason, where there is one, stands in `current_stats`.
     RunBeginCancel {
+        /// How many setup scripts run after the event.
         setup_scripts_running: usize,
+        /// How many tests run after the event.
         running: usize,
+        /// The counts of the run, or of the sub-run, after the event.
         current_stats: RunStats,
     },
     /// The run was stopped for a while.
     RunPaused {
+        /// How many setup scripts run after the event.
         setup_scripts_running: usize,
+        /// How many tests run after the event.
         running: usize,
     },
     /// The run goes on.
     RunContinued {
+        /// How many setup scripts run after the event.
         setup_scripts_running: usize,
+        /// How many tests run after the event.
         running: usize,
     },
     /// One of a stress run's runs ended.
     StressSubRunFinished {
+        /// How far the stress run got, this sub-run included.
         progress: StressProgress,
+        /// How long the sub-run took.
         sub_elapsed: Duration,
+        /// The counts of the sub-run.
         sub_stats: RunStats,
     },
     /// The run ended.
     RunFinished {
+        /// The id of the run.
         run_id: ReportUuid,
+        /// When the run began.
         start_time: Stamp,
+        /// How long the run took.
         elapsed: Duration,
+        /// The counts of the run.
         run_stats: RunFinishedStats,
+        /// The outstanding tests that a rerun didn't come to, where there are any.
         outstanding_not_seen: Option<TestsNotSeenSummary>,
     },
     /// A list of what runs at the moment follows. This and the four below only inform.
@@ -154,7 +235,10 @@ pub enum TestEventKind<'a> {
 /// Holds an event of a run, as it happens: when, how long after the run's start, and what it is.
 #[derive(Drop)]
 pub struct TestEvent<'a> {
+    /// When it happened.
     pub timestamp: Stamp,
+    /// The time since the run's start.
     pub elapsed: Duration,
+    /// What happened.
     pub kind: TestEventKind<'a>,
 }

@@ -9,7 +9,9 @@ use std::marker::Model;
 /// itself.
 #[derive(Drop)]
 pub struct TestInstanceId<'a> {
+    /// The id of the test's binary.
     pub binary_id: &'a RustBinaryId,
+    /// The name of the test in its binary.
     pub test_name: &'a TestCaseName,
 }
 

@@ -7,13 +7,16 @@ use crate::{Duration, NonZeroCount, StressConditionSummary, StressIndexSummary};
 /// Says which run of a stress run it is, and of how many where that is known.
 #[derive(Clone, Copy, PartialEq, Eq, Drop)]
 pub struct StressIndex {
+    /// How many sub-runs came before it, from 0.
     pub current: u32,
+    /// How many sub-runs there are to be; `None` where that isn't known.
     pub total: Option<NonZeroCount>,
 }
 
 /// Says how many runs a stress run has.
 #[derive(Clone, Copy, PartialEq, Eq, Drop)]
 pub enum StressCount {
+    /// It has so many.
     Count { count: NonZeroCount },
     /// It goes on until it is stopped.
     Infinite,
@@ -22,7 +25,9 @@ pub enum StressCount {
 /// Says what ends a stress run.
 #[derive(Clone, Copy, PartialEq, Eq, Drop)]
 pub enum StressCondition {
+    /// So many sub-runs.
     Count(StressCount),
+    /// So much time.
     Duration(Duration),
 }
 

@@ -8,7 +8,9 @@ use std::alloc::{AllocError, Global};
 /// Says which output it is.
 #[derive(Clone, Copy, PartialEq, Eq, Drop)]
 pub enum OutputKind {
+    /// The standard output.
     Stdout,
+    /// The standard error.
     Stderr,
     /// Both in one.
     Combined,

@@ -27,11 +27,16 @@ impl OutputSpec for RecordingSpec {
 /// Holds what a process wrote. An output that was not captured is None.
 #[derive(PartialEq, Eq, Drop)]
 pub enum ChildOutputDescription {
+    /// The two streams apart.
     Split {
+        /// What it wrote to its standard output.
         stdout: Option<ChildSingleOutput>,
+        /// What it wrote to its standard error.
         stderr: Option<ChildSingleOutput>,
     },
+    /// Both streams in one.
     Combined {
+        /// What it wrote to either, in one.
         output: ChildSingleOutput,
     },
     /// The output was not loaded. It can't be written.
@@ -43,12 +48,16 @@ pub enum ChildOutputDescription {
 pub enum ZipStoreOutput {
     /// No bytes; no file holds it.
     Empty,
+    /// A file holds all of it.
     Full {
+        /// The name of the file.
         file_name: OutputFileName,
     },
     /// The file holds a cut of it; it had `original_size` bytes.
     Truncated {
+        /// The name of the file.
         file_name: OutputFileName,
+        /// The length before the cut, in bytes.
         original_size: u64,
     },
 }
@@ -56,11 +65,16 @@ pub enum ZipStoreOutput {
 /// Names the files that hold what a process wrote. An output that was not captured is None.
 #[derive(Clone, Copy, PartialEq, Eq, Drop)]
 pub enum ZipStoreOutputDescription {
+    /// The two streams apart.
     Split {
+        /// What it wrote to its standard output.
         stdout: Option<ZipStoreOutput>,
+        /// What it wrote to its standard error.
         stderr: Option<ZipStoreOutput>,
     },
+    /// Both streams in one.
     Combined {
+        /// What it wrote to either, in one.
         output: ZipStoreOutput,
     },
 }
@@ -69,15 +83,18 @@ pub enum ZipStoreOutputDescription {
 #[derive(Drop)]
 #[derive_where(PartialEq; S::ChildOutput)]
 pub enum ChildExecutionOutputDescription<S: OutputSpec> {
+    /// It was started.
     Output {
         /// How it ended, where that is known.
         result: Option<ExecutionResultDescription>,
+        /// What it wrote.
         output: S::ChildOutput,
         /// What went wrong while the output was captured.
         errors: Option<Items<Text>>,
     },
     /// It could not be started.
     StartError {
+        /// Why it could not.
         message: Text,
     },
 }

@@ -8,7 +8,9 @@ use std::alloc::{AllocError, Global};
 /// Says what a test counts as that failed at first and passed at last.
 #[derive(Clone, Copy, PartialEq, Eq, Drop)]
 pub enum FlakyResult {
+    /// It counts as passed.
     Pass,
+    /// It counts as failed.
     Fail,
 }
 
@@ -39,20 +41,25 @@ impl FlakyResult {
 /// Says what a test counts as that passed and left an output open.
 #[derive(Clone, Copy, PartialEq, Eq, Drop)]
 pub enum LeakTimeoutResult {
+    /// It counts as passed.
     Pass,
+    /// It counts as failed.
     Fail,
 }
 
 /// Says what a test counts as that was stopped for its time.
 #[derive(Clone, Copy, PartialEq, Eq, Drop)]
 pub enum SlowTimeoutResult {
+    /// It counts as passed.
     Pass,
+    /// It counts as failed.
     Fail,
 }
 
 /// Says how a process failed.
 #[derive(PartialEq, Eq, Drop)]
 pub enum FailureDescription {
+    /// It ended by itself, with an exit code that stands for a failure.
     ExitCode { code: i32 },
     /// It was ended by a signal, whose name is there where it is known.
     Abort { signal: i32, name: Option<Text> },
@@ -61,19 +68,25 @@ pub enum FailureDescription {
 /// Says how an attempt ended.
 #[derive(PartialEq, Eq, Drop)]
 pub enum ExecutionResultDescription {
+    /// It passed.
     Pass,
     /// It passed and left an output open.
     Leak {
+        /// What it counts as.
         result: LeakTimeoutResult,
     },
+    /// It failed.
     Fail {
+        /// How its process failed.
         failure: FailureDescription,
+        /// Whether it left an output open as well.
         leaked: bool,
     },
     /// It could not be started.
     ExecFail,
     /// It was stopped for its time.
     Timeout {
+        /// What it counts as.
         result: SlowTimeoutResult,
     },
 }
@@ -96,14 +109,18 @@ impl ExecutionResultDescription {
 /// Says what an error is, shortly and at length.
 #[derive(PartialEq, Eq, Drop)]
 pub struct ErrorSummary {
+    /// The error in a few words.
     pub short_message: Text,
+    /// The error at length.
     pub description: Text,
 }
 
 /// Holds the piece of an output that shows an error, and at which byte it begins there.
 #[derive(PartialEq, Eq, Drop)]
 pub struct OutputErrorSlice {
+    /// The piece that shows the error.
     pub slice: Text,
+    /// The byte of the output at which the piece begins, from 0.
     pub start: u64,
 }
 

@@ -8,18 +8,26 @@ use std::alloc::{AllocError, Global};
 /// Says how a run ended, over all its tests.
 #[derive(Clone, Copy, PartialEq, Eq, Drop)]
 pub enum FinalRunStats {
+    /// Tests ran, nothing failed, and all that was to run did.
     Success,
+    /// There was no test to run, and nothing failed.
     NoTestsRun,
+    /// A test or a setup script failed, and no graver reason cancelled the run.
     Failed,
+    /// Something failed and a graver reason cancelled the run, or not all ran that was to run.
     Cancelled,
 }
 
 /// Says how a stress run ended, over all its runs.
 #[derive(Clone, Copy, PartialEq, Eq, Drop)]
 pub enum StressFinalRunStats {
+    /// No sub-run failed, and the last one was neither cancelled nor without tests.
     Success,
+    /// The last sub-run had no tests, and none failed.
     NoTestsRun,
+    /// A sub-run failed.
     Failed,
+    /// The last sub-run was cancelled, and none failed.
     Cancelled,
 }
 
@@ -28,7 +36,9 @@ pub enum StressFinalRunStats {
 pub struct StressRunStats {
     /// The last of its runs.
     pub completed: StressIndexSummary,
+    /// How many sub-runs succeeded.
     pub success_count: u32,
+    /// How many sub-runs failed.
     pub failed_count: u32,
     /// How the last of its runs ended.
     pub last_final_stats: FinalRunStats,
@@ -54,7 +64,9 @@ impl StressRunStats {
 /// Holds the counts of a run that ended.
 #[derive(Clone, Copy, PartialEq, Eq, Drop)]
 pub enum RunFinishedStats {
+    /// The counts of a run that is no stress run.
     Single(RunStats),
+    /// The counts of a stress run.
     Stress(StressRunStats),
 }
 

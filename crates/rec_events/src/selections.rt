@@ -8,7 +8,9 @@ use std::alloc::{AllocError, Global};
 /// Selects targets of one kind: those named, or all.
 #[derive(PartialEq, Eq, Debug, Drop)]
 pub struct NamedTargets {
+    /// The targets that are named.
     pub names: Items<Text>,
+    /// Whether all targets of the kind are selected.
     pub all: bool,
 }
 
@@ -36,8 +38,11 @@ impl TryClone for NamedTargets {
 /// Says which packages are built.
 #[derive(PartialEq, Eq, Debug, Drop)]
 pub struct PackageSelection {
+    /// The packages that are named.
     pub specs: Items<Text>,
+    /// Whether all packages of the workspace are built.
     pub workspace: bool,
+    /// The packages that are left out.
     pub exclude: Items<Text>,
 }
 
@@ -67,11 +72,17 @@ impl TryClone for PackageSelection {
 /// Says which targets of the packages are built.
 #[derive(PartialEq, Eq, Debug, Drop)]
 pub struct TargetSelection {
+    /// Whether the libraries are built.
     pub lib: bool,
+    /// The binaries that are built.
     pub bins: NamedTargets,
+    /// The examples that are built.
     pub examples: NamedTargets,
+    /// The tests that are built.
     pub tests: NamedTargets,
+    /// The benchmarks that are built.
     pub benches: NamedTargets,
+    /// Whether all targets are built.
     pub all_targets: bool,
 }
 
@@ -107,8 +118,11 @@ impl TryClone for TargetSelection {
 /// Says which features of the packages are built.
 #[derive(PartialEq, Eq, Debug, Drop)]
 pub struct FeatureSelection {
+    /// The features that are named.
     pub features: Items<Text>,
+    /// Whether all features are on.
     pub all_features: bool,
+    /// Whether the default features are off.
     pub no_default_features: bool,
 }
 
@@ -138,8 +152,11 @@ impl TryClone for FeatureSelection {
 /// Holds everything that says what is built.
 #[derive(PartialEq, Eq, Debug, Drop)]
 pub struct BuildScope {
+    /// Which packages are built.
     pub packages: PackageSelection,
+    /// Which of their targets are built.
     pub targets: TargetSelection,
+    /// Which of their features are on.
     pub features: FeatureSelection,
 }
 

@@ -24,9 +24,11 @@ pub enum MismatchReason {
 /// Says which skipped tests a JUnit report names.
 #[derive(Clone, Copy, PartialEq, Eq, Drop)]
 pub enum ReportSkipPolicy {
+    /// It names none.
     None,
     /// Only those that are ignored.
     Ignored,
+    /// It names all of them.
     All,
 }
 

@@ -8,25 +8,45 @@ use crate::{CancelReason, FinalRunStats};
 /// Counts the tests and setup scripts that ran, and says how they ended.
 #[derive(Clone, Copy, PartialEq, Eq, Drop)]
 pub struct RunStats {
+    /// How many tests were to run when the run began.
     pub initial_run_count: usize,
+    /// How many tests ended. Those that were skipped don't count.
     pub finished_count: usize,
+    /// How many setup scripts were to run when the run began.
     pub setup_scripts_initial_count: usize,
+    /// How many setup scripts ended.
     pub setup_scripts_finished_count: usize,
+    /// How many setup scripts passed.
     pub setup_scripts_passed: usize,
+    /// How many setup scripts failed, without `setup_scripts_exec_failed` and `setup_scripts_timed_out`.
     pub setup_scripts_failed: usize,
+    /// How many setup scripts could not be started.
     pub setup_scripts_exec_failed: usize,
+    /// How many setup scripts were stopped for their time.
     pub setup_scripts_timed_out: usize,
+    /// How many tests passed, with those that were slow, timed out but passed, flaky or leaky.
     pub passed: usize,
+    /// How many of the tests that passed were slow.
     pub passed_slow: usize,
+    /// How many of the tests that passed were stopped for their time.
     pub passed_timed_out: usize,
+    /// How many of the tests that passed did so only after an attempt had failed.
     pub flaky: usize,
+    /// How many tests failed, with `leaky_failed`, without `failed_timed_out` and `exec_failed`.
     pub failed: usize,
+    /// How many of the tests that failed were slow.
     pub failed_slow: usize,
+    /// How many tests were stopped for their time and count as failed. `failed` leaves them out.
     pub failed_timed_out: usize,
+    /// How many of the tests that passed left an output open.
     pub leaky: usize,
+    /// How many of the tests that failed did so for the one reason that they left an output open.
     pub leaky_failed: usize,
+    /// How many tests could not be started. `failed` leaves them out.
     pub exec_failed: usize,
+    /// How many tests were skipped.
     pub skipped: usize,
+    /// Why the run was cancelled; `None` where it wasn't.
     pub cancel_reason: Option<CancelReason>,
 }
 

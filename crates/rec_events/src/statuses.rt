@@ -13,14 +13,23 @@ use std::alloc::{AllocError, Global};
 #[derive(Drop)]
 #[derive_where(PartialEq; S::ChildOutput)]
 pub struct ExecuteStatus<S: OutputSpec> {
+    /// Which attempt it is, of how many.
     pub retry_data: RetryData,
+    /// What the attempt wrote, or why it could not be started.
     pub output: ChildExecutionOutputDescription<S>,
+    /// How the attempt ended.
     pub result: ExecutionResultDescription,
+    /// When the attempt began.
     pub start_time: Stamp,
+    /// How long the attempt took.
     pub time_taken: Duration,
+    /// Whether it ran for longer than it should.
     pub is_slow: bool,
+    /// How long it was waited for after the attempt before it; no time for the first.
     pub delay_before_start: Duration,
+    /// What its error is, where one is known.
     pub error_summary: Option<ErrorSummary>,
+    /// The piece of its output that shows the error, where there is one.
     pub output_error_slice: Option<OutputErrorSlice>,
 }
 
@@ -28,7 +37,9 @@ pub struct ExecuteStatus<S: OutputSpec> {
 #[derive(Drop)]
 #[derive_where(PartialEq; S::ChildOutput)]
 pub struct ExecutionStatuses<S: OutputSpec> {
+    /// The attempts, the first one first.
     pub statuses: NonEmpty<ExecuteStatus<S>>,
+    /// What the test counts as where it is flaky.
     pub flaky_result: FlakyResult,
 }
 
@@ -37,18 +48,25 @@ pub struct ExecutionStatuses<S: OutputSpec> {
 pub enum ExecutionDescription<'a, S: OutputSpec> {
     /// One attempt, which succeeded.
     Success {
+        /// The only attempt.
         single_status: &'a ExecuteStatus<S>,
     },
     /// Several attempts, the last of which succeeded.
     Flaky {
+        /// The attempt that succeeded.
         last_status: &'a ExecuteStatus<S>,
+        /// The attempts before it, in order.
         prior_statuses: &'a [ExecuteStatus<S>],
+        /// What the test counts as.
         result: FlakyResult,
     },
     /// The last attempt failed. The first one is the main one.
     Failure {
+        /// The first attempt.
         first_status: &'a ExecuteStatus<S>,
+        /// The last attempt, which may be the first.
         last_status: &'a ExecuteStatus<S>,
+        /// The attempts after the first, in order.
         retries: &'a [ExecuteStatus<S>],
     },
 }

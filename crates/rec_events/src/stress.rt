@@ -16,14 +16,20 @@ pub enum StressConditionSummary {
 pub enum StressProgress {
     /// Of so many runs; without a total it goes on until it is stopped.
     Count {
+        /// How many sub-runs there are to be; `None` where it goes on until it is stopped.
         total: Option<u32>,
+        /// The time since the stress run began.
         elapsed: Duration,
+        /// How many sub-runs ended.
         completed: u32,
     },
     /// Of so much time.
     Time {
+        /// How long the stress run is to go on.
         total: Duration,
+        /// The time since the stress run began.
         elapsed: Duration,
+        /// How many sub-runs ended.
         completed: u32,
     },
 }

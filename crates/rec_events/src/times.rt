@@ -8,7 +8,9 @@ use std::marker::Model;
 /// Holds a span of time: whole seconds, and nanoseconds below 1000000000.
 #[derive(Clone, Copy, PartialEq, Eq, Drop)]
 pub struct Duration {
+    /// Whole seconds.
     pub secs: u64,
+    /// Nanoseconds beside them, from 0 to 999999999.
     pub nanos: u32,
 }
 
@@ -50,8 +52,11 @@ impl Duration {
 /// and the offset of its clock's zone in seconds.
 #[derive(Clone, Copy, PartialEq, Eq, Drop)]
 pub struct Stamp {
+    /// Whole seconds since the beginning of 1970 in UTC; below 0 before it.
     pub secs: i64,
+    /// Nanoseconds after them, from 0 to 999999999.
     pub nanos: u32,
+    /// The offset of its clock's zone from UTC, in seconds.
     pub offset: i32,
 }
 

@@ -15,21 +15,33 @@ use std::alloc::{AllocError, Global};
 /// Describes a session: what is known of a run beside its events.
 #[derive(Drop)]
 pub struct SessionHead {
+    /// The id of the run.
     pub run_id: ReportUuid,
+    /// The version of the test runner.
     pub nextest_version: Version,
+    /// When the run began.
     pub started_at: Stamp,
+    /// When the recording was last written to.
     pub last_written_at: Stamp,
+    /// How long the run took, where that is known.
     pub duration: Option<Duration>,
+    /// The command line of the run.
     pub cli_args: Items<Text>,
+    /// The environment variables that were kept of the run, by their names.
     pub env_vars: TextMap<Text>,
     /// The run of which this one is a rerun.
     pub parent_run_id: Option<ReportUuid>,
+    /// How the run ended, if it did.
     pub status: RecordedRunStatus,
     /// What cargo printed about the workspace, as JSON.
     pub cargo_metadata: Text,
+    /// The tests of the run, by binary.
     pub test_list: TestListSummary,
+    /// What a replay has to know of how the run was made.
     pub record_opts: RecordOpts,
+    /// What was built for the run.
     pub build_scope: RecordedBuildScope,
+    /// What the run is a rerun of; `None` where it is no rerun.
     pub rerun_info: Option<RerunInfo>,
 }
 

@@ -8,8 +8,11 @@ use std::fmt;
 /// Names a release of nextest, printed as three numbers with dots between them.
 #[derive(Copy, Clone, PartialEq, Eq, Debug)]
 pub struct Release {
+    /// The first number.
     pub major: u64,
+    /// The second number.
     pub minor: u64,
+    /// The third number.
     pub patch: u64,
 }
 
@@ -41,18 +44,25 @@ pub enum TooOldRecordingGuidance {
 pub enum StoreVersionIncompatibility {
     /// The store's major version is below the supported one.
     RecordingTooOld {
+        /// The major version of the store.
         recording_major: StoreFormatMajorVersion,
+        /// The major version that is read.
         supported_major: StoreFormatMajorVersion,
+        /// What to do with the recording.
         guidance: TooOldRecordingGuidance,
     },
     /// The store's major version is above the supported one.
     RecordingTooNew {
+        /// The major version of the store.
         recording_major: StoreFormatMajorVersion,
+        /// The major version that is read.
         supported_major: StoreFormatMajorVersion,
     },
     /// The majors are equal, and the store's minor version is above the supported one.
     MinorTooNew {
+        /// The minor version of the store.
         recording_minor: StoreFormatMinorVersion,
+        /// The greatest minor version that is read.
         supported_minor: StoreFormatMinorVersion,
     },
 }
@@ -99,12 +109,16 @@ impl fmt::Display for StoreVersionIncompatibility {
 pub enum PortableRecordingVersionIncompatibility {
     /// The bundle's major version is another one.
     MajorMismatch {
+        /// The major version of the bundle.
         recording_major: PortableRecordingFormatMajorVersion,
+        /// The major version that is read.
         supported_major: PortableRecordingFormatMajorVersion,
     },
     /// The majors are equal, and the bundle's minor version is above the supported one.
     MinorTooNew {
+        /// The minor version of the bundle.
         recording_minor: PortableRecordingFormatMinorVersion,
+        /// The greatest minor version that is read.
         supported_minor: PortableRecordingFormatMinorVersion,
     },
 }

@@ -11,7 +11,9 @@ use std::alloc::{AllocError, Global};
 /// Describes a bundle, as its first entry: the bundle's version, and the metadata of its run.
 #[derive(Drop)]
 pub struct PortableManifest {
+    /// The version of the bundle.
     pub format_version: PortableRecordingFormatVersion,
+    /// The metadata of the run.
     pub run: RecordedRun,
 }
 

@@ -7,7 +7,9 @@ use rec_events::ReportUuid;
 /// Describes the first run of a chain of reruns, and what was built for it.
 #[derive(Drop)]
 pub struct RerunRootInfo {
+    /// The id of the first run.
     pub run_id: ReportUuid,
+    /// What was built for the first run.
     pub build_scope: RecordedBuildScope,
 }
 
@@ -30,5 +32,6 @@ pub struct RerunInfo {
     pub parent_run_id: ReportUuid,
     /// The first run of the chain.
     pub root_info: RerunRootInfo,
+    /// The tests that had passed by then, and those that are still to pass, by binary.
     pub test_suites: RerunSuites,
 }

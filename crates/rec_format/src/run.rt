@@ -12,17 +12,27 @@ use std::alloc::{AllocError, Global};
 /// Describes a recorded run, with its store's version as one value.
 #[derive(Drop)]
 pub struct RecordedRunInfo {
+    /// The id of the run.
     pub run_id: ReportUuid,
+    /// The version of the run's store.
     pub store_format_version: StoreFormatVersion,
+    /// The version of the test runner.
     pub nextest_version: Version,
+    /// When the run began.
     pub started_at: Stamp,
+    /// When the recording was last written to.
     pub last_written_at: Stamp,
+    /// How long the run took, where that is known.
     pub duration: Option<Duration>,
+    /// The command line of the run.
     pub cli_args: Items<Text>,
+    /// The environment variables that were kept of the run, by their names.
     pub env_vars: TextMap<Text>,
     /// The run of which this one is a rerun.
     pub parent_run_id: Option<ReportUuid>,
+    /// The sizes of the run's event log and store.
     pub sizes: RecordedSizes,
+    /// How the run ended, if it did.
     pub status: RecordedRunStatus,
 }
 
@@ -30,18 +40,29 @@ pub struct RecordedRunInfo {
 /// store's version stand apart.
 #[derive(Drop)]
 pub struct RecordedRun {
+    /// The id of the run.
     pub run_id: ReportUuid,
+    /// The major version of the run's store.
     pub store_format_version: StoreFormatMajorVersion,
+    /// The minor version of the run's store.
     pub store_format_minor_version: StoreFormatMinorVersion,
+    /// The version of the test runner.
     pub nextest_version: Version,
+    /// When the run began.
     pub started_at: Stamp,
+    /// When the recording was last written to.
     pub last_written_at: Stamp,
+    /// How long the run took, where that is known.
     pub duration: Option<Duration>,
+    /// The command line of the run.
     pub cli_args: Items<Text>,
+    /// The environment variables that were kept of the run, by their names.
     pub env_vars: TextMap<Text>,
     /// The run of which this one is a rerun.
     pub parent_run_id: Option<ReportUuid>,
+    /// The sizes of the run's event log and store.
     pub sizes: RecordedSizesFormat,
+    /// How the run ended, if it did.
     pub status: RecordedRunStatusFormat,
 }
 

@@ -14,6 +14,7 @@ use uuid::Uuid;
 /// Cuts a run's id after the shortest prefix that stands for it.
 #[derive(Drop)]
 pub struct ShortestRunIdPrefix {
+    /// The shortest prefix of the id that stands for the run.
     pub prefix: String,
     /// What follows the prefix in the id.
     pub rest: String,

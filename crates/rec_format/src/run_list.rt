@@ -9,9 +9,11 @@ use rec_events::{Items, Stamp};
 /// Lists the runs that a store holds, as they stand in JSON.
 #[derive(Drop)]
 pub struct RecordedRunList {
+    /// The version of the list.
     pub format_version: RunsJsonFormatVersion,
     /// When runs were last removed.
     pub last_pruned_at: Option<Stamp>,
+    /// The runs, as the list has them.
     pub runs: Items<RecordedRun>,
 }
 
@@ -22,7 +24,9 @@ pub enum RunsJsonWritePermission {
     Allowed,
     /// The list is of a newer version, and may hold what is not known here.
     Denied {
+        /// The version of the list.
         file_version: RunsJsonFormatVersion,
+        /// The newest version that may be written back.
         max_supported_version: RunsJsonFormatVersion,
     },
 }

@@ -15,7 +15,9 @@ pub enum BuildKind {
 /// Describes what was built for a run, and by whom.
 #[derive(PartialEq, Eq, Debug, Drop)]
 pub struct RecordedBuildScope {
+    /// Where the test binaries came from.
     pub build_kind: BuildKind,
+    /// What was built.
     pub scope: BuildScope,
 }
 

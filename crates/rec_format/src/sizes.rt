@@ -29,7 +29,9 @@ impl Default for ComponentSizes {
 /// Counts the bytes and the entries of a run's event log and store.
 #[derive(Copy, Clone, Debug)]
 pub struct RecordedSizes {
+    /// The event log, whose entries are events.
     pub log: ComponentSizes,
+    /// The store, whose entries are files.
     pub store: ComponentSizes,
 }
 
@@ -50,8 +52,11 @@ impl Default for RecordedSizes {
 /// Holds `ComponentSizes` as they stand in JSON.
 #[derive(Copy, Clone, PartialEq, Eq, Debug)]
 pub struct ComponentSizesFormat {
+    /// The length as it is stored, in bytes.
     pub compressed: u64,
+    /// The length of the content, in bytes.
     pub uncompressed: u64,
+    /// How many events or files there are.
     pub entries: u64,
 }
 
@@ -73,7 +78,9 @@ impl Default for ComponentSizesFormat {
 /// Holds `RecordedSizes` as they stand in JSON.
 #[derive(Copy, Clone, PartialEq, Eq, Debug)]
 pub struct RecordedSizesFormat {
+    /// The event log, whose entries are events.
     pub log: ComponentSizesFormat,
+    /// The store, whose entries are files.
     pub store: ComponentSizesFormat,
 }
 

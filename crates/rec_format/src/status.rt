@@ -4,19 +4,24 @@ use rec_events::NonZeroCount;
 /// Counts the tests of a run that ended.
 #[derive(Copy, Clone, PartialEq, Eq)]
 pub struct CompletedRunStats {
+    /// How many tests were to run when the run began.
     pub initial_run_count: usize,
+    /// How many tests passed.
     pub passed: usize,
+    /// How many tests failed, for whatever reason.
     pub failed: usize,
     /// What the process ended with.
     pub exit_code: i32,
 }
 
-/// Counts the rounds of a stress run that ended, which runs its tests again and again.
+/// Counts the sub-runs of a stress run that ended: each runs the tests once.
 #[derive(Copy, Clone, PartialEq, Eq)]
 pub struct StressCompletedRunStats {
-    /// How many rounds were asked for; `None` where no number was.
+    /// How many sub-runs were asked for; `None` where no number was.
     pub initial_iteration_count: Option<NonZeroCount>,
+    /// How many sub-runs succeeded.
     pub success_count: u32,
+    /// How many sub-runs failed.
     pub failed_count: u32,
     /// What the process ended with.
     pub exit_code: i32,
@@ -27,9 +32,13 @@ pub struct StressCompletedRunStats {
 pub enum RecordedRunStatus {
     /// The run goes on, or it was cut off.
     Incomplete,
+    /// The run came to its end.
     Completed(CompletedRunStats),
+    /// The run was cancelled.
     Cancelled(CompletedRunStats),
+    /// The stress run came to its end.
     StressCompleted(StressCompletedRunStats),
+    /// The stress run was cancelled.
     StressCancelled(StressCompletedRunStats),
     /// A status that this version doesn't know.
     Unknown,
@@ -38,30 +47,52 @@ pub enum RecordedRunStatus {
 /// Holds a `RecordedRunStatus` as it stands in JSON.
 #[derive(Copy, Clone, PartialEq, Eq)]
 pub enum RecordedRunStatusFormat {
+    /// The run goes on, or it was cut off.
     Incomplete,
+    /// A status that this version doesn't know.
     Unknown,
+    /// The run came to its end.
     Completed {
+        /// How many tests were to run when the run began.
         initial_run_count: usize,
+        /// How many tests passed.
         passed: usize,
+        /// How many tests failed, for whatever reason.
         failed: usize,
+        /// What the process ended with.
         exit_code: i32,
     },
+    /// The run was cancelled.
     Cancelled {
+        /// How many tests were to run when the run began.
         initial_run_count: usize,
+        /// How many tests passed.
         passed: usize,
+        /// How many tests failed, for whatever reason.
         failed: usize,
+        /// What the process ended with.
         exit_code: i32,
     },
+    /// The stress run came to its end.
     StressCompleted {
+        /// How many sub-runs were asked for; `None` where no number was.
         initial_iteration_count: Option<NonZeroCount>,
+        /// How many sub-runs succeeded.
         success_count: u32,
+        /// How many sub-runs failed.
         failed_count: u32,
+        /// What the process ended with.
         exit_code: i32,
     },
+    /// The stress run was cancelled.
     StressCancelled {
+        /// How many sub-runs were asked for; `None` where no number was.
         initial_iteration_count: Option<NonZeroCount>,
+        /// How many sub-runs succeeded.
         success_count: u32,
+        /// How many sub-runs failed.
         failed_count: u32,
+        /// What the process ended with.
         exit_code: i32,
     },
 }

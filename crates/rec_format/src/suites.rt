@@ -12,8 +12,11 @@ use std::marker::Model;
 /// Lists which tests of a binary passed, and which are still to pass.
 #[derive(PartialEq, Eq, Debug, Drop)]
 pub struct RerunTestSuiteInfo {
+    /// The id of the binary.
     pub binary_id: RustBinaryId,
+    /// The tests that passed.
     pub passing: TestNames,
+    /// The tests that are still to pass.
     pub outstanding: TestNames,
 }
 

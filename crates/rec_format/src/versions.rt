@@ -214,7 +214,9 @@ pub const STORE_FORMAT_VERSION: StoreFormatVersion = StoreFormatVersion {
 /// Names a version of the store's format, printed as `major.minor`.
 #[derive(Copy, Clone, PartialEq, Eq, Debug)]
 pub struct StoreFormatVersion {
+    /// The major version.
     pub major: StoreFormatMajorVersion,
+    /// The minor version.
     pub minor: StoreFormatMinorVersion,
 }
 
@@ -285,7 +287,9 @@ pub const PORTABLE_RECORDING_FORMAT_VERSION: PortableRecordingFormatVersion =
 /// Names a version of the bundle's format, printed as `major.minor`.
 #[derive(Copy, Clone, PartialEq, Eq, Debug)]
 pub struct PortableRecordingFormatVersion {
+    /// The major version.
     pub major: PortableRecordingFormatMajorVersion,
+    /// The minor version.
     pub minor: PortableRecordingFormatMinorVersion,
 }
 

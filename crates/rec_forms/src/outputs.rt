@@ -53,7 +53,7 @@ impl Held for ChildSingleOutput {
     }
 }
 
-/// An output that was cut.
+/// Reads an output that was cut.
 #[tactic(auto, unfolding(crate::specs::Outputs::truncated_form))]
 fn truncated_from(alloc: Global, value: &Value) -> Result<ZipStoreOutput, FromValueError>
     ensures { Gives result (truncated_form (view value.now)) }
@@ -67,7 +67,7 @@ fn truncated_from(alloc: Global, value: &Value) -> Result<ZipStoreOutput, FromVa
     })
 }
 
-/// The outputs of a process whose streams were captured apart.
+/// Reads the outputs of a process whose streams were captured apart.
 #[tactic(auto, unfolding(crate::specs::Outputs::split_form))]
 fn split_from(alloc: Global, value: &Value) -> Result<ZipStoreOutputDescription, FromValueError>
     ensures { Gives result (split_form (view value.now)) }

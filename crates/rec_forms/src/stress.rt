@@ -151,7 +151,7 @@ impl Held for StressProgress {
     }
 }
 
-/// How far a stress run of some number of rounds has come.
+/// Reads how far a stress run of some number of sub-runs has come.
 #[tactic(auto, unfolding(crate::specs::Stress::count_progress_form))]
 fn count_from(alloc: Global, value: &Value) -> Result<StressProgress, FromValueError>
     ensures { Gives result (count_progress_form (view value.now)) }
@@ -166,7 +166,7 @@ fn count_from(alloc: Global, value: &Value) -> Result<StressProgress, FromValueE
     })
 }
 
-/// How far a stress run of some length has come.
+/// Reads how far a stress run of some length has come.
 #[tactic(auto, unfolding(crate::specs::Stress::time_progress_form))]
 fn time_from(alloc: Global, value: &Value) -> Result<StressProgress, FromValueError>
     ensures { Gives result (time_progress_form (view value.now)) }

@@ -33,9 +33,9 @@ pub struct StructuredEnd<S, L> {
 /// }
 /// let end = reporter.finish();
 /// ```
-///
-/// A function of another crate that calls it owns it. Where it is lent by `&mut`, such a call counts as
-/// one that may put another box there, and the merge gate refuses it.
+//
+// A function of another crate that calls a reporter owns it: a call through a `&mut` of it counts as one
+// that may put another box in the place of `libtest`.
 #[derive(Drop)]
 pub struct StructuredReporter<'n, S: Sink, L: Sink, N: OutputNamer> {
     libtest: Option<Box<dyn EventReporter>>,
