@@ -13,7 +13,6 @@ pub mod ReadingLine
 pub mod Recorded
 pub mod RecorderFaults
 pub mod ReplayLine
-pub mod WritingFaults
 pub mod Running
 pub mod Samples
 pub mod Session
@@ -25,3 +24,4 @@ pub mod Timelines
 pub mod TraceFaults
 pub mod Usage
 pub mod Words
+pub mod WritingFaults

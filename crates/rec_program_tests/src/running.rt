@@ -2,7 +2,7 @@
 
 use crate::texts::session_of;
 use rec_container::{FailingSink, GrowingSink, MemorySink, SliceSource, Source};
-use rec_program::{FaultLine, bundle_path, report, run_program};
+use rec_program::{FaultLine, bundle_path, run_program, write_fault};
 use std::alloc::{AllocError, Global};
 use std::str;
 
@@ -183,6 +183,6 @@ pub(crate) fn path_of(alloc: Global, words: &[&str]) -> Result<String, AllocErro
 pub(crate) fn line_of<F: FaultLine>(alloc: Global, fault: &F) -> Result<String, AllocError> {
     let mut sink = MemorySink::new(alloc);
     sink.reserve(256)?;
-    report(fault, &mut sink);
+    write_fault(fault, &mut sink);
     String::from_str(alloc, str::from_utf8(sink.bytes()).unwrap_or("no text"))
 }

@@ -44,10 +44,10 @@ pub fn draw_event<S: OutputSpec>(
     group_by: ChromeTraceGroupBy,
     tracker: &SpanTracker,
     known: &Known,
-    step: &JudgedEvent,
+    judged: &JudgedEvent,
     event: &TestEventSummary<S>,
 ) -> Result<Vec<Value>, AllocError>
-    requires { IsJudged tracker.now (trace_input group_by tracker.now.binaries (plain event.now)) step.now }
+    requires { IsJudged tracker.now (trace_input group_by tracker.now.binaries (plain event.now)) judged.now }
     ensures { IfOk result (λ values. map view values.items ≡ all_events (drawn version.now group_by tracker.now (known_in known.now) (plain event.now))) }
 {
     let sight = Sight {
@@ -56,7 +56,7 @@ pub fn draw_event<S: OutputSpec>(
         group_by,
         tracker,
         known,
-        step,
+        judged,
     };
     let mut events = Vec::new(alloc);
     draw_kind(&sight, &event.kind, &mut events)?;

@@ -23,7 +23,7 @@ fn separator(later: bool) -> &'static str
 /// Writes trace events in one line with commas between them, and one before them where others stand there.
 pub fn event_texts(alloc: Global, mut later: bool, events: &[Value]) -> Result<String, AllocError>
     ensures { IfOk result (λ s. EventsAreWhole (map view events.now)
-            → (string_bytes s ≡ event_texts later (map view events.now)) × AreReadable (map view events.now)) }
+        → (string_bytes s ≡ event_texts later (map view events.now)) × AreReadable (map view events.now)) }
 {
     let mut texts = String::new(alloc);
     for event in events {
@@ -43,7 +43,7 @@ pub fn compact_trace(
     other_data: &Value,
 ) -> Result<String, AllocError>
     ensures { IfOk result (λ s. (events : List Data) → has_float (view other_data.now) ≡ false → string_bytes text ≡ event_texts false events → AreReadable events
-            → IsLineOf (trace_value (view other_data.now) events) (string_bytes s)) }
+        → IsLineOf (trace_value (view other_data.now) events) (string_bytes s)) }
 {
     let mut front = other_data.to_string(alloc)?;
     front.insert_str(0, "{\"displayTimeUnit\":\"ms\",\"otherData\":")?;

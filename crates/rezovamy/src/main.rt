@@ -5,7 +5,7 @@ ghost use Rattle.std.specs.Prelude.{◌≡◌, [], IfOk, string_bytes, unwrap_or
 ghost use Rattle.rec_program.specs.Words.{bundle_of, command, texts};
 
 use rec_container::{FileSink, Sink, StdSink, StdSource};
-use rec_program::{FAULTY_WORDS, OUT_OF_MEMORY, bundle_path, report, run_program};
+use rec_program::{FAULTY_WORDS, OUT_OF_MEMORY, bundle_path, run_program, write_fault};
 use std::alloc::{AllocError, Global};
 use std::process::ExitCode;
 use std::rt::{Env, Files};
@@ -27,7 +27,7 @@ fn status_without_words<G: Sink>(error: &io::Error, diag: &mut G) -> u8 {
 
 /// Writes the line of want of memory, and returns its status.
 fn status_without_memory<G: Sink>(diag: &mut G) -> u8 {
-    report(&AllocError, diag);
+    write_fault(&AllocError, diag);
     OUT_OF_MEMORY
 }
 

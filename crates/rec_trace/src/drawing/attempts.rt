@@ -69,17 +69,17 @@ fn draw_attempt_start(
 ) -> Result<(), AllocError>
     requires { IsJudgedAct sight.now (AttemptStarts test.now slot) }
     ensures { OnOk result (Draws (in_sight sight.now attempt_starts test.now slot (view args)
-        (option_to_list (option_map (ArrowFinishes test.now (test_span sight.now.group_by sight.now.tracker.now.binaries test.now slot).row sight.now.step.now.at) flow)) running)
+        (option_to_list (option_map (ArrowFinishes test.now (test_span sight.now.group_by sight.now.tracker.now.binaries test.now slot).row sight.now.judged.now.at) flow)) running)
         events.old.items events.new.items) }
 {
-    let Some(span) = &sight.step.started else {
+    let Some(span) = &sight.judged.started else {
         unreachable!()
     };
     draw_attempt_names(sight, span.row, test, slot, events)?;
     draw_slice(sight, Phase::Begin, span, Some(args), events)?;
     draw_arrow_finish(sight, test, span.row, flow, events)?;
     draw_in_pause(sight, Phase::End, span, events)?;
-    draw_counter(sight, running, sight.step.running_scripts, events)?;
+    draw_counter(sight, running, sight.judged.running_scripts, events)?;
     Ok(())
 }
 
@@ -214,7 +214,7 @@ pub fn draw_failed_attempt<S: OutputSpec>(
     let span = sight.tracker.open_spans().test(test_instance);
     draw_end(sight, span, args, events)?;
     draw_arrow_start(sight, test_instance, span, events)?;
-    draw_counter(sight, *running, sight.step.running_scripts, events)?;
+    draw_counter(sight, *running, sight.judged.running_scripts, events)?;
     Ok(())
 }
 
@@ -263,7 +263,7 @@ pub fn draw_test_end<S: OutputSpec>(
     let args = finished_args(sight, test_instance, stress_index, run_statuses)?;
     let span = sight.tracker.open_spans().test(test_instance);
     draw_end(sight, span, args, events)?;
-    draw_counter(sight, *running, sight.step.running_scripts, events)?;
+    draw_counter(sight, *running, sight.judged.running_scripts, events)?;
     draw_results(sight, counts, events)?;
     Ok(())
 }

@@ -38,7 +38,7 @@ pub fn draw_cancel(
 
 /// Draws the ends of all open spans, unless the run is in a pause already.
 fn draw_pause(sight: &Sight<'_>, events: &mut Vec<Value>) -> Result<(), AllocError>
-    ensures { OnOk result (Draws (if sight.now.tracker.now.in_pause then [] else bare phases.End sight.now.step.now.at sight.now.tracker.now.spans)
+    ensures { OnOk result (Draws (if sight.now.tracker.now.in_pause then [] else bare phases.End sight.now.judged.now.at sight.now.tracker.now.spans)
         events.old.items events.new.items) }
 {
     if !sight.tracker.in_pause() {
@@ -72,7 +72,7 @@ pub fn draw_run_pause(
 
 /// Draws the begins of all open spans, where the run is in a pause.
 fn draw_resume(sight: &Sight<'_>, events: &mut Vec<Value>) -> Result<(), AllocError>
-    ensures { OnOk result (Draws (if sight.now.tracker.now.in_pause then bare phases.Begin sight.now.step.now.at sight.now.tracker.now.spans else [])
+    ensures { OnOk result (Draws (if sight.now.tracker.now.in_pause then bare phases.Begin sight.now.judged.now.at sight.now.tracker.now.spans else [])
         events.old.items events.new.items) }
 {
     if sight.tracker.in_pause() {

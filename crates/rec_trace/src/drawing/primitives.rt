@@ -118,11 +118,11 @@ pub fn draw_slice(
     args: Option<Value>,
     events: &mut Vec<Value>,
 ) -> Result<(), AllocError>
-    ensures { OnOk result (Draws (Slice (mark phase sight.now.step.now.at span.now) (option_map view args) ∷ [])
+    ensures { OnOk result (Draws (Slice (mark phase sight.now.judged.now.at span.now) (option_map view args) ∷ [])
         events.old.items events.new.items) }
 {
     let (name, category) = (span.name.as_str(), category_of(&span.key));
-    let (row, at) = (span.row, sight.step.at);
+    let (row, at) = (span.row, sight.judged.at);
     let event = match phase {
         Phase::Begin => begin_event(sight.alloc, name, category, row, at, args)?,
         Phase::End => end_event(sight.alloc, name, category, row, at, args)?,
@@ -138,7 +138,7 @@ pub fn draw_in_pause(
     span: &Span,
     events: &mut Vec<Value>,
 ) -> Result<(), AllocError>
-    ensures { OnOk result (Draws (if sight.now.tracker.now.in_pause then bare phase sight.now.step.now.at (span.now ∷ []) else [])
+    ensures { OnOk result (Draws (if sight.now.tracker.now.in_pause then bare phase sight.now.judged.now.at (span.now ∷ []) else [])
         events.old.items events.new.items) }
 {
     if sight.tracker.in_pause() {
@@ -181,7 +181,7 @@ pub fn draw_end(
 
 /// Draws the begins, or the ends, of all open spans without args.
 pub fn draw_all(sight: &Sight<'_>, phase: Phase, events: &mut Vec<Value>) -> Result<(), AllocError>
-    ensures { OnOk result (Draws (bare phase sight.now.step.now.at sight.now.tracker.now.spans) events.old.items events.new.items) }
+    ensures { OnOk result (Draws (bare phase sight.now.judged.now.at sight.now.tracker.now.spans) events.old.items events.new.items) }
 {
     for span in sight.tracker.open_spans().iter() {
         draw_slice(sight, phase, span, None, events)?;
@@ -201,7 +201,7 @@ pub fn draw_counter(
     ensures { OnOk result (Draws (in_sight sight.now counter tests scripts ∷ []) events.old.items events.new.items) }
 {
     let running = RunningCounts { tests, scripts };
-    events.push(concurrency_event(sight.alloc, running, sight.step.at)?)?;
+    events.push(concurrency_event(sight.alloc, running, sight.judged.at)?)?;
     Ok(())
 }
 
@@ -211,9 +211,9 @@ pub fn draw_results(
     counts: TestCounts,
     events: &mut Vec<Value>,
 ) -> Result<(), AllocError>
-    ensures { OnOk result (Draws (Results counts sight.now.step.now.at ∷ []) events.old.items events.new.items) }
+    ensures { OnOk result (Draws (Results counts sight.now.judged.now.at ∷ []) events.old.items events.new.items) }
 {
-    events.push(results_event(sight.alloc, counts, sight.step.at)?)?;
+    events.push(results_event(sight.alloc, counts, sight.judged.at)?)?;
     Ok(())
 }
 
@@ -229,7 +229,7 @@ pub fn draw_run_mark(
 {
     draw_run_names(sight, Row { pid: 0, tid: 1 }, "run", events)?;
     let running = RunningCounts { tests, scripts };
-    events.push(mark_event(sight.alloc, what, running, sight.step.at)?)?;
+    events.push(mark_event(sight.alloc, what, running, sight.judged.at)?)?;
     Ok(())
 }
 
@@ -241,11 +241,11 @@ pub fn draw_slow(
     args: Value,
     events: &mut Vec<Value>,
 ) -> Result<(), AllocError>
-    ensures { OnOk result (Draws (map (λ s. Slow category s.row sight.now.step.now.at (view args)) (option_to_list (option_copied span.entry)))
+    ensures { OnOk result (Draws (map (λ s. Slow category s.row sight.now.judged.now.at (view args)) (option_to_list (option_copied span.entry)))
         events.old.items events.new.items) }
 {
     if let Some(span) = span {
-        events.push(slow_event(sight.alloc, category, span.row, sight.step.at, args)?)?;
+        events.push(slow_event(sight.alloc, category, span.row, sight.judged.at, args)?)?;
     }
     Ok(())
 }
@@ -259,12 +259,12 @@ pub fn draw_arrow_start(
     span: Option<&Span>,
     events: &mut Vec<Value>,
 ) -> Result<(), AllocError>
-    ensures { OnOk result (Draws (map (λ s. ArrowStarts test.now s.row sight.now.step.now.at sight.now.tracker.now.next_flow) (option_to_list (option_copied span.entry)))
+    ensures { OnOk result (Draws (map (λ s. ArrowStarts test.now s.row sight.now.judged.now.at sight.now.tracker.now.next_flow) (option_to_list (option_copied span.entry)))
         events.old.items events.new.items) }
 {
     if let Some(span) = span {
         let flow = sight.tracker.next_flow();
-        events.push(arrow_start(sight.alloc, span.row, sight.step.at, flow)?)?;
+        events.push(arrow_start(sight.alloc, span.row, sight.judged.at, flow)?)?;
     }
     Ok(())
 }
@@ -277,10 +277,10 @@ pub fn draw_arrow_finish(
     flow: Option<u64>,
     events: &mut Vec<Value>,
 ) -> Result<(), AllocError>
-    ensures { OnOk result (Draws (option_to_list (option_map (ArrowFinishes test.now row sight.now.step.now.at) flow)) events.old.items events.new.items) }
+    ensures { OnOk result (Draws (option_to_list (option_map (ArrowFinishes test.now row sight.now.judged.now.at) flow)) events.old.items events.new.items) }
 {
     if let Some(flow) = flow {
-        events.push(arrow_finish(sight.alloc, row, sight.step.at, flow)?)?;
+        events.push(arrow_finish(sight.alloc, row, sight.judged.at, flow)?)?;
     }
     Ok(())
 }

@@ -52,7 +52,7 @@ pub fn draw_run_start(
     else {
         unreachable!()
     };
-    let Some(span) = &sight.step.started else {
+    let Some(span) = &sight.judged.started else {
         unreachable!()
     };
     draw_profile_names(sight, span.row, profile_name, events)?;
@@ -121,7 +121,7 @@ pub fn draw_sub_run_start(
     let CoreEventKind::StressSubRunStarted { progress } = kind else {
         unreachable!()
     };
-    let Some(span) = &sight.step.started else {
+    let Some(span) = &sight.judged.started else {
         unreachable!()
     };
     draw_run_names(sight, span.row, "stress sub-runs", events)?;

@@ -42,12 +42,12 @@ pub fn draw_script_start(
     let CoreEventKind::SetupScriptStarted { index, .. } = kind else {
         unreachable!()
     };
-    let Some(span) = &sight.step.started else {
+    let Some(span) = &sight.judged.started else {
         unreachable!()
     };
     draw_script_names(sight, span.row, *index, events)?;
     draw_start(sight, span, None, events)?;
-    let (tests, scripts) = (sight.known.running(), sight.step.running_scripts);
+    let (tests, scripts) = (sight.known.running(), sight.judged.running_scripts);
     draw_counter(sight, tests, scripts, events)?;
     Ok(())
 }
@@ -106,7 +106,7 @@ pub fn draw_script_end<S: OutputSpec>(
     let args = script_end_args(sight.alloc, script_id, stress_index, run_status)?;
     let span = sight.tracker.open_spans().script(*index);
     draw_end(sight, span, args, events)?;
-    let (tests, scripts) = (sight.known.running(), sight.step.running_scripts);
+    let (tests, scripts) = (sight.known.running(), sight.judged.running_scripts);
     draw_counter(sight, tests, scripts, events)?;
     Ok(())
 }

@@ -13,5 +13,5 @@ pub struct Sight<'t> {
     pub group_by: ChromeTraceGroupBy,
     pub tracker: &'t SpanTracker,
     pub known: &'t Known,
-    pub step: &'t JudgedEvent,
+    pub judged: &'t JudgedEvent,
 }

@@ -21,5 +21,5 @@ returns g c =
     (sym (failed_attempt_args-with (Unit {0}) (λ o. tt) k.test_instance k.stress_index group k.run_status k.delay_before_next_attempt)) in
     let scripts = c.requires.judged.scripts ∙ ap (λ kind. scripts_after (output_act (plain_output_kind kind)) s.tracker.now.scripts) k.is in
     rw k.is
-    (failed_of s.version.now s.group_by s.tracker.now (known_in s.known.now) s.step.now.at k.test_instance k.running _ _ _ _ _ _ _ _ _ _
+    (failed_of s.version.now s.group_by s.tracker.now (known_in s.known.now) s.judged.now.at k.test_instance k.running _ _ _ _ _ _ _ _ _ _
     spans (ap Some args) scripts c.in_ok-draw_end.ensures c.in_ok-draw_arrow_start.ensures c.in_ok-draw_counter.ensures)

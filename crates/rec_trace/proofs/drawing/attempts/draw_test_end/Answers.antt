@@ -21,5 +21,5 @@ returns g c =
     (finished_test_args-with (Unit {0}) (λ o. tt) k.test_instance k.stress_index group k.run_statuses) c.in_ok-args.ensures in
     let scripts = c.requires.judged.scripts ∙ ap (λ kind. scripts_after (output_act (plain_output_kind kind)) s.tracker.now.scripts) k.is in
     rw k.is
-    (finished_of s.version.now s.group_by s.tracker.now (known_in s.known.now) s.step.now.at k.running _ _ _ _ _ _ _ _ _ _ _ _
+    (finished_of s.version.now s.group_by s.tracker.now (known_in s.known.now) s.judged.now.at k.running _ _ _ _ _ _ _ _ _ _ _ _
     spans (sym args) scripts c.in-Some.ensures.value c.in_ok-draw_end.ensures c.in_ok-draw_counter.ensures c.in_ok-draw_results.ensures)

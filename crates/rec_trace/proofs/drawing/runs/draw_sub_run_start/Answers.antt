@@ -10,8 +10,8 @@ pub returns : goal.returns
 returns c =
     let s = c.args.sight.now in
     let k = c.in-StressSubRunStarted in
-    let span = span_is s.step.now.started c.in-Some.span sub_run_span c.in-Some.is
+    let span = span_is s.judged.now.started c.in-Some.span sub_run_span c.in-Some.is
     (c.requires.judged.starts ∙ ap (λ kind. started (change_of s.group_by s.tracker.now.binaries (core_act kind))) k.is) in
     rw k.is
-    (start_of s.version.now s.group_by s.tracker.now (known_in s.known.now) s.step.now.at sub_run_span c.in-Some.span _ _ _ _ _ _ _
+    (start_of s.version.now s.group_by s.tracker.now (known_in s.known.now) s.judged.now.at sub_run_span c.in-Some.span _ _ _ _ _ _ _
     span (ap Some c.in_ok-args.ensures) c.in_ok-draw_run_names.ensures c.in_ok-draw_start.ensures)

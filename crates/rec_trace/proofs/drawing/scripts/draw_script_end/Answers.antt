@@ -16,5 +16,5 @@ returns g c =
     let args = c.in_ok-args.ensures ∙ sym (script_end_args-with (Unit {0}) (λ o. tt) k.script_id k.stress_index k.run_status) in
     let scripts = c.requires.judged.scripts ∙ ap (λ kind. scripts_after (output_act (plain_output_kind kind)) s.tracker.now.scripts) k.is in
     rw k.is
-    (counted_end_of s.version.now s.group_by s.tracker.now (known_in s.known.now) s.step.now.at _ _ _ _ _ _ _ _ _ _ _
+    (counted_end_of s.version.now s.group_by s.tracker.now (known_in s.known.now) s.judged.now.at _ _ _ _ _ _ _ _ _ _ _
     spans (ap Some args) c.running-tests.ensures scripts c.in_ok-draw_end.ensures c.in_ok-draw_counter.ensures)
