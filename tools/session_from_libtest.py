@@ -2,7 +2,7 @@
 """Makes a session of the JSON lines that a real test run prints.
 
     cargo test --no-fail-fast -- -Z unstable-options --format json --report-time 2>&1 | tools/session_from_libtest.py > run.session
-    cargo nextest run --message-format libtest-json-plus | tools/session_from_libtest.py > run.session
+    NEXTEST_EXPERIMENTAL_LIBTEST_JSON=1 cargo nextest run --no-fail-fast --message-format libtest-json-plus | tools/session_from_libtest.py > run.session
     tools/session_from_libtest.py --no-clock < examples/sums.libtest.json > sums.session
     tools/session_from_libtest.py --self-test
 
