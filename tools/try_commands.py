@@ -1,5 +1,5 @@
 #!/usr/bin/env python3
-"""Tries the commands of the built program on real and made sessions, and prints only what is wrong.
+"""Tries the commands of the built program on real and generated sessions, and prints only what is wrong.
 
     tools/try_commands.py [crates/rezovamy/out/rezovamy]
 
@@ -125,14 +125,14 @@ def try_log_line(program):
 
 
 def try_kinds(program):
-    """The made session of each kind of event."""
+    """The generated session of each kind of event."""
     made = subprocess.run([HERE / "make_kinds.py"], capture_output=True, check=True)
     roots = try_session(program, "kinds", made.stdout)
     demand(roots != [] and all(list(root.iter("testcase")) for root in roots), "kinds: a report without tests")
 
 
 def try_sample(program):
-    """A made session of twenty tests, all of which are reported."""
+    """A generated session of twenty tests, all of which are reported."""
     said = program.run(["sample", "20", "sample.bundle"])
     demand(said == b"events=42 outputs=16\n", f"sample: it prints {said}")
     bundle = (program.folder / "sample.bundle").read_bytes()

@@ -74,7 +74,7 @@ unfoldable pub number_of : List ℕ → Option ℕ
 number_of text =
     if all_ascii_digits text && nat_lt 0 (length text) && nat_lt (digits_value 10 text) (2 ^ 64) then Some (digits_value 10 text) else None
 
--- the number of tests of a made session that digits write, up to 10000
+-- the number of tests of a generated session that digits write, up to 10000
 unfoldable pub tests_of : List ℕ → Option ℕ
 tests_of text = option_and_then (λ n. if nat_lt 10000 n then None else Some n) (number_of text)
 

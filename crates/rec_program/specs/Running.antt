@@ -53,7 +53,7 @@ module _ {S B T G : Type 0} (left : S → Option (List ℕ)) (source_faults : S 
 
 module _ {B T G : Type 0} (taken : B → Option (List ℕ)) (bundle_faults : B → ℕ) (out_taken : T → Option (List ℕ)) (out_faults : T → ℕ)
     (diag_taken : G → Option (List ℕ)) (diag_faults : G → ℕ) (number : List ℕ → ℕ) where
-  -- the made session was recorded, and the line with its counts was printed; or it wasn't, and the cause is the status and is reported
+  -- the generated session was recorded, and the line with its counts was printed; or it wasn't, and the cause is the status and is reported
   abbrev pub RecordsSample : Settings → List ℕ → ℕ → B → B → T → T → G → G → Type 0
   RecordsSample settings session status b0 b1 o0 o1 d0 d1 =
       ((line : List ℕ) × Samples taken number settings session b0 b1 line × Prints out_taken out_faults diag_taken diag_faults line status o0 o1 d0 d1)

@@ -1,4 +1,4 @@
--- What `sample` records of a made session, and what it prints.
+-- What `sample` records of a generated session, and what it prints.
 use Rattle.std.specs.Fmt.{decimal}
 use Rattle.std.specs.Io.KnownBytes.{Appends}
 use Rattle.std.specs.Prelude.{◌≡◌, ◌⊎◌, ℕ, ◌<◌, ◌≤◌, List, [], ◌∷◌, ◌++◌, length, Option, Some, codes}
@@ -49,7 +49,7 @@ module _ {B : Type 0} (taken : B → Option (List ℕ)) (faults : B → ℕ) (nu
       (bundle : List ℕ) × (trace : List ℕ) × (length session ≤ settings.session_limit) × AreOf number settings session bundle trace
       × Rose (faults b0) (faults b1) × TookPart (taken b0) (taken b1) bundle
 
-  -- why a made session isn't recorded: it is longer than the limit, or it is refused, and the bundle's sink is as it was; or the sink failed; or
+  -- why a generated session isn't recorded: it is longer than the limit, or it is refused, and the bundle's sink is as it was; or the sink failed; or
   -- memory ran out before the first byte of the bundle, or after its last
   abbrev pub SampleFails : B → B → RecordExportError → Type 0
   SampleFails b0 b1 e =

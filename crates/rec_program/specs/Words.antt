@@ -15,7 +15,7 @@ use Rattle.rec_program.specs.declared.words.WordsError.{WordsError}
 use Rattle.rec_program.specs.Options.{load_of, no_values, options_at, settings_from, settings_of, tests_of, values_from}
 
 -- what words ask for: a recording into a bundle at a path; the trace of a bundle, its events, its reports, or what its manifest says; a
--- recording of a made session of so many tests; or a text about the program
+-- recording of a generated session of so many tests; or a text about the program
 pub data Asked : Type 0 where
   recording : List ℕ → Settings → Asked
   tracing : Settings → Asked

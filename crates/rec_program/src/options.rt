@@ -257,7 +257,7 @@ fn output(word: &str) -> Option<LoadOutput>
     }
 }
 
-/// Reads the number of tests of a made session, which is at most [`MAX_TESTS`].
+/// Reads the number of tests of a generated session, which is at most [`MAX_TESTS`].
 #[tactic(auto, unfolding(crate::specs::Options::tests_of))]
 pub fn tests(text: &str) -> Option<u64>
     ensures value { result ≡ tests_of text.now }

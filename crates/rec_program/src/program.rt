@@ -145,7 +145,7 @@ pub fn run_program<S: Source, B: Sink, T: Sink, G: Sink>(
         × (report_of settings.read_limit es ≡ Ok text)
         × Appends (T.taken out.old) (T.taken out.new) text }
 
-    // Status 0 of `sample`: the bundle's sink took the bundle of the made session, and `out` the line that counts its events and the
+    // Status 0 of `sample`: the bundle's sink took the bundle of the generated session, and `out` the line that counts its events and the
     // outputs that are stored of it.
     ensures sampled { (n : ℕ) (path : List ℕ) (settings : Settings)
         → command (texts words.now) ≡ Ok (sampling n path settings)
@@ -198,7 +198,7 @@ pub fn run_program<S: Source, B: Sink, T: Sink, G: Sink>(
         → ¬ Rose (T.faults out.old) (T.faults out.new)
         → (result ≡ 0) ⊎ (result ≡ 70) }
 
-    // A made session within the limits is recorded, unless memory runs out or an object fails.
+    // A generated session within the limits is recorded, unless memory runs out or an object fails.
     ensures sampled_complete { (n : ℕ) (path : List ℕ) (settings : Settings)
         → command (texts words.now) ≡ Ok (sampling n path settings)
         → length (sample_session n) ≤ settings.session_limit
@@ -273,7 +273,7 @@ fn record<S: Source, B: Sink, T: Sink, G: Sink>(
     }
 }
 
-/// Records a made session into the bundle, and prints how much was recorded.
+/// Records a generated session into the bundle, and prints how much was recorded.
 fn sample<B: Sink, T: Sink, G: Sink>(
     alloc: Global,
     tests: u64,

@@ -1,4 +1,4 @@
-//! A made session, recorded.
+//! A generated session, recorded.
 ghost use Rattle.std.specs.Prelude.{◌≡◌, ◌≤◌, IfOk, IfErr, string_bytes};
 ghost use Rattle.rec_store.specs.Namer.{sha256_number};
 ghost use Rattle.rec_sample.specs.Session.{sample_session};
@@ -62,7 +62,7 @@ fn export_made<B: Sink>(
     }
 }
 
-/// Returns why a made session isn't recorded. The trace goes into memory, so it fails for want of memory alone.
+/// Returns why a generated session isn't recorded. The trace goes into memory, so it fails for want of memory alone.
 fn made_error(error: RecordExportError) -> RecordExportError
     ensures { result ≡ sample_error error }
 {

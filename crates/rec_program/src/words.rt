@@ -34,7 +34,7 @@ pub enum Command<'w> {
     Info {
         settings: Settings,
     },
-    /// Records a made session of `n` tests, at most 10000, into the file `bundle`.
+    /// Records a generated session of `n` tests, at most 10000, into the file `bundle`.
     Sample {
         n: u64,
         bundle: &'w str,

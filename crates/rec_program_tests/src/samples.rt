@@ -5,12 +5,12 @@ use rec_container::{FailingSource, SliceSource};
 use std::alloc::{AllocError, Global};
 use std::test::Fail;
 
-/// What comes of a made session of so many tests.
+/// What comes of a generated session of so many tests.
 fn sampled(alloc: Global, tests: &str) -> Result<Ran, AllocError> {
     run_whole(alloc, &["sample", tests, "b"], &mut SliceSource::new(b""))
 }
 
-/// Whether this is printed of a made session, whose bundle is written.
+/// Whether this is printed of a generated session, whose bundle is written.
 fn prints(alloc: Global, tests: &str, expected: &str) -> Result<bool, AllocError> {
     let ran = sampled(alloc, tests)?;
     Ok(
@@ -39,13 +39,13 @@ fn the_largest_session_is_recorded(rt: HostRuntime) -> Result<(), Fail> {
     Ok(())
 }
 
-/// What is printed of the bundle of a made session.
+/// What is printed of the bundle of a generated session.
 fn printed(alloc: Global, tests: &str, words: &[&str]) -> Result<Ran, AllocError> {
     let bundle = sampled(alloc, tests)?.bundle;
     run_whole(alloc, words, &mut SliceSource::new(&bundle))
 }
 
-/// The replay of a made session of one test.
+/// The replay of a generated session of one test.
 fn replay() -> &'static str {
     "\
 header 550e8400-e29b-41d4-a716-446655440000 incomplete
@@ -120,7 +120,7 @@ fn standard_input_is_left_alone(rt: HostRuntime) -> Result<(), Fail> {
     Ok(())
 }
 
-/// What comes of a made session without tests, and what the sinks took.
+/// What comes of a generated session without tests, and what the sinks took.
 fn outcome(alloc: Global, options: &[&str], faults: Faults) -> Result<Ran, AllocError> {
     let mut words = Vec::new(alloc);
     for word in ["sample", "0", "b"] {

@@ -8,7 +8,7 @@ use rec_sample::{MAX_TESTS, sample_session};
 use std::alloc::{AllocError, Global};
 use std::test::Fail;
 
-/// What is printed of the made session of so many tests.
+/// What is printed of the generated session of so many tests.
 fn of_sample(alloc: Global, tests: u64, print: Print) -> Result<String, Fail> {
     let session = sample_session(alloc, tests.min(MAX_TESTS))?;
     let bundle = recorded(alloc, &session)?;

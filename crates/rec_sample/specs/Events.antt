@@ -1,4 +1,4 @@
--- The events of a made session of n tests.
+-- The events of a generated session of n tests.
 use Rattle.std.specs.List.{flat_map, range_with_len}
 use Rattle.std.specs.Prelude.{ℕ, List, [], ◌∷◌, ◌++◌, map, if◌then◌else◌}
 use Rattle.rec_events.specs.declared.events.CoreEventKind.{CoreEventKind}

@@ -1,4 +1,4 @@
--- The head of a made session of n tests.
+-- The head of a generated session of n tests.
 use Rattle.std.specs.List.{filter, range_with_len}
 use Rattle.std.specs.Prelude.{ℕ, ◌%◌, ◌==◌, min, List, [], map, None, codes}
 use Rattle.rec_events.specs.declared.recording.NextestRunMode.TheVariants.{Test}

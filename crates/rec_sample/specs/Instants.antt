@@ -1,4 +1,4 @@
--- When what happens in a made session. A batch takes four seconds.
+-- When what happens in a generated session. A batch takes four seconds.
 use Rattle.std.specs.Prelude.{ℕ, ◌+◌, ◌*◌, pos}
 use Rattle.rec_events.specs.Times.{Span, Moment}
 use Rattle.rec_sample.specs.Batches.{batch, slot, batch_count}

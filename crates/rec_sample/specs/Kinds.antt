@@ -1,4 +1,4 @@
--- What happens in a made session of n tests.
+-- What happens in a generated session of n tests.
 use Rattle.std.specs.Int.{w128, to_be_bytes}
 use Rattle.std.specs.Prelude.{ℕ, ◌%◌, ◌==◌, pos, false, if◌then◌else◌, List, [], ◌∷◌, Some, None, codes}
 use Rattle.rec_events.specs.declared.events.CoreEventKind.TheVariants.{RunStarted, TestStarted, RunPaused, RunContinued, RunFinished}

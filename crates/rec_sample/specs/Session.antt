@@ -1,4 +1,4 @@
--- The text of a made session.
+-- The text of a generated session.
 use Rattle.std.specs.List.{flat_map}
 use Rattle.std.specs.Prelude.{ℕ, List, [], ◌∷◌, ◌++◌}
 use Rattle.serde_json.specs.Written.{compact_text}

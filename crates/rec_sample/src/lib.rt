@@ -1,4 +1,4 @@
-//! A made session of any size, to try a program on.
+//! A generated session of any size, to try a program on.
 #![tactic(auto)]
 
 mod attempts;

@@ -17,7 +17,7 @@ use rec_forms::write_text;
 use serde_json::Value;
 use std::alloc::{AllocError, Global};
 
-/// Bounds the number of tests of a made session.
+/// Bounds the number of tests of a generated session.
 pub const MAX_TESTS: u64 = 10000;
 
 /// Makes the session of `tests` tests, at most [`MAX_TESTS`].

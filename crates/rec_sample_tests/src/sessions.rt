@@ -1,4 +1,4 @@
-//! The texts of made sessions, and how many lines they have.
+//! The texts of generated sessions, and how many lines they have.
 
 use rec_codec::{LineError, LineIter, Lines};
 use rec_events::{LiveSpec, TestEventSummary};
