@@ -1,5 +1,5 @@
 //! The lines of a replay.
-ghost use Rattle.std.specs.Prelude.{◌≡◌, ◌++◌, List, IfErr, IfOk, Ok, OnOk};
+ghost use Rattle.std.specs.Prelude.{◌≡◌, ◌++◌, List, IfErr, Ok, OnOk};
 ghost use Rattle.rec_container.specs.Container.{Entry, IsContainer};
 ghost use Rattle.rec_format.specs.Runs.{info_of};
 ghost use Rattle.rec_replay.specs.Lines.{header_line, line_text};
@@ -15,7 +15,7 @@ use rec_events::TestEvent;
 use rec_format::PortableManifest;
 use rec_portable::PortableRecording;
 use rec_replay::{EventReporter, LineReporter, LoadOutput, OutputLoadDecider, ReplayHeader};
-use std::alloc::{AllocError, Global};
+use std::alloc::Global;
 
 /// Writes the lines of a bundle's replay: that of its head, and then one for each event of the log that
 /// has one. Each test of the test list may be named. With `Skip` no output is read.
@@ -93,21 +93,23 @@ fn write_line(
 fn header_text(alloc: Global, manifest: &PortableManifest) -> Result<Vec<u8>, ListingError>
     ensures { Makes (Ok (header_line (header_of (info_of manifest.now.run)))) result }
 {
-    let header = replay_header(alloc, manifest)?;
+    let header = replay_header(manifest);
     let mut sink = GrowingSink::new(alloc);
     write_header(alloc, &mut sink, &header)?;
     Ok(sink.into_bytes())
 }
 
 /// Makes the head of a replay.
-fn replay_header(alloc: Global, manifest: &PortableManifest) -> Result<ReplayHeader, AllocError>
-    ensures { IfOk result (λ header. header ≡ header_of (info_of manifest.now.run)) }
+fn replay_header(manifest: &PortableManifest) -> ReplayHeader
+    ensures { result ≡ header_of (info_of manifest.now.run) }
 {
-    let info = manifest.run_info(alloc)?;
-    let header = ReplayHeader::new(alloc, info.run_id, &info, None);
-    // By a call: in place, each part of the run's information would be a case of the proof.
-    drop(info);
-    header
+    let run = &manifest.run;
+    ReplayHeader {
+        run_id: run.run_id,
+        unique_prefix: None,
+        started_at: run.started_at,
+        status: run.status.into(),
+    }
 }
 
 /// Writes the line of a head.
