@@ -5,17 +5,12 @@ ghost use Rattle.rec_portable_writer.specs.Names.{bundle_name, run_path, tempora
 use rec_directory::join;
 use rec_events::ReportUuid;
 use std::alloc::{AllocError, Global};
-use uuid::Uuid;
 
 /// Returns the name that the bundle of a run has by default.
 pub(crate) fn default_name(alloc: Global, run_id: ReportUuid) -> Result<String, AllocError>
     ensures { IfOk result (λ name. string_bytes name ≡ bundle_name run_id) }
 {
-    let mut buffer = Uuid::encode_buffer();
-    let mut name = String::from_str(alloc, "nextest-run-")?;
-    name.push_str(run_id.uuid().hyphenated().encode_lower(&mut buffer))?;
-    name.push_str(".zip")?;
-    Ok(name)
+    format!(in alloc; "nextest-run-{run_id}.zip")
 }
 
 /// Returns the path of a run's directory.
@@ -26,12 +21,8 @@ pub(crate) fn run_dir(
 ) -> Result<String, AllocError>
     ensures { IfOk result (λ path. string_bytes path ≡ run_path runs_dir.now run_id) }
 {
-    let mut buffer = Uuid::encode_buffer();
-    join(
-        alloc,
-        runs_dir,
-        run_id.uuid().hyphenated().encode_lower(&mut buffer),
-    )
+    let name = format!(in alloc; "{run_id}")?;
+    join(alloc, runs_dir, &name)
 }
 
 /// Returns the path under which a file is written until it is whole.
