@@ -9,7 +9,6 @@ use std::alloc::{AllocError, Global};
 use std::collections::BTreeMap;
 use std::marker::Model;
 use std::ops::Bound;
-use uuid::Uuid;
 
 /// Cuts a run's id after the shortest prefix that stands for it.
 #[derive(Drop)]
@@ -85,8 +84,7 @@ impl RunIdIndex {
 fn text_of(alloc: Global, id: ReportUuid) -> Result<String, AllocError>
     ensures { IfOk result (IsTextOf id) }
 {
-    let mut buffer = Uuid::encode_buffer();
-    String::from_str(alloc, id.uuid().hyphenated().encode_lower(&mut buffer))
+    format!(in alloc; "{id}")
 }
 
 /// How much a text shares with the keys below it, of which the nearest shares most.
