@@ -6,7 +6,9 @@ pub mod Groupings
 pub mod Histories
 pub mod Keys
 pub mod Maps
+pub mod Notings
 pub mod Once
+pub mod OpenScripts
 pub mod OpenTests
 pub mod Orders
 pub mod Pids

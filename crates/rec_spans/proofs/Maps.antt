@@ -207,10 +207,10 @@ module _ (slots : List (OwnedTestInstanceId × ℕ)) (es : List (Place × Span))
   pub open-one : (k : SpanKey) (p : Place) (s : Span) → place_of slots k ≡ Some p → at es p ≡ Some s → of_key k (values_of es) ≡ s ∷ []
   open-one k p s line found = tied.at_key k ∙ ap (λ o. option_to_list (option_and_then (at es) o)) line ∙ ap option_to_list found
 
-  key-one : (k : SpanKey) (p : Place) (s : Span) → place_of slots k ≡ Some p → at es p ≡ Some s → s.key ≡ k
+  pub key-one : (k : SpanKey) (p : Place) (s : Span) → place_of slots k ≡ Some p → at es p ≡ Some s → s.key ≡ k
   key-one k p s line found = key_eq-true s.key k (one-passes (λ (x : Span). key_eq x.key k) s (values_of es) (open-one k p s line found))
 
-  place-one : (p : Place) (s : Span) → at es p ≡ Some s → place_eq p s.place ≡ true
+  pub place-one : (p : Place) (s : Span) → at es p ≡ Some s → place_eq p s.place ≡ true
   place-one p s found = one-passes (λ (x : Span). place_eq p x.place) s (values_of es) (tied.at_place p ∙ ap option_to_list found)
 
   -- no two keys have one place at which a span stands

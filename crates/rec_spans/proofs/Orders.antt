@@ -1,9 +1,10 @@
 -- The orders of places, of tests and of binaries, by which maps find them, are those of the definitions.
-use Rattle.std.proofs.Common.{◌≡◌, ℕ, ◌&&◌, List, Option, cond, refl, sym, ◌∙◌, ap, bytes_eq}
+use Rattle.std.proofs.Common.{◌≡◌, ℕ, ◌&&◌, List, Option, cond, refl, sym, ◌∙◌, ap, bytes_eq, subst}
 use Rattle.std.proofs.lemmas.Map.Text.{is_eq-slice_cmp}
-use Rattle.std.specs.BTreeMap.{BTreeMap, UpdatesBy, get_by, insert_entry, is_at}
+use Rattle.std.specs.BTreeMap.{BTreeMap, IsOrdered, UpdatesBy, get_by, insert_entry, is_at}
 use Rattle.std.specs.Cmp.Lexicographic.{slice_cmp}
-use Rattle.std.specs.Map.{lookup, remove_entry}
+use Rattle.std.specs.List.Sorted.{IsStrictlySortedBy}
+use Rattle.std.specs.Map.{keys_of, lookup, remove_entry}
 use Rattle.std.specs.Ordering.{is_eq, nat_cmp}
 use Rattle.rec_events.specs.contracts.ids.RustBinaryIdOrd.TheImpl as binaries
 use Rattle.rec_events.specs.contracts.instances.OwnedTestInstanceIdOrd.TheImpl as tests
@@ -77,6 +78,10 @@ span-insert es es' p s h = h ∙ ap (λ f. insert_entry f es p s) places
 
 pub span-remove : (es es' : List (Place × Span)) (p : Place) → es' ≡ remove_entry (is_at (derived.cmp-value.it p)) es → es' ≡ remove_entry (is_at (place_cmp p)) es
 span-remove es es' p h = h ∙ ap (λ f. remove_entry (is_at (f p)) es) places
+
+-- the places of a map ascend
+pub span-ordered : (m : BTreeMap Place Span) → IsOrdered derived.cmp-value.it m → IsStrictlySortedBy place_cmp (keys_of m.entries)
+span-ordered m h = subst (λ f. IsStrictlySortedBy f (keys_of m.entries)) places h
 
 -- ---- binaries
 

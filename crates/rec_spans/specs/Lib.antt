@@ -9,6 +9,7 @@ pub mod Refusals
 pub mod Turns
 pub mod Positions
 pub mod Tied
+pub mod Noted
 pub mod Seen
 pub mod Starts
 pub mod Judged

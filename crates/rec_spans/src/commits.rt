@@ -154,7 +154,7 @@ fn open_started(
         }
         Act::RunStarts => open_spans.open(span),
         Act::SubRunStarts => open_spans.open(span),
-        Act::ScriptStarts { .. } => open_spans.open(span),
+        Act::ScriptStarts { index, id } => open_spans.open_script(alloc, index, id, span),
         // no other event starts a span
         _ => unreachable!(),
     }

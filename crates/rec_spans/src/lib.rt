@@ -9,6 +9,7 @@ mod judged;
 mod judging;
 pub mod laws;
 mod open_spans;
+mod script_notes;
 mod settings;
 mod span_tracker;
 mod spans;

@@ -1,12 +1,13 @@
 //! The spans that are open at once.
-ghost use Rattle.std.specs.Prelude.{◌≡◌, [], Some, not, OnOk, OnErr, option_copied, option_to_list, slice_get};
+ghost use Rattle.std.specs.Prelude.{◌≡◌, [], false, Some, not, OnOk, OnErr, option_copied, option_to_list, slice_get};
 ghost use Rattle.rec_spans.specs.declared.spans.Place.TheVariants as places;
 ghost use Rattle.rec_spans.specs.declared.spans.SpanKey.TheVariants as keys;
 ghost use Rattle.rec_spans.specs.Past.{in_place, of_key, put_in, without};
 ghost use Rattle.rec_spans.specs.Refusals.{is_none_open, is_script, scripts_in, under};
 ghost use Rattle.rec_spans.specs.Tied.{place_of};
 
-use crate::spans::{Place, Span, SpanKey};
+use crate::script_notes::ScriptNotes;
+use crate::spans::{Place, Span};
 use rec_events::{OwnedTestInstanceId, ScriptId, TryClone};
 use std::alloc::{AllocError, Global};
 use std::collections::BTreeMap;
@@ -19,6 +20,8 @@ use std::marker::Model;
 pub struct OpenSpans {
     /// The slot of each test of which an attempt is open.
     slots: BTreeMap<OwnedTestInstanceId, u64>,
+    /// The indexes of the open setup scripts, by their ids.
+    scripts: ScriptNotes,
     spans: BTreeMap<Place, Span>,
 }
 
@@ -26,13 +29,14 @@ impl Model for OpenSpans {
     ghost use Rattle.std.specs.Map.{values_of};
     ghost use Rattle.std.specs.Prelude.{List};
     ghost use Rattle.rec_spans.specs.declared.spans.Span.{Span};
+    ghost use Rattle.rec_spans.specs.Noted.{AreNoted};
     ghost use Rattle.rec_spans.specs.Tied.{AreTied};
 
     ghost Value = { List Span };
 
     ghost view = { λ o. values_of o.spans.entries };
 
-    ghost invariant = { λ o. AreTied o.slots.entries o.spans.entries };
+    ghost invariant = { λ o. AreTied o.slots.entries o.spans.entries × AreNoted o.scripts.notes o.spans.entries };
 }
 
 impl OpenSpans {
@@ -42,6 +46,7 @@ impl OpenSpans {
     {
         OpenSpans {
             slots: BTreeMap::new(alloc),
+            scripts: ScriptNotes::new(alloc),
             spans: BTreeMap::new(alloc),
         }
     }
@@ -88,12 +93,10 @@ impl OpenSpans {
     pub fn some_script(&self, id: &ScriptId) -> Option<&Span>
         ensures { option_copied result ≡ slice_get (under id.now (scripts_in self.now)) 0 }
     {
-        for span in self.iter() {
-            if is_script(&span.key) && span.name.as_str() == id.as_str() {
-                return Some(span);
-            }
-        }
-        None
+        // what the first is rests on the order of the places
+        let _ordered = self.spans.len();
+        let first = self.scripts.first(id.as_str())?;
+        self.spans.get(&Place::Script(first))
     }
 
     /// Returns the span of the open attempt of a test, where there is one.
@@ -111,19 +114,52 @@ impl OpenSpans {
         self.spans.get(&Place::Slot(slot))
     }
 
-    /// Opens a span that is not of a test.
+    /// Opens the span of the run or of the sub-run.
     ///
     /// # Errors
     ///
     /// Fails only where memory ran out. Nothing is opened then.
     pub(crate) fn open(&mut self, span: Span) -> Result<(), AllocError>
         requires place { place_of [] span.key ≡ Some span.place }
+        requires no_script { is_script span.key ≡ false }
         requires key_free { of_key span.key self.old ≡ [] }
         ensures ok { OnOk result (self.new ≡ put_in span self.old) }
         ensures err { OnErr result (self.new ≡ self.old) }
     {
         self.spans.insert(span.place, span)?;
         Ok(())
+    }
+
+    /// Opens the span of a setup script, whose name is the script's id.
+    ///
+    /// # Errors
+    ///
+    /// Fails only where memory ran out. Nothing is opened then.
+    pub(crate) fn open_script(
+        &mut self,
+        alloc: Global,
+        index: usize,
+        id: &ScriptId,
+        span: Span,
+    ) -> Result<(), AllocError>
+        requires key { span.key ≡ keys.Script index }
+        requires place { span.place ≡ places.Script index }
+        requires name { span.name ≡ id.now }
+        requires key_free { of_key span.key self.old ≡ [] }
+        ensures ok { OnOk result (self.new ≡ put_in span self.old) }
+        ensures err { OnErr result (self.new ≡ self.old) }
+    {
+        let Ok(()) = self.scripts.note(alloc, id.as_str(), index) else {
+            drop(span);
+            return Err(AllocError);
+        };
+        match self.spans.insert(Place::Script(index), span) {
+            Ok(_) => Ok(()),
+            Err(_) => {
+                self.scripts.forget(id.as_str(), index);
+                Err(AllocError)
+            }
+        }
     }
 
     /// Opens the span of an attempt of a test, on a slot.
@@ -182,16 +218,8 @@ impl OpenSpans {
     pub(crate) fn close_script(&mut self, index: usize)
         ensures { self.new ≡ without (keys.Script index) self.old }
     {
-        self.spans.remove(&Place::Script(index));
-    }
-}
-
-/// Returns whether a span of this key is of a setup script.
-fn is_script(key: &SpanKey) -> bool
-    ensures { result ≡ is_script key.now }
-{
-    match key {
-        SpanKey::Script(_) => true,
-        SpanKey::Run | SpanKey::SubRun | SpanKey::Test(_) => false,
+        if let Some(span) = self.spans.remove(&Place::Script(index)) {
+            self.scripts.forget(span.name.as_str(), index);
+        }
     }
 }

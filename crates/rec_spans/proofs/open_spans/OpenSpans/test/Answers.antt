@@ -13,7 +13,7 @@ returns-in_err-slot c =
     let slots = c.self.inside.slots in
     let none : slot_of slots.entries t ≡ None = sym (slot-get slots t) ∙ sym c.get.ensures.value ∙ ap option_copied c.in_err-slot.was in
     ap (λ o. option_to_list (option_copied o)) c.from_residual.ensures
-    ∙ sym (test-none slots.entries c.self.inside.spans.entries c.self.invariant t none)
+    ∙ sym (test-none slots.entries c.self.inside.spans.entries c.self.invariant.0 t none)
     ∙ ap (of_key (Test t)) c.self.view_is
 
 pub returns : goal.returns
@@ -24,5 +24,5 @@ returns c =
     let spans = c.self.inside.spans in
     let line : slot_of slots.entries t ≡ Some n = sym (slot-get slots t) ∙ sym c.get.ensures.value ∙ ap option_copied c.in_ok-slot.was in
     ap option_to_list (c.get-2.ensures.value ∙ span-get spans (Slot n))
-    ∙ test-some slots.entries spans.entries c.self.invariant t n line
+    ∙ test-some slots.entries spans.entries c.self.invariant.0 t n line
     ∙ ap (of_key (Test t)) c.self.view_is

@@ -1,0 +1,28 @@
+use Rattle.std.proofs.Common.{rules, ◌∙◌, Some, true, ap, cond}
+use Rattle.std.proofs.lemmas.Map.Text.{btree_map_updates_text}
+use Rattle.std.proofs.lemmas.Result.{err_from_is_err_and}
+use Rattle.std.specs.BTreeMap.{is_at}
+use Rattle.std.specs.List.{list_any}
+use Rattle.std.specs.Ordering.{nat_cmp}
+use Rattle.rec_spans.proofs.Notings.{renoted, same_noted}
+use Rattle.rec_spans.proofs.script_notes.ScriptNotes.note.Goals as goal
+use Rattle.rec_spans.specs.Noted.{is_among}
+
+pub returns-in_err-insert-clause-err : goal.returns-in_err-insert-clause-err
+returns-in_err-insert-clause-err c =
+    let p = err_from_is_err_and c.from_residual.result c.from_residual.ensures.1 in
+    let old = c.args.self.now.notes in
+    let indexes = c.insert.new.self in
+    let new = c.get_mut.follows.lender indexes in
+    let puts = btree_map_updates_text c.args.id.now old new (Some indexes) ((c.get_mut.follows.holds indexes).3 (search rules)) in
+    let same = same_noted old new c.args.id.now (Some indexes) puts (λ i. ap (list_any (is_at (nat_cmp i))) c.in_err-insert.ensures.err ∙ ap (is_among i) c.in-Some.ensures.value) in
+    rw (p.1, p.2) same
+
+pub returns-clause-ok : goal.returns-clause-ok
+returns-clause-ok c =
+    let old = c.args.self.now.notes in
+    let indexes = c.insert.new.self in
+    let new = c.get_mut.follows.lender indexes in
+    let puts = btree_map_updates_text c.args.id.now old new (Some indexes) ((c.get_mut.follows.holds indexes).3 (search rules)) in
+    renoted old new c.args.id.now (Some indexes) puts c.args.index true
+    (λ i. c.in_ok-insert.ensures.updates.0 i ∙ ap (λ o. cond (is_at (nat_cmp c.args.index) i) true (is_among i o)) c.in-Some.ensures.value)
