@@ -1,0 +1,146 @@
+use Rattle.std.proofs.Common.{◌≡◌, ◌-◌, ◌<◌, [], ◌∷◌, None, Some, length, option_map, sym, ap, ◌∙◌, arith}
+use Rattle.json.proofs.Grammar.{read_key-shorter}
+use Rattle.json.specs.Json.{after_end_array, items, members, parse_map, read_key, value}
+use Rattle.json.specs.Reads.{token_of}
+use Rattle.json.specs.Token.{begin_array, begin_object}
+use Rattle.serde_json.specs.Data.{array, object}
+use Rattle.serde_json.specs.Read.{converted, of_items, of_json}
+use Rattle.rec_json.proofs.Found.{behind, behind-nothing, behind-one_more, members_view-one_more, view-Array, view-Object}
+use Rattle.rec_json.proofs.parse.+nodes.Goals as goal
+use Rattle.rec_json.proofs.ReadSteps.{array_too_deep, at_array, at_object, at_scalar, into, items_closed, members_closed, no_item, no_key, no_member, nothing_left, object_too_deep, one_item, one_member}
+use Rattle.rec_json.specs.Nodes.{members_view, view}
+
+-- ---- one value
+
+pub read_node-returns-in_default-clause-err : goal.read_node-returns-in_default-clause-err
+read_node-returns-in_default-clause-err t c = λ refused.
+    let empty : c.args.reader.now ≡ [] = grind arith in
+    ap (λ ts. converted of_json (value c.args.depth ts)) empty ∙ nothing_left c.args.depth
+
+pub read_node-returns-then-depth-eq0-clause-err : goal.read_node-returns-then-depth-eq0-clause-err
+read_node-returns-then-depth-eq0-clause-err t c = λ refused.
+    let first : c.args.reader.now ≡ begin_array ∷ c.next.new.self = c.in-Some.ensures.value ∙ ap (λ k. token_of k ∷ c.next.new.self) c.in-BeginArray.is in
+    ap (λ ts. converted of_json (value c.args.depth ts)) first ∙ array_too_deep c.args.depth c.next.new.self (omega arith)
+
+pub read_node-returns-then-depth-eq0-2-clause-err : goal.read_node-returns-then-depth-eq0-2-clause-err
+read_node-returns-then-depth-eq0-2-clause-err t c = λ refused.
+    let first : c.args.reader.now ≡ begin_object ∷ c.next.new.self = c.in-Some.ensures.value ∙ ap (λ k. token_of k ∷ c.next.new.self) c.in-BeginObject.is in
+    ap (λ ts. converted of_json (value c.args.depth ts)) first ∙ object_too_deep c.args.depth c.next.new.self (omega arith)
+
+pub read_node-returns-in_err-read_items-in-BeginArray-clause-err : goal.read_node-returns-in_err-read_items-in-BeginArray-clause-err
+read_node-returns-in_err-read_items-in-BeginArray-clause-err t c = λ refused.
+    let first : c.args.reader.now ≡ begin_array ∷ c.next.new.self = c.in-Some.ensures.value ∙ ap (λ k. token_of k ∷ c.next.new.self) c.in-BeginArray.is in
+    ap (λ ts. converted of_json (value c.args.depth ts)) first ∙ at_array c.args.depth c.next.new.self (omega arith) ∙ ap (parse_map array) (c.read_items.ensures.err (grind arith))
+
+pub read_node-returns-in_err-read_members-in-BeginObject-clause-err : goal.read_node-returns-in_err-read_members-in-BeginObject-clause-err
+read_node-returns-in_err-read_members-in-BeginObject-clause-err t c = λ refused.
+    let first : c.args.reader.now ≡ begin_object ∷ c.next.new.self = c.in-Some.ensures.value ∙ ap (λ k. token_of k ∷ c.next.new.self) c.in-BeginObject.is in
+    ap (λ ts. converted of_json (value c.args.depth ts)) first ∙ at_object c.args.depth c.next.new.self (omega arith) ∙ ap (parse_map object) (c.read_members.ensures.err (grind arith))
+
+pub read_node-returns-in_ok-read_items-in-BeginArray-clause-ok : goal.read_node-returns-in_ok-read_items-in-BeginArray-clause-ok
+read_node-returns-in_ok-read_items-in-BeginArray-clause-ok t c =
+    let first : c.args.reader.now ≡ begin_array ∷ c.next.new.self = c.in-Some.ensures.value ∙ ap (λ k. token_of k ∷ c.next.new.self) c.in-BeginArray.is in
+    let found = c.in_ok-read_items-in-BeginArray in
+    ap (λ ts. converted of_json (value c.args.depth ts)) first ∙ at_array c.args.depth c.next.new.self (omega arith) ∙ ap (parse_map array) found.ensures.ok
+    ∙ ap (λ d. Some (d, c.read_items.new.reader)) (sym (view-Array found.field-0))
+
+pub read_node-returns-in_ok-read_members-in-BeginObject-clause-ok : goal.read_node-returns-in_ok-read_members-in-BeginObject-clause-ok
+read_node-returns-in_ok-read_members-in-BeginObject-clause-ok t c =
+    let first : c.args.reader.now ≡ begin_object ∷ c.next.new.self = c.in-Some.ensures.value ∙ ap (λ k. token_of k ∷ c.next.new.self) c.in-BeginObject.is in
+    let found = c.in_ok-read_members-in-BeginObject in
+    ap (λ ts. converted of_json (value c.args.depth ts)) first ∙ at_object c.args.depth c.next.new.self (omega arith) ∙ ap (parse_map object) found.ensures.ok
+    ∙ ap (λ d. Some (d, c.read_members.new.reader)) (sym (view-Object found.field-0))
+
+pub read_node-returns-in-Some-scalar-clause-ok : goal.read_node-returns-in-Some-scalar-clause-ok
+read_node-returns-in-Some-scalar-clause-ok t c =
+    ap (λ ts. converted of_json (value c.args.depth ts)) c.in-Some.ensures.value
+    ∙ at_scalar c.args.depth c.in-Some.token c.next.new.self c.in_default-token.not-BeginArray c.in_default-token.not-BeginObject
+    ∙ ap (option_map (λ d. (d, c.next.new.self))) (sym c.in-Some-scalar.ensures)
+
+pub read_node-returns-in-None-clause-err : goal.read_node-returns-in-None-clause-err
+read_node-returns-in-None-clause-err t c = λ refused.
+    ap (λ ts. converted of_json (value c.args.depth ts)) c.in-Some.ensures.value
+    ∙ at_scalar c.args.depth c.in-Some.token c.next.new.self c.in_default-token.not-BeginArray c.in_default-token.not-BeginObject
+    ∙ ap (option_map (λ d. (d, c.next.new.self))) (sym c.in-None.ensures)
+
+-- ---- lists
+
+pub read_items-returns-in_err-item-clause-err : goal.read_items-returns-in_err-item-clause-err
+read_items-returns-in_err-item-clause-err t c = λ refused.
+    let i = c.items.invariant in
+    let going : (after_end_array c.items.reader ≡ None) × (c.take_end_array.new.self ≡ c.items.reader) = grind arith in
+    i.whole ∙ ap (behind c.items.found.items) (no_item (value c.args.depth) i.turns c.items.reader going.0 (rw (← going.1) (c.read_node.ensures.err (grind arith))))
+
+pub read_items-items-preserved : goal.read_items-items-preserved
+read_items-items-preserved t c =
+    let p = value c.args.depth in
+    let i = c.items.invariant in
+    let found = c.items.found.items in
+    let going : (after_end_array c.items.reader ≡ None) × (c.take_end_array.new.self ≡ c.items.reader) = grind arith in
+    let v = c.in_ok-item.item in
+    let r = c.read_node.new.reader in
+    let less : length r < length c.items.reader = rw (← going.1) c.in_ok-item.ensures.shorter in
+    let turn = one_item p i.turns c.items.reader r (view v) (omega (arith, i.enough, less)) going.0 (rw (← going.1) c.in_ok-item.ensures.ok) in
+    record {
+      turns = i.turns - 1;
+      enough = omega (arith, i.enough, less);
+      whole = i.whole ∙ ap (behind found) turn ∙ behind-one_more found v _ ∙ ap (λ vs. behind vs (converted of_items (items p (i.turns - 1) r))) (sym c.in_ok-push.ensures.items);
+      shorter = omega (arith, i.shorter, less);
+    }
+
+pub read_items-returns-clause-ok : goal.read_items-returns-clause-ok
+read_items-returns-clause-ok t c =
+    let i = c.items.invariant in
+    let r = c.take_end_array.new.self in
+    i.whole ∙ ap (behind c.items.found.items) (items_closed (value c.args.depth) i.turns c.items.reader r i.enough (grind arith)) ∙ behind-nothing c.items.found.items r
+
+-- ---- objects
+
+pub read_members-members-init : goal.read_members-members-init
+read_members-members-init t c =
+    let all = members (value c.args.depth) (length c.args.reader.now) c.args.reader.now in
+    record {
+      turns = length c.args.reader.now;
+      enough = omega arith;
+      whole = ap (λ es. converted (into (members_view es)) all) (sym c.new-found.ensures.items);
+      shorter = omega arith;
+    }
+
+pub read_members-returns-in_err-key-clause-err : goal.read_members-returns-in_err-key-clause-err
+read_members-returns-in_err-key-clause-err t c = λ refused.
+    let i = c.members.invariant in
+    i.whole ∙ no_key (value c.args.depth) (members_view c.members.found.items) i.turns c.members.reader c.in_err-key.ensures.value
+
+pub read_members-returns-in_err-member-clause-err : goal.read_members-returns-in_err-member-clause-err
+read_members-returns-in_err-member-clause-err t c = λ refused.
+    let i = c.members.invariant in
+    let k = c.in-Some.key.now in
+    let s = c.next_key.new.self in
+    let named : read_key c.members.reader ≡ Some (Some k, s) = grind arith in
+    i.whole ∙ no_member (value c.args.depth) (members_view c.members.found.items) i.turns k c.members.reader s named (c.read_node.ensures.err (grind arith))
+
+pub read_members-members-preserved : goal.read_members-members-preserved
+read_members-members-preserved t c =
+    let p = value c.args.depth in
+    let i = c.members.invariant in
+    let found = c.members.found.items in
+    let k = c.in-Some.key.now in
+    let s = c.next_key.new.self in
+    let named : read_key c.members.reader ≡ Some (Some k, s) = grind arith in
+    let v = c.in_ok-member.member in
+    let r = c.read_node.new.reader in
+    let key_less = read_key-shorter c.members.reader (Some k) s named in
+    let less : length r < length c.members.reader = omega (arith, key_less, c.in_ok-member.ensures.shorter) in
+    let turn = one_member p (members_view found) i.turns k c.members.reader s r (view v) (omega (arith, i.enough, less)) named c.in_ok-member.ensures.ok in
+    let put_in = members_view-one_more found c.in-Some.key v in
+    record {
+      turns = i.turns - 1;
+      enough = omega (arith, i.enough, less);
+      whole = i.whole ∙ turn ∙ ap (λ ms. converted (into ms) (members p (i.turns - 1) r)) (sym (ap members_view c.in_ok-push.ensures.items ∙ put_in));
+      shorter = omega (arith, i.shorter, less);
+    }
+
+pub read_members-returns-clause-ok : goal.read_members-returns-clause-ok
+read_members-returns-clause-ok t c =
+    let i = c.members.invariant in
+    i.whole ∙ members_closed (value c.args.depth) (members_view c.members.found.items) i.turns c.members.reader c.next_key.new.self i.enough (grind arith)

@@ -1,0 +1,4 @@
+pub mod Fields
+pub mod Nodes
+pub mod Scalars
+pub mod Tokens
