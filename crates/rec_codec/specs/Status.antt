@@ -17,7 +17,7 @@ use Rattle.rec_forms.specs.Times.{stamp_value, stamp_form, IsStamp, duration_val
 use Rattle.rec_codec.specs.declared.status.Course.{Course}
 use Rattle.rec_codec.specs.Writes.{every}
 
--- ---- when an attempt ran
+-- ---- when an attempt ran, and how long
 
 abbrev pub course_fields : Course → List Field
 course_fields c =
@@ -25,6 +25,7 @@ course_fields c =
     ∷ field (codes "time-taken") (duration_value c.time_taken)
     ∷ field (codes "is-slow") (boolean c.is_slow)
     ∷ field (codes "delay-before-start") (duration_value c.delay_before_start)
+    ∷ optional (codes "cpu-time") duration_value c.cpu_time
     ∷ []
 
 unfoldable pub course_form : Members → Option Course
@@ -33,16 +34,18 @@ course_form ms = do
   time_taken ← required duration_form (codes "time-taken") ms
   is_slow ← required as_bool (codes "is-slow") ms
   delay_before_start ← required duration_form (codes "delay-before-start") ms
-  Some (record { start_time = start_time; time_taken = time_taken; is_slow = is_slow; delay_before_start = delay_before_start })
+  cpu_time ← maybe duration_form (codes "cpu-time") ms
+  Some (record { start_time = start_time; time_taken = time_taken; is_slow = is_slow; delay_before_start = delay_before_start; cpu_time = cpu_time })
 
 pub record IsCourse (c : Course) : Type 0 where
   pub start_time : IsStamp c.start_time
   pub time_taken : IsDuration c.time_taken
   pub delay_before_start : IsDuration c.delay_before_start
+  pub cpu_time : IfSome c.cpu_time IsDuration
 
 module _ {S O : Type 0} where
   abbrev pub course_of : ExecuteStatus S O → Course
-  course_of s = record { start_time = s.start_time; time_taken = s.time_taken; is_slow = s.is_slow; delay_before_start = s.delay_before_start }
+  course_of s = record { start_time = s.start_time; time_taken = s.time_taken; is_slow = s.is_slow; delay_before_start = s.delay_before_start; cpu_time = s.cpu_time }
 
 -- ---- values
 
@@ -63,6 +66,20 @@ module _ {S O : Type 0} (output_value : O → Data) where
       ∷ field (codes "result") (execution_result_value s.result)
       ∷ course_fields (course_of s)
       ++ optional (codes "error-summary") error_summary_value s.error_summary
+      ∷ optional (codes "output-error-slice") error_slice_value s.output_error_slice
+      ∷ [])
+
+  -- as stores of version 3.0 have it
+  abbrev pub status_value_3_0 : ExecuteStatus S O → Data
+  status_value_3_0 s = struct (
+      field (codes "retry-data") (retry_data_value s.retry_data)
+      ∷ field (codes "output") (description_value s.output)
+      ∷ field (codes "result") (execution_result_value s.result)
+      ∷ field (codes "start-time") (stamp_value s.start_time)
+      ∷ field (codes "time-taken") (duration_value s.time_taken)
+      ∷ field (codes "is-slow") (boolean s.is_slow)
+      ∷ field (codes "delay-before-start") (duration_value s.delay_before_start)
+      ∷ optional (codes "error-summary") error_summary_value s.error_summary
       ∷ optional (codes "output-error-slice") error_slice_value s.output_error_slice
       ∷ [])
 
@@ -105,6 +122,7 @@ module _ {S O : Type 0} (output_form : Data → Option O) where
       delay_before_start = course.delay_before_start;
       error_summary = error_summary;
       output_error_slice = output_error_slice;
+      cpu_time = course.cpu_time;
     })
 
   unfoldable pub attempts_form : Data → Option (List (ExecuteStatus S O))

@@ -23,7 +23,7 @@ use Rattle.rec_forms.specs.ResultLaws.{flaky_result_back, flaky_result_writable,
 use Rattle.rec_forms.specs.Results.{execution_result_value, execution_result_form, IsExecutionResult, flaky_result_form}
 use Rattle.rec_forms.specs.Shape.{text_of, only}
 use Rattle.rec_forms.specs.TimeLaws.{stamp_back, stamp_writable, duration_back, duration_writable, duration_well_formed, stamp_well_formed}
-use Rattle.rec_forms.specs.Times.{duration_form, stamp_form}
+use Rattle.rec_forms.specs.Times.{duration_form, duration_value, stamp_form, IsDuration}
 use Rattle.rec_forms.specs.WellFormedLaws.{any_well_formed, and_then_holds, map_holds, only_holds, object_then, required_then, maybe_then, then_holds, variant_well_formed, list_well_formed}
 use Rattle.rec_forms.specs.Writable.{IsWritable, weaker, struct_writable, tagged_writable, string_writable, boolean_writable, list_writable, optional_writable}
 use Rattle.rec_codec.specs.Status.{description_value, description_form, output_case_form, IsDescription, course_form, status_value, status_form, IsStatus, statuses_value, attempts_form, statuses_form, AreStatuses, IsCourse, start_error_form}
@@ -51,6 +51,7 @@ module _ {S O : Type 0} (P : O → Type 0) (output_value : O → Data) (output_f
         stamp_back _ h.course.start_time,
         duration_back _ h.course.time_taken,
         duration_back _ h.course.delay_before_start,
+        maybe_back IsDuration duration_value duration_form duration_back duration_writable s.cpu_time h.course.cpu_time,
         retry_data_back _ h.retry_data,
         description_back s.output h.output,
         execution_result_back s.result h.result,
@@ -97,8 +98,11 @@ module _ {S O : Type 0} (P : O → Type 0) (n : ℕ) (output_value : O → Data)
                   (
                     weaker 1 (n + 6) (omega arith) (duration_writable s.delay_before_start h.course.delay_before_start),
                     (
-                      optional_writable error_summary_value (λ e is. weaker 1 (n + 6) (omega arith) (error_summary_writable e is)) s.error_summary h.error_summary,
-                      (optional_writable error_slice_value (λ e is. weaker 1 (n + 6) (omega arith) (error_slice_writable e is)) s.output_error_slice h.output_error_slice, tt),
+                      optional_writable duration_value (λ d is. weaker 1 (n + 6) (omega arith) (duration_writable d is)) s.cpu_time h.course.cpu_time,
+                      (
+                        optional_writable error_summary_value (λ e is. weaker 1 (n + 6) (omega arith) (error_summary_writable e is)) s.error_summary h.error_summary,
+                        (optional_writable error_slice_value (λ e is. weaker 1 (n + 6) (omega arith) (error_slice_writable e is)) s.output_error_slice h.output_error_slice, tt),
+                      ),
                     ),
                   ),
                 ),
@@ -124,7 +128,8 @@ course_well_formed ms =
     required_then duration_form (codes "time-taken") ms _ duration_well_formed (λ time_taken time_taken_is.
     required_then as_bool (codes "is-slow") ms _ (any_well_formed as_bool) (λ is_slow is_slow_is.
     required_then duration_form (codes "delay-before-start") ms _ duration_well_formed (λ delay_before_start delay_before_start_is.
-    record { is = record { start_time = start_time_is; time_taken = time_taken_is; delay_before_start = delay_before_start_is } }))))
+    maybe_then duration_form (codes "cpu-time") ms _ duration_well_formed (λ cpu_time cpu_time_is.
+    record { is = record { start_time = start_time_is; time_taken = time_taken_is; delay_before_start = delay_before_start_is; cpu_time = cpu_time_is } })))))
 
 -- a list that is not empty
 some_well_formed : {T : Type 0} {P : T → Type 0} (form : Data → Option T) → GivesWellFormed P form → GivesWellFormed (λ xs. AllByRecursion P xs × (0 < length xs)) (some_form form)

@@ -7,22 +7,21 @@ ghost use Rattle.rec_codec.specs.CoreKindForms.{script_kinds, test_kinds, core_k
 ghost use Rattle.rec_codec.specs.CoreKinds.{kind_field, core_name, core_fields, IsCore};
 
 use crate::run_kinds::{
-    held_run_finished, held_run_started, held_stress_sub_run_finished, put_run_begin_cancel,
-    put_run_finished, put_run_started, put_running, put_stress_sub_run_finished,
-    put_stress_sub_run_started, run_begin_cancel_from, run_continued_from, run_finished_from,
-    run_paused_from, run_started_from, stress_sub_run_finished_from, stress_sub_run_started_from,
+    put_run_begin_cancel, put_run_finished, put_run_started, put_running,
+    put_stress_sub_run_finished, put_stress_sub_run_started, run_begin_cancel_from,
+    run_continued_from, run_finished_from, run_paused_from, run_started_from,
+    stress_sub_run_finished_from, stress_sub_run_started_from,
 };
 use crate::script_kinds::{
-    held_setup_script_slow, held_setup_script_started, put_setup_script_slow,
-    put_setup_script_started, setup_script_slow_from, setup_script_started_from,
+    put_setup_script_slow, put_setup_script_started, setup_script_slow_from,
+    setup_script_started_from,
 };
 use crate::test_kinds::{
-    held_test_retry_started, held_test_skipped, held_test_slow, held_test_started,
     put_test_retry_started, put_test_skipped, put_test_slow, put_test_started,
     test_retry_started_from, test_skipped_from, test_slow_from, test_started_from,
 };
 use rec_events::CoreEventKind;
-use rec_forms::{FromValueError, Held, Object, put_text};
+use rec_forms::{FromValueError, Object, put_text};
 use serde_json::Value;
 use std::alloc::{AllocError, Global};
 
@@ -138,39 +137,5 @@ fn test_from(alloc: Global, object: &Object, name: &str) -> Result<CoreEventKind
         "test-retry-started" => test_retry_started_from(alloc, object),
         "test-skipped" => test_skipped_from(alloc, object),
         _ => Err(FromValueError::NotAValue),
-    }
-}
-
-/// States that a kind is well-formed. It does nothing.
-pub fn held_core(kind: &CoreEventKind)
-    ensures { IsCore kind.now }
-{
-    match kind {
-        CoreEventKind::RunStarted { .. } => held_run_started(kind),
-        CoreEventKind::StressSubRunStarted { progress } => progress.held(),
-        CoreEventKind::SetupScriptStarted { .. } => held_setup_script_started(kind),
-        CoreEventKind::SetupScriptSlow { .. } => held_setup_script_slow(kind),
-        CoreEventKind::TestStarted { .. } => held_test_started(kind),
-        CoreEventKind::TestSlow { .. } => held_test_slow(kind),
-        CoreEventKind::TestRetryStarted { .. } => held_test_retry_started(kind),
-        CoreEventKind::TestSkipped { .. } => held_test_skipped(kind),
-        CoreEventKind::RunBeginCancel {
-            setup_scripts_running,
-            running,
-            ..
-        }
-        | CoreEventKind::RunPaused {
-            setup_scripts_running,
-            running,
-        }
-        | CoreEventKind::RunContinued {
-            setup_scripts_running,
-            running,
-        } => {
-            setup_scripts_running.held();
-            running.held();
-        }
-        CoreEventKind::StressSubRunFinished { .. } => held_stress_sub_run_finished(kind),
-        CoreEventKind::RunFinished { .. } => held_run_finished(kind),
     }
 }

@@ -6,14 +6,13 @@ ghost use Rattle.rec_forms.specs.Shape.{with_members};
 ghost use Rattle.rec_codec.specs.EventForms.{kind_fields, kind_named, kind_form, kind_loaded, IsKind, event_value, event_form, IsEvent};
 ghost use Rattle.rec_codec.specs.Writes.{Writes, PutsLoaded};
 
-use crate::core_kinds::{core_from, held_core, put_core};
-use crate::held::HeldOutput;
+use crate::core_kinds::{core_from, put_core};
 use crate::output_kinds::{
-    attempt_failed_from, held_output_kind, put_output, script_finished_from, test_finished_from,
+    attempt_failed_from, put_output, script_finished_from, test_finished_from,
 };
 use crate::{OutputForm, ToValueError};
 use rec_events::{TestEventKindSummary, TestEventSummary};
-use rec_forms::{FromValueError, Held, Object, member, put_field, required_field};
+use rec_forms::{FromValueError, Object, member, put_field, required_field};
 use serde_json::{Map, Value};
 use std::alloc::Global;
 
@@ -138,23 +137,4 @@ fn event_from<S: OutputForm>(
         elapsed: required_field(alloc, object, "elapsed")?,
         kind: kind_from(alloc, object)?,
     })
-}
-
-/// States that a kind is well-formed where its outputs are loaded.
-fn held_kind<S: HeldOutput>(kind: &TestEventKindSummary<S>)
-    ensures { kind_loaded S.loaded kind.now ≡ true → IsKind S.output_well_formed kind.now }
-{
-    match kind {
-        TestEventKindSummary::Core(kind) => held_core(kind),
-        TestEventKindSummary::Output(kind) => held_output_kind(kind),
-    }
-}
-
-/// States that an event is well-formed where its outputs are loaded. It does nothing.
-pub fn held_event<S: HeldOutput>(event: &TestEventSummary<S>)
-    ensures { kind_loaded S.loaded event.now.kind ≡ true → IsEvent S.output_well_formed event.now }
-{
-    event.timestamp.held();
-    event.elapsed.held();
-    held_kind(&event.kind);
 }

@@ -3,7 +3,9 @@ ghost use Rattle.std.specs.Iterator.{Drains, Yields, YieldsThen};
 ghost use Rattle.std.specs.List.{AllByRecursion};
 ghost use Rattle.std.specs.Prelude.{◌≡◌, ◌↔◌, ◌++◌, List, map, ℕ, None, Some, Ok, Err, true};
 ghost use Rattle.serde_json.specs.Data.{Data};
+ghost use Rattle.serde_json.specs.Written.{compact_text};
 ghost use Rattle.rec_events.specs.declared.events.TestEventSummary.{TestEventSummary};
+ghost use Rattle.rec_events.specs.declared.statuses.ExecuteStatus.{ExecuteStatus};
 ghost use Rattle.rec_forms.specs.GivesWellFormed.{GivesWellFormed};
 ghost use Rattle.rec_forms.specs.Outputs.{IsStoredOutputs, stored_outputs_form, stored_outputs_value};
 ghost use Rattle.rec_codec.specs.declared.line_events.LineError.TheVariants.{OutOfMemory};
@@ -14,10 +16,10 @@ ghost use Rattle.rec_codec.specs.LineItems.{GivesNext};
 ghost use Rattle.rec_codec.specs.LineReading.{GivesUpTo, before_fault, events_before_fault, first_line_fault, line_items};
 ghost use Rattle.rec_codec.specs.Lines.{NumberedLine, lines, numbered};
 ghost use Rattle.rec_codec.specs.Live.{is_loaded, live_form, live_value, IsLive};
+ghost use Rattle.rec_codec.specs.Status.{status_value, status_value_3_0};
 
 use crate::OutputForm;
-use crate::event::held_event;
-use rec_events::{LiveSpec, RecordingSpec, TestEventSummary};
+use rec_events::TestEventSummary;
 
 /// States that a log of well-formed events is read as these events.
 pub fn log_reads()
@@ -44,20 +46,11 @@ pub fn read_events_are_well_formed()
     ensures recorded_text { (text : List ℕ) (e : RecordedEvent) → recorded_event_of text ≡ Some e → IsEvent IsStoredOutputs e }
 {}
 
-/// States that an event of a session that a program holds with its outputs loaded is well-formed, whether it
-/// is ever written or not.
-pub fn held_events_are_well_formed(event: &TestEventSummary<LiveSpec>)
-    ensures { kind_loaded is_loaded event.now.kind ≡ true → IsEvent IsLive event.now }
-{
-    held_event(event);
-}
-
-/// States that an event of a log that a program holds is well-formed, whether it is ever written or not.
-pub fn held_recorded_events_are_well_formed(event: &TestEventSummary<RecordingSpec>)
-    ensures { IsEvent IsStoredOutputs event.now }
-{
-    held_event(event);
-}
+/// States that an attempt whose cpu time isn't known is written as stores of version 3.0 have it, byte for byte.
+pub fn older_attempts_stay<S: OutputForm>()
+    ensures { (s : ExecuteStatus S S.ChildOutput) → s.cpu_time ≡ None
+        → compact_text (status_value S.output_value s) ≡ compact_text (status_value_3_0 S.output_value s) }
+{}
 
 /// States that an event that is read as one of a session, from any value and from any text, has its outputs:
 /// none of them is one that was not loaded.

@@ -4,7 +4,6 @@
 mod core_kinds;
 mod errors;
 mod event;
-mod held;
 pub mod laws;
 mod line_events;
 mod line_iter;

@@ -7,15 +7,11 @@ ghost use Rattle.rec_codec.specs.OutputKinds.{output_name, reporting_fields, rep
 ghost use Rattle.rec_codec.specs.Writes.{PutsLoaded};
 
 use crate::core_kinds::put_kind_name;
-use crate::held::{HeldLoaded, HeldOutput};
 use crate::loaded_form::{put_loaded, required_loaded};
 use crate::script_kinds::{Command, Place, put_command, put_place};
 use crate::{OutputForm, ToValueError};
 use rec_events::{JunitFlakyFailStatus, OutputEventKind, TestOutputDisplay};
-use rec_forms::{
-    FromValueError, Held, Object, held_optional, optional_field, put_field, put_optional,
-    required_field,
-};
+use rec_forms::{FromValueError, Object, optional_field, put_field, put_optional, required_field};
 use std::alloc::{AllocError, Global};
 
 /// How a finished test is reported.
@@ -314,88 +310,4 @@ pub fn test_finished_from<S: OutputForm>(
         current_stats,
         running,
     })
-}
-
-/// States that a setup script's end is well-formed where its outputs are loaded.
-fn held_script_finished<S: HeldOutput>(kind: &OutputEventKind<S>)
-    requires named { output_name kind.now ≡ codes "setup-script-finished" }
-    ensures { output_loaded S.loaded kind.now ≡ true → IsOutput S.output_well_formed kind.now }
-{
-    let OutputEventKind::SetupScriptFinished {
-        stress_index,
-        index,
-        total,
-        script_id,
-        program,
-        args,
-        run_status,
-        ..
-    } = kind
-    else {
-        unreachable!()
-    };
-    held_optional(stress_index);
-    index.held();
-    total.held();
-    script_id.held();
-    program.held();
-    args.held();
-    run_status.held_loaded();
-}
-
-/// States that a failed attempt is well-formed where its outputs are loaded.
-fn held_attempt_failed<S: HeldOutput>(kind: &OutputEventKind<S>)
-    requires named { output_name kind.now ≡ codes "test-attempt-failed-will-retry" }
-    ensures { output_loaded S.loaded kind.now ≡ true → IsOutput S.output_well_formed kind.now }
-{
-    let OutputEventKind::TestAttemptFailedWillRetry {
-        stress_index,
-        test_instance,
-        run_status,
-        delay_before_next_attempt,
-        running,
-        ..
-    } = kind
-    else {
-        unreachable!()
-    };
-    held_optional(stress_index);
-    test_instance.held();
-    run_status.held_loaded();
-    delay_before_next_attempt.held();
-    running.held();
-}
-
-/// States that a finished test is well-formed where its outputs are loaded.
-fn held_test_finished<S: HeldOutput>(kind: &OutputEventKind<S>)
-    requires named { output_name kind.now ≡ codes "test-finished" }
-    ensures { output_loaded S.loaded kind.now ≡ true → IsOutput S.output_well_formed kind.now }
-{
-    let OutputEventKind::TestFinished {
-        stress_index,
-        test_instance,
-        run_statuses,
-        current_stats,
-        running,
-        ..
-    } = kind
-    else {
-        unreachable!()
-    };
-    held_optional(stress_index);
-    test_instance.held();
-    run_statuses.held_loaded();
-    current_stats.held();
-    running.held();
-}
-
-/// States that a kind is well-formed where its outputs are loaded. It does nothing.
-pub fn held_output_kind<S: HeldOutput>(kind: &OutputEventKind<S>)
-    ensures { output_loaded S.loaded kind.now ≡ true → IsOutput S.output_well_formed kind.now }
-{
-    match kind {
-        OutputEventKind::SetupScriptFinished { .. } => held_script_finished(kind),
-        OutputEventKind::TestAttemptFailedWillRetry { .. } => held_attempt_failed(kind),
-        OutputEventKind::TestFinished { .. } => held_test_finished(kind),
-    }
 }

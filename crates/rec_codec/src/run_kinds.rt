@@ -7,10 +7,7 @@ ghost use Rattle.rec_codec.specs.CoreKindForms.{run_started_form, stress_sub_run
 ghost use Rattle.rec_codec.specs.CoreKinds.{core_name, core_members, running_fields, IsCore};
 
 use rec_events::CoreEventKind;
-use rec_forms::{
-    FromValueError, Held, Object, held_optional, optional_field, put_field, put_optional,
-    required_field,
-};
+use rec_forms::{FromValueError, Object, optional_field, put_field, put_optional, required_field};
 use std::alloc::{AllocError, Global};
 
 /// Writes the members of a run's start.
@@ -245,64 +242,4 @@ pub fn run_finished_from(alloc: Global, object: &Object) -> Result<CoreEventKind
         run_stats: required_field(alloc, object, "run-stats")?,
         outstanding_not_seen: optional_field(alloc, object, "outstanding-not-seen")?,
     })
-}
-
-/// States that a run's start is well-formed. It does nothing.
-pub fn held_run_started(kind: &CoreEventKind)
-    requires named { core_name kind.now ≡ codes "run-started" }
-    ensures { IsCore kind.now }
-{
-    let CoreEventKind::RunStarted {
-        run_id,
-        profile_name,
-        cli_args,
-        stress_condition,
-    } = kind
-    else {
-        unreachable!()
-    };
-    run_id.held();
-    profile_name.held();
-    cli_args.held();
-    held_optional(stress_condition);
-}
-
-/// States that the end of one of a stress run's runs is well-formed. It does nothing.
-pub fn held_stress_sub_run_finished(kind: &CoreEventKind)
-    requires named { core_name kind.now ≡ codes "stress-sub-run-finished" }
-    ensures { IsCore kind.now }
-{
-    let CoreEventKind::StressSubRunFinished {
-        progress,
-        sub_elapsed,
-        sub_stats,
-    } = kind
-    else {
-        unreachable!()
-    };
-    progress.held();
-    sub_elapsed.held();
-    sub_stats.held();
-}
-
-/// States that a run's end is well-formed. It does nothing.
-pub fn held_run_finished(kind: &CoreEventKind)
-    requires named { core_name kind.now ≡ codes "run-finished" }
-    ensures { IsCore kind.now }
-{
-    let CoreEventKind::RunFinished {
-        run_id,
-        start_time,
-        elapsed,
-        run_stats,
-        outstanding_not_seen,
-    } = kind
-    else {
-        unreachable!()
-    };
-    run_id.held();
-    start_time.held();
-    elapsed.held();
-    run_stats.held();
-    held_optional(outstanding_not_seen);
 }

@@ -9,10 +9,7 @@ ghost use Rattle.rec_codec.specs.CoreKindForms.{place_form, command_form, setup_
 ghost use Rattle.rec_codec.specs.CoreKinds.{core_name, place_fields, command_fields, core_members, IsCore};
 
 use rec_events::{CoreEventKind, Items, ScriptId, StressIndexSummary, Text};
-use rec_forms::{
-    FromValueError, Held, Object, held_optional, optional_field, put_field, put_optional,
-    required_field,
-};
+use rec_forms::{FromValueError, Object, optional_field, put_field, put_optional, required_field};
 use std::alloc::{AllocError, Global};
 
 /// Writes which setup script it is, as its start and its end have it.
@@ -193,52 +190,4 @@ pub fn setup_script_slow_from(
         elapsed,
         will_terminate,
     })
-}
-
-/// States that a setup script's start is well-formed. It does nothing.
-pub fn held_setup_script_started(kind: &CoreEventKind)
-    requires named { core_name kind.now ≡ codes "setup-script-started" }
-    ensures { IsCore kind.now }
-{
-    let CoreEventKind::SetupScriptStarted {
-        stress_index,
-        index,
-        total,
-        script_id,
-        program,
-        args,
-        ..
-    } = kind
-    else {
-        unreachable!()
-    };
-    held_optional(stress_index);
-    index.held();
-    total.held();
-    script_id.held();
-    program.held();
-    args.held();
-}
-
-/// States that a slow setup script is well-formed. It does nothing.
-pub fn held_setup_script_slow(kind: &CoreEventKind)
-    requires named { core_name kind.now ≡ codes "setup-script-slow" }
-    ensures { IsCore kind.now }
-{
-    let CoreEventKind::SetupScriptSlow {
-        stress_index,
-        script_id,
-        program,
-        args,
-        elapsed,
-        ..
-    } = kind
-    else {
-        unreachable!()
-    };
-    held_optional(stress_index);
-    script_id.held();
-    program.held();
-    args.held();
-    elapsed.held();
 }

@@ -2,13 +2,10 @@
 ghost use Rattle.std.specs.Prelude.{◌≡◌};
 ghost use Rattle.serde_json.specs.View.{view};
 
-use crate::held::{HeldLoaded, HeldOutput};
 use crate::loaded_form::{LoadedForm, put_loaded, required_loaded};
 use crate::{OutputForm, ToValueError};
 use rec_events::SetupScriptExecuteStatus;
-use rec_forms::{
-    FromValueError, Held, held_optional, optional_field, put_field, put_optional, required_field,
-};
+use rec_forms::{FromValueError, optional_field, put_field, put_optional, required_field};
 use serde_json::{Map, Value};
 use std::alloc::Global;
 
@@ -77,16 +74,5 @@ impl<S: OutputForm> LoadedForm for SetupScriptExecuteStatus<S> {
             env_map,
             error_summary,
         })
-    }
-}
-
-impl<S: HeldOutput> HeldLoaded for SetupScriptExecuteStatus<S> {
-    fn held_loaded(&self) {
-        self.output.held_loaded();
-        self.result.held();
-        self.start_time.held();
-        self.time_taken.held();
-        held_optional(&self.env_map);
-        held_optional(&self.error_summary);
     }
 }

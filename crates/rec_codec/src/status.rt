@@ -7,7 +7,6 @@ ghost use Rattle.rec_forms.specs.Shape.{with_members, required};
 ghost use Rattle.rec_codec.specs.Status.{description_value, IsDescription, output_case_form, course_fields, course_form, IsCourse, attempts_form};
 ghost use Rattle.rec_codec.specs.Writes.{Writes};
 
-use crate::held::{HeldLoaded, HeldOutput, each_held};
 use crate::loaded_form::{LoadedForm, each_to_value, put_loaded, required_loaded, some_from_value};
 use crate::{OutputForm, ToValueError};
 use rec_events::{
@@ -15,8 +14,8 @@ use rec_events::{
     ExecutionStatuses, Items, NonEmpty, Stamp, Text,
 };
 use rec_forms::{
-    Form, FromValueError, Held, Object, held_optional, member, only_member, optional_field,
-    put_field, put_optional, required_field, tagged,
+    Form, FromValueError, Object, member, only_member, optional_field, put_field, put_optional,
+    required_field, tagged,
 };
 use serde_json::{Map, Value};
 use std::alloc::{AllocError, Global};
@@ -125,30 +124,14 @@ impl<S: OutputForm> LoadedForm for ChildExecutionOutputDescription<S> {
     }
 }
 
-impl<S: HeldOutput> HeldLoaded for ChildExecutionOutputDescription<S> {
-    fn held_loaded(&self) {
-        match self {
-            ChildExecutionOutputDescription::Output {
-                result,
-                output,
-                errors,
-            } => {
-                held_optional(result);
-                S::held_output(output);
-                held_optional(errors);
-            }
-            ChildExecutionOutputDescription::StartError { message } => message.held(),
-        }
-    }
-}
-
-/// When an attempt ran.
+/// When an attempt ran, and how long.
 #[derive(Drop)]
 struct Course {
     start_time: Stamp,
     time_taken: Duration,
     is_slow: bool,
     delay_before_start: Duration,
+    cpu_time: Option<Duration>,
 }
 
 impl Course {
@@ -166,6 +149,7 @@ impl Course {
             "delay-before-start",
             &self.delay_before_start,
         )?;
+        put_optional(alloc, object, "cpu-time", &self.cpu_time)?;
         Ok(())
     }
 
@@ -178,6 +162,7 @@ impl Course {
             time_taken: required_field(alloc, object, "time-taken")?,
             is_slow: required_field(alloc, object, "is-slow")?,
             delay_before_start: required_field(alloc, object, "delay-before-start")?,
+            cpu_time: optional_field(alloc, object, "cpu-time")?,
         })
     }
 }
@@ -214,6 +199,7 @@ impl<S: OutputForm> LoadedForm for ExecuteStatus<S> {
             time_taken: self.time_taken,
             is_slow: self.is_slow,
             delay_before_start: self.delay_before_start,
+            cpu_time: self.cpu_time,
         };
         course.put(alloc, &mut object)?;
         put_optional(alloc, &mut object, "error-summary", &self.error_summary)?;
@@ -254,20 +240,8 @@ impl<S: OutputForm> LoadedForm for ExecuteStatus<S> {
             delay_before_start: course.delay_before_start,
             error_summary,
             output_error_slice,
+            cpu_time: course.cpu_time,
         })
-    }
-}
-
-impl<S: HeldOutput> HeldLoaded for ExecuteStatus<S> {
-    fn held_loaded(&self) {
-        self.retry_data.held();
-        self.output.held_loaded();
-        self.result.held();
-        self.start_time.held();
-        self.time_taken.held();
-        self.delay_before_start.held();
-        held_optional(&self.error_summary);
-        held_optional(&self.output_error_slice);
     }
 }
 
@@ -323,11 +297,5 @@ impl<S: OutputForm> LoadedForm for ExecutionStatuses<S> {
             statuses: attempts_from(alloc, object, "statuses")?,
             flaky_result,
         })
-    }
-}
-
-impl<S: HeldOutput> HeldLoaded for ExecutionStatuses<S> {
-    fn held_loaded(&self) {
-        each_held(self.statuses.as_slice());
     }
 }

@@ -7,10 +7,7 @@ ghost use Rattle.rec_codec.specs.CoreKindForms.{test_started_form, test_slow_for
 ghost use Rattle.rec_codec.specs.CoreKinds.{core_name, core_members, IsCore};
 
 use rec_events::CoreEventKind;
-use rec_forms::{
-    FromValueError, Held, Object, held_optional, optional_field, put_field, put_optional,
-    required_field,
-};
+use rec_forms::{FromValueError, Object, optional_field, put_field, put_optional, required_field};
 use std::alloc::{AllocError, Global};
 
 /// Writes the members of a test's start.
@@ -189,90 +186,4 @@ pub fn test_skipped_from(alloc: Global, object: &Object) -> Result<CoreEventKind
         junit_report_skipped: required_field(alloc, object, "junit-report-skipped")?,
         test_instance: required_field(alloc, object, "test-instance")?,
     })
-}
-
-/// States that a test's start is well-formed. It does nothing.
-pub fn held_test_started(kind: &CoreEventKind)
-    requires named { core_name kind.now ≡ codes "test-started" }
-    ensures { IsCore kind.now }
-{
-    let CoreEventKind::TestStarted {
-        stress_index,
-        test_instance,
-        slot_assignment,
-        current_stats,
-        running,
-        command_line,
-    } = kind
-    else {
-        unreachable!()
-    };
-    held_optional(stress_index);
-    test_instance.held();
-    slot_assignment.held();
-    current_stats.held();
-    running.held();
-    command_line.held();
-}
-
-/// States that a slow test is well-formed. It does nothing.
-pub fn held_test_slow(kind: &CoreEventKind)
-    requires named { core_name kind.now ≡ codes "test-slow" }
-    ensures { IsCore kind.now }
-{
-    let CoreEventKind::TestSlow {
-        stress_index,
-        test_instance,
-        retry_data,
-        elapsed,
-        ..
-    } = kind
-    else {
-        unreachable!()
-    };
-    held_optional(stress_index);
-    test_instance.held();
-    retry_data.held();
-    elapsed.held();
-}
-
-/// States that the start of a further attempt is well-formed. It does nothing.
-pub fn held_test_retry_started(kind: &CoreEventKind)
-    requires named { core_name kind.now ≡ codes "test-retry-started" }
-    ensures { IsCore kind.now }
-{
-    let CoreEventKind::TestRetryStarted {
-        stress_index,
-        test_instance,
-        slot_assignment,
-        retry_data,
-        running,
-        command_line,
-    } = kind
-    else {
-        unreachable!()
-    };
-    held_optional(stress_index);
-    test_instance.held();
-    slot_assignment.held();
-    retry_data.held();
-    running.held();
-    command_line.held();
-}
-
-/// States that a skipped test is well-formed. It does nothing.
-pub fn held_test_skipped(kind: &CoreEventKind)
-    requires named { core_name kind.now ≡ codes "test-skipped" }
-    ensures { IsCore kind.now }
-{
-    let CoreEventKind::TestSkipped {
-        stress_index,
-        test_instance,
-        ..
-    } = kind
-    else {
-        unreachable!()
-    };
-    held_optional(stress_index);
-    test_instance.held();
 }

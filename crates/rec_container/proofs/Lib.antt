@@ -1,9 +1,12 @@
+pub mod Ascending
 pub mod Contents
 pub mod ContentsLeft
 pub mod Entries
 pub mod FileMaps
 pub mod Prefixes
+pub mod Fronts
 pub mod Grammar
+pub mod Halving
 pub mod Integers
 pub mod Lengths
 pub mod NameIndex

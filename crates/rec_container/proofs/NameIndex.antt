@@ -1,17 +1,17 @@
 -- The index of entries by their names, as entries are added.
-use Rattle.std.proofs.Common.{◌≡◌, ℕ, Bool, true, false, cond, List, [], ◌∷◌, ◌++◌, Option, Some, None, Bor, refl, ap, sym, subst, ◌∙◌}
+use Rattle.std.proofs.Common.{◌≡◌, ℕ, ◌+◌, length-append, arith, Bool, true, false, cond, List, [], ◌∷◌, ◌++◌, Option, Some, None, Bor, refl, ap, sym, subst, ◌∙◌}
 use Rattle.std.proofs.lemmas.List.{map-append}
 use Rattle.std.proofs.lemmas.Map.Text.{btree_map_updates_str}
 use Rattle.std.proofs.lemmas.Slice.Eq.{bytes_eq-Decides}
-use Rattle.std.specs.BTreeMap.{BTreeMap, UpdatesBy, get_by}
-use Rattle.std.specs.Cmp.Lexicographic.{slice_cmp}
+use Rattle.std.specs.BTreeMap.{BTreeMap, UpdatesBy, btree_map_len}
+use Rattle.std.specs.Map.{lookup}
 use Rattle.std.specs.Option.{option_map}
-use Rattle.std.specs.Ordering.{nat_cmp}
 use Rattle.std.specs.Str.{bytes_eq}
 use Rattle.rec_container.proofs.Contents.{content_of-push}
 use Rattle.rec_container.specs.Container.{Entry, content_of}
 use Rattle.rec_container.specs.declared.indexed.PlacedEntry.{PlacedEntry}
-use Rattle.rec_container.specs.Placed.{HasContents, placed_entry, placed_entries}
+use Rattle.rec_container.specs.Placed.{placed_entry, placed_entries}
+use Rattle.rec_container.specs.Sorted.{Contents, HasContents, is_named, name_cmp}
 
 not_both : (b : Bool) → b ≡ true → b ≡ false → ⊥
 not_both b holds fails = cc
@@ -38,14 +38,29 @@ shown : (b : Bool) (content : Bor (List ℕ)) (o : Option (Bor (List ℕ))) → 
 shown true content o = refl
 shown false content o = refl
 
-pub HasContents-push : (old new : BTreeMap (Bor (List ℕ)) (Bor (List ℕ))) (hs gs : List PlacedEntry) (h : PlacedEntry) → HasContents old hs → content_of (placed_entries hs) h.name.now ≡ None
-    → UpdatesBy (λ (x y : Bor (List ℕ)). slice_cmp nat_cmp x.now y.now) (λ (k : Bor (List ℕ)). slice_cmp nat_cmp h.name.now k.now) old new (Some h.content) → gs ≡ hs ++ h ∷ [] → HasContents new gs
-HasContents-push old new hs gs h is absent updates same name =
+found-push : (old new : BTreeMap (Bor (List ℕ)) (Bor (List ℕ))) (hs : List PlacedEntry) (h : PlacedEntry) → HasContents old.entries hs → content_of (placed_entries hs) h.name.now ≡ None
+    → UpdatesBy name_cmp (name_cmp h.name) old new (Some h.content) → (name : List ℕ)
+    → option_map (λ (c : Bor (List ℕ)). c.now) (lookup (is_named name) new.entries) ≡ content_of (placed_entries (hs ++ h ∷ [])) name
+found-push old new hs h is absent updates name =
     let found = λ (o : Option (Bor (List ℕ))). option_map (λ (c : Bor (List ℕ)). c.now) o in
     let b = bytes_eq h.name.now name in
     ap found (btree_map_updates_str h.name.now old new (Some h.content) updates name)
-    ∙ shown b h.content (get_by (λ (k : Bor (List ℕ)). slice_cmp nat_cmp name k.now) old)
-    ∙ ap (cond b (Some h.content.now)) (is name)
+    ∙ shown b h.content (lookup (is_named name) old.entries)
+    ∙ ap (cond b (Some h.content.now)) (is.found name)
     ∙ content_of-last (placed_entries hs) (placed_entry h) name b refl absent
     ∙ ap (λ es. content_of es name) (sym (map-append placed_entry hs (h ∷ [])))
-    ∙ ap (λ ds. content_of (placed_entries ds) name) (sym same)
+
+-- a new name has no content so far
+pub absent-from : (contents : Contents) (hs : List PlacedEntry) (name : List ℕ) → HasContents contents hs → content_of (placed_entries hs) name ≡ None → lookup (is_named name) contents ≡ None
+absent-from contents hs name is absent = none (lookup (is_named name) contents) (is.found name ∙ absent)
+  where
+    none : (o : Option (Bor (List ℕ))) → option_map (λ (c : Bor (List ℕ)). c.now) o ≡ None → o ≡ None
+    none None h = refl
+    none (Some c) h = absurd (let k = h in cc)
+
+pub HasContents-push : (old new : BTreeMap (Bor (List ℕ)) (Bor (List ℕ))) (hs gs : List PlacedEntry) (h : PlacedEntry) → HasContents old.entries hs → content_of (placed_entries hs) h.name.now ≡ None
+    → UpdatesBy name_cmp (name_cmp h.name) old new (Some h.content) → btree_map_len new ≡ btree_map_len old + 1 → gs ≡ hs ++ h ∷ [] → HasContents new.entries gs
+HasContents-push old new hs gs h is absent updates longer same = subst (HasContents new.entries) (sym same) (record {
+  found = found-push old new hs h is absent updates;
+  count = omega (arith, longer, is.count, length-append hs (h ∷ []));
+})

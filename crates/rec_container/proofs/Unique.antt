@@ -1,25 +1,22 @@
 -- Bytes are read in one way.
-use Rattle.std.proofs.Common.{◌≡◌, ℕ, List, [], ◌∷◌, ◌++◌, length, None, Result, Ok, Err, refl, sym, ap, subst, ◌∙◌, append_assoc, append-nil, ◌⊎◌, inl, inr, true, take, IfOk, IfErr, MatchResult, Bool, false, Option}
+use Rattle.std.proofs.Common.{◌≡◌, ◌≤◌, ℕ, List, [], ◌∷◌, ◌++◌, length, length-append, arith, Result, Ok, Err, refl, sym, ap, subst, ◌∙◌, append_assoc, append-nil, ◌⊎◌, inl, inr, true, take, IfOk, IfErr, MatchResult, Bool, false, Option}
 use Rattle.std.proofs.lemmas.List.{append_cancel_left, take_at}
 use Rattle.std.proofs.lemmas.Slice.Eq.{bytes_eq-Decides}
 use Rattle.std.specs.List.{flat_map}
 use Rattle.rec_container.proofs.Grammar.{step_at-spelled, step_at-same, entry-tagged, entry_fields}
-use Rattle.rec_container.specs.Container.{Entry, entry, magic, content_of, IsEntry, AreFrom, place_after, IsContainer, IsPrefix, ParsedContainer}
+use Rattle.rec_container.specs.Container.{Entry, entry, magic, content_of, AreFrom, place_after, IsContainer, IsPrefix, ParsedContainer}
 use Rattle.rec_container.specs.declared.errors.ContainerError.TheVariants.{OutOfMemory}
 use Rattle.rec_container.specs.declared.errors.ContainerError.{ContainerError}
+use Rattle.rec_container.specs.Fronts.{IsStuck}
 use Rattle.rec_container.specs.Reading.{step_at, IsFault, has_magic}
 
--- the bytes do not begin with one more entry
-abbrev pub IsStuck : List Entry → List ℕ → Type 0
-IsStuck seen x = (e : Entry) (r : List ℕ) → IsEntry e → content_of seen e.name ≡ None → x ≡ entry e ++ r → ⊥
-
-pub prefixes_unique : (seen es fs : List Entry) (x y : List ℕ) → AreFrom seen es → AreFrom seen fs → flat_map entry es ++ x ≡ flat_map entry fs ++ y → IsStuck (seen ++ es) x → IsStuck (seen ++ fs) y → (es ≡ fs) × (x ≡ y)
-prefixes_unique seen [] [] x y p q h s t = (refl, h)
-prefixes_unique seen [] (f ∷ fs) x y p q h s t =
+-- of two readings of the same bytes, the one that is stuck has all entries of the other
+pub front_first : (seen es fs : List Entry) (x y : List ℕ) → AreFrom seen es → AreFrom seen fs → flat_map entry es ++ x ≡ flat_map entry fs ++ y → IsStuck (seen ++ es) x
+    → (more : List Entry) × (es ≡ fs ++ more)
+front_first seen es [] x y p q h s = (es, refl)
+front_first seen [] (f ∷ fs) x y p q h s =
     absurd (s f (flat_map entry fs ++ y) q.0 (ap (λ l. content_of l f.name) (append-nil seen) ∙ q.1) (h ∙ append_assoc (entry f) (flat_map entry fs) y))
-prefixes_unique seen (e ∷ es) [] x y p q h s t =
-    absurd (t e (flat_map entry es ++ x) p.0 (ap (λ l. content_of l e.name) (append-nil seen) ∙ p.1) (sym h ∙ append_assoc (entry e) (flat_map entry es) x))
-prefixes_unique seen (e ∷ es) (f ∷ fs) x y p q h s t =
+front_first seen (e ∷ es) (f ∷ fs) x y p q h s =
     let r = flat_map entry es ++ x in
     let u = flat_map entry fs ++ y in
     let same : entry e ++ r ≡ entry f ++ u = sym (append_assoc (entry e) (flat_map entry es) x) ∙ h ∙ append_assoc (entry f) (flat_map entry fs) y in
@@ -28,10 +25,21 @@ prefixes_unique seen (e ∷ es) (f ∷ fs) x y p q h s t =
     let rest : r ≡ u = ap (λ (w : Entry × List ℕ). w.1) both in
     let qs : AreFrom (seen ++ e ∷ []) fs = subst (λ (d : Entry). AreFrom (seen ++ d ∷ []) fs) (sym one) q.2 in
     let s' : IsStuck ((seen ++ e ∷ []) ++ es) x = subst (λ (l : List Entry). IsStuck l x) (sym (append_assoc seen (e ∷ []) es)) s in
-    let t' : IsStuck ((seen ++ e ∷ []) ++ fs) y =
-    subst (λ (l : List Entry). IsStuck l y) (ap (λ (d : Entry). seen ++ d ∷ fs) (sym one) ∙ sym (append_assoc seen (e ∷ []) fs)) t in
-    let ih = prefixes_unique (seen ++ e ∷ []) es fs x y p.2 qs rest s' t' in
-    ((λ i. one i ∷ ih.0 i), ih.1)
+    let ih = front_first (seen ++ e ∷ []) es fs x y p.2 qs rest s' in
+    (ih.0, (λ i. one i ∷ ih.1 i))
+
+no_more : (es more : List Entry) → length (es ++ more) ≤ length es → es ++ more ≡ es
+no_more es [] h = append-nil es
+no_more es (e ∷ more) h = absurd (omega (arith, h, length-append es (e ∷ more)))
+
+-- two that are stuck have the same entries, and the same rest
+pub prefixes_unique : (seen es fs : List Entry) (x y : List ℕ) → AreFrom seen es → AreFrom seen fs → flat_map entry es ++ x ≡ flat_map entry fs ++ y → IsStuck (seen ++ es) x → IsStuck (seen ++ fs) y → (es ≡ fs) × (x ≡ y)
+prefixes_unique seen es fs x y p q h s t =
+    let a = front_first seen es fs x y p q h s in
+    let b = front_first seen fs es y x q p (sym h) t in
+    let short : length (fs ++ a.0) ≤ length fs = omega (arith, ap length a.1, ap length b.1, length-append es b.0) in
+    let same : es ≡ fs = a.1 ∙ no_more fs a.0 short in
+    (same, append_cancel_left (flat_map entry es) x y (h ∙ ap (λ (l : List Entry). flat_map entry l ++ y) (sym same)))
 
 -- an end mark is no entry
 pub end_stuck : (seen : List Entry) (x : List ℕ) → IsStuck seen (0 ∷ x)

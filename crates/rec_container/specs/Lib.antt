@@ -2,10 +2,12 @@ pub mod Causes
 pub mod Container
 pub mod NamedContents
 pub mod Disks
+pub mod Fronts
 pub mod Memory
 pub mod MemoryDisks
 pub mod Placed
 pub mod Reading
+pub mod Sorted
 pub mod Taking
 pub mod Within
 pub mod Writing

@@ -1,8 +1,8 @@
 //! The entries of a container, found by their names.
-ghost use Rattle.std.specs.Option.{option_map};
-ghost use Rattle.std.specs.Prelude.{◌≡◌, ◌<◌, [], ◌∷◌, ◌++◌, length, slice_get, is_some, None, Some, OnOk, OnErr};
+ghost use Rattle.std.specs.Prelude.{◌≡◌, [], ◌∷◌, ◌++◌, is_some, None, IfOk, OnOk, OnErr};
 ghost use Rattle.rec_container.specs.Container.{content_of};
 ghost use Rattle.rec_container.specs.Placed.{placed_entries};
+ghost use Rattle.rec_container.specs.Sorted.{IsSortedOf};
 
 use std::alloc::{AllocError, Global};
 use std::collections::BTreeMap;
@@ -16,8 +16,8 @@ pub(crate) struct PlacedEntry<'a> {
     pub(crate) place: usize,
 }
 
-/// Holds entries in the order in which they were added, and an index of their contents, sorted by
-/// name.
+/// Holds the entries read so far in their order, and an index of their contents by name: a map, since
+/// each name is looked up, and is to be put in its place, before the next entry is read.
 #[derive(Drop)]
 pub(crate) struct IndexedEntries<'a> {
     entries: Vec<PlacedEntry<'a>>,
@@ -27,13 +27,13 @@ pub(crate) struct IndexedEntries<'a> {
 impl<'a> Model for IndexedEntries<'a> {
     ghost use Rattle.std.specs.Prelude.{List};
     ghost use Rattle.rec_container.specs.declared.indexed.PlacedEntry.{PlacedEntry};
-    ghost use Rattle.rec_container.specs.Placed.{HasContents};
+    ghost use Rattle.rec_container.specs.Sorted.{HasContents};
 
     ghost Value = { List PlacedEntry };
 
     ghost view = { λ e. e.entries.items };
 
-    ghost invariant = { λ e. HasContents e.index e.entries.items };
+    ghost invariant = { λ e. HasContents e.index.entries e.entries.items };
 }
 
 impl<'a> IndexedEntries<'a> {
@@ -59,21 +59,6 @@ impl<'a> IndexedEntries<'a> {
         Ok(())
     }
 
-    /// Returns how many entries there are.
-    pub(crate) fn len(&self) -> usize
-        ensures { result ≡ length self.now }
-    {
-        self.entries.len()
-    }
-
-    /// Returns the entry at a place in their order.
-    pub(crate) fn entry(&self, i: usize) -> &PlacedEntry<'a>
-        requires { i < length self.now }
-        ensures { slice_get self.now i ≡ Some result.now }
-    {
-        &self.entries[i]
-    }
-
     /// Returns whether an entry has this name.
     pub(crate) fn contains(&self, name: &str) -> bool
         ensures { result ≡ is_some (content_of (placed_entries self.now) name.now) }
@@ -81,10 +66,16 @@ impl<'a> IndexedEntries<'a> {
         self.index.contains_key(name)
     }
 
-    /// Returns the content of the entry of a name.
-    pub(crate) fn get(&self, name: &str) -> Option<&'a [u8]>
-        ensures { option_map (λ c. c.now) result ≡ content_of (placed_entries self.now) name.now }
+    /// Returns the entries in their order, and their contents in the order of the names.
+    pub(crate) fn into_sorted(
+        self,
+        alloc: Global,
+    ) -> Result<(Vec<PlacedEntry<'a>>, Vec<(&'a str, &'a [u8])>), AllocError>
+        ensures entries { IfOk result (λ r. r.0.items ≡ self.entry) }
+        ensures sorted { IfOk result (λ r. IsSortedOf r.1.items self.entry) }
     {
-        self.index.get(name).copied()
+        let IndexedEntries { entries, index } = self;
+        let sorted = index.into_iter().collect(alloc)?;
+        Ok((entries, sorted))
     }
 }

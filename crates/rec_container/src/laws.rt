@@ -1,7 +1,8 @@
 //! Laws of the container's grammar. The functions do nothing: their contracts are what they are for.
-ghost use Rattle.std.specs.Prelude.{◌≡◌, ◌<◌, ◌≤◌, [], ◌∷◌, ◌++◌, length, map, slice_get, List, ℕ, Some};
-ghost use Rattle.rec_container.specs.Container.{Entry, addition, content_bytes, ending, prefix, spell, AreFrom, IsContainer, StandsWithin, place_from};
+ghost use Rattle.std.specs.Prelude.{◌≡◌, ◌<◌, ◌≤◌, [], ◌∷◌, ◌++◌, length, map, slice_get, List, ℕ, Some, None, take};
+ghost use Rattle.rec_container.specs.Container.{Entry, IsEntry, IsPrefix, addition, content_of, content_bytes, ending, prefix, spell, AreFrom, IsContainer, StandsWithin, place_from};
 ghost use Rattle.rec_container.specs.declared.errors.ContainerError.{ContainerError};
+ghost use Rattle.rec_container.specs.Fronts.{IsWholeFront};
 ghost use Rattle.rec_container.specs.Reading.{IsFault};
 
 /// States that bytes spell at most one list of entries.
@@ -39,4 +40,15 @@ pub fn within_length()
     ensures more { (es fs : List Entry) → length (spell es) ≤ length (spell (es ++ fs)) }
     ensures contents { (es : List Entry) → content_bytes es < length (spell es) }
     ensures entries { (es : List Entry) → length es < length (spell es) }
+{}
+
+/// States that the whole front of bytes is the longest list of whole, distinct entries that they begin
+/// with, and the only one behind which none of a new name stands.
+pub fn one_front()
+    ensures longest { (bytes more : List ℕ) (es fs : List Entry) → IsWholeFront bytes es → IsPrefix bytes fs more → (rest : List Entry) × (es ≡ fs ++ rest) }
+    ensures one { (bytes : List ℕ) (es fs : List Entry) → IsWholeFront bytes es → IsWholeFront bytes fs → es ≡ fs }
+    // What a writer leaves that has written entries and was stopped in one more.
+    ensures stopped { (d e : Entry) (es : List Entry) (k : ℕ) → AreFrom [] (d ∷ es) → IsEntry e → content_of (d ∷ es) e.name ≡ None → k < length (addition (d ∷ es) e)
+        → IsWholeFront (prefix (d ∷ es) ++ take k (addition (d ∷ es) e)) (d ∷ es) }
+    ensures ended { (es : List Entry) → AreFrom [] es → IsWholeFront (spell es) es }
 {}

@@ -1,34 +1,40 @@
 //! The reader of containers.
 ghost use Rattle.std.specs.Option.{option_map};
-ghost use Rattle.std.specs.Prelude.{◌≡◌, ◌<◌, [], length, MatchResult, IfOk, IfErr, IsTrue, ◌↔◌, ◌⊎◌, slice_get, map, List, ℕ, Some};
+ghost use Rattle.std.specs.Prelude.{◌≡◌, ◌<◌, ◌≤◌, ◌-◌, ◌*◌, ◌+◌, ◌^◌, [], length, MatchResult, IfOk, IfErr, IsTrue, ◌↔◌, ◌⊎◌, slice_get, map, List, ℕ, Some};
 ghost use Rattle.rec_container.specs.Container.{Entry, content_of, place_from, IsContainer, StandsWithin};
 ghost use Rattle.rec_container.specs.declared.errors.ContainerError.TheVariants.{OutOfMemory};
-ghost use Rattle.rec_container.specs.Placed.{placed_entries};
+ghost use Rattle.rec_container.specs.Placed.{placed_entries, ArePlaced};
 ghost use Rattle.rec_container.specs.Reading.{IsFault};
 
 use crate::errors::ContainerError;
-use crate::indexed::IndexedEntries;
+use crate::indexed::{IndexedEntries, PlacedEntry};
+use crate::lookup::{find, find_uncounted};
+use crate::step_count::Steps;
 use crate::steps::read_step;
-use std::alloc::Global;
+use std::alloc::{AllocError, Global};
 use std::marker::Model;
+use std::sync::ledger::Ledger;
 
 /// Lends the entries of a container, in its order. Names and contents are windows of the bytes that
 /// were parsed.
 #[derive(Drop)]
 pub struct Container<'a> {
     bytes: &'a [u8],
-    entries: IndexedEntries<'a>,
+    entries: Vec<PlacedEntry<'a>>,
+    // the contents again, in the order of their names
+    sorted: Vec<(&'a str, &'a [u8])>,
 }
 
 impl<'a> Model for Container<'a> {
     ghost use Rattle.rec_container.specs.Container.{ParsedContainer};
     ghost use Rattle.rec_container.specs.Placed.{placed_entries, ArePlaced};
+    ghost use Rattle.rec_container.specs.Sorted.{IsSortedOf};
 
     ghost Value = { ParsedContainer };
 
-    ghost view = { λ c. record { bytes = c.bytes.now; entries = placed_entries c.entries } };
+    ghost view = { λ c. record { bytes = c.bytes.now; entries = placed_entries c.entries.items } };
 
-    ghost invariant = { λ c. ArePlaced c.bytes.now c.entries };
+    ghost invariant = { λ c. ArePlaced c.bytes.now c.entries.items × IsSortedOf c.sorted.items c.entries.items };
 }
 
 impl<'a> Container<'a> {
@@ -85,11 +91,22 @@ impl<'a> Container<'a> {
         self.entries.len() == 0
     }
 
-    /// Returns the content under a name.
+    /// Returns the content under a name, as [`Container::get_counted`] finds it.
     pub fn get(&self, name: &str) -> Option<&'a [u8]>
         ensures { option_map (λ c. c.now) result ≡ content_of self.now.entries name.now }
     {
-        self.entries.get(name)
+        find_uncounted(&self.sorted, name.as_bytes())
+    }
+
+    /// Returns the content under a name, and counts each comparison of two names that this took. It
+    /// takes s of them among n entries, with 2^s at most 2n + 1: at most 2 among three entries, and 5
+    /// among sixteen. A comparison says which name comes first, or that they are equal.
+    pub fn get_counted<L: Ledger>(&self, name: &str, steps: &mut Steps<L>) -> Option<&'a [u8]>
+        ensures found { option_map (λ c. c.now) result ≡ content_of self.now.entries name.now }
+        ensures later { steps.old ≤ steps.new }
+        ensures cost { 2 ^ (steps.new - steps.old) ≤ 2 * length self.now.entries + 1 }
+    {
+        find(&self.sorted, name.as_bytes(), steps)
     }
 
     /// Returns the name of an entry.
@@ -97,7 +114,7 @@ impl<'a> Container<'a> {
         requires { i < length self.now.entries }
         ensures { slice_get (map (λ e. e.name) self.now.entries) i ≡ Some result.now }
     {
-        self.entries.entry(i).name
+        self.entries[i].name
     }
 
     /// Returns where the content of an entry begins in the bytes that were parsed.
@@ -108,7 +125,7 @@ impl<'a> Container<'a> {
         // There the parsed bytes have the content, and it ends within them.
         ensures stands { (content : List ℕ) → slice_get (map (λ e. e.content) self.now.entries) i ≡ Some content → StandsWithin self.now.bytes result content }
     {
-        self.entries.entry(i).place
+        self.entries[i].place
     }
 
     /// Returns the content of an entry.
@@ -116,7 +133,7 @@ impl<'a> Container<'a> {
         requires { i < length self.now.entries }
         ensures { slice_get (map (λ e. e.content) self.now.entries) i ≡ Some result.now }
     {
-        self.entries.entry(i).content
+        self.entries[i].content
     }
 }
 
@@ -136,5 +153,22 @@ fn read<'a>(alloc: Global, bytes: &'a [u8]) -> Result<Container<'a>, ContainerEr
         entries.push(held)?;
         rest = after;
     }
-    Ok(Container { bytes, entries })
+    Ok(container_of(alloc, bytes, entries)?)
+}
+
+/// Makes a container of the entries that were read. Their index goes, and a sorted list stays.
+pub(crate) fn container_of<'a>(
+    alloc: Global,
+    bytes: &'a [u8],
+    entries: IndexedEntries<'a>,
+) -> Result<Container<'a>, AllocError>
+    requires { ArePlaced bytes.now entries }
+    ensures { IfOk result (λ c. c ≡ record { bytes = bytes.now; entries = placed_entries entries.entry }) }
+{
+    let (entries, sorted) = entries.into_sorted(alloc)?;
+    Ok(Container {
+        bytes,
+        entries,
+        sorted,
+    })
 }

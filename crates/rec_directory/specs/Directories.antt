@@ -107,6 +107,14 @@ module _ {D : Type 0} (files : D → Option Files) where
     pub limit : new.limit ≡ old.limit
     pub store : ReadsOnce old new old.store new.store
 
+  -- what a call leaves that only asks the disk
+  pub record Stays (old new : Directory D) : Type 0 where
+    pub reference : new.disk.ghost_name ≡ old.disk.ghost_name
+    pub same : files new.disk.now ≡ files old.disk.now
+    pub run_dir : new.run_dir ≡ old.run_dir
+    pub limit : new.limit ≡ old.limit
+    pub store : new.store ≡ old.store
+
 -- ---- opening it
 
 -- the directory is there, where the disk says its files

@@ -1,12 +1,13 @@
 //! The reader of a run's directory.
 ghost use Rattle.std.specs.Prelude.{◌≡◌, List, IfOk, IfErr, IsSome, None, OnErr, OnOk, Some, string_bytes};
 ghost use Rattle.rec_container.specs.Container.{Entry};
+ghost use Rattle.rec_container.specs.Disks.{Exists, HasDiskCause};
 ghost use Rattle.rec_forms.specs.Recording.{test_list_form, record_opts_form};
 ghost use Rattle.rec_format.specs.ScopeForms.{recorded_scope_form};
 ghost use Rattle.rec_store.specs.Entries.{build_scope_path, cargo_metadata_path, test_list_path, record_opts_path};
 ghost use Rattle.rec_store.specs.Parts.{metadata_part, output_part, rerun_info_part, utf8_part};
 ghost use Rattle.rec_store.specs.Readers.{Answers, DiskCause, Extracts, Keeps, SinkCause};
-ghost use Rattle.rec_directory.specs.Directories.{Holds, JudgesStore, KeepsRun, LeavesSink, Opens, Unopened, Unread};
+ghost use Rattle.rec_directory.specs.Directories.{Holds, JudgesStore, KeepsRun, LeavesSink, Opens, Stays, Unopened, Unread};
 ghost use Rattle.rec_directory.specs.Events.{OpensLog, UnopenedLog, HasLength, LogFault};
 ghost use Rattle.rec_directory.specs.Paths.{path_of_log, path_of_store};
 
@@ -61,7 +62,7 @@ impl<'d, D: Disk> RecordReader<'d, D> {
         ensures ok { IfOk result (Opens D.files D.faults disk.entry (string_bytes run_dir) read_limit) }
         ensures err { IfErr result (Unopened D.files D.faults disk.old (string_bytes run_dir)) }
     {
-        match disk.exists(run_dir.as_str()) {
+        match find_run(disk, run_dir.as_str()) {
             Ok(true) => Ok(RecordReader {
                 alloc,
                 disk,
@@ -78,6 +79,15 @@ impl<'d, D: Disk> RecordReader<'d, D> {
             }),
         }
     }
+}
+
+/// Returns whether a run's directory is there. No file changes, whatever the answer.
+fn find_run<D: Disk>(disk: &mut D, run_dir: &str) -> Result<bool, DiskError>
+    ensures answer { Exists (D.files disk.old) run_dir.now result }
+    ensures same { D.files disk.new ≡ D.files disk.old }
+    ensures cause { HasDiskCause (D.faults disk.old) (D.faults disk.new) result }
+{
+    disk.exists(run_dir)
 }
 
 impl<'d, D: Disk> RecordReader<'d, D> {
@@ -99,8 +109,18 @@ impl<'d, D: Disk> RecordReader<'d, D> {
         ensures ok { IfOk result (OpensLog D.files D.faults self.old) }
         ensures err { IfErr result (UnopenedLog D.files D.faults self.old.disk.now (path_of_log self.old.run_dir)) }
     {
-        let (path, len) = measure_log(self.alloc, self.disk, self.run_dir.as_str())?;
+        let (path, len) = self.measure()?;
         Ok(RecordEventIter::new(self.alloc, self.disk, path, len))
+    }
+
+    /// Returns the path of the log, and its length. The reader stays but for what the disk counts.
+    fn measure(&mut self) -> Result<(Text, u64), RecordReadError>
+        ensures ok { IfOk result (λ x. (x.0 ≡ path_of_log self.old.run_dir) × HasLength (D.files self.old.disk.now) (path_of_log self.old.run_dir) x.1) }
+        ensures err { IfErr result (LogFault (D.faults self.old.disk.now) (D.faults self.new.disk.now) (D.files self.old.disk.now) (path_of_log self.old.run_dir)) }
+        ensures stays { Stays D.files self.old self.new }
+        ensures cause { DiskCause (D.faults self.old.disk.now) (D.faults self.new.disk.now) result }
+    {
+        measure_log(self.alloc, self.disk, self.run_dir.as_str())
     }
 }
 

@@ -29,6 +29,7 @@ module _ {S O T P : Type 0} (f : O → P) where
     delay_before_start = s.delay_before_start;
     error_summary = s.error_summary;
     output_error_slice = s.output_error_slice;
+    cpu_time = s.cpu_time;
   }
 
   abbrev pub statuses_with : ExecutionStatuses S O → ExecutionStatuses T P

@@ -14,6 +14,7 @@ pub mod Skipping
 pub mod Stats
 pub mod Summaries
 pub mod EventMaps
+pub mod Tests
 pub mod TestLists
 pub mod LiveStress
 pub mod LiveEvents

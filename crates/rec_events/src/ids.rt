@@ -1,10 +1,14 @@
 //! Names and numbers that identify.
+ghost use Rattle.std.proofs.Common.{rules};
+ghost use Rattle.std.specs.Cmp.Rules.{hashing};
+ghost use Rattle.std.specs.Hash as fed;
 ghost use Rattle.std.specs.Prelude.{◌≡◌, ℕ, List, IfOk, IsTrue, string_bytes};
 ghost use Rattle.std.specs.Str.{is_utf8};
 
 use crate::{Text, TryClone};
 use std::alloc::{AllocError, Global};
 use std::fmt;
+use std::hash::{Hash, Hasher};
 use std::marker::Model;
 use uuid::Uuid;
 
@@ -53,6 +57,16 @@ impl TryClone for RustBinaryId {
         Ok(RustBinaryId {
             text: self.text.try_clone(alloc)?,
         })
+    }
+}
+
+impl Hash for RustBinaryId {
+    ghost hash_input = { fed.str };
+
+    ghost respects_eq = { Prim.search (hashing, rules) };
+
+    fn hash<H: Hasher>(&self, state: &mut H) {
+        self.text.as_str().hash(state);
     }
 }
 
@@ -149,6 +163,16 @@ impl TryClone for ScriptId {
         Ok(ScriptId {
             text: self.text.try_clone(alloc)?,
         })
+    }
+}
+
+impl Hash for ScriptId {
+    ghost hash_input = { fed.str };
+
+    ghost respects_eq = { Prim.search (hashing, rules) };
+
+    fn hash<H: Hasher>(&self, state: &mut H) {
+        self.text.as_str().hash(state);
     }
 }
 

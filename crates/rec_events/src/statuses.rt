@@ -31,6 +31,8 @@ pub struct ExecuteStatus<S: OutputSpec> {
     pub error_summary: Option<ErrorSummary>,
     /// The piece of its output that shows the error, where there is one.
     pub output_error_slice: Option<OutputErrorSlice>,
+    /// How long it kept processors busy, where that is known. What wrote stores before 3.1 didn't say it.
+    pub cpu_time: Option<Duration>,
 }
 
 /// Holds all attempts of a test, in order. There is at least one.
@@ -154,6 +156,7 @@ impl TryClone for ExecuteStatus<LiveSpec> {
             delay_before_start: self.delay_before_start,
             error_summary,
             output_error_slice,
+            cpu_time: self.cpu_time,
         })
     }
 }

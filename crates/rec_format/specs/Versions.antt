@@ -58,7 +58,7 @@ version_of text =
 
 -- the version of the stores that are written
 abbrev pub store_version : StoreFormatVersion
-store_version = record { major = 3; minor = 0 }
+store_version = record { major = 3; minor = 1 }
 
 -- the version of the bundles that are written
 abbrev pub portable_version : PortableRecordingFormatVersion

@@ -1,6 +1,6 @@
 //! Laws of versions, heads and manifests. The functions do nothing: their contracts are what they are for.
 ghost use Rattle.std.specs.Ordering.{nat_cmp};
-ghost use Rattle.std.specs.Prelude.{◌≡◌, ℕ, Some};
+ghost use Rattle.std.specs.Prelude.{◌≡◌, ◌≤◌, ◌<◌, ℕ, Some, Ok, Err};
 ghost use Rattle.serde_json.specs.Data.{Data};
 ghost use Rattle.serde_json.specs.Written.{compact_text};
 ghost use Rattle.rec_forms.specs.TextForm.{bytes_form};
@@ -10,14 +10,17 @@ ghost use Rattle.rec_format.specs.contracts.versions.RunsJsonFormatVersionOrd.Th
 ghost use Rattle.rec_format.specs.contracts.versions.StoreFormatMajorVersionOrd.TheImpl as store_major;
 ghost use Rattle.rec_format.specs.contracts.versions.StoreFormatMinorVersionOrd.TheImpl as store_minor;
 ghost use Rattle.rec_format.specs.declared.head.SessionHead.{SessionHead};
+ghost use Rattle.rec_format.specs.declared.incompatibility.StoreVersionIncompatibility.TheVariants.{MinorTooNew};
+ghost use Rattle.rec_format.specs.declared.incompatibility.TooOldRecordingGuidance.TheVariants.{Unknown};
 ghost use Rattle.rec_format.specs.declared.sizes.RecordedSizes.{RecordedSizes};
 ghost use Rattle.rec_format.specs.HeadForms.{head_form, IsHead};
 ghost use Rattle.rec_format.specs.HeadTexts.{AreTextsRead};
 ghost use Rattle.rec_format.specs.RunForms.{manifest_form, manifest_value, IsManifest};
 ghost use Rattle.rec_format.specs.Runs.{manifest_of, recorded_info};
 ghost use Rattle.rec_format.specs.SizeForms.{AreSizes};
+ghost use Rattle.rec_format.specs.Versions.{guidance, store_readable, store_version};
 
-use crate::{PortableManifest, SessionHead};
+use crate::PortableManifest;
 use rec_forms::Held;
 
 /// States that the version numbers of each kind are ordered as their numbers are.
@@ -29,17 +32,22 @@ pub fn versions_are_ordered_by_their_numbers()
     ensures run_list { (a b : ℕ) → run_list.cmp-value.it a b ≡ nat_cmp a b }
 {}
 
+/// States that a store of each minor version up to that which is written is read, and that one of a newer minor
+/// version isn't.
+pub fn older_stores_are_read()
+    ensures read { (minor : ℕ) → minor ≤ 1 → store_readable (record { major = 3; minor = minor }) store_version ≡ Ok tt }
+    ensures newer { (minor : ℕ) → 1 < minor → store_readable (record { major = 3; minor = minor }) store_version ≡ Err (MinorTooNew minor 1) }
+{}
+
+/// States that there is guidance for each major version below that which is written. They are counted from 1.
+pub fn too_old_stores_have_guidance()
+    ensures { (major : ℕ) → 0 < major → major < store_version.major → guidance major ≡ Unknown → ⊥ }
+{}
+
 /// States that a head for which a value stands is well-formed.
 pub fn read_heads_are_well_formed()
     ensures { (d : Data) (head : SessionHead) → head_form d ≡ Some head → IsHead head }
 {}
-
-/// States that a head that a program holds is well-formed, whether it is ever written or not.
-pub fn held_heads_are_well_formed(head: &SessionHead)
-    ensures { IsHead head.now }
-{
-    head.held();
-}
 
 /// States that a manifest that a program holds is well-formed, whether it is ever written or not.
 pub fn held_manifests_are_well_formed(manifest: &PortableManifest)

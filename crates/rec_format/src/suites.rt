@@ -91,8 +91,8 @@ impl RerunSuites {
         self.inner.values().nth(i).unwrap()
     }
 
-    /// The suites as they are kept.
-    pub(crate) fn as_map(&self) -> &BTreeMap<String, RerunTestSuiteInfo>
+    /// Returns the suites by the ids of their binaries.
+    pub fn as_map(&self) -> &BTreeMap<String, RerunTestSuiteInfo>
         ensures suites { suites_in result.now.entries ≡ self.now }
         ensures rise { SuitesRise self.now }
     {

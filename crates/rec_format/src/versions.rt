@@ -205,10 +205,10 @@ impl fmt::Display for PortableRecordingFormatMinorVersion {
     }
 }
 
-/// Names the version of the format that a store is written in, 3.0.
+/// Names the version of the format that a store is written in, 3.1.
 pub const STORE_FORMAT_VERSION: StoreFormatVersion = StoreFormatVersion {
     major: StoreFormatMajorVersion { version: 3 },
-    minor: StoreFormatMinorVersion { version: 0 },
+    minor: StoreFormatMinorVersion { version: 1 },
 };
 
 /// Names a version of the store's format, printed as `major.minor`.

@@ -1,6 +1,6 @@
 //! What is said of errors.
 use crate::fields::{put_field, required_field};
-use crate::{Form, FromValueError, Held};
+use crate::{Form, FromValueError};
 use rec_events::{ErrorSummary, OutputErrorSlice};
 use serde_json::{Map, Value};
 use std::alloc::{AllocError, Global};
@@ -43,13 +43,6 @@ impl Form for ErrorSummary {
     }
 }
 
-impl Held for ErrorSummary {
-    fn held(&self) {
-        self.short_message.held();
-        self.description.held();
-    }
-}
-
 impl Form for OutputErrorSlice {
     ghost use Rattle.rec_forms.specs.ErrorTextLaws.{error_slice_back, error_slice_writable, error_slice_well_formed};
     ghost use Rattle.rec_forms.specs.ErrorTexts.{error_slice_value, error_slice_form, IsErrorSlice};
@@ -85,12 +78,5 @@ impl Form for OutputErrorSlice {
             slice: required_field(alloc, object, "slice")?,
             start: required_field(alloc, object, "start")?,
         })
-    }
-}
-
-impl Held for OutputErrorSlice {
-    fn held(&self) {
-        self.slice.held();
-        self.start.held();
     }
 }

@@ -1,5 +1,5 @@
 //! Test groups.
-use crate::{Form, FromValueError, Held};
+use crate::{Form, FromValueError};
 use rec_events::TestGroup;
 use serde_json::Value;
 use std::alloc::{AllocError, Global};
@@ -38,14 +38,6 @@ impl Form for TestGroup {
         match TestGroup::custom(name) {
             Some(group) => Ok(group),
             None => Ok(TestGroup::Global),
-        }
-    }
-}
-
-impl Held for TestGroup {
-    fn held(&self) {
-        if let TestGroup::Custom(name) = self {
-            let _text = name.as_str();
         }
     }
 }

@@ -39,12 +39,6 @@ impl Form for RustBinaryId {
     }
 }
 
-impl Held for RustBinaryId {
-    fn held(&self) {
-        let _text = self.as_str();
-    }
-}
-
 impl Form for TestCaseName {
     ghost use Rattle.serde_json.specs.Data.{string};
     ghost use Rattle.rec_events.specs.Names.{IsText};
@@ -76,12 +70,6 @@ impl Form for TestCaseName {
     }
 }
 
-impl Held for TestCaseName {
-    fn held(&self) {
-        let _text = self.as_str();
-    }
-}
-
 impl Form for ScriptId {
     ghost use Rattle.serde_json.specs.Data.{string};
     ghost use Rattle.rec_events.specs.Names.{IsText};
@@ -110,12 +98,6 @@ impl Form for ScriptId {
     fn from_value(alloc: Global, value: &Value) -> Result<ScriptId, FromValueError> {
         let text = Text::from_value(alloc, value)?;
         Ok(ScriptId::new(text.into_string()))
-    }
-}
-
-impl Held for ScriptId {
-    fn held(&self) {
-        let _text = self.as_str();
     }
 }
 

@@ -1,6 +1,6 @@
 //! Which test ran, where, and which time.
 use crate::fields::{optional_field, put_field, put_optional, required_field};
-use crate::{Form, FromValueError, Held, held_optional};
+use crate::{Form, FromValueError};
 use rec_events::{OwnedTestInstanceId, RetryData, StressIndexSummary, TestSlotAssignment};
 use serde_json::{Map, Value};
 use std::alloc::{AllocError, Global};
@@ -40,13 +40,6 @@ impl Form for OwnedTestInstanceId {
             binary_id: required_field(alloc, object, "binary-id")?,
             test_name: required_field(alloc, object, "test-name")?,
         })
-    }
-}
-
-impl Held for OwnedTestInstanceId {
-    fn held(&self) {
-        self.binary_id.held();
-        self.test_name.held();
     }
 }
 
@@ -90,14 +83,6 @@ impl Form for TestSlotAssignment {
     }
 }
 
-impl Held for TestSlotAssignment {
-    fn held(&self) {
-        self.global_slot.held();
-        held_optional(&self.group_slot);
-        self.test_group.held();
-    }
-}
-
 impl Form for RetryData {
     ghost use Rattle.rec_forms.specs.InstanceLaws.{retry_data_back, retry_data_writable, retry_data_well_formed};
     ghost use Rattle.rec_forms.specs.Instances.{retry_data_value, retry_data_form, IsRetryData};
@@ -136,13 +121,6 @@ impl Form for RetryData {
     }
 }
 
-impl Held for RetryData {
-    fn held(&self) {
-        self.attempt.held();
-        self.total_attempts.held();
-    }
-}
-
 impl Form for StressIndexSummary {
     ghost use Rattle.rec_forms.specs.InstanceLaws.{stress_index_back, stress_index_writable, stress_index_well_formed};
     ghost use Rattle.rec_forms.specs.Instances.{stress_index_value, stress_index_form, IsStressIndex};
@@ -178,12 +156,5 @@ impl Form for StressIndexSummary {
             current: required_field(alloc, object, "current")?,
             total: optional_field(alloc, object, "total")?,
         })
-    }
-}
-
-impl Held for StressIndexSummary {
-    fn held(&self) {
-        self.current.held();
-        held_optional(&self.total);
     }
 }

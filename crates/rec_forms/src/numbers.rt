@@ -230,10 +230,6 @@ impl Form for bool {
     }
 }
 
-impl Held for bool {
-    fn held(&self) {}
-}
-
 impl Form for NonZeroCount {
     ghost use Rattle.rec_forms.specs.NumberLaws.{count_back, count_well_formed};
     ghost use Rattle.rec_forms.specs.NumberLaws.{count_writable};

@@ -1,7 +1,5 @@
 //! Kinds of outputs, and the names of their files.
-ghost use Rattle.rec_forms.specs.OutputNames.{IsFileName};
-
-use crate::{Form, FromValueError, Held};
+use crate::{Form, FromValueError};
 use rec_events::{OutputFileName, OutputKind};
 use serde_json::Value;
 use std::alloc::{AllocError, Global};
@@ -45,10 +43,6 @@ impl Form for OutputKind {
     }
 }
 
-impl Held for OutputKind {
-    fn held(&self) {}
-}
-
 impl Form for OutputFileName {
     ghost use Rattle.rec_forms.specs.OutputNameLaws.{file_name_back, file_name_writable, file_name_well_formed};
     ghost use Rattle.rec_forms.specs.OutputNames.{file_name_value, file_name_form, IsFileName};
@@ -79,14 +73,3 @@ impl Form for OutputFileName {
         OutputFileName::parse(text).ok_or(FromValueError::NotAValue)
     }
 }
-
-impl Held for OutputFileName {
-    fn held(&self) {
-        held_file_name(*self);
-    }
-}
-
-/// States that a name is well-formed: the number of one that is passed by value is known to fit its type.
-fn held_file_name(name: OutputFileName)
-    ensures { IsFileName name }
-{}

@@ -5,7 +5,7 @@ ghost use Rattle.rec_forms.specs.Gives.{Gives};
 ghost use Rattle.rec_forms.specs.Outputs.{truncated_form, split_form};
 
 use crate::fields::{only_member, optional_field, put_field, put_optional, required_field, tagged};
-use crate::{Form, FromValueError, Held, held_optional};
+use crate::{Form, FromValueError};
 use hex::FromHexError;
 use rec_events::{ChildSingleOutput, OutputFileName, ZipStoreOutput, ZipStoreOutputDescription};
 use serde_json::{Map, Value};
@@ -44,12 +44,6 @@ impl Form for ChildSingleOutput {
             Err(FromHexError::OutOfMemory) => Err(FromValueError::OutOfMemory),
             Err(_) => Err(FromValueError::NotAValue),
         }
-    }
-}
-
-impl Held for ChildSingleOutput {
-    fn held(&self) {
-        let _bytes = self.as_bytes();
     }
 }
 
@@ -135,22 +129,6 @@ impl Form for ZipStoreOutput {
     }
 }
 
-impl Held for ZipStoreOutput {
-    fn held(&self) {
-        match self {
-            ZipStoreOutput::Empty => {}
-            ZipStoreOutput::Full { file_name } => file_name.held(),
-            ZipStoreOutput::Truncated {
-                file_name,
-                original_size,
-            } => {
-                file_name.held();
-                original_size.held();
-            }
-        }
-    }
-}
-
 impl Form for ZipStoreOutputDescription {
     ghost use Rattle.rec_forms.specs.OutputLaws.{stored_outputs_back, stored_outputs_writable, stored_outputs_well_formed};
     ghost use Rattle.rec_forms.specs.Outputs.{stored_outputs_value, stored_outputs_form, IsStoredOutputs};
@@ -198,18 +176,6 @@ impl Form for ZipStoreOutputDescription {
                 output: ZipStoreOutput::from_value(alloc, value)?,
             }),
             _ => Err(FromValueError::NotAValue),
-        }
-    }
-}
-
-impl Held for ZipStoreOutputDescription {
-    fn held(&self) {
-        match self {
-            ZipStoreOutputDescription::Split { stdout, stderr } => {
-                held_optional(stdout);
-                held_optional(stderr);
-            }
-            ZipStoreOutputDescription::Combined { output } => output.held(),
         }
     }
 }

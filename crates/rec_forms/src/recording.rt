@@ -1,6 +1,6 @@
 //! What a recording says of the whole run.
 use crate::fields::{put_field, required_field};
-use crate::{Form, FromValueError, Held};
+use crate::{Form, FromValueError};
 use rec_events::{NextestRunMode, RecordOpts, TestListSummary};
 use serde_json::{Map, Value};
 use std::alloc::{AllocError, Global};
@@ -42,10 +42,6 @@ impl Form for NextestRunMode {
     }
 }
 
-impl Held for NextestRunMode {
-    fn held(&self) {}
-}
-
 impl Form for RecordOpts {
     ghost use Rattle.rec_forms.specs.Recording.{record_opts_value, record_opts_form};
     ghost use Rattle.rec_forms.specs.RecordingLaws.{record_opts_back, record_opts_writable};
@@ -83,10 +79,6 @@ impl Form for RecordOpts {
     }
 }
 
-impl Held for RecordOpts {
-    fn held(&self) {}
-}
-
 impl Form for TestListSummary {
     ghost use Rattle.rec_forms.specs.Recording.{test_list_value, test_list_form, IsTestList};
     ghost use Rattle.rec_forms.specs.RecordingLaws.{test_list_back, test_list_writable, test_list_well_formed};
@@ -120,11 +112,5 @@ impl Form for TestListSummary {
         Ok(TestListSummary {
             suites: required_field(alloc, object, "suites")?,
         })
-    }
-}
-
-impl Held for TestListSummary {
-    fn held(&self) {
-        self.suites.held();
     }
 }

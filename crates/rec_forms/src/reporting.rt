@@ -1,5 +1,5 @@
 //! How the outcome of a test is shown and reported.
-use crate::{Form, FromValueError, Held};
+use crate::{Form, FromValueError};
 use rec_events::{CancelReason, JunitFlakyFailStatus, TestOutputDisplay};
 use serde_json::Value;
 use std::alloc::{AllocError, Global};
@@ -45,10 +45,6 @@ impl Form for TestOutputDisplay {
     }
 }
 
-impl Held for TestOutputDisplay {
-    fn held(&self) {}
-}
-
 impl Form for JunitFlakyFailStatus {
     ghost use Rattle.rec_forms.specs.Reporting.{flaky_fail_status_value, flaky_fail_status_form};
     ghost use Rattle.rec_forms.specs.ReportingLaws.{flaky_fail_status_back, flaky_fail_status_writable};
@@ -84,10 +80,6 @@ impl Form for JunitFlakyFailStatus {
             _ => Err(FromValueError::NotAValue),
         }
     }
-}
-
-impl Held for JunitFlakyFailStatus {
-    fn held(&self) {}
 }
 
 impl Form for CancelReason {
@@ -137,8 +129,4 @@ impl Form for CancelReason {
             _ => Err(FromValueError::NotAValue),
         }
     }
-}
-
-impl Held for CancelReason {
-    fn held(&self) {}
 }

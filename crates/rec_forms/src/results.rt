@@ -5,7 +5,7 @@ ghost use Rattle.rec_forms.specs.Gives.{Gives};
 ghost use Rattle.rec_forms.specs.Results.{abort_form, fail_form};
 
 use crate::fields::{only_member, optional_field, put_field, put_optional, required_field, tagged};
-use crate::{Form, FromValueError, Held, held_optional};
+use crate::{Form, FromValueError};
 use rec_events::{
     ExecutionResultDescription, FailureDescription, FlakyResult, LeakTimeoutResult,
     SlowTimeoutResult,
@@ -50,10 +50,6 @@ impl Form for FlakyResult {
     }
 }
 
-impl Held for FlakyResult {
-    fn held(&self) {}
-}
-
 impl Form for LeakTimeoutResult {
     ghost use Rattle.rec_forms.specs.ResultLaws.{leak_result_back, leak_result_writable};
     ghost use Rattle.rec_forms.specs.Results.{leak_result_value, leak_result_form};
@@ -91,10 +87,6 @@ impl Form for LeakTimeoutResult {
     }
 }
 
-impl Held for LeakTimeoutResult {
-    fn held(&self) {}
-}
-
 impl Form for SlowTimeoutResult {
     ghost use Rattle.rec_forms.specs.ResultLaws.{slow_result_back, slow_result_writable};
     ghost use Rattle.rec_forms.specs.Results.{slow_result_value, slow_result_form};
@@ -130,10 +122,6 @@ impl Form for SlowTimeoutResult {
             _ => Err(FromValueError::NotAValue),
         }
     }
-}
-
-impl Held for SlowTimeoutResult {
-    fn held(&self) {}
 }
 
 impl Form for FailureDescription {
@@ -180,18 +168,6 @@ impl Form for FailureDescription {
             }),
             Some(("abort", value)) => abort_from(alloc, value),
             _ => Err(FromValueError::NotAValue),
-        }
-    }
-}
-
-impl Held for FailureDescription {
-    fn held(&self) {
-        match self {
-            FailureDescription::ExitCode { code } => code.held(),
-            FailureDescription::Abort { signal, name } => {
-                signal.held();
-                held_optional(name);
-            }
         }
     }
 }
@@ -270,14 +246,6 @@ impl Form for ExecutionResultDescription {
                 _ => Err(FromValueError::NotAValue),
             },
             _ => Err(FromValueError::NotAValue),
-        }
-    }
-}
-
-impl Held for ExecutionResultDescription {
-    fn held(&self) {
-        if let ExecutionResultDescription::Fail { failure, .. } = self {
-            failure.held();
         }
     }
 }

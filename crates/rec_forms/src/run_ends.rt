@@ -1,6 +1,6 @@
 //! How a run ended.
 use crate::fields::{only_member, put_field, required_field, tagged};
-use crate::{Form, FromValueError, Held};
+use crate::{Form, FromValueError};
 use rec_events::{
     FinalRunStats, RunFinishedStats, RunStats, StressFinalRunStats, StressRunStats,
     TestsNotSeenSummary,
@@ -49,10 +49,6 @@ impl Form for FinalRunStats {
     }
 }
 
-impl Held for FinalRunStats {
-    fn held(&self) {}
-}
-
 impl Form for StressFinalRunStats {
     ghost use Rattle.rec_forms.specs.RunEndLaws.{stress_final_stats_back, stress_final_stats_writable};
     ghost use Rattle.rec_forms.specs.RunEnds.{stress_final_stats_value, stress_final_stats_form};
@@ -92,10 +88,6 @@ impl Form for StressFinalRunStats {
             _ => Err(FromValueError::NotAValue),
         }
     }
-}
-
-impl Held for StressFinalRunStats {
-    fn held(&self) {}
 }
 
 impl Form for StressRunStats {
@@ -145,14 +137,6 @@ impl Form for StressRunStats {
     }
 }
 
-impl Held for StressRunStats {
-    fn held(&self) {
-        self.completed.held();
-        self.success_count.held();
-        self.failed_count.held();
-    }
-}
-
 impl Form for RunFinishedStats {
     ghost use Rattle.rec_forms.specs.RunEndLaws.{run_finished_stats_back, run_finished_stats_writable, run_finished_stats_well_formed};
     ghost use Rattle.rec_forms.specs.RunEnds.{run_finished_stats_value, run_finished_stats_form, IsRunFinishedStats};
@@ -195,15 +179,6 @@ impl Form for RunFinishedStats {
     }
 }
 
-impl Held for RunFinishedStats {
-    fn held(&self) {
-        match self {
-            RunFinishedStats::Single(stats) => stats.held(),
-            RunFinishedStats::Stress(stats) => stats.held(),
-        }
-    }
-}
-
 impl Form for TestsNotSeenSummary {
     ghost use Rattle.rec_forms.specs.RunEndLaws.{tests_not_seen_back, tests_not_seen_writable, tests_not_seen_well_formed};
     ghost use Rattle.rec_forms.specs.RunEnds.{tests_not_seen_value, tests_not_seen_form, IsTestsNotSeen};
@@ -239,12 +214,5 @@ impl Form for TestsNotSeenSummary {
             not_seen: required_field(alloc, object, "not-seen")?,
             total_not_seen: required_field(alloc, object, "total-not-seen")?,
         })
-    }
-}
-
-impl Held for TestsNotSeenSummary {
-    fn held(&self) {
-        self.not_seen.held();
-        self.total_not_seen.held();
     }
 }

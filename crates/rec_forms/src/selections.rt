@@ -1,6 +1,6 @@
 //! What of a workspace is built.
 use crate::fields::{defaulted_field, put_field};
-use crate::{Form, FromValueError, Held};
+use crate::{Form, FromValueError};
 use rec_events::{
     BuildScope, FeatureSelection, Items, NamedTargets, PackageSelection, TargetSelection,
 };
@@ -45,12 +45,6 @@ impl Form for NamedTargets {
     }
 }
 
-impl Held for NamedTargets {
-    fn held(&self) {
-        self.names.held();
-    }
-}
-
 impl Form for PackageSelection {
     ghost use Rattle.rec_forms.specs.SelectionLaws.{package_selection_back, package_selection_writable, package_selection_well_formed};
     ghost use Rattle.rec_forms.specs.Selections.{package_selection_value, package_selection_form, IsPackageSelection};
@@ -88,13 +82,6 @@ impl Form for PackageSelection {
             workspace: defaulted_field(alloc, object, "workspace", false)?,
             exclude: defaulted_field(alloc, object, "exclude", Items::empty(alloc))?,
         })
-    }
-}
-
-impl Held for PackageSelection {
-    fn held(&self) {
-        self.specs.held();
-        self.exclude.held();
     }
 }
 
@@ -144,15 +131,6 @@ impl Form for TargetSelection {
     }
 }
 
-impl Held for TargetSelection {
-    fn held(&self) {
-        self.bins.held();
-        self.examples.held();
-        self.tests.held();
-        self.benches.held();
-    }
-}
-
 impl Form for FeatureSelection {
     ghost use Rattle.rec_forms.specs.SelectionLaws.{feature_selection_back, feature_selection_writable, feature_selection_well_formed};
     ghost use Rattle.rec_forms.specs.Selections.{feature_selection_value, feature_selection_form, IsFeatureSelection};
@@ -198,12 +176,6 @@ impl Form for FeatureSelection {
     }
 }
 
-impl Held for FeatureSelection {
-    fn held(&self) {
-        self.features.held();
-    }
-}
-
 impl Form for BuildScope {
     ghost use Rattle.rec_forms.specs.SelectionLaws.{build_scope_back, build_scope_writable, build_scope_well_formed};
     ghost use Rattle.rec_forms.specs.Selections.{build_scope_value, build_scope_form, IsBuildScope};
@@ -241,13 +213,5 @@ impl Form for BuildScope {
             targets: defaulted_field(alloc, object, "targets", TargetSelection::none(alloc))?,
             features: defaulted_field(alloc, object, "features", FeatureSelection::none(alloc))?,
         })
-    }
-}
-
-impl Held for BuildScope {
-    fn held(&self) {
-        self.packages.held();
-        self.targets.held();
-        self.features.held();
     }
 }

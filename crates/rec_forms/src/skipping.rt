@@ -1,5 +1,5 @@
 //! Why tests are skipped, and which of these a report names.
-use crate::{Form, FromValueError, Held};
+use crate::{Form, FromValueError};
 use rec_events::{MismatchReason, ReportSkipPolicy};
 use serde_json::Value;
 use std::alloc::{AllocError, Global};
@@ -51,10 +51,6 @@ impl Form for MismatchReason {
     }
 }
 
-impl Held for MismatchReason {
-    fn held(&self) {}
-}
-
 impl Form for ReportSkipPolicy {
     ghost use Rattle.rec_forms.specs.Skipping.{skip_policy_value, skip_policy_form};
     ghost use Rattle.rec_forms.specs.SkippingLaws.{skip_policy_back, skip_policy_writable};
@@ -92,8 +88,4 @@ impl Form for ReportSkipPolicy {
             _ => Err(FromValueError::NotAValue),
         }
     }
-}
-
-impl Held for ReportSkipPolicy {
-    fn held(&self) {}
 }

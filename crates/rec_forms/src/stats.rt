@@ -5,7 +5,7 @@ ghost use Rattle.rec_forms.specs.Gives.{Gives};
 ghost use Rattle.rec_forms.specs.Shape.{with_members};
 
 use crate::fields::{Object, optional_field, put_field, put_optional, required_field};
-use crate::{Form, FromValueError, Held};
+use crate::{Form, FromValueError};
 use rec_events::RunStats;
 use serde_json::{Map, Value};
 use std::alloc::{AllocError, Global};
@@ -244,29 +244,5 @@ impl Form for RunStats {
             skipped: failures.skipped,
             cancel_reason: optional_field(alloc, object, "cancel-reason")?,
         })
-    }
-}
-
-impl Held for RunStats {
-    fn held(&self) {
-        self.setup_scripts_initial_count.held();
-        self.setup_scripts_finished_count.held();
-        self.setup_scripts_passed.held();
-        self.setup_scripts_failed.held();
-        self.setup_scripts_exec_failed.held();
-        self.setup_scripts_timed_out.held();
-        self.initial_run_count.held();
-        self.finished_count.held();
-        self.passed.held();
-        self.passed_slow.held();
-        self.passed_timed_out.held();
-        self.flaky.held();
-        self.failed.held();
-        self.failed_slow.held();
-        self.failed_timed_out.held();
-        self.leaky.held();
-        self.leaky_failed.held();
-        self.exec_failed.held();
-        self.skipped.held();
     }
 }

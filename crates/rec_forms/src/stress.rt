@@ -5,7 +5,7 @@ ghost use Rattle.rec_forms.specs.Gives.{Gives};
 ghost use Rattle.rec_forms.specs.Stress.{count_progress_form, time_progress_form};
 
 use crate::fields::{only_member, optional_field, put_field, put_optional, required_field, tagged};
-use crate::{Form, FromValueError, Held, held_optional};
+use crate::{Form, FromValueError};
 use rec_events::{Duration, StressConditionSummary, StressProgress};
 use serde_json::{Map, Value};
 use std::alloc::{AllocError, Global};
@@ -54,15 +54,6 @@ impl Form for StressConditionSummary {
                 duration: Duration::from_value(alloc, value)?,
             }),
             _ => Err(FromValueError::NotAValue),
-        }
-    }
-}
-
-impl Held for StressConditionSummary {
-    fn held(&self) {
-        match self {
-            StressConditionSummary::Count { count } => held_optional(count),
-            StressConditionSummary::Duration { duration } => duration.held(),
         }
     }
 }
@@ -122,31 +113,6 @@ impl Form for StressProgress {
             Some(("count", value)) => count_from(alloc, value),
             Some(("time", value)) => time_from(alloc, value),
             _ => Err(FromValueError::NotAValue),
-        }
-    }
-}
-
-impl Held for StressProgress {
-    fn held(&self) {
-        match self {
-            StressProgress::Count {
-                total,
-                elapsed,
-                completed,
-            } => {
-                held_optional(total);
-                elapsed.held();
-                completed.held();
-            }
-            StressProgress::Time {
-                total,
-                elapsed,
-                completed,
-            } => {
-                total.held();
-                elapsed.held();
-                completed.held();
-            }
         }
     }
 }

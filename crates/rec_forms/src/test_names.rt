@@ -1,5 +1,5 @@
 //! Sets of test names.
-use crate::{Form, FromValueError, Held};
+use crate::{Form, FromValueError};
 use rec_events::{Items, TestCaseName, TestNames};
 use serde_json::Value;
 use std::alloc::{AllocError, Global};
@@ -38,11 +38,5 @@ impl Form for TestNames {
             set.insert(name)?;
         }
         Ok(set)
-    }
-}
-
-impl Held for TestNames {
-    fn held(&self) {
-        let _names = self.as_set();
     }
 }

@@ -1,48 +1,17 @@
 //! What suites are known by, and how they are called.
-ghost use Rattle.std.proofs.Common.{rules};
-ghost use Rattle.std.specs.Cmp.Rules.{hashing};
 ghost use Rattle.std.specs.Fmt.{decimal};
-ghost use Rattle.std.specs.Hash as fed;
 ghost use Rattle.std.specs.Prelude.{◌≡◌, ◌++◌, IfOk, codes, option_map};
 ghost use Rattle.rec_junit.specs.declared.suite_keys.SuiteSubject.TheVariants.{Script, Binary};
 ghost use Rattle.rec_junit.specs.Suites.{key_of, stress_key, subject_name, suite_name};
 
-use rec_events::{RustBinaryId, ScriptId, StressIndex, Text};
+use rec_events::{RustBinaryId, ScriptId, StressIndex, Text, TryClone};
 use std::alloc::{AllocError, Global};
-use std::hash::{Hash, Hasher};
-use std::marker::Model;
-
-/// Holds the name of a script or a binary. Contracts see its bytes.
-#[derive(PartialEq, Eq, Drop)]
-pub(crate) struct SubjectId {
-    text: Text,
-}
-
-impl Model for SubjectId {
-    ghost use Rattle.std.specs.Prelude.{List, ℕ};
-
-    ghost Value = { List ℕ };
-
-    ghost view = { λ id. id.text };
-
-    ghost inverse = { λ text. record { text = text } };
-}
-
-impl Hash for SubjectId {
-    ghost hash_input = { fed.str };
-
-    ghost respects_eq = { Prim.search (hashing, rules) };
-
-    fn hash<H: Hasher>(&self, state: &mut H) {
-        self.text.as_str().hash(state);
-    }
-}
 
 /// Says what a suite is of.
 #[derive(PartialEq, Eq, Hash, Drop)]
 pub(crate) enum SuiteSubject {
-    Script(SubjectId),
-    Binary(SubjectId),
+    Script(ScriptId),
+    Binary(RustBinaryId),
 }
 
 /// Says which run of a stress run a suite is of, and of how many where that is known.
@@ -57,15 +26,6 @@ pub(crate) struct StressKey {
 pub(crate) struct SuiteKey {
     pub subject: SuiteSubject,
     pub stress_index: Option<StressKey>,
-}
-
-/// Copies the name of a script or a binary.
-fn subject_id(alloc: Global, id: &str) -> Result<SubjectId, AllocError>
-    ensures { IfOk result (λ subject. subject ≡ id.now) }
-{
-    Ok(SubjectId {
-        text: Text::from_str(alloc, id)?,
-    })
 }
 
 /// Gives a stress index as it stands in a key.
@@ -93,7 +53,7 @@ impl SuiteKey {
     ) -> Result<SuiteKey, AllocError>
         ensures { IfOk result (λ key. key ≡ key_of (Script script.now) stress_index.now) }
     {
-        let id = subject_id(alloc, script.as_str())?;
+        let id = script.try_clone(alloc)?;
         Ok(SuiteKey {
             subject: SuiteSubject::Script(id),
             stress_index: stress_key(stress_index),
@@ -108,7 +68,7 @@ impl SuiteKey {
     ) -> Result<SuiteKey, AllocError>
         ensures { IfOk result (λ key. key ≡ key_of (Binary binary.now) stress_index.now) }
     {
-        let id = subject_id(alloc, binary.as_str())?;
+        let id = binary.try_clone(alloc)?;
         Ok(SuiteKey {
             subject: SuiteSubject::Binary(id),
             stress_index: stress_key(stress_index),
@@ -134,10 +94,10 @@ impl SuiteSubject {
     {
         match self {
             SuiteSubject::Script(id) => {
-                let id = id.text.as_str();
+                let id = id.as_str();
                 Ok(Text::new(format!(in alloc; "@setup-script:{id}")?))
             }
-            SuiteSubject::Binary(id) => Text::from_str(alloc, id.text.as_str()),
+            SuiteSubject::Binary(id) => Text::from_str(alloc, id.as_str()),
         }
     }
 }

@@ -1,3 +1,4 @@
+pub mod Components
 pub mod Counted
 pub mod Opened
 pub mod Places

@@ -1,3 +1,4 @@
+pub mod Components
 pub mod Errors
 pub mod Judging
 pub mod Opening

@@ -4,8 +4,8 @@ use Rattle.std.proofs.lemmas.List.Folds.{list_any_more}
 use Rattle.std.specs.BTreeSet.{BTreeSet}
 use Rattle.std.specs.List.{list_any}
 use Rattle.rec_events.specs.declared.instances.OwnedTestInstanceId.{OwnedTestInstanceId}
-use Rattle.rec_replay.specs.Registration.{is_registered, test_eq}
-use Rattle.rec_reading.specs.Converting.{is_named, test_of}
+use Rattle.rec_events.specs.Tests.{is_named, test_eq, test_of}
+use Rattle.rec_replay.specs.Registration.{is_registered}
 
 -- one more before others, as one more after them
 or-after : (a b c : Bool) → (b || (a || c)) ≡ ((a || b) || c)

@@ -1,6 +1,5 @@
 -- The live events that a bundle's recorded events stand for.
 use Rattle.std.specs.Borrow.{Bor}
-use Rattle.std.specs.List.{list_any}
 use Rattle.std.specs.Option.{option_or}
 use Rattle.std.specs.Prelude.{ℕ, List, Bool, Option, Some, None, option_map, Result, Ok, Err}
 use Rattle.rec_container.specs.Container.{Entry}
@@ -8,33 +7,18 @@ use Rattle.rec_events.specs.declared.instances.OwnedTestInstanceId.{OwnedTestIns
 use Rattle.rec_events.specs.declared.live_events.TestEvent.{TestEvent}
 use Rattle.rec_events.specs.declared.live_events.TestEventKind.TheVariants as live
 use Rattle.rec_events.specs.declared.live_events.TestEventKind.{TestEventKind}
-use Rattle.rec_events.specs.declared.recording.TestListSummary.{TestListSummary}
 use Rattle.rec_events.specs.TestLists.{Tests}
+use Rattle.rec_events.specs.Tests.{is_listed}
 use Rattle.rec_codec.specs.Event.{RecordedEvent}
 use Rattle.rec_replay.specs.Conversions.{event_refusal}
 use Rattle.rec_replay.specs.declared.conversion_error.ReplayConversionError.TheVariants.{RecordRead}
 use Rattle.rec_replay.specs.declared.conversion_error.ReplayConversionError.{ReplayConversionError}
 use Rattle.rec_replay.specs.declared.output_load.LoadOutput.{LoadOutput}
 use Rattle.rec_replay.specs.Loading.{event_names, first_refusal}
-use Rattle.rec_replay.specs.Registration.{test_eq}
 use Rattle.rec_replay.specs.Replaying.{replayed}
 use Rattle.rec_reading.specs.declared.errors.ListingError.TheVariants.{Conversion}
 use Rattle.rec_reading.specs.declared.errors.ListingError.{ListingError}
 use Rattle.rec_reading.specs.RunParts.{RunParts}
-
--- ---- which tests a bundle lists
-
--- a test of this name under its binary
-abbrev pub test_of : List ℕ → List ℕ → OwnedTestInstanceId
-test_of binary name = record { binary_id = binary; test_name = name }
-
--- it is one of these tests of a binary
-abbrev pub is_named : List ℕ → List (List ℕ) → OwnedTestInstanceId → Bool
-is_named binary names t = list_any (λ name. test_eq (test_of binary name) t) names
-
--- a list names it
-abbrev pub is_listed : TestListSummary → OwnedTestInstanceId → Bool
-is_listed tests t = list_any (λ suite. is_named suite.0 suite.1 t) tests.suites
 
 -- ---- what becomes of a recorded event
 

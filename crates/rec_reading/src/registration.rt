@@ -1,8 +1,8 @@
 //! The tests that events may name.
 ghost use Rattle.std.specs.Prelude.{◌≡◌, ◌||◌, OnOk};
 ghost use Rattle.rec_events.specs.declared.instances.OwnedTestInstanceId.{OwnedTestInstanceId};
-ghost use Rattle.rec_replay.specs.Registration.{is_registered, test_eq};
-ghost use Rattle.rec_reading.specs.Converting.{is_listed, is_named, test_of};
+ghost use Rattle.rec_events.specs.Tests.{is_listed, is_named, test_eq, test_of};
+ghost use Rattle.rec_replay.specs.Registration.{is_registered};
 
 use rec_events::{OwnedTestInstanceId, RustBinaryId, TestCaseName, TestListSummary, TryClone};
 use rec_replay::ReplayContext;

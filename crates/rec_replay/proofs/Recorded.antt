@@ -33,10 +33,10 @@ use Rattle.rec_events.specs.LiveStress.{condition_summary, index_summary}
 use Rattle.rec_events.specs.TestLists.{Tests}
 use Rattle.rec_store.proofs.Clashing.{clash_none}
 use Rattle.rec_store.proofs.EventMapLaws.{event_twice}
-use Rattle.rec_store.proofs.Held.{all_prefix, all_back, all_held, all_weaker, IsHeld}
+use Rattle.rec_store.proofs.Held.{all_prefix, all_back, all_held, all_weaker}
 use Rattle.rec_store.specs.Cut.{cut}
 use Rattle.rec_store.specs.EventOutputs.{Live, file_name, output_entries, captured_entries, description_entries, event_entries, stored_as, description_recorded, event_recorded}
-use Rattle.rec_store.specs.Kept.{bytes_under}
+use Rattle.rec_store.specs.Kept.{bytes_under, IsHeld}
 use Rattle.rec_store.specs.Logging.{Logs}
 use Rattle.rec_store.specs.OutputPaths.{output_path}
 use Rattle.rec_store.specs.Recording.{Recording}

@@ -1,42 +1,19 @@
 -- Whether a test is registered, by the order in which the set has its tests.
-use Rattle.std.proofs.Common.{◌≡◌, ◌&&◌, ◌||◌, Bool, true, false, cond, Some, None, if◌then◌else◌, refl, sym, ◌∙◌, ap, bytes_eq}
-use Rattle.std.proofs.lemmas.Bool.{and_parts}
-use Rattle.std.proofs.lemmas.Map.Text.{is_eq-slice_cmp}
-use Rattle.std.proofs.lemmas.Slice.Eq.{bytes_eq-Decides}
+use Rattle.std.proofs.Common.{◌≡◌, ◌||◌, Bool, true, false, cond, Some, None, if◌then◌else◌, refl, sym, ◌∙◌, ap}
 use Rattle.std.specs.BTreeMap.{is_at}
 use Rattle.std.specs.BTreeSet.{BTreeSet, contains_by}
-use Rattle.std.specs.Cmp.Lexicographic.{slice_cmp}
-use Rattle.std.specs.declared.cmp.Ordering.TheVariants.{Less, Equal, Greater}
-use Rattle.std.specs.declared.cmp.Ordering.{Ordering}
+use Rattle.std.specs.declared.cmp.Ordering.TheVariants.{Equal}
 use Rattle.std.specs.List.{list_any}
-use Rattle.std.specs.Ordering.{is_eq, nat_cmp, ordering_then}
+use Rattle.std.specs.Ordering.{is_eq}
+use Rattle.rec_events.proofs.TestOrder.{same_test, test_eq-true}
 use Rattle.rec_events.specs.contracts.instances.OwnedTestInstanceIdOrd.TheImpl as tests
 use Rattle.rec_events.specs.declared.instances.OwnedTestInstanceId.{OwnedTestInstanceId}
-use Rattle.rec_replay.specs.Registration.{is_registered, test_eq}
-
--- an order by two comparisons is equal where both are
-is_eq-then : (a b : Ordering) → is_eq (ordering_then a b) ≡ (is_eq a && is_eq b)
-is_eq-then Less b = refl
-is_eq-then Equal b = refl
-is_eq-then Greater b = refl
-
-same_test : (s t : OwnedTestInstanceId) → is_at (tests.cmp-value.it s) t ≡ test_eq s t
-same_test s t =
-    is_eq-then (slice_cmp nat_cmp s.binary_id t.binary_id) (slice_cmp nat_cmp s.test_name t.test_name)
-    ∙ ap (λ b. b && is_eq (slice_cmp nat_cmp s.test_name t.test_name)) (is_eq-slice_cmp s.binary_id t.binary_id)
-    ∙ ap (λ b. bytes_eq s.binary_id t.binary_id && b) (is_eq-slice_cmp s.test_name t.test_name)
+use Rattle.rec_events.specs.Tests.{test_eq}
+use Rattle.rec_replay.specs.Registration.{is_registered}
 
 -- the order of the set finds what is registered
 registered_by : (s : BTreeSet OwnedTestInstanceId) (t : OwnedTestInstanceId) → contains_by (tests.cmp-value.it t) s ≡ is_registered s t
 registered_by s t = ap (λ (f : OwnedTestInstanceId → Bool). list_any f s.keys) (λ i u. same_test t u i)
-
--- tests that pass as the same are equal
-test_eq-true : (s t : OwnedTestInstanceId) → test_eq s t ≡ true → s ≡ t
-test_eq-true s t e =
-    let p = and_parts (bytes_eq s.binary_id t.binary_id) (bytes_eq s.test_name t.test_name) e in
-    let x = (bytes_eq-Decides s.binary_id t.binary_id).0 p.0 in
-    let y = (bytes_eq-Decides s.test_name t.test_name).0 p.1 in
-    λ i. record { binary_id = x i; test_name = y i }
 
 -- the test that is found is the one that is asked for
 pub found : (s : BTreeSet OwnedTestInstanceId) (t k : OwnedTestInstanceId) → tests.cmp-value.it t k ≡ Equal → true ≡ contains_by (tests.cmp-value.it t) s

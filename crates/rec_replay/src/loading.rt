@@ -168,6 +168,7 @@ pub(crate) fn load_status(
         delay_before_start: status.delay_before_start,
         error_summary,
         output_error_slice,
+        cpu_time: status.cpu_time,
     })
 }
 

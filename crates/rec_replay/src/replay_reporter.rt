@@ -1,5 +1,6 @@
 //! What a replay is shown with.
-ghost use Rattle.std.specs.Prelude.{◌≡◌, Some};
+ghost use Rattle.std.specs.Prelude.{◌≡◌, ◌≤◌, Some, true};
+ghost use Rattle.rec_replay.specs.Reporting.{Becomes, Shows, known};
 ghost use Rattle.rec_replay.specs.Settings.{default_settings};
 
 use crate::event_reporter::{EventReporter, WriteEventError};
@@ -142,6 +143,12 @@ impl ReplayReporterBuilder {
     ) -> ReplayReporter<'a, R>
         ensures same { result.reporter.ghost_name ≡ reporter.entry.ghost_name }
         ensures own { R.configures reporter.old (record { settings = self.settings; mode = mode; run_count = run_count }) result.reporter.now }
+        ensures configured { Becomes (R.configured reporter.old) (R.configured result.reporter.now)
+            (Some (record { settings = self.settings; mode = mode; run_count = run_count })) }
+        ensures wants { R.wants result.reporter.now ≡ R.wants reporter.old }
+        ensures later { R.faults reporter.old ≤ R.faults result.reporter.now }
+        ensures written { R.written result.reporter.now ≡ R.written reporter.old }
+        ensures finished { R.finished result.reporter.now ≡ R.finished reporter.old }
     {
         reporter.configure(&self.settings, mode, run_count);
         ReplayReporter { reporter }
@@ -171,6 +178,13 @@ impl<'a, R: EventReporter> ReplayReporter<'a, R> {
     pub fn write_header(&mut self, header: &ReplayHeader) -> Result<(), WriteEventError>
         ensures same { self.new.reporter.ghost_name ≡ self.old.reporter.ghost_name }
         ensures own { R.writes_header self.old.reporter.now header.now result self.new.reporter.now }
+        ensures shown { Shows (R.written self.old.reporter.now) (R.written self.new.reporter.now)
+            (R.faults self.old.reporter.now) (R.faults self.new.reporter.now)
+            (R.header_text (known (R.configured self.old.reporter.now)) header.now) result }
+        ensures wants { R.wants self.new.reporter.now ≡ R.wants self.old.reporter.now }
+        ensures later { R.faults self.old.reporter.now ≤ R.faults self.new.reporter.now }
+        ensures configured { R.configured self.new.reporter.now ≡ R.configured self.old.reporter.now }
+        ensures finished { R.finished self.new.reporter.now ≡ R.finished self.old.reporter.now }
     {
         self.reporter.write_header(header)
     }
@@ -183,6 +197,13 @@ impl<'a, R: EventReporter> ReplayReporter<'a, R> {
     pub fn write_event(&mut self, event: &TestEvent<'_>) -> Result<(), WriteEventError>
         ensures same { self.new.reporter.ghost_name ≡ self.old.reporter.ghost_name }
         ensures own { R.writes_event self.old.reporter.now event.now result self.new.reporter.now }
+        ensures shown { Shows (R.written self.old.reporter.now) (R.written self.new.reporter.now)
+            (R.faults self.old.reporter.now) (R.faults self.new.reporter.now)
+            (R.event_text (known (R.configured self.old.reporter.now)) event.now) result }
+        ensures wants { R.wants self.new.reporter.now ≡ R.wants self.old.reporter.now }
+        ensures later { R.faults self.old.reporter.now ≤ R.faults self.new.reporter.now }
+        ensures configured { R.configured self.new.reporter.now ≡ R.configured self.old.reporter.now }
+        ensures finished { R.finished self.new.reporter.now ≡ R.finished self.old.reporter.now }
     {
         self.reporter.write_event(event)
     }
@@ -190,6 +211,11 @@ impl<'a, R: EventReporter> ReplayReporter<'a, R> {
     /// Ends the showing.
     pub fn finish(self)
         ensures own { R.finishes self.entry.reporter.now self.exit.0.now }
+        ensures finished { Becomes (R.finished self.entry.reporter.now) (R.finished self.exit.0.now) true }
+        ensures wants { R.wants self.exit.0.now ≡ R.wants self.entry.reporter.now }
+        ensures later { R.faults self.entry.reporter.now ≤ R.faults self.exit.0.now }
+        ensures written { R.written self.exit.0.now ≡ R.written self.entry.reporter.now }
+        ensures configured { R.configured self.exit.0.now ≡ R.configured self.entry.reporter.now }
     {
         self.reporter.finish();
     }

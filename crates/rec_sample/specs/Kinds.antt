@@ -59,6 +59,7 @@ attempt i = record {
   delay_before_start = seconds 0;
   error_summary = None;
   output_error_slice = None;
+  cpu_time = None;
 }
 
 -- ---- the kinds

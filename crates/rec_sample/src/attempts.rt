@@ -63,6 +63,7 @@ fn attempt(alloc: Global, i: u64) -> Result<ExecuteStatus<LiveSpec>, AllocError>
         delay_before_start: seconds(0),
         error_summary: None,
         output_error_slice: None,
+        cpu_time: None,
     })
 }
 

@@ -1,6 +1,6 @@
 //! What keeps the runs that were recorded.
 ghost use Rattle.std.specs.declared.option.Option.{Option};
-ghost use Rattle.std.specs.Prelude.{◌≡◌, ◌≤◌, List, ℕ};
+ghost use Rattle.std.specs.Prelude.{◌≡◌, ◌≤◌, List, ℕ, IfOk, string_bytes};
 ghost use Rattle.rec_format.specs.declared.run.RecordedRunInfo.{RecordedRunInfo};
 ghost use Rattle.rec_session.specs.declared.keeper.KeeperError.TheVariants.{OutOfMemory};
 ghost use Rattle.rec_session.specs.declared.keeper.RecordRetentionPolicy.{RecordRetentionPolicy};
@@ -94,6 +94,7 @@ pub trait RunKeeper {
     /// `Failed` means that the keeper failed and counted it, and `OutOfMemory` that memory ran out.
     fn state_dir(&mut self, workspace_root: &str) -> Result<String, KeeperError>
         ensures told { Told (known self.old) (known self.new) (λ k j. GivesDirectory (directory workspace_root.now) k j result) }
+        ensures named { IfOk result (λ dir. string_bytes dir ≡ directory workspace_root.now) }
         ensures cause { HasKeeperCause (faults self.old) (faults self.new) result };
 
     /// Opens the store in a directory, and makes it where there is none.

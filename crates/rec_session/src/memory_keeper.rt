@@ -3,7 +3,7 @@
 //! Calls of [`RunKeeper`] but `unlock` are numbered from 1. The number stays at u64's greatest once it is
 //! there.
 ghost use Rattle.std.specs.List.{position};
-ghost use Rattle.std.specs.Prelude.{◌≡◌, ◌≤◌, ◌++◌, [], ◌∷◌, drop, false, vec_len, IfOk, IfErr, Some};
+ghost use Rattle.std.specs.Prelude.{◌≡◌, ◌≤◌, ◌++◌, [], ◌∷◌, drop, false, vec_len, IfOk, IfErr, Some, string_bytes};
 ghost use Rattle.rec_format.specs.RunIds.{IsShortest};
 ghost use Rattle.rec_session.specs.declared.keeper.KeeperError.TheVariants.{Failed};
 ghost use Rattle.rec_session.specs.Keepers.{HasKeeperCause, GivesDirectory, Opens, Locks, Unlocks, CreatesRun, CompletesRun, Prunes, ended, first_ended, has_run, ids_of, is_run};
@@ -88,6 +88,7 @@ impl RunKeeper for MemoryKeeper {
 
     fn state_dir(&mut self, workspace_root: &str) -> Result<String, KeeperError>
         ensures told { GivesDirectory workspace_root.now self.old.kept self.new.kept result }
+        ensures named { IfOk result (λ dir. string_bytes dir ≡ workspace_root.now) }
         ensures cause { HasKeeperCause self.old.faults self.new.faults result }
         ensures counted { CountsCall self.old self.new result }
     {

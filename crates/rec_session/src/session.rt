@@ -69,6 +69,7 @@ impl RecordSession {
 
         // Over any keeper.
         ensures run { IfOk result (λ s. s.session.run_id ≡ config.entry.run_id) }
+        ensures directory { IfOk result (λ s. s.session.state_dir ≡ K.directory config.entry.workspace_root.now) }
         ensures cause { IfErr result (λ f. IsSetUpCause (first_entries config.entry.build_scope config.entry.rerun_info)
             (K.faults keeper.old) (K.faults keeper.new) (S.faults store) (S.faults f.store) f.error) }
         ensures later { K.faults keeper.old ≤ K.faults keeper.new }

@@ -1,5 +1,5 @@
 //! How a session is set up.
-ghost use Rattle.std.specs.Prelude.{◌≡◌, ◌≤◌, IfErr};
+ghost use Rattle.std.specs.Prelude.{◌≡◌, ◌≤◌, IfErr, IfOk, string_bytes};
 ghost use Rattle.rec_session.specs.Keepers.{Told};
 ghost use Rattle.rec_session.specs.SettingUp.{refusal_of, CreatesLocked, IsRefusalCause, LocksState};
 
@@ -108,6 +108,7 @@ pub(crate) fn lock_state<K: RunKeeper>(
     workspace_root: &str,
 ) -> Result<String, RecordSetupError>
     ensures told { Told (K.known keeper.old) (K.known keeper.new) (λ k j. LocksState (K.directory workspace_root.now) k j result) }
+    ensures named { IfOk result (λ dir. string_bytes dir ≡ K.directory workspace_root.now) }
     ensures cause { IfErr result (IsRefusalCause (K.faults keeper.old) (K.faults keeper.new)) }
     ensures later { K.faults keeper.old ≤ K.faults keeper.new }
 {

@@ -1,33 +1,16 @@
--- The tests on keys, tests, rows and places hold exactly where these are equal.
+-- The tests on keys, rows and places hold exactly where these are equal.
 use Rattle.std.proofs.Common.{◌≡◌, ℕ, ◌==◌, nat_lt, ◌&&◌, Bool, true, false, cond, refl, ◌∙◌, ap, sym, arith, eqb-true, eq-eqb, ltb-true}
 use Rattle.std.proofs.lemmas.Bool.{and_parts, and_from}
-use Rattle.std.proofs.lemmas.Slice.Eq.{bytes_eq-Decides}
 use Rattle.std.specs.declared.cmp.Ordering.TheVariants.{Less, Equal, Greater}
-use Rattle.std.specs.declared.cmp.Ordering.{Ordering}
-use Rattle.std.specs.Ordering.{nat_cmp, ordering_then, is_eq}
-use Rattle.std.specs.Prelude.{bytes_eq}
-use Rattle.rec_events.specs.declared.instances.OwnedTestInstanceId.{OwnedTestInstanceId}
+use Rattle.std.specs.Ordering.{nat_cmp, is_eq}
+use Rattle.rec_events.proofs.TestOrder.{is_eq-then, test_eq-self, test_eq-true}
 use Rattle.rec_trace_events.specs.declared.rows.Row.{Row}
 use Rattle.rec_spans.specs.declared.spans.Place.TheVariants as places
 use Rattle.rec_spans.specs.declared.spans.Place.{Place}
 use Rattle.rec_spans.specs.declared.spans.SpanKey.TheVariants.{Run, SubRun, Script, Test}
 use Rattle.rec_spans.specs.declared.spans.SpanKey.{SpanKey}
-use Rattle.rec_spans.specs.Keys.{key_eq, row_eq, test_eq}
+use Rattle.rec_spans.specs.Keys.{key_eq, row_eq}
 use Rattle.rec_spans.specs.Places.{rank, number, place_eq}
-
--- ---- tests
-
--- tests that pass as the same are equal
-pub test_eq-true : (s t : OwnedTestInstanceId) → test_eq s t ≡ true → s ≡ t
-test_eq-true s t e =
-    let p = and_parts (bytes_eq s.binary_id t.binary_id) (bytes_eq s.test_name t.test_name) e in
-    let x = (bytes_eq-Decides s.binary_id t.binary_id).0 p.0 in
-    let y = (bytes_eq-Decides s.test_name t.test_name).0 p.1 in
-    λ i. record { binary_id = x i; test_name = y i }
-
--- a test is the same as itself
-pub test_eq-self : (t : OwnedTestInstanceId) → test_eq t t ≡ true
-test_eq-self t = and_from (bytes_eq t.binary_id t.binary_id) (bytes_eq t.test_name t.test_name) ((bytes_eq-Decides t.binary_id t.binary_id).1 refl) ((bytes_eq-Decides t.test_name t.test_name).1 refl)
 
 -- ---- keys
 
@@ -77,7 +60,7 @@ row_eq-self a = and_from (a.pid == a.pid) (a.tid == a.tid) (eq-eqb a.pid a.pid r
 
 -- ---- places
 
-is_eq-nat_cmp : (m n : ℕ) → is_eq (nat_cmp m n) ≡ (m == n)
+pub is_eq-nat_cmp : (m n : ℕ) → is_eq (nat_cmp m n) ≡ (m == n)
 is_eq-nat_cmp m n = go (nat_lt m n) (m == n) refl refl
   where
     go : (a b : Bool) → nat_lt m n ≡ a → (m == n) ≡ b → is_eq (cond a Less (cond b Equal Greater)) ≡ b
@@ -85,12 +68,6 @@ is_eq-nat_cmp m n = go (nat_lt m n) (m == n) refl refl
     go true false x y = refl
     go false true x y = refl
     go false false x y = refl
-
--- an order by two comparisons is equal where both are
-pub is_eq-then : (a b : Ordering) → is_eq (ordering_then a b) ≡ (is_eq a && is_eq b)
-is_eq-then Less b = refl
-is_eq-then Equal b = refl
-is_eq-then Greater b = refl
 
 place_eq-tests : (a b : Place) → place_eq a b ≡ ((rank a == rank b) && (number a == number b))
 place_eq-tests a b =

@@ -1,20 +1,19 @@
 -- The orders of places, of tests and of binaries, by which maps find them, are those of the definitions.
-use Rattle.std.proofs.Common.{◌≡◌, ℕ, ◌&&◌, List, Option, cond, refl, sym, ◌∙◌, ap, bytes_eq, subst}
+use Rattle.std.proofs.Common.{◌≡◌, ℕ, List, Option, cond, refl, sym, ◌∙◌, ap, subst}
 use Rattle.std.proofs.lemmas.Map.Text.{is_eq-slice_cmp}
 use Rattle.std.specs.BTreeMap.{BTreeMap, IsOrdered, UpdatesBy, get_by, insert_entry, is_at}
-use Rattle.std.specs.Cmp.Lexicographic.{slice_cmp}
 use Rattle.std.specs.List.Sorted.{IsStrictlySortedBy}
 use Rattle.std.specs.Map.{keys_of, lookup, remove_entry}
-use Rattle.std.specs.Ordering.{is_eq, nat_cmp}
+use Rattle.std.specs.Ordering.{is_eq}
+use Rattle.rec_events.proofs.TestOrder.{same_test, tests_at}
 use Rattle.rec_events.specs.contracts.ids.RustBinaryIdOrd.TheImpl as binaries
 use Rattle.rec_events.specs.contracts.instances.OwnedTestInstanceIdOrd.TheImpl as tests
 use Rattle.rec_events.specs.declared.instances.OwnedTestInstanceId.{OwnedTestInstanceId}
-use Rattle.rec_spans.proofs.Keys.{is_eq-then}
+use Rattle.rec_events.specs.Tests.{test_eq}
 use Rattle.rec_spans.specs.contracts.spans.PlaceOrd.TheImpl as derived
 use Rattle.rec_spans.specs.declared.spans.Place.TheVariants.{Run, SubRun, Slot, Script}
 use Rattle.rec_spans.specs.declared.spans.Place.{Place}
 use Rattle.rec_spans.specs.declared.spans.Span.{Span}
-use Rattle.rec_spans.specs.Keys.{test_eq}
 use Rattle.rec_spans.specs.Past.{number_of}
 use Rattle.rec_spans.specs.Places.{place_cmp}
 use Rattle.rec_spans.specs.Tied.{at, slot_of}
@@ -44,15 +43,6 @@ pub places : derived.cmp-value.it ≡ place_cmp
 places = λ i a b. same_place a b i
 
 -- ---- tests
-
-same_test : (s t : OwnedTestInstanceId) → is_at (tests.cmp-value.it s) t ≡ test_eq s t
-same_test s t =
-    is_eq-then (slice_cmp nat_cmp s.binary_id t.binary_id) (slice_cmp nat_cmp s.test_name t.test_name)
-    ∙ ap (λ b. b && is_eq (slice_cmp nat_cmp s.test_name t.test_name)) (is_eq-slice_cmp s.binary_id t.binary_id)
-    ∙ ap (λ b. bytes_eq s.binary_id t.binary_id && b) (is_eq-slice_cmp s.test_name t.test_name)
-
-tests_at : (λ (s t : OwnedTestInstanceId). is_at (tests.cmp-value.it s) t) ≡ test_eq
-tests_at = λ i s t. same_test s t i
 
 -- what a map has at a test is its slot
 pub slot-get : (m : BTreeMap OwnedTestInstanceId ℕ) (t : OwnedTestInstanceId) → get_by (tests.cmp-value.it t) m ≡ slot_of m.entries t

@@ -1,12 +1,9 @@
--- When tests, keys and rows are the same.
-use Rattle.std.specs.Prelude.{◌==◌, ◌&&◌, Bool, true, false, bytes_eq}
-use Rattle.rec_events.specs.declared.instances.OwnedTestInstanceId.{OwnedTestInstanceId}
+-- When keys and rows are the same.
+use Rattle.std.specs.Prelude.{◌==◌, ◌&&◌, Bool, true, false}
+use Rattle.rec_events.specs.Tests.{test_eq}
 use Rattle.rec_trace_events.specs.declared.rows.Row.{Row}
 use Rattle.rec_spans.specs.declared.spans.SpanKey.TheVariants.{Run, SubRun, Script, Test}
 use Rattle.rec_spans.specs.declared.spans.SpanKey.{SpanKey}
-
-abbrev pub test_eq : OwnedTestInstanceId → OwnedTestInstanceId → Bool
-test_eq s t = bytes_eq s.binary_id t.binary_id && bytes_eq s.test_name t.test_name
 
 abbrev pub key_eq : SpanKey → SpanKey → Bool
 key_eq Run Run = true

@@ -1,9 +1,9 @@
--- How open setup scripts are found by their ids: their indexes are noted under them.
+-- How open setup scripts are found by their ids: their indexes are noted under them. An id is kept only as long as a script of it is open.
 use Rattle.std.specs.BTreeMap.{BTreeMap, get_by_text, is_at}
 use Rattle.std.specs.BTreeSet.{BTreeSet, contains_by}
 use Rattle.std.specs.declared.alloc.Global.{Global}
 use Rattle.std.specs.Ordering.{nat_cmp}
-use Rattle.std.specs.Prelude.{◌≡◌, ◌≤◌, ◌&&◌, ℕ, List, Bool, true, false, Option, Some, None, String, bytes_eq, cond}
+use Rattle.std.specs.Prelude.{◌≡◌, ◌≤◌, ◌&&◌, ℕ, List, Bool, true, false, Option, Some, None, IsSome, String, bytes_eq, cond}
 use Rattle.rec_spans.specs.declared.spans.Place.TheVariants as places
 use Rattle.rec_spans.specs.declared.spans.Place.{Place}
 use Rattle.rec_spans.specs.declared.spans.Span.{Span}
@@ -21,6 +21,10 @@ is_among index (Some indexes) = contains_by (nat_cmp index) indexes
 -- whether an index is noted under an id
 abbrev pub is_noted : Notes → List ℕ → ℕ → Bool
 is_noted notes id index = is_among index (get_by_text notes id)
+
+-- each id that is kept has an index noted under it
+abbrev pub NoneIsEmpty : Notes → Type 0
+NoneIsEmpty notes = (name : List ℕ) → IsSome (get_by_text notes name) → (index : ℕ) × (is_noted notes name index ≡ true)
 
 -- all is noted as before, but for this index under this id, which is noted now, or isn't
 abbrev pub Renotes : Bool → Notes → List ℕ → ℕ → Notes → Type 0

@@ -3,12 +3,12 @@ use Rattle.std.specs.BTreeMap.{is_at}
 use Rattle.std.specs.Map.{lookup, keys_of, values_of}
 use Rattle.std.specs.Prelude.{◌≡◌, ℕ, List, map, Option, Some, IsSome, option_and_then, option_map, option_to_list}
 use Rattle.rec_events.specs.declared.instances.OwnedTestInstanceId.{OwnedTestInstanceId}
+use Rattle.rec_events.specs.Tests.{test_eq}
 use Rattle.rec_spans.specs.declared.spans.Place.TheVariants as places
 use Rattle.rec_spans.specs.declared.spans.Place.{Place}
 use Rattle.rec_spans.specs.declared.spans.Span.{Span}
 use Rattle.rec_spans.specs.declared.spans.SpanKey.TheVariants as keys
 use Rattle.rec_spans.specs.declared.spans.SpanKey.{SpanKey}
-use Rattle.rec_spans.specs.Keys.{test_eq}
 use Rattle.rec_spans.specs.Past.{in_place, of_key}
 use Rattle.rec_spans.specs.Places.{place_cmp}
 

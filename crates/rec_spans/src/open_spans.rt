@@ -29,14 +29,14 @@ impl Model for OpenSpans {
     ghost use Rattle.std.specs.Map.{values_of};
     ghost use Rattle.std.specs.Prelude.{List};
     ghost use Rattle.rec_spans.specs.declared.spans.Span.{Span};
-    ghost use Rattle.rec_spans.specs.Noted.{AreNoted};
+    ghost use Rattle.rec_spans.specs.Noted.{AreNoted, NoneIsEmpty};
     ghost use Rattle.rec_spans.specs.Tied.{AreTied};
 
     ghost Value = { List Span };
 
     ghost view = { λ o. values_of o.spans.entries };
 
-    ghost invariant = { λ o. AreTied o.slots.entries o.spans.entries × AreNoted o.scripts.notes o.spans.entries };
+    ghost invariant = { λ o. AreTied o.slots.entries o.spans.entries × AreNoted o.scripts.notes o.spans.entries × NoneIsEmpty o.scripts.notes };
 }
 
 impl OpenSpans {

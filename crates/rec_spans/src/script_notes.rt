@@ -1,12 +1,13 @@
 //! The open setup scripts, found by their ids.
 ghost use Rattle.std.specs.BTreeMap.{get_by_text};
 ghost use Rattle.std.specs.Prelude.{◌≡◌, [], true, false, None, OnOk, OnErr};
-ghost use Rattle.rec_spans.specs.Noted.{is_noted, AreSame, IsLeast, Renotes};
+ghost use Rattle.rec_spans.specs.Noted.{is_noted, AreSame, IsLeast, NoneIsEmpty, Renotes};
 
 use std::alloc::{AllocError, Global};
 use std::collections::{BTreeMap, BTreeSet};
 
-/// Notes the indexes of the open setup scripts under their ids, in order.
+/// Notes the indexes of the open setup scripts under their ids, in order. An id is kept only as long as an index
+/// is noted under it.
 #[derive(Drop)]
 pub(crate) struct ScriptNotes {
     notes: BTreeMap<String, BTreeSet<usize>>,
@@ -40,6 +41,7 @@ impl ScriptNotes {
     pub(crate) fn note(&mut self, alloc: Global, id: &str, index: usize) -> Result<(), AllocError>
         ensures ok { OnOk result (Renotes true self.old.notes id.now index self.new.notes) }
         ensures err { OnErr result (AreSame self.old.notes self.new.notes) }
+        ensures none_empty { NoneIsEmpty self.old.notes → NoneIsEmpty self.new.notes }
     {
         let Some(indexes) = self.notes.get_mut(id) else {
             return self.note_first(alloc, id, index);
@@ -53,6 +55,7 @@ impl ScriptNotes {
         requires { get_by_text self.old.notes id.now ≡ None }
         ensures ok { OnOk result (Renotes true self.old.notes id.now index self.new.notes) }
         ensures err { OnErr result (AreSame self.old.notes self.new.notes) }
+        ensures none_empty { NoneIsEmpty self.old.notes → NoneIsEmpty self.new.notes }
     {
         let mut indexes = BTreeSet::new(alloc);
         indexes.insert(index)?;
@@ -62,14 +65,14 @@ impl ScriptNotes {
 
     /// Takes an index out that is noted under an id, if it is.
     pub(crate) fn forget(&mut self, id: &str, index: usize)
-        ensures { Renotes false self.old.notes id.now index self.new.notes }
+        ensures forgotten { Renotes false self.old.notes id.now index self.new.notes }
+        ensures none_empty { NoneIsEmpty self.old.notes → NoneIsEmpty self.new.notes }
     {
         let Some(indexes) = self.notes.get_mut(id) else {
             return;
         };
         indexes.remove(&index);
         if indexes.is_empty() {
-            // an id is kept only as long as a script of it is open
             self.notes.remove(id);
         }
     }

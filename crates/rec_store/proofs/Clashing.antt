@@ -33,7 +33,7 @@ held_collides : (held : Option (List ℕ)) (content : List ℕ) (fits : Bool)
 held_collides None content fits h = absurd (no_collision fits h)
 held_collides (Some c) content fits h = equal_collides (bytes_eq c content) h
 
-name_accepted : (b : Bool) (x : Option ContainerWriteError) → (if not b then Some writing.BadName else x) ≡ None → x ≡ None
+pub name_accepted : (b : Bool) (x : Option ContainerWriteError) → (if not b then Some writing.BadName else x) ≡ None → x ≡ None
 name_accepted true x h = h
 name_accepted false x h = absurd (let k = h in cc)
 

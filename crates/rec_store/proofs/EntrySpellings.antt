@@ -1,13 +1,14 @@
--- The entries of a run's store and bundle have spellings.
-use Rattle.std.proofs.Common.{◌≡◌, ℕ, zero, suc, ◌+◌, ◌<◌, ◌≤◌, ◌^◌, List, [], ◌∷◌, ◌++◌, length, Bool, true, Option, Some, None, is_some, codes, nat_lt, ◌&&◌, ltb-true, refl, sym, ap, subst, ◌∙◌, arith, append_assoc, append-nil, length-append, if◌then◌else◌}
+-- The entries of a store and of a bundle that are written have spellings.
+use Rattle.std.proofs.Common.{◌≡◌, ℕ, zero, suc, ◌<◌, ◌≤◌, ◌^◌, List, [], ◌∷◌, ◌++◌, length, Bool, true, false, not, Option, Some, None, is_some, codes, nat_lt, ◌&&◌, ltb-true, refl, sym, ap, subst, ◌∙◌, arith, append_assoc, append-nil, length-append, if◌then◌else◌}
 use Rattle.std.proofs.lemmas.Bool.{and_parts}
-use Rattle.std.proofs.lemmas.List.{length-map}
+use Rattle.std.proofs.lemmas.List.Elements.{filter-append}
 use Rattle.std.proofs.lemmas.Str.{IsUtf8-from_ascii, IsAscii-append}
 use Rattle.std.specs.Int.{w64, to_be_bytes}
-use Rattle.std.specs.List.{flat_map, list_all, AllByRecursion}
-use Rattle.std.specs.Str.{IsAscii}
+use Rattle.std.specs.List.{filter, flat_map, list_all, AllByRecursion}
+use Rattle.std.specs.Str.{bytes_eq, IsAscii}
 use Rattle.hex.proofs.HexLemmas.{length-encode_with, IsAscii-encode_with}
 use Rattle.hex.specs.Hex.{encode_lower, lower_digits}
+use Rattle.rec_container.proofs.Contents.{content_of-missing}
 use Rattle.rec_container.proofs.Lengths.{length-entry, length-spell, content_bytes-below, length-below}
 use Rattle.rec_container.specs.Container.{Entry, entry, spell, content_of, IsName, AreFrom}
 use Rattle.rec_container.specs.Writing.{entry_named}
@@ -17,19 +18,18 @@ use Rattle.rec_events.specs.declared.output_names.OutputKind.{OutputKind}
 use Rattle.rec_events.specs.declared.recording.RecordOpts.{RecordOpts}
 use Rattle.rec_events.specs.declared.recording.TestListSummary.{TestListSummary}
 use Rattle.rec_events.specs.OutputNames.{kind_suffix}
-use Rattle.rec_format.specs.declared.head.SessionHead.{SessionHead}
 use Rattle.rec_format.specs.declared.rerun.RerunInfo.{RerunInfo}
 use Rattle.rec_format.specs.declared.scope.RecordedBuildScope.{RecordedBuildScope}
 use Rattle.rec_format.specs.SizeForms.{AreSizes}
-use Rattle.rec_codec.specs.Event.{LiveEvent, RecordedEvent, event_text, event_line, log_text}
-use Rattle.rec_store.proofs.Held.{all_weaker}
-use Rattle.rec_store.proofs.OutputLaws.{IsOutputEntry, outputs_of_events, with_outputs}
-use Rattle.rec_store.specs.Bundle.{events_recorded, run_log, run_outputs, run_store, run_sizes, manifest_text, run_entries, run_bundle}
+use Rattle.rec_codec.specs.Event.{RecordedEvent, event_text, event_line, log_text}
+use Rattle.rec_store.proofs.Held.{IsAbsent, all_weaker, all_with}
+use Rattle.rec_store.proofs.OtherEntries.{IsOther, all_others, is_other, metadata_without}
+use Rattle.rec_store.proofs.OutputLaws.{IsOutputEntry, outputs_are_others}
 use Rattle.rec_store.specs.Clashes.{with_entry, with_entries}
 use Rattle.rec_store.specs.Entries.{build_scope_path, rerun_info_path, test_list_path, cargo_metadata_path, record_opts_path, manifest_name, log_name, store_name, bundle_entries}
-use Rattle.rec_store.specs.EventOutputs.{event_recorded}
 use Rattle.rec_store.specs.OutputPaths.{output_path}
-use Rattle.rec_store.specs.Store.{metadata_of, store_entries}
+use Rattle.rec_store.specs.RunParts.{RunParts, is_metadata, written, written_entries, written_log, written_manifest, written_sizes, written_store}
+use Rattle.rec_store.specs.Store.{metadata_of}
 
 -- ---- names, each new to those before it
 
@@ -53,6 +53,49 @@ HasName e = IsName e.name
 names_with : (es fs : List Entry) → HaveNames [] es → AllByRecursion HasName fs → HaveNames [] (with_entries es fs)
 names_with es [] h all = h
 names_with es (f ∷ fs) h all = names_with (with_entry es f) fs (names_unless es f (content_of es f.name) refl h all.0) all.1
+
+-- what follows entries
+names_then : (seen es fs : List Entry) → HaveNames seen es → HaveNames (seen ++ es) fs → HaveNames seen (es ++ fs)
+unfolding HaveNames
+names_then seen [] fs h more = subst (λ (l : List Entry). HaveNames l fs) (append-nil seen) more
+names_then seen (e ∷ es) fs h more = (h.0, h.1, names_then (seen ++ e ∷ []) es fs h.2 (subst (λ (l : List Entry). HaveNames l fs) (sym (append_assoc seen (e ∷ []) es)) more))
+
+-- behind entries that lack their names
+names_behind : (before seen es : List Entry) → AllByRecursion (IsAbsent before) es → HaveNames seen es → HaveNames (before ++ seen) es
+unfolding HaveNames
+names_behind before seen [] absent h = tt
+names_behind before seen (e ∷ es) absent h = (
+  h.0,
+  content_of-missing before seen e.name absent.0 ∙ h.1,
+  subst (λ (l : List Entry). HaveNames l es) (sym (append_assoc before seen (e ∷ []))) (names_behind before (seen ++ e ∷ []) es absent.1 h.2),
+)
+
+-- others among entries
+absent_among : (es : List Entry) (name : List ℕ) → content_of es name ≡ None → content_of (filter is_other es) name ≡ None
+absent_among [] name h = refl
+absent_among (e ∷ es) name h = by (filter is_other es) (is_metadata e.name) (bytes_eq name e.name) refl h (absent_among es name)
+  where
+    by : (fs : List Entry) (m b : Bool) → bytes_eq name e.name ≡ b → (if b then Some e.content else content_of es name) ≡ None → (content_of es name ≡ None → content_of fs name ≡ None)
+        → content_of (if not m then e ∷ fs else fs) name ≡ None
+    by fs m true is h rest = absurd cc
+    by fs true false is h rest = rest h
+    by fs false false is h rest = ap (λ b. if b then Some e.content else content_of fs name) is ∙ rest h
+
+names_chosen : (seen es : List Entry) → HaveNames seen es → HaveNames (filter is_other seen) (filter is_other es)
+unfolding HaveNames
+names_chosen seen [] h = tt
+names_chosen seen (e ∷ es) h =
+    by (is_metadata e.name) (absent_among seen e.name h.1) (subst (λ (l : List Entry). HaveNames l (filter is_other es)) (filter-append is_other seen (e ∷ [])) (names_chosen (seen ++ e ∷ []) es h.2))
+  where
+    by : (m : Bool) → content_of (filter is_other seen) e.name ≡ None → HaveNames (filter is_other seen ++ (if not m then e ∷ [] else [])) (filter is_other es)
+        → HaveNames (filter is_other seen) (if not m then e ∷ filter is_other es else filter is_other es)
+    by true new rest = subst (λ (l : List Entry). HaveNames l (filter is_other es)) (append-nil (filter is_other seen)) rest
+    by false new rest = (h.0, new, rest)
+
+names_of : (seen es : List Entry) → AreFrom seen es → HaveNames seen es
+unfolding HaveNames
+names_of seen [] h = tt
+names_of seen (e ∷ es) h = (h.0.name, h.1, names_of (seen ++ e ∷ []) es h.2)
 
 -- ---- contents, by the length of all
 
@@ -94,7 +137,7 @@ suffix_short Stdout = omega arith
 suffix_short Stderr = omega arith
 suffix_short Combined = omega arith
 
-path_is_name : (f : OutputFileName) → IsName (output_path f)
+pub path_is_name : (f : OutputFileName) → IsName (output_path f)
 unfolding output_path
 path_is_name f =
     let digits = encode_lower (to_be_bytes w64 f.number) in
@@ -110,19 +153,19 @@ path_is_name f =
 outputs_have_names : (fs : List Entry) → AllByRecursion IsOutputEntry fs → AllByRecursion HasName fs
 outputs_have_names fs all = all_weaker IsOutputEntry HasName (λ e is. subst IsName (sym is.1) (path_is_name is.0)) fs all
 
-build_scope_is : IsName build_scope_path
+pub build_scope_is : IsName build_scope_path
 build_scope_is = literal_name build_scope_path refl refl
 
-rerun_info_is : IsName rerun_info_path
+pub rerun_info_is : IsName rerun_info_path
 rerun_info_is = literal_name rerun_info_path refl refl
 
-test_list_is : IsName test_list_path
+pub test_list_is : IsName test_list_path
 test_list_is = literal_name test_list_path refl refl
 
-cargo_metadata_is : IsName cargo_metadata_path
+pub cargo_metadata_is : IsName cargo_metadata_path
 cargo_metadata_is = literal_name cargo_metadata_path refl refl
 
-record_opts_is : IsName record_opts_path
+pub record_opts_is : IsName record_opts_path
 record_opts_is = literal_name record_opts_path refl refl
 
 metadata_names : (scope : RecordedBuildScope) (rerun : Option RerunInfo) (metadata : List ℕ) (list : TestListSummary) (opts : RecordOpts) → HaveNames [] (metadata_of scope rerun metadata list opts)
@@ -147,55 +190,50 @@ three_contents a b c small =
       omega (arith, whole, first, second, third, length-entry c, small),
     )
 
-module _ (number : List ℕ → ℕ) (m : ℕ) (head : SessionHead) (events : List LiveEvent) (small : length (run_bundle number m head events) < 2 ^ 64) where
-  contents_small : (length (manifest_text number m head events) < 2 ^ 64) × (length (run_log number m events) < 2 ^ 64) × (length (spell (run_store number m head events)) < 2 ^ 64)
-  contents_small =
-      three_contents
-      (entry_named manifest_name (manifest_text number m head events))
-      (entry_named log_name (run_log number m events))
-      (entry_named store_name (spell (run_store number m head events)))
-      small
-
-  -- its log is as well
-  pub log_small : length (run_log number m events) < 2 ^ 64
-  log_small = contents_small.1
-
-  -- and its store
-  pub store_small : length (spell (run_store number m head events)) < 2 ^ 64
-  store_small = contents_small.2
-
-  -- its entries have spellings
-  pub bundle_spelled : AreFrom [] (run_entries number m head events)
-  bundle_spelled =
-      spelled [] (run_entries number m head events) (bundle_names (manifest_text number m head events) (run_log number m events) (spell (run_store number m head events)))
-      (omega (arith, length-spell (run_entries number m head events), small))
-
-  -- and those of its store
-  pub store_spelled : AreFrom [] (run_store number m head events)
-  store_spelled =
-      let outs = run_outputs number m events in
-      let are = outputs_of_events number m events in
-      let store : with_entries (store_entries head ++ []) outs ≡ run_store number m head events = with_outputs head [] outs are in
-      let metadata : HaveNames [] (store_entries head ++ []) =
-      subst (HaveNames []) (sym (append-nil (store_entries head))) (metadata_names head.build_scope head.rerun_info head.cargo_metadata head.test_list head.record_opts) in
-      spelled [] (run_store number m head events) (subst (HaveNames []) store (names_with (store_entries head ++ []) outs metadata (outputs_have_names outs are)))
-      (omega (arith, length-spell (run_store number m head events), store_small))
-
--- ---- the sizes of such a run
-
 lines_many : (es : List RecordedEvent) → length es ≤ length (log_text es)
 lines_many [] = omega arith
 lines_many (e ∷ es) = omega (arith, length-append (event_line e) (log_text es), length-append (event_text e) (10 ∷ []), lines_many es)
 
-module _ (number : List ℕ → ℕ) (m : ℕ) (head : SessionHead) (events : List LiveEvent) (small : length (run_bundle number m head events) < 2 ^ 64) where
-  -- are u64
-  pub run_sizes_are : AreSizes (run_sizes number m head events)
-  run_sizes_are =
-      let log = log_small number m head events small in
-      let store = store_small number m head events small in
-      let entries = run_store number m head events in
-      let count = length-map events (event_recorded number m) in
+module _ (p : RunParts) (small : length (written p) < 2 ^ 64) where
+  contents_small : (length (written_manifest p) < 2 ^ 64) × (length (written_log p) < 2 ^ 64) × (length (spell (written_store p)) < 2 ^ 64)
+  contents_small =
+      three_contents (entry_named manifest_name (written_manifest p)) (entry_named log_name (written_log p)) (entry_named store_name (spell (written_store p))) small
+
+  -- its entries have spellings
+  pub bundle_spelled : AreFrom [] (written_entries p)
+  bundle_spelled =
+      spelled [] (written_entries p) (bundle_names (written_manifest p) (written_log p) (spell (written_store p))) (omega (arith, length-spell (written_entries p), small))
+
+  -- its sizes are u64
+  pub written_sizes_are : AreSizes (written_sizes p)
+  written_sizes_are =
+      let log = contents_small.1 in
+      let store = contents_small.2 in
+      let entries = written_store p in
       record {
-        log = record { compressed = log; uncompressed = log; entries = omega (arith, log, lines_many (events_recorded number m events), count) };
+        log = record { compressed = log; uncompressed = log; entries = omega (arith, log, lines_many p.events) };
         store = record { compressed = store; uncompressed = omega (arith, store, content_bytes-below entries); entries = omega (arith, store, length-below entries) };
       }
+
+  names_spelled : AllByRecursion IsOther p.outputs → HaveNames [] p.outputs → AreFrom [] (written_store p)
+  names_spelled others names =
+      let metadata = metadata_of p.build_scope p.rerun_info p.cargo_metadata p.test_list p.record_opts in
+      let absent : AllByRecursion (IsAbsent metadata) p.outputs =
+      all_weaker IsOther (IsAbsent metadata) (λ e is. metadata_without p.build_scope p.rerun_info p.cargo_metadata p.test_list p.record_opts e.name is) p.outputs others in
+      let behind : HaveNames metadata p.outputs = subst (λ (l : List Entry). HaveNames l p.outputs) (append-nil metadata) (names_behind metadata [] p.outputs absent names) in
+      spelled [] (written_store p)
+      (names_then [] metadata p.outputs (metadata_names p.build_scope p.rerun_info p.cargo_metadata p.test_list p.record_opts) behind)
+      (omega (arith, length-spell (written_store p), contents_small.2))
+
+  -- those of its store have spellings where its outputs are the other entries of a container
+  pub chosen_spelled : (es : List Entry) → AreFrom [] es → filter is_other es ≡ p.outputs → AreFrom [] (written_store p)
+  chosen_spelled es are chosen =
+      names_spelled (subst (λ (l : List Entry). AllByRecursion IsOther l) chosen (all_others es))
+      (subst (λ (l : List Entry). HaveNames [] l) chosen (names_chosen [] es (names_of [] es are)))
+
+  -- and where they are put in one after the other
+  pub stored_spelled : (fs : List Entry) → AllByRecursion IsOutputEntry fs → with_entries [] fs ≡ p.outputs → AreFrom [] (written_store p)
+  unfolding HaveNames
+  stored_spelled fs are stored =
+      names_spelled (subst (λ (l : List Entry). AllByRecursion IsOther l) stored (outputs_are_others (with_entries [] fs) (all_with IsOutputEntry [] fs tt are)))
+      (subst (λ (l : List Entry). HaveNames [] l) stored (names_with [] fs tt (outputs_have_names fs are)))

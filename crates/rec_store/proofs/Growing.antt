@@ -7,12 +7,13 @@ use Rattle.rec_container.specs.Writing.{Writing}
 use Rattle.rec_codec.specs.Event.{LiveEvent}
 use Rattle.rec_store.proofs.Adding.{added}
 use Rattle.rec_store.proofs.Clashing.{clash_none}
-use Rattle.rec_store.proofs.Held.{all_held, IsHeld}
+use Rattle.rec_store.proofs.Held.{all_held}
 use Rattle.rec_store.proofs.KeptLaws.{names, paths_of_event}
+use Rattle.rec_store.proofs.Storing.{sound_store}
 use Rattle.rec_store.specs.declared.error.RunStoreError.TheVariants.{Failed, NotLoadedOutput, NameCollision, CountOutOfRange, StoreWrite, RunLogWrite, OutOfMemory}
 use Rattle.rec_store.specs.declared.error.RunStoreError.{RunStoreError}
 use Rattle.rec_store.specs.EventOutputs.{event_entries, event_recorded}
-use Rattle.rec_store.specs.Kept.{HasOutputs}
+use Rattle.rec_store.specs.Kept.{HasOutputs, HavePaths, IsHeld}
 use Rattle.rec_store.specs.Logging.{LogsLoaded}
 use Rattle.rec_store.specs.Recording.{Recording, AddsEntry, RefusesEntry, AddsEach, AddsUpTo, Stores, Unstored, KeepsEntries}
 use Rattle.rec_store.specs.Stopping.{AddsFirst, Stops}
@@ -34,7 +35,7 @@ module _ {S : Type 0} (taken : S → Option (List ℕ)) (faults : S → ℕ) whe
   keeps_entry : (old new : Writing S) (e : Entry) → AddsEntry taken faults old new e → KeepsEntries old new
   keeps_entry old new e h = let m = more_unless (is_some (content_of old.entries e.name)) old.entries e in (m.0, added taken faults old new e h.1 ∙ m.1)
 
-  keeps_each : (old new : Writing S) (es : List Entry) → AddsEach taken faults old new es → KeepsEntries old new
+  pub keeps_each : (old new : Writing S) (es : List Entry) → AddsEach taken faults old new es → KeepsEntries old new
   keeps_each old new [] h = keeps_same old new h
   keeps_each old new (e ∷ es) h = keeps_then old h.0 new (keeps_entry old h.0 e h.1) (keeps_each h.0 new es h.2)
 
@@ -47,7 +48,7 @@ module _ {S : Type 0} (taken : S → Option (List ℕ)) (faults : S → ℕ) whe
   keeps_refused old new e NotLoadedOutput h = absurd h
   keeps_refused old new e RunLogWrite h = absurd h
 
-  keeps_up_to : (old new : Writing S) (es : List Entry) (error : RunStoreError) → AddsUpTo taken faults old new es error → KeepsEntries old new
+  pub keeps_up_to : (old new : Writing S) (es : List Entry) (error : RunStoreError) → AddsUpTo taken faults old new es error → KeepsEntries old new
   keeps_up_to old new [] error h = absurd h
   keeps_up_to old new (e ∷ es) error (inl h) = keeps_refused old new e error h
   keeps_up_to old new (e ∷ es) error (inr h) = keeps_then old h.0 new (keeps_entry old h.0 e h.1) (keeps_up_to h.0 new es error h.2)
@@ -57,7 +58,7 @@ module _ {S : Type 0} (taken : S → Option (List ℕ)) (faults : S → ℕ) whe
   keeps_first old new (e ∷ es) (inl h) = keeps_same old new h
   keeps_first old new (e ∷ es) (inr h) = keeps_then old h.0 new (keeps_entry old h.0 e h.1) (keeps_first h.0 new es h.2)
 
-  keeps_stopped : (old new : Writing S) (es : List Entry) (error : RunStoreError) → Stops taken faults old new es error → KeepsEntries old new
+  pub keeps_stopped : (old new : Writing S) (es : List Entry) (error : RunStoreError) → Stops taken faults old new es error → KeepsEntries old new
   keeps_stopped old new es error (inl h) = keeps_up_to old new es error h
   keeps_stopped old new es error (inr h) = keeps_first old new es h.1
 
@@ -66,6 +67,24 @@ module _ {S : Type 0} (taken : S → Option (List ℕ)) (faults : S → ℕ) whe
       → KeepsEntries old new
   keeps_all old new es (Ok done) h k = keeps_each old new es h
   keeps_all old new es (Err error) h k = keeps_up_to old new es error k
+
+-- ---- contents
+
+-- the names of entries that are held are paths
+pub paths_held : (es fs : List Entry) → AllByRecursion (IsHeld es) fs → HavePaths es (names fs)
+paths_held es [] h = tt
+paths_held es (f ∷ fs) h = (subst (λ o. IsTrue (is_some o)) (sym h.0) refl, paths_held es fs h.1)
+
+module _ {S : Type 0} (taken : S → Option (List ℕ)) (faults : S → ℕ) where
+  -- entries that were all added are held
+  pub held_each : (old new : Writing S) (es : List Entry) → old.failed ≡ false → AddsEach taken faults old new es → AllByRecursion (IsHeld new.entries) es
+  held_each old new es sound h =
+      let c = clash_none taken faults old new es sound h in subst (λ (l : List Entry). AllByRecursion (IsHeld l) es) (sym c.1) (all_held old.entries es c.0)
+
+  -- and stand under their names
+  pub entries_stand : (old new : Writing S) (es : List Entry) (r : Result ⊤ RunStoreError) → old.failed ≡ false → OnOk r (AddsEach taken faults old new es) → OnOk r (HavePaths new.entries (names es))
+  entries_stand old new es (Ok done) sound h = paths_held new.entries es (held_each old new es sound h)
+  entries_stand old new es (Err error) sound h = tt
 
 -- ---- calls
 
@@ -76,6 +95,11 @@ module _ {S L N : Type 0} (taken : S → Option (List ℕ)) (faults : S → ℕ)
   keeps_stored old new es (Err error) h (inl k) = keeps_same old.store new.store (ap (λ (r : Recording S L N). r.store) k.2)
   keeps_stored old new es (Err error) h (inr k) = keeps_up_to taken faults old.store new.store es error k.2
 
+  -- entries that were stored stand in the store
+  pub stored_stand : (old new : Recording S L N) (es : List Entry) (r : Result ⊤ RunStoreError) → OnOk r (Stores taken faults old new es) → OnOk r (HavePaths new.store.entries (names es))
+  stored_stand old new es (Ok done) h = entries_stand taken faults old.store new.store es (Ok done) (sound_store old h.sound) h.added
+  stored_stand old new es (Err error) h = tt
+
   module _ (log_taken : L → Option (List ℕ)) (log_faults : L → ℕ) (number : N → List ℕ → ℕ) where
     pub keeps_logged : (old new : Recording S L N) (event : LiveEvent) (r : Result ⊤ RunStoreError) → LogsLoaded taken faults log_taken log_faults number old new event r
         → KeepsEntries old.store new.store
@@ -83,17 +107,11 @@ module _ {S L N : Type 0} (taken : S → Option (List ℕ)) (faults : S → ℕ)
     keeps_logged old new event (Err error) (inl h) = keeps_stopped taken faults old.store new.store _ error h.1
     keeps_logged old new event (Err error) (inr h) = keeps_each taken faults old.store new.store _ h.0
 
-    held_some : (es : List Entry) (fs : List Entry) → AllByRecursion (IsHeld es) fs → AllByRecursion (λ path. IsTrue (is_some (content_of es path))) (names fs)
-    held_some es [] h = tt
-    held_some es (f ∷ fs) h = (subst (λ o. IsTrue (is_some o)) (sym h.0) refl, held_some es fs h.1)
-
     stand : (m : ℕ) (f : List ℕ → ℕ) (old new : Writing S) (event : LiveEvent) → old.failed ≡ false → AddsEach taken faults old new (event_entries f m event)
         → HasOutputs new.entries (event_recorded f m event)
     stand m f old new event sound h =
-        let c = clash_none taken faults old new (event_entries f m event) sound h in
-        let held : AllByRecursion (IsHeld new.entries) (event_entries f m event) =
-        subst (λ es. AllByRecursion (IsHeld es) (event_entries f m event)) (sym c.1) (all_held old.entries (event_entries f m event) c.0) in
-        subst (AllByRecursion (λ path. IsTrue (is_some (content_of new.entries path)))) (sym (paths_of_event f m event)) (held_some new.entries (event_entries f m event) held)
+        let held = held_each taken faults old new (event_entries f m event) sound h in
+        subst (HavePaths new.entries) (sym (paths_of_event f m event)) (paths_held new.entries (event_entries f m event) held)
 
     -- what the line of an event names stands in the store
     pub outputs_stand : (old new : Recording S L N) (event : LiveEvent) (r : Result ⊤ RunStoreError) → old.store.failed ≡ false

@@ -7,6 +7,7 @@ use Rattle.std.specs.Str.{bytes_eq}
 use Rattle.rec_container.proofs.Contents.{content_of-found, content_of-missing}
 use Rattle.rec_container.specs.Container.{Entry, content_of}
 use Rattle.rec_store.specs.Clashes.{with_entry, with_entries, differs, clash}
+use Rattle.rec_store.specs.Kept.{IsHeld}
 
 -- ---- of each element
 
@@ -47,9 +48,6 @@ found_with es [] name content h = h
 found_with es (f ∷ fs) name content h = found_with (with_entry es f) fs name content (found_unless (is_some (content_of es f.name)) es f name content h)
 
 -- ---- an entry under its name
-
-abbrev pub IsHeld : List Entry → Entry → Type 0
-IsHeld es f = content_of es f.name ≡ Some f.content
 
 content_of-own : (f : Entry) → content_of (f ∷ []) f.name ≡ Some f.content
 content_of-own f = ap (λ b. if b then Some f.content else None) ((bytes_eq-Decides f.name f.name).1 refl)

@@ -13,10 +13,10 @@ use Rattle.rec_events.specs.declared.outputs.RecordingSpec.{RecordingSpec}
 use Rattle.rec_events.specs.declared.outputs.ZipStoreOutput.TheVariants.{Empty, Full, Truncated}
 use Rattle.rec_codec.specs.Event.{LiveEvent}
 use Rattle.rec_store.proofs.EventMapLaws.{of_event-with, event_twice}
-use Rattle.rec_store.proofs.Held.{all_prefix, all_back, IsHeld}
+use Rattle.rec_store.proofs.Held.{all_prefix, all_back}
 use Rattle.rec_store.specs.Cut.{cut}
 use Rattle.rec_store.specs.EventOutputs.{file_name, output_entries, captured_entries, description_entries, event_entries, stored_as, description_recorded, event_recorded}
-use Rattle.rec_store.specs.Kept.{empty, full, truncated, split, combined, kept, outputs_kept, event_kept, bytes_under, resolved, outputs_resolved, event_resolved, output_paths, captured_paths, description_paths, event_paths}
+use Rattle.rec_store.specs.Kept.{empty, full, truncated, split, combined, kept, outputs_kept, event_kept, bytes_under, resolved, outputs_resolved, event_resolved, output_paths, captured_paths, description_paths, event_paths, IsHeld}
 use Rattle.rec_store.specs.OutputPaths.{output_path}
 
 -- the names of entries

@@ -1,34 +1,28 @@
 -- The outputs of events among the entries of a store.
-use Rattle.std.proofs.Common.{◌≡◌, ℕ, List, [], ◌∷◌, ◌++◌, length, Bool, true, false, Option, Some, None, not, cond, refl, sym, ap, ◌∙◌, append-nil, if◌then◌else◌, ◌==◌}
+use Rattle.std.proofs.Common.{◌≡◌, ℕ, List, [], ◌∷◌, ◌++◌, length, Bool, true, false, Option, Some, None, refl, sym, ap, ◌∙◌, append-nil, if◌then◌else◌, ◌==◌}
 use Rattle.std.proofs.lemmas.Grind.{flat_map-append}
-use Rattle.std.proofs.lemmas.List.Elements.{filter-append}
 use Rattle.std.proofs.lemmas.List.{map-append}
-use Rattle.std.specs.List.{filter, flat_map, AllByRecursion}
+use Rattle.std.specs.List.{flat_map, AllByRecursion}
 use Rattle.std.specs.Option.{option_or}
-use Rattle.std.specs.Str.{bytes_eq}
-use Rattle.rec_container.specs.Container.{Entry, content_of}
+use Rattle.rec_container.specs.Container.{Entry}
 use Rattle.rec_container.specs.Writing.{entry_named}
 use Rattle.rec_events.specs.declared.output_names.OutputFileName.{OutputFileName}
 use Rattle.rec_events.specs.declared.output_names.OutputKind.TheVariants as kind
 use Rattle.rec_events.specs.declared.output_names.OutputKind.{OutputKind}
 use Rattle.rec_events.specs.declared.outputs.ChildOutputDescription.TheVariants as live
 use Rattle.rec_events.specs.declared.outputs.ChildOutputDescription.{ChildOutputDescription}
-use Rattle.rec_events.specs.declared.recording.RecordOpts.{RecordOpts}
-use Rattle.rec_events.specs.declared.recording.TestListSummary.{TestListSummary}
 use Rattle.rec_format.specs.declared.head.SessionHead.{SessionHead}
-use Rattle.rec_format.specs.declared.rerun.RerunInfo.{RerunInfo}
-use Rattle.rec_format.specs.declared.scope.RecordedBuildScope.{RecordedBuildScope}
 use Rattle.rec_codec.specs.Event.{LiveEvent, event_line}
 use Rattle.rec_store.proofs.EventMapLaws.{all_of_event}
 use Rattle.rec_store.proofs.Held.{IsAbsent, all_append, all_weaker, all_with, with_entries-append, clash-append, with_entries-after, clash-after}
+use Rattle.rec_store.proofs.OtherEntries.{IsOther, metadata_without, path_of_output}
 use Rattle.rec_store.specs.Bundle.{events_recorded, run_log, run_outputs, outputs_stored, run_store}
 use Rattle.rec_store.specs.Clashes.{with_entries, clash}
 use Rattle.rec_store.specs.Cut.{cut}
-use Rattle.rec_store.specs.Entries.{rerun_info_path}
 use Rattle.rec_store.specs.EventOutputs.{file_name, output_entries, captured_entries, description_entries, event_entries, event_recorded}
 use Rattle.rec_store.specs.OutputPaths.{output_path}
-use Rattle.rec_store.specs.Reading.{is_metadata}
-use Rattle.rec_store.specs.Store.{metadata_of, store_entries}
+use Rattle.rec_store.specs.RunParts.{is_metadata}
+use Rattle.rec_store.specs.Store.{store_entries}
 
 -- an entry that stands where an output does
 abbrev pub IsOutputEntry : Entry → Type 0
@@ -69,17 +63,17 @@ module _ (number : List ℕ → ℕ) (m : ℕ) where
 
 -- ---- outputs stand apart from metadata
 
-metadata_without : (scope : RecordedBuildScope) (rerun : Option RerunInfo) (metadata : List ℕ) (list : TestListSummary) (opts : RecordOpts) (f : OutputFileName)
-    → content_of (metadata_of scope rerun metadata list opts) (output_path f) ≡ None
-unfolding output_path
-metadata_without scope None metadata list opts f = refl
-metadata_without scope (Some info) metadata list opts f = refl
+output_is_other : (e : Entry) → IsOutputEntry e → IsOther e
+output_is_other e is = ap is_metadata is.1 ∙ path_of_output is.0
+
+-- they are no metadata
+pub outputs_are_others : (fs : List Entry) → AllByRecursion IsOutputEntry fs → AllByRecursion IsOther fs
+outputs_are_others fs h = all_weaker IsOutputEntry IsOther output_is_other fs h
 
 absent : (head : SessionHead) (fs : List Entry) → AllByRecursion IsOutputEntry fs → AllByRecursion (IsAbsent (store_entries head)) fs
 absent head fs h =
-    let store = store_entries head in
-    all_weaker IsOutputEntry (IsAbsent store)
-    (λ f is. ap (content_of store) is.1 ∙ metadata_without head.build_scope head.rerun_info head.cargo_metadata head.test_list head.record_opts is.0) fs h
+    all_weaker IsOther (IsAbsent (store_entries head))
+    (λ f is. metadata_without head.build_scope head.rerun_info head.cargo_metadata head.test_list head.record_opts f.name is) fs (outputs_are_others fs h)
 
 -- outputs go after the metadata, as if it were not there
 pub with_outputs : (head : SessionHead) (outs fs : List Entry) → AllByRecursion IsOutputEntry fs → with_entries (store_entries head ++ outs) fs ≡ store_entries head ++ with_entries outs fs
@@ -89,43 +83,9 @@ with_outputs head outs fs h = with_entries-after (store_entries head) outs fs (a
 pub clash_outputs : (head : SessionHead) (outs fs : List Entry) → AllByRecursion IsOutputEntry fs → clash (store_entries head ++ outs) fs ≡ clash outs fs
 clash_outputs head outs fs h = clash-after (store_entries head) outs fs (absent head fs h)
 
-path_of_rerun : (f : OutputFileName) → bytes_eq rerun_info_path (output_path f) ≡ false
-unfolding output_path
-path_of_rerun f = refl
-
--- there is no rerun information among outputs
-pub no_rerun : (outs : List Entry) → AllByRecursion IsOutputEntry outs → content_of outs rerun_info_path ≡ None
-no_rerun [] h = refl
-no_rerun (e ∷ outs) h =
-    ap (λ b. if b then Some e.content else content_of outs rerun_info_path) (ap (bytes_eq rerun_info_path) h.0.1 ∙ path_of_rerun h.0.0) ∙ no_rerun outs h.1
-
-path_of_output : (f : OutputFileName) → is_metadata (output_path f) ≡ false
-unfolding output_path
-path_of_output f = refl
-
-abbrev is_other : Entry → Bool
-is_other e = not (is_metadata e.name)
-
-metadata_left_out : (scope : RecordedBuildScope) (rerun : Option RerunInfo) (metadata : List ℕ) (list : TestListSummary) (opts : RecordOpts)
-    → filter is_other (metadata_of scope rerun metadata list opts) ≡ []
-metadata_left_out scope None metadata list opts = refl
-metadata_left_out scope (Some info) metadata list opts = refl
-
-outputs_stay : (outs : List Entry) → AllByRecursion IsOutputEntry outs → filter is_other outs ≡ outs
-outputs_stay [] h = refl
-outputs_stay (e ∷ outs) h =
-    ap (λ b. cond (not b) (e ∷ filter is_other outs) (filter is_other outs)) (ap is_metadata h.0.1 ∙ path_of_output h.0.0) ∙ ap (λ l. e ∷ l) (outputs_stay outs h.1)
-
--- what is no metadata in a store is its outputs
-pub others_are_outputs : (head : SessionHead) (outs : List Entry) → AllByRecursion IsOutputEntry outs → filter (λ (e : Entry). not (is_metadata e.name)) (store_entries head ++ outs) ≡ outs
-others_are_outputs head outs h =
-    filter-append is_other (store_entries head) outs
-    ∙ ap (λ l. l ++ filter is_other outs) (metadata_left_out head.build_scope head.rerun_info head.cargo_metadata head.test_list head.record_opts)
-    ∙ outputs_stay outs h
-
 -- ---- one more event
 
-flat_map-push : {A B : Type 0} (f : A → List B) (xs : List A) (x : A) → flat_map f (xs ++ x ∷ []) ≡ flat_map f xs ++ f x
+pub flat_map-push : {A B : Type 0} (f : A → List B) (xs : List A) (x : A) → flat_map f (xs ++ x ∷ []) ≡ flat_map f xs ++ f x
 flat_map-push f xs x = flat_map-append f xs (x ∷ []) ∙ ap (λ l. flat_map f xs ++ l) (append-nil (f x))
 
 module _ (number : List ℕ → ℕ) (m : ℕ) (events : List LiveEvent) (e : LiveEvent) where

@@ -7,13 +7,14 @@ use Rattle.rec_container.specs.Container.{Entry, content_of}
 use Rattle.rec_forms.specs.Shape.{only}
 use Rattle.rec_format.specs.declared.head.SessionHead.{SessionHead}
 use Rattle.rec_codec.specs.Event.{LiveEvent, RecordedEvent}
-use Rattle.rec_store.proofs.Held.{IsHeld, all_held, all_weaker, all_with}
+use Rattle.rec_store.proofs.Held.{all_held, all_weaker, all_with}
 use Rattle.rec_store.proofs.KeptLaws.{names, paths_of_events}
-use Rattle.rec_store.proofs.OutputLaws.{outputs_of_events, stored_are_outputs, with_outputs, clash_outputs, others_are_outputs}
+use Rattle.rec_store.proofs.OtherEntries.{others_behind}
+use Rattle.rec_store.proofs.OutputLaws.{outputs_of_events, outputs_are_others, stored_are_outputs, with_outputs, clash_outputs}
 use Rattle.rec_store.specs.Bundle.{events_recorded, run_outputs, outputs_stored, run_store}
 use Rattle.rec_store.specs.Clashes.{clash}
-use Rattle.rec_store.specs.Kept.{event_paths}
-use Rattle.rec_store.specs.Reading.{is_metadata, outputs_of}
+use Rattle.rec_store.specs.Kept.{event_paths, IsHeld}
+use Rattle.rec_store.specs.RunParts.{is_metadata, outputs_of}
 use Rattle.rec_store.specs.Store.{store_entries}
 
 abbrev IsAmong : List (List ℕ) → Entry → Type 0
@@ -62,5 +63,7 @@ module _ (number : List ℕ → ℕ) (m : ℕ) (head : SessionHead) (events : Li
   pub run_outputs_read : outputs_of (events_recorded number m events) (run_store number m head events) ≡ Some (outputs_stored number m events)
   run_outputs_read =
       outputs_among (events_recorded number m events) (run_store number m head events) (outputs_stored number m events) (run_outputs number m events)
-      (paths_of_events number m events) (others_are_outputs head (outputs_stored number m events) (stored_are_outputs number m events))
+      (paths_of_events number m events)
+      (others_behind head.build_scope head.rerun_info head.cargo_metadata head.test_list head.record_opts (outputs_stored number m events)
+      (outputs_are_others (outputs_stored number m events) (stored_are_outputs number m events)))
       run_held (all_with (IsAmong (names (run_outputs number m events))) [] (run_outputs number m events) tt (entries_among (run_outputs number m events)))

@@ -27,11 +27,11 @@ use Rattle.rec_store.proofs.PartContents.{found_name, chosen_content}
 use Rattle.rec_store.specs.Kept.{output_paths, captured_paths, description_paths, event_paths}
 use Rattle.rec_store.specs.OutputPaths.{output_path}
 use Rattle.rec_store.specs.Parts.{of_kind, path_of_output}
-use Rattle.rec_store.specs.Reading.{is_metadata, outputs_of}
+use Rattle.rec_store.specs.RunParts.{is_metadata, outputs_of}
 
 -- ---- each path that events name is that of an output
 
-abbrev IsOutputPath : List ℕ → Type 0
+abbrev pub IsOutputPath : List ℕ → Type 0
 IsOutputPath path = (f : OutputFileName) × (path ≡ output_path f)
 
 output_paths_are : (o : ZipStoreOutput) → AllByRecursion IsOutputPath (output_paths o)
@@ -47,7 +47,7 @@ description_paths_are : (o : ZipStoreOutputDescription) → AllByRecursion IsOut
 description_paths_are (stored.Split out err) = all_append IsOutputPath (captured_paths out) (captured_paths err) (captured_paths_are out) (captured_paths_are err)
 description_paths_are (stored.Combined both) = output_paths_are both
 
-event_paths_are : (events : List RecordedEvent) → AllByRecursion IsOutputPath (flat_map event_paths events)
+pub event_paths_are : (events : List RecordedEvent) → AllByRecursion IsOutputPath (flat_map event_paths events)
 event_paths_are [] = tt
 event_paths_are (e ∷ events) =
     all_append IsOutputPath (event_paths e) (flat_map event_paths events) (all_of_event IsOutputPath description_paths description_paths_are e) (event_paths_are events)
@@ -105,7 +105,7 @@ path_of_file : (f : OutputFileName) → output_path f ≡ path_of_output (file_n
 unfolding output_path
 path_of_file f = refl
 
-only_some : (b : Bool) (es fs : List Entry) → only b es ≡ Some fs → (b ≡ true) × (es ≡ fs)
+pub only_some : (b : Bool) (es fs : List Entry) → only b es ≡ Some fs → (b ≡ true) × (es ≡ fs)
 only_some true es fs h = (refl, cc)
 only_some false es fs h = absurd cc
 

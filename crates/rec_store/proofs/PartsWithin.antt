@@ -15,11 +15,11 @@ use Rattle.rec_store.proofs.PartOutputs.{IsOutput}
 use Rattle.rec_store.specs.declared.read_error.RecordReadError.TheVariants.{FileTooLarge, NotUtf8, DeserializeMetadata, OutOfMemory}
 use Rattle.rec_store.specs.Entries.{rerun_info_path}
 use Rattle.rec_store.specs.Parts.{AreWithin, content_within, found_within, entry_part, or_refused, item_of, metadata_part, utf8_of, utf8_part, some_info, found_rerun_info, of_kind, path_of_output, IsReadAs}
-use Rattle.rec_store.specs.Reading.{part, maybe_part, text_part}
+use Rattle.rec_store.specs.RunParts.{part, maybe_part, text_part}
 
 -- ---- options, taken apart
 
-then_some : {A B : Type 0} (o : Option A) (f : A → Option B) (y : B) → option_and_then f o ≡ Some y → (x : A) × (o ≡ Some x) × (f x ≡ Some y)
+pub then_some : {A B : Type 0} (o : Option A) (f : A → Option B) (y : B) → option_and_then f o ≡ Some y → (x : A) × (o ≡ Some x) × (f x ≡ Some y)
 then_some None f y h = absurd cc
 then_some (Some x) f y h = (x, refl, h)
 

@@ -1,6 +1,6 @@
 -- What is kept of an event's outputs: what a bundle is read as.
 use Rattle.std.specs.List.{AllByRecursion}
-use Rattle.std.specs.Prelude.{ℕ, List, [], ◌∷◌, ◌++◌, length, nat_le, ◌==◌, Option, Some, None, IsTrue, is_some, option_map, unwrap_or, if◌then◌else◌}
+use Rattle.std.specs.Prelude.{◌≡◌, ℕ, List, [], ◌∷◌, ◌++◌, length, nat_le, ◌==◌, Option, Some, None, IsTrue, is_some, map, option_map, unwrap_or, if◌then◌else◌}
 use Rattle.rec_container.specs.Container.{Entry, content_of}
 use Rattle.rec_events.specs.declared.events.TestEventSummary.{TestEventSummary}
 use Rattle.rec_events.specs.declared.output_names.OutputFileName.{OutputFileName}
@@ -65,6 +65,10 @@ module _ (es : List Entry) where
   abbrev pub event_resolved : RecordedEvent → KeptEvent
   event_resolved e = event_with outputs_resolved e
 
+-- what stands under the name of this entry is its content
+abbrev pub IsHeld : List Entry → Entry → Type 0
+IsHeld es e = content_of es e.name ≡ Some e.content
+
 -- ---- the paths of the outputs that an event names
 
 abbrev pub output_paths : ZipStoreOutput → List (List ℕ)
@@ -83,6 +87,14 @@ description_paths (stored.Combined both) = output_paths both
 abbrev pub event_paths : RecordedEvent → List (List ℕ)
 event_paths e = of_event description_paths e
 
+-- names of these paths were added to a list
+abbrev pub AddsNames : List OutputFileName → List OutputFileName → List (List ℕ) → Type 0
+AddsNames old new paths = map output_path new ≡ map output_path old ++ paths
+
+-- each of these paths is that of an entry
+abbrev pub HavePaths : List Entry → List (List ℕ) → Type 0
+HavePaths es paths = AllByRecursion (λ path. IsTrue (is_some (content_of es path))) paths
+
 -- each output that an event names stands among the entries
 abbrev pub HasOutputs : List Entry → RecordedEvent → Type 0
-HasOutputs es e = AllByRecursion (λ path. IsTrue (is_some (content_of es path))) (event_paths e)
+HasOutputs es e = HavePaths es (event_paths e)

@@ -4,6 +4,7 @@ pub mod Cut
 pub mod Ending
 pub mod Entries
 pub mod EventOutputs
+pub mod JudgedParts
 pub mod Kept
 pub mod Logging
 pub mod Namer
@@ -14,5 +15,8 @@ pub mod Readers
 pub mod Reading
 pub mod Recordable
 pub mod Recording
+pub mod RunParts
+pub mod Saved
+pub mod SizesJudged
 pub mod Stopping
 pub mod Store

@@ -1,6 +1,6 @@
 -- The parts of a store: what its entries have under a path, as far as a limit allows, or why that is no part.
 use Rattle.std.specs.List.{AllByRecursion}
-use Rattle.std.specs.Prelude.{◌≡◌, ℕ, ◌≤◌, nat_lt, List, ◌++◌, length, codes, if◌then◌else◌, Option, Some, None, Result, Ok, Err}
+use Rattle.std.specs.Prelude.{◌≡◌, ℕ, ◌≤◌, nat_lt, List, ◌++◌, length, map, codes, if◌then◌else◌, Option, Some, None, Result, Ok, Err}
 use Rattle.std.specs.Str.{is_utf8}
 use Rattle.serde_json.specs.Data.{Data}
 use Rattle.rec_container.specs.Container.{Entry, content_of}
@@ -8,15 +8,22 @@ use Rattle.rec_container.specs.Reading.{◌>>=◌}
 use Rattle.rec_forms.specs.Recording.{test_list_form, record_opts_form}
 use Rattle.rec_forms.specs.Shape.{only}
 use Rattle.rec_forms.specs.TextForm.{bytes_form}
+use Rattle.rec_format.specs.declared.manifest.PortableManifest.{PortableManifest}
 use Rattle.rec_format.specs.declared.paths.OutputDict.TheVariants as dict
 use Rattle.rec_format.specs.declared.paths.OutputDict.{OutputDict}
 use Rattle.rec_format.specs.declared.rerun.RerunInfo.{RerunInfo}
 use Rattle.rec_format.specs.Paths.{dict_of_name}
 use Rattle.rec_format.specs.RerunForms.{rerun_info_form}
+use Rattle.rec_format.specs.RunForms.{manifest_form}
+use Rattle.rec_format.specs.Runs.{info_of}
 use Rattle.rec_format.specs.ScopeForms.{recorded_scope_form}
+use Rattle.rec_codec.specs.Event.{RecordedEvent}
+use Rattle.rec_codec.specs.LineReading.{events_before_fault, first_line_fault}
+use Rattle.rec_codec.specs.Lines.{lines, numbered}
 use Rattle.rec_store.specs.declared.read_error.RecordReadError.TheVariants.{FileNotFound, FileTooLarge, NotUtf8, DeserializeMetadata, UnknownOutputType}
 use Rattle.rec_store.specs.declared.read_error.RecordReadError.{RecordReadError}
 use Rattle.rec_store.specs.Entries.{build_scope_path, cargo_metadata_path, record_opts_path, rerun_info_path, test_list_path}
+use Rattle.rec_store.specs.Kept.{event_resolved}
 use Rattle.rec_store.specs.Reading.{RunRecord}
 
 -- the content of an entry, where it is no longer than the limit
@@ -91,8 +98,24 @@ AreWithin es limit = AllByRecursion (λ e. length e.content ≤ limit) es
 abbrev pub IsReadAs : List Entry → ℕ → List ℕ → List ℕ → Type 0
 IsReadAs es limit path content = (name : List ℕ) × (path ≡ path_of_output name) × (output_part name es limit ≡ Ok content)
 
--- the parts are the components of what a bundle is read as
-pub record ArePartsOf (es : List Entry) (limit : ℕ) (r : RunRecord) : Type 0 where
+-- the manifest that a text is read as has the version and the run information of a record
+pub record IsManifestOf (text : List ℕ) (r : RunRecord) : Type 0 where
+  pub manifest : PortableManifest
+  pub read : bytes_form manifest_form text ≡ Some manifest
+  pub format_version : manifest.format_version ≡ r.format_version
+  pub run : info_of manifest.run ≡ r.run
+
+-- no line of a log fails, and its lines give the events of a record, but for the names under which these entries are
+pub record IsLogOf (log : List ℕ) (es : List Entry) (r : RunRecord) : Type 0 where
+  pub events : List RecordedEvent
+  pub given : events_before_fault (numbered 1 (lines log)) ≡ events
+  pub whole : first_line_fault (numbered 1 (lines log)) ≡ None
+  pub resolved : map (event_resolved es) events ≡ r.events
+
+-- the parts of a manifest, a log and a store are the components of what they are read as
+pub record ArePartsOf (text log_bytes : List ℕ) (es : List Entry) (limit : ℕ) (r : RunRecord) : Type 0 where
+  pub manifest : IsManifestOf text r
+  pub log : IsLogOf log_bytes es r
   pub cargo_metadata : utf8_part cargo_metadata_path es limit ≡ Ok r.cargo_metadata
   pub test_list : metadata_part test_list_form test_list_path es limit ≡ Ok r.test_list
   pub record_opts : metadata_part record_opts_form record_opts_path es limit ≡ Ok r.record_opts

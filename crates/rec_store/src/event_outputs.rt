@@ -36,6 +36,7 @@ impl<'n, N: OutputNamer> OutputRules<'n, N> {
             delay_before_start,
             error_summary,
             output_error_slice,
+            cpu_time,
         } = status;
         Ok(ExecuteStatus {
             retry_data,
@@ -47,6 +48,7 @@ impl<'n, N: OutputNamer> OutputRules<'n, N> {
             delay_before_start,
             error_summary,
             output_error_slice,
+            cpu_time,
         })
     }
 

@@ -1,6 +1,6 @@
 //! The recorder of one run.
 ghost use Rattle.std.specs.Io.KnownBytes.{Appends};
-ghost use Rattle.std.specs.Prelude.{◌≡◌, ◌<◌, ◌≤◌, Some, [], ◌∷◌, length, false, true, IfErr, OnOk, IfOk};
+ghost use Rattle.std.specs.Prelude.{◌≡◌, ◌<◌, ◌≤◌, List, Some, [], ◌∷◌, length, false, true, IfErr, OnOk, IfOk};
 ghost use Rattle.serde_json.specs.Read.{max_depth};
 ghost use Rattle.serde_json.specs.Written.{compact_text};
 ghost use Rattle.rec_container.specs.Container.{AreFrom};
@@ -9,13 +9,14 @@ ghost use Rattle.rec_container.specs.Writing.{entry_named, has_name_length};
 ghost use Rattle.rec_forms.specs.TextForm.{bytes_form};
 ghost use Rattle.rec_format.specs.RerunForms.{rerun_info_form};
 ghost use Rattle.rec_format.specs.ScopeForms.{recorded_scope_form};
-ghost use Rattle.rec_codec.specs.Event.{IsLogged};
+ghost use Rattle.rec_codec.specs.Event.{IsLogged, LiveEvent};
 ghost use Rattle.rec_store.specs.Ending.{sizes_of, sizes_of_log, Unended};
-ghost use Rattle.rec_store.specs.Entries.{json_entry, three_entries};
+ghost use Rattle.rec_store.specs.Entries.{build_scope_path, json_entry, three_entries};
 ghost use Rattle.rec_store.specs.EventOutputs.{event_entries, event_recorded};
-ghost use Rattle.rec_store.specs.Kept.{HasOutputs};
+ghost use Rattle.rec_store.specs.Kept.{HasOutputs, HavePaths};
 ghost use Rattle.rec_store.specs.Logging.{AppendsAs, AppendsEvent, Logs, LogsLoaded, Unlogged};
 ghost use Rattle.rec_store.specs.Recording.{RefusesEntry, has_failed, KeepsEntries, KeepsCounts, Stores, Unstored, AddsEach, AddsUpTo, AddsEntry};
+ghost use Rattle.rec_store.specs.Saved.{AcceptsEvent, AreStopped, HasAccepted, KeepsAccepted, meta_paths, required_paths};
 ghost use Rattle.rec_store.specs.Stopping.{StoresAs};
 ghost use Rattle.rec_store.specs.Store.{build_scope_entry, rerun_entry, meta_entries, AreMetaRead};
 
@@ -95,7 +96,7 @@ impl<'n, S: Sink, L: Sink, N: OutputNamer> RunRecorder<'n, S, L, N> {
         namer: &'n N,
         max_output_size: u64,
     ) -> RunRecorder<'n, S, L, N>
-        ensures { result ≡ record {
+        ensures made { result ≡ record {
           store = record { entries = []; sink = store; failed = false };
           log = log;
           log_failed = false;
@@ -104,6 +105,7 @@ impl<'n, S: Sink, L: Sink, N: OutputNamer> RunRecorder<'n, S, L, N> {
           namer = namer.now;
           max_output = max_output_size;
         } }
+        ensures accepted { S.taken store ≡ Some [] → L.taken log ≡ Some [] → HasAccepted S.taken L.taken N.number [] result }
     {
         RunRecorder {
             alloc,
@@ -145,6 +147,10 @@ impl<'n, S: Sink, L: Sink, N: OutputNamer> RunRecorder<'n, S, L, N> {
         ensures sound { AreFrom [] self.entry.store.entries }
         ensures err { IfErr result.result (Unended S.taken S.faults self.entry result.store) }
         ensures later { S.faults self.entry.store.sink ≤ S.faults result.store }
+
+        // Nothing that was accepted is lost, whether the end was written or not.
+        ensures stopped { (events : List LiveEvent) → HasAccepted S.taken L.taken N.number events self.entry → HavePaths self.entry.store.entries required_paths
+            → AreStopped (N.number self.entry.namer) self.entry.max_output events (L.taken result.log) (S.taken result.store) }
     {
         let failed = self.is_failed();
         let RunRecorder {
@@ -201,6 +207,8 @@ impl<'n, S: Sink, L: Sink, N: OutputNamer> RunRecorder<'n, S, L, N> {
         ensures err { IfErr result (Unstored S.taken S.faults self.old self.new (build_scope_entry build_scope.now ∷ [])) }
         ensures entries { KeepsEntries self.old.store self.new.store }
         ensures later { KeepsCounts S.faults L.faults self.old self.new }
+        ensures accepted { KeepsAccepted S.taken L.taken N.number self.old self.new }
+        ensures stands { OnOk result (HavePaths self.new.store.entries (build_scope_path ∷ [])) }
     {
         self.store_item(BUILD_SCOPE_JSON_PATH, build_scope)
     }
@@ -216,6 +224,7 @@ impl<'n, S: Sink, L: Sink, N: OutputNamer> RunRecorder<'n, S, L, N> {
         ensures err { IfErr result (Unstored S.taken S.faults self.old self.new (rerun_entry rerun_info.now ∷ [])) }
         ensures entries { KeepsEntries self.old.store self.new.store }
         ensures later { KeepsCounts S.faults L.faults self.old self.new }
+        ensures accepted { KeepsAccepted S.taken L.taken N.number self.old self.new }
     {
         self.store_item(RERUN_INFO_JSON_PATH, rerun_info)
     }
@@ -242,6 +251,8 @@ impl<'n, S: Sink, L: Sink, N: OutputNamer> RunRecorder<'n, S, L, N> {
         ensures err { IfErr result (Unstored S.taken S.faults self.old self.new (meta_entries cargo_metadata_json.now test_list.now opts.now)) }
         ensures entries { KeepsEntries self.old.store self.new.store }
         ensures later { KeepsCounts S.faults L.faults self.old self.new }
+        ensures accepted { KeepsAccepted S.taken L.taken N.number self.old self.new }
+        ensures stands { OnOk result (HavePaths self.new.store.entries meta_paths) }
     {
         if self.is_failed() {
             return Err(RunStoreError::Failed);
@@ -275,6 +286,7 @@ impl<'n, S: Sink, L: Sink, N: OutputNamer> RunRecorder<'n, S, L, N> {
         ensures entries { KeepsEntries self.old.store self.new.store }
         ensures later { KeepsCounts S.faults L.faults self.old self.new }
         ensures outputs { OnOk result (HasOutputs self.new.store.entries (event_recorded (N.number self.old.namer) self.old.max_output event)) }
+        ensures accepted { AcceptsEvent S.taken L.taken N.number self.old self.new event result }
     {
         // An event is let go of by a call: in place, each of its kinds would be a case of the proof.
         if self.is_failed() {

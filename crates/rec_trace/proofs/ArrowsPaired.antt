@@ -1,9 +1,9 @@
 -- Ends of arrows that pair, with one end more.
 use Rattle.std.proofs.Common.{◌≡◌, ◌<◌, ◌⊎◌, ℕ, suc, Bool, true, false, cond, List, [], ◌∷◌, ◌++◌, Option, Some, None, refl, sym, ◌∙◌, ap, subst, inl, inr, arith}
+use Rattle.rec_events.proofs.TestOrder.{test_eq-self, test_eq-true}
 use Rattle.rec_events.specs.declared.instances.OwnedTestInstanceId.{OwnedTestInstanceId}
+use Rattle.rec_events.specs.Tests.{test_eq}
 use Rattle.rec_spans.proofs.EventMarks.{Has-append}
-use Rattle.rec_spans.proofs.Keys.{test_eq-self, test_eq-true}
-use Rattle.rec_spans.specs.Keys.{test_eq}
 use Rattle.rec_spans.specs.Positions.{Has}
 use Rattle.rec_trace.specs.Arrows.ArrowEnd.{Starts, Finishes}
 use Rattle.rec_trace.specs.Arrows.{ArrowEnd, ArrowsPair}

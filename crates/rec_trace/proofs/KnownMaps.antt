@@ -1,18 +1,17 @@
 -- The maps of rows and of tests, as the definitions see them, and what their changes leave.
-use Rattle.std.proofs.Common.{◌≡◌, ℕ, ◌==◌, nat_lt, ◌&&◌, ◌||◌, Bool, true, false, not, cond, Option, None, Some, IsSome, is_some, option_and_then, unwrap_or, refl, sym, ◌∙◌, ap, subst, bytes_eq, arith, eqb-true, ltb-true}
+use Rattle.std.proofs.Common.{◌≡◌, ◌==◌, ◌&&◌, ◌||◌, Bool, true, false, not, cond, Option, None, Some, IsSome, is_some, option_and_then, unwrap_or, refl, sym, ◌∙◌, ap, subst}
 use Rattle.std.proofs.lemmas.Bool.{false≢true}
-use Rattle.std.proofs.lemmas.Map.Text.{is_eq-slice_cmp}
 use Rattle.std.specs.BTreeMap.{BTreeMap, UpdatesBy, get_by, is_at}
-use Rattle.std.specs.Cmp.Lexicographic.{slice_cmp}
-use Rattle.std.specs.declared.cmp.Ordering.TheVariants.{Less, Equal, Greater}
 use Rattle.std.specs.Map.{lookup}
 use Rattle.std.specs.Ordering.{is_eq, nat_cmp}
+use Rattle.rec_events.proofs.TestOrder.{is_eq-then, same_test, test_eq-self, test_eq-true, tests_at}
 use Rattle.rec_events.specs.contracts.instances.OwnedTestInstanceIdOrd.TheImpl as tests
 use Rattle.rec_events.specs.declared.instances.OwnedTestInstanceId.{OwnedTestInstanceId}
+use Rattle.rec_events.specs.Tests.{test_eq}
 use Rattle.rec_trace_events.specs.contracts.rows.RowOrd.TheImpl as rows
 use Rattle.rec_trace_events.specs.declared.rows.Row.{Row}
-use Rattle.rec_spans.proofs.Keys.{is_eq-then, row_eq-true, test_eq-self, test_eq-true}
-use Rattle.rec_spans.specs.Keys.{row_eq, test_eq}
+use Rattle.rec_spans.proofs.Keys.{is_eq-nat_cmp, row_eq-true}
+use Rattle.rec_spans.specs.Keys.{row_eq}
 use Rattle.rec_trace.specs.declared.known.notes.TestNotes.{TestNotes}
 use Rattle.rec_trace.specs.Known.{of_test}
 
@@ -34,15 +33,6 @@ some-cond false x o h = h
 
 -- ---- the orders of maps
 
-is_eq-nat_cmp : (m n : ℕ) → is_eq (nat_cmp m n) ≡ (m == n)
-is_eq-nat_cmp m n = go (nat_lt m n) (m == n) refl refl
-  where
-    go : (a b : Bool) → nat_lt m n ≡ a → (m == n) ≡ b → is_eq (cond a Less (cond b Equal Greater)) ≡ b
-    go true true x y = let l = ltb-true m n x in let e = eqb-true m n y in absurd (omega arith)
-    go true false x y = refl
-    go false true x y = refl
-    go false false x y = refl
-
 same_row : (a b : Row) → is_at (rows.cmp-value.it a) b ≡ row_eq a b
 same_row a b =
     is_eq-then (nat_cmp a.pid b.pid) (nat_cmp a.tid b.tid)
@@ -51,15 +41,6 @@ same_row a b =
 
 rows_at : (λ (a b : Row). is_at (rows.cmp-value.it a) b) ≡ row_eq
 rows_at = λ i a b. same_row a b i
-
-same_test : (s t : OwnedTestInstanceId) → is_at (tests.cmp-value.it s) t ≡ test_eq s t
-same_test s t =
-    is_eq-then (slice_cmp nat_cmp s.binary_id t.binary_id) (slice_cmp nat_cmp s.test_name t.test_name)
-    ∙ ap (λ b. b && is_eq (slice_cmp nat_cmp s.test_name t.test_name)) (is_eq-slice_cmp s.binary_id t.binary_id)
-    ∙ ap (λ b. bytes_eq s.binary_id t.binary_id && b) (is_eq-slice_cmp s.test_name t.test_name)
-
-tests_at : (λ (s t : OwnedTestInstanceId). is_at (tests.cmp-value.it s) t) ≡ test_eq
-tests_at = λ i s t. same_test s t i
 
 -- ---- rows
 

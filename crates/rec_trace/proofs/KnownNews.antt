@@ -1,17 +1,17 @@
 -- What is known changes by the news of an event as the definition says.
 use Rattle.std.proofs.Common.{◌≡◌, ℕ, ◌||◌, Bool, true, false, cond, Option, option_map, refl, sym, ◌∙◌, ap, subst}
 use Rattle.std.specs.Option.{option_or}
+use Rattle.rec_events.proofs.TestOrder.{test_eq-true}
 use Rattle.rec_events.specs.declared.events.CoreEventKind.TheVariants.{TestStarted, TestRetryStarted}
 use Rattle.rec_events.specs.declared.events.CoreEventKind.{CoreEventKind}
 use Rattle.rec_events.specs.declared.events.OutputEventKind.TheVariants.{SetupScriptFinished, TestAttemptFailedWillRetry, TestFinished}
 use Rattle.rec_events.specs.declared.events.TestEventKindSummary.TheVariants.{Core, Output}
 use Rattle.rec_events.specs.declared.groups.TestGroup.{TestGroup}
 use Rattle.rec_events.specs.declared.instances.OwnedTestInstanceId.{OwnedTestInstanceId}
+use Rattle.rec_events.specs.Tests.{test_eq}
 use Rattle.rec_trace_events.specs.declared.rows.Row.{Row}
-use Rattle.rec_spans.proofs.Keys.{test_eq-true}
 use Rattle.rec_spans.specs.Acts.{act_of}
 use Rattle.rec_spans.specs.declared.spans.Span.{Span}
-use Rattle.rec_spans.specs.Keys.{test_eq}
 use Rattle.rec_spans.specs.Past.{TraceInput}
 use Rattle.rec_spans.specs.Plain.{PlainKind, PlainOutputKind}
 use Rattle.rec_spans.specs.Starts.{started}

@@ -7,11 +7,12 @@ use Rattle.rec_events.specs.declared.events.OutputEventKind.TheVariants.{SetupSc
 use Rattle.rec_events.specs.declared.events.TestEventKindSummary.TheVariants.{Core, Output}
 use Rattle.rec_events.specs.declared.groups.TestGroup.{TestGroup}
 use Rattle.rec_events.specs.declared.instances.OwnedTestInstanceId.{OwnedTestInstanceId}
+use Rattle.rec_events.specs.Tests.{test_eq}
 use Rattle.rec_trace_events.specs.declared.rows.Row.{Row}
 use Rattle.rec_trace_events.specs.TraceEvents.{process_row, run_row}
 use Rattle.rec_spans.specs.Acts.Act.{Pauses, Continues, Cancels}
 use Rattle.rec_spans.specs.Acts.{Act}
-use Rattle.rec_spans.specs.Keys.{row_eq, test_eq}
+use Rattle.rec_spans.specs.Keys.{row_eq}
 use Rattle.rec_spans.specs.Past.{TraceInput}
 use Rattle.rec_spans.specs.Plain.{PlainKind, PlainOutputKind}
 use Rattle.rec_spans.specs.Starts.{started}

@@ -5,9 +5,10 @@ use Rattle.std.specs.Option.{unwrap_or}
 use Rattle.std.specs.Prelude.{ℕ, Bool, false, Option, None, Some, IsSome, option_and_then, option_copied}
 use Rattle.rec_events.specs.declared.groups.TestGroup.{TestGroup}
 use Rattle.rec_events.specs.declared.instances.OwnedTestInstanceId.{OwnedTestInstanceId}
+use Rattle.rec_events.specs.Tests.{test_eq}
 use Rattle.rec_trace_events.specs.declared.rows.Row.{Row}
 use Rattle.rec_trace_events.specs.TraceEvents.{process_row}
-use Rattle.rec_spans.specs.Keys.{row_eq, test_eq}
+use Rattle.rec_spans.specs.Keys.{row_eq}
 use Rattle.rec_trace.specs.declared.known.names.Names.{Names}
 use Rattle.rec_trace.specs.declared.known.news.ArrowNews.TheVariants.{Stays, Finishes, Starts}
 use Rattle.rec_trace.specs.declared.known.news.ArrowNews.{ArrowNews}

@@ -8,8 +8,7 @@ use super::parts::{Identity, Invocation};
 use crate::{RecordedBuildScope, RecordedRunStatus, RerunInfo, SessionHead};
 use rec_events::{RecordOpts, TestListSummary, Text};
 use rec_forms::{
-    Form, FromValueError, Held, Object, held_optional, optional_field, put_field, put_optional,
-    required_field,
+    Form, FromValueError, Object, optional_field, put_field, put_optional, required_field,
 };
 use serde_json::{Map, Value};
 use std::alloc::{AllocError, Global};
@@ -120,23 +119,5 @@ impl Form for SessionHead {
             build_scope: contents.build_scope,
             rerun_info: contents.rerun_info,
         })
-    }
-}
-
-impl Held for SessionHead {
-    fn held(&self) {
-        self.run_id.held();
-        self.nextest_version.held();
-        self.started_at.held();
-        self.last_written_at.held();
-        held_optional(&self.duration);
-        self.cli_args.held();
-        self.env_vars.held();
-        held_optional(&self.parent_run_id);
-        self.status.held();
-        self.cargo_metadata.held();
-        self.test_list.held();
-        self.build_scope.held();
-        held_optional(&self.rerun_info);
     }
 }

@@ -1,6 +1,6 @@
 //! What a rerun is a rerun of.
 use crate::{RerunInfo, RerunRootInfo};
-use rec_forms::{Form, FromValueError, Held, put_field, required_field};
+use rec_forms::{Form, FromValueError, put_field, required_field};
 use serde_json::{Map, Value};
 use std::alloc::{AllocError, Global};
 
@@ -42,13 +42,6 @@ impl Form for RerunRootInfo {
     }
 }
 
-impl Held for RerunRootInfo {
-    fn held(&self) {
-        self.run_id.held();
-        self.build_scope.held();
-    }
-}
-
 impl Form for RerunInfo {
     ghost use Rattle.rec_format.specs.RerunFormLaws.{rerun_info_back, rerun_info_writable, rerun_info_well_formed};
     ghost use Rattle.rec_format.specs.RerunForms.{rerun_info_value, rerun_info_form, IsRerunInfo};
@@ -86,13 +79,5 @@ impl Form for RerunInfo {
             root_info: required_field(alloc, object, "root-info")?,
             test_suites: required_field(alloc, object, "test-suites")?,
         })
-    }
-}
-
-impl Held for RerunInfo {
-    fn held(&self) {
-        self.parent_run_id.held();
-        self.root_info.held();
-        self.test_suites.held();
     }
 }

@@ -184,19 +184,3 @@ impl Form for RecordedRunInfo {
         })
     }
 }
-
-impl Held for RecordedRunInfo {
-    fn held(&self) {
-        self.run_id.held();
-        self.nextest_version.held();
-        self.started_at.held();
-        self.last_written_at.held();
-        held_optional(&self.duration);
-        self.cli_args.held();
-        self.env_vars.held();
-        held_optional(&self.parent_run_id);
-        self.store_format_version.held();
-        self.sizes.held();
-        self.status.held();
-    }
-}

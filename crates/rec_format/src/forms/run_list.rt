@@ -2,8 +2,7 @@
 use crate::RecordedRunList;
 use rec_events::Items;
 use rec_forms::{
-    Form, FromValueError, Held, defaulted_field, held_optional, optional_field, put_field,
-    put_optional, required_field,
+    Form, FromValueError, defaulted_field, optional_field, put_field, put_optional, required_field,
 };
 use serde_json::{Map, Value};
 use std::alloc::{AllocError, Global};
@@ -45,13 +44,5 @@ impl Form for RecordedRunList {
             last_pruned_at: optional_field(alloc, object, "last-pruned-at")?,
             runs: defaulted_field(alloc, object, "runs", Items::empty(alloc))?,
         })
-    }
-}
-
-impl Held for RecordedRunList {
-    fn held(&self) {
-        self.format_version.held();
-        held_optional(&self.last_pruned_at);
-        self.runs.held();
     }
 }

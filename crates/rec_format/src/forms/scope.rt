@@ -1,6 +1,6 @@
 //! What was built.
 use crate::{BuildKind, RecordedBuildScope};
-use rec_forms::{Form, FromValueError, Held, put_field, required_field};
+use rec_forms::{Form, FromValueError, put_field, required_field};
 use serde_json::{Map, Value};
 use std::alloc::{AllocError, Global};
 
@@ -41,10 +41,6 @@ impl Form for BuildKind {
     }
 }
 
-impl Held for BuildKind {
-    fn held(&self) {}
-}
-
 impl Form for RecordedBuildScope {
     ghost use Rattle.rec_format.specs.ScopeFormLaws.{recorded_scope_back, recorded_scope_writable, recorded_scope_well_formed};
     ghost use Rattle.rec_format.specs.ScopeForms.{recorded_scope_value, recorded_scope_form, IsRecordedScope};
@@ -80,11 +76,5 @@ impl Form for RecordedBuildScope {
             build_kind: required_field(alloc, object, "build-kind")?,
             scope: required_field(alloc, object, "scope")?,
         })
-    }
-}
-
-impl Held for RecordedBuildScope {
-    fn held(&self) {
-        self.scope.held();
     }
 }

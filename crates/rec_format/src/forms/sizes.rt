@@ -124,12 +124,6 @@ impl Form for ComponentSizes {
     }
 }
 
-impl Held for ComponentSizes {
-    fn held(&self) {
-        ComponentSizesFormat::from(*self).held();
-    }
-}
-
 impl Form for RecordedSizes {
     ghost use Rattle.rec_format.specs.SizeFormLaws.{sizes_back, sizes_writable, sizes_well_formed};
     ghost use Rattle.rec_format.specs.SizeForms.{sizes_value, sizes_form, AreSizes};
@@ -154,11 +148,5 @@ impl Form for RecordedSizes {
 
     fn from_value(alloc: Global, value: &Value) -> Result<RecordedSizes, FromValueError> {
         Ok(RecordedSizesFormat::from_value(alloc, value)?.into())
-    }
-}
-
-impl Held for RecordedSizes {
-    fn held(&self) {
-        RecordedSizesFormat::from(*self).held();
     }
 }

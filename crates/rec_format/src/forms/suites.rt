@@ -1,6 +1,6 @@
 //! Test suites: an array in the order of binary ids, which is read in any order.
 use crate::{RerunSuites, RerunTestSuiteInfo};
-use rec_forms::{Form, FromValueError, Held, put_field, required_field};
+use rec_forms::{Form, FromValueError, put_field, required_field};
 use serde_json::{Map, Value};
 use std::alloc::{AllocError, Global};
 
@@ -44,14 +44,6 @@ impl Form for RerunTestSuiteInfo {
     }
 }
 
-impl Held for RerunTestSuiteInfo {
-    fn held(&self) {
-        self.binary_id.held();
-        self.passing.held();
-        self.outstanding.held();
-    }
-}
-
 impl Form for RerunSuites {
     ghost use Rattle.rec_format.specs.SuiteFormLaws.{suites_back, suites_writable, suites_well_formed};
     ghost use Rattle.rec_format.specs.SuiteForms.{suites_value, suites_form, AreSuites};
@@ -91,13 +83,5 @@ impl Form for RerunSuites {
             }
         }
         Ok(suites)
-    }
-}
-
-impl Held for RerunSuites {
-    fn held(&self) {
-        for suite in self.as_map().values() {
-            suite.held();
-        }
     }
 }

@@ -183,12 +183,6 @@ impl Form for RunsJsonFormatVersion {
     }
 }
 
-impl Held for RunsJsonFormatVersion {
-    fn held(&self) {
-        self.number().held();
-    }
-}
-
 impl Form for StoreFormatVersion {
     ghost use Rattle.rec_format.specs.VersionFormLaws.{store_version_back, store_version_writable, store_version_well_formed};
     ghost use Rattle.rec_format.specs.VersionForms.{store_version_value, store_version_form, IsStoreVersion};
@@ -224,13 +218,6 @@ impl Form for StoreFormatVersion {
             major: required_field(alloc, object, "major")?,
             minor: required_field(alloc, object, "minor")?,
         })
-    }
-}
-
-impl Held for StoreFormatVersion {
-    fn held(&self) {
-        self.major.held();
-        self.minor.held();
     }
 }
 

@@ -1,10 +1,10 @@
-use Rattle.std.proofs.Common.{◌≡◌, ◌∙◌, ◌+◌, ap, arith, length, drop, inl, inr, refl, Ok, Some, None, Option, Result, List, ℕ, Bor, subst, IfSome}
+use Rattle.std.proofs.Common.{◌≡◌, ◌∙◌, ◌+◌, ap, arith, length, drop, inl, inr, refl, Ok, Some, None, Option, Result, List, ℕ, Bor, sym, subst, IfSome}
 use Rattle.std.specs.Option.{option_map}
 use Rattle.rec_container.proofs.Grammar.{step_at-some}
 use Rattle.rec_container.proofs.Placed.{prefix_placed}
 use Rattle.rec_container.proofs.Prefixes.{reading_begins, reading_goes_on, reading_ends, magic_tested}
 use Rattle.rec_container.proofs.reader.read.Goals as goal
-use Rattle.rec_container.specs.Container.{Entry}
+use Rattle.rec_container.specs.Container.{Entry, IsContainer, ParsedContainer}
 use Rattle.rec_container.specs.declared.errors.ContainerError.{ContainerError}
 use Rattle.rec_container.specs.declared.indexed.PlacedEntry.{PlacedEntry}
 use Rattle.rec_container.specs.Placed.{placed_entry, placed_entries}
@@ -42,13 +42,15 @@ loop-entries-preserved c =
     reading_goes_on c.args.bytes.now c.loop-entries.entries c.push.new.self h rest c.in-Some-2.after.now at c.loop-entries.invariant found c.in_ok-push.ensures.added
     (h.place + length h.content.now) (omega (arith, place.0)) place.0
 
+pub container_of-requires : goal.container_of-requires
+container_of-requires c = prefix_placed c.args.bytes.now c.loop-entries.entries c.loop-entries.rest.now c.loop-entries.invariant.prefix c.loop-entries.invariant.placed
+
 pub returns-clause-found : goal.returns-clause-found
 returns-clause-found c =
     let at = c.loop-entries.at in
     let rest = c.loop-entries.rest.now in
     let ends : step_at at (placed_entries c.loop-entries.entries) rest ≡ Ok None =
     c.in_ok-held.ensures.step ∙ ap stepped c.in_default-2.is in
-    (refl, reading_ends c.args.bytes.now c.loop-entries.entries rest at c.loop-entries.invariant ends)
-
-pub invariant_of-result : goal.invariant_of-result
-invariant_of-result c = prefix_placed c.args.bytes.now c.loop-entries.entries c.loop-entries.rest.now c.loop-entries.invariant.prefix c.loop-entries.invariant.placed
+    let whole = reading_ends c.args.bytes.now c.loop-entries.entries rest at c.loop-entries.invariant ends in
+    let made = c.in_ok-container_of.ensures in
+    (ap (λ (p : ParsedContainer). p.bytes) made, subst (λ (p : ParsedContainer). IsContainer c.args.bytes.now p.entries) (sym made) whole)

@@ -1,8 +1,8 @@
 use Rattle.std.proofs.Common.{◌≡◌, ◌||◌, take}
 use Rattle.rec_events.specs.declared.instances.OwnedTestInstanceId.{OwnedTestInstanceId}
+use Rattle.rec_events.specs.Tests.{is_named}
 use Rattle.rec_replay.specs.Registration.{is_registered}
 use Rattle.rec_reading.proofs.registration.register_suite.Given as goal
-use Rattle.rec_reading.specs.Converting.{is_named}
 
 -- the tests so far are registered
 abbrev pub invariant-loop-name : goal.invariant-loop-name

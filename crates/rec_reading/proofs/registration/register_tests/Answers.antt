@@ -1,9 +1,9 @@
 use Rattle.std.proofs.Common.{◌≡◌, ◌∷◌, ◌||◌, refl, sym, ap, ◌∙◌, rules}
 use Rattle.rec_events.specs.Pairs.{pairs}
+use Rattle.rec_events.specs.Tests.{is_listed}
 use Rattle.rec_replay.specs.Registration.{is_registered}
 use Rattle.rec_reading.proofs.Registered.{suite-more}
 use Rattle.rec_reading.proofs.registration.register_tests.Goals as goal
-use Rattle.rec_reading.specs.Converting.{is_listed}
 
 pub loop-binary-init : goal.loop-binary-init
 loop-binary-init c = record {

@@ -1,9 +1,9 @@
 use Rattle.std.proofs.Common.{◌≡◌, ◌||◌}
 use Rattle.rec_events.specs.declared.instances.OwnedTestInstanceId.{OwnedTestInstanceId}
 use Rattle.rec_events.specs.Pairs.{pairs}
+use Rattle.rec_events.specs.Tests.{is_listed}
 use Rattle.rec_replay.specs.Registration.{is_registered}
 use Rattle.rec_reading.proofs.registration.register_tests.Given as goal
-use Rattle.rec_reading.specs.Converting.{is_listed}
 
 -- what is left completes the tests
 abbrev pub invariant-loop-binary : goal.invariant-loop-binary

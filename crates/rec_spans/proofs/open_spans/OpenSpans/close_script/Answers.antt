@@ -17,10 +17,11 @@ invariant_of-self c =
     let gone = span-updates (places.Script index) spans c.remove.new.self None c.remove.ensures.updates in
     let tied = closed c.self.inside.slots.entries spans.entries new (keys.Script index) (places.Script index) c.self.invariant.0 refl
     (span-remove spans.entries new (places.Script index) c.remove.ensures.entries) gone in
-    let renotes = subst (λ name. Renotes false notes name index c.forget.new.self.notes) c.as_str.ensures.value c.forget.ensures in (
+    let renotes = subst (λ name. Renotes false notes name index c.forget.new.self.notes) c.as_str.ensures.value c.forget.ensures.forgotten in (
       tied.0,
       noted-closed notes c.forget.new.self.notes spans.entries new index c.in-Some.span c.self.invariant.1
           (sym (span-get spans (places.Script index)) ∙ sym c.in-Some.ensures.value) renotes gone,
+      c.forget.ensures.none_empty c.self.invariant.2,
     )
 
 pub returns-in-Some : goal.returns-in-Some

@@ -13,7 +13,7 @@ invariant_of-self c =
     let gone = span-updates places.SubRun spans c.remove.new.self None c.remove.ensures.updates in
     let tied = closed c.self.inside.slots.entries spans.entries c.remove.new.self.entries keys.SubRun places.SubRun c.self.invariant.0 refl
     (span-remove spans.entries c.remove.new.self.entries places.SubRun c.remove.ensures.entries) gone in
-    (tied.0, noted-other c.self.inside.scripts.notes spans.entries c.remove.new.self.entries places.SubRun None c.self.invariant.1 (λ i. refl) gone)
+    (tied.0, noted-other c.self.inside.scripts.notes spans.entries c.remove.new.self.entries places.SubRun None c.self.invariant.1 (λ i. refl) gone, c.self.invariant.2)
 
 pub returns : goal.returns
 returns c =

@@ -10,7 +10,7 @@ use Rattle.rec_spans.specs.Past.{of_key, without}
 use Rattle.rec_spans.specs.Tied.{AreTied, slot_of}
 
 pub invariant_of-self : goal.invariant_of-self
-invariant_of-self c = (subst (λ slots. AreTied slots c.self.inside.spans.entries) (sym c.in_err-slot.ensures.unchanged) c.self.invariant.0, c.self.invariant.1)
+invariant_of-self c = (subst (λ slots. AreTied slots c.self.inside.spans.entries) (sym c.in_err-slot.ensures.unchanged) c.self.invariant.0, c.self.invariant.1, c.self.invariant.2)
 
 pub invariant_of-self-2 : goal.invariant_of-self-2
 invariant_of-self-2 c =
@@ -24,7 +24,7 @@ invariant_of-self-2 c =
     (span-remove spans.entries c.remove-2.new.self.entries (Slot n) c.remove-2.ensures.entries)
     gone
     (slot-updates t slots c.remove.new.self None c.remove.ensures.updates) in
-    (tied.0, noted-other c.self.inside.scripts.notes spans.entries c.remove-2.new.self.entries (Slot n) None c.self.invariant.1 (λ i. refl) gone)
+    (tied.0, noted-other c.self.inside.scripts.notes spans.entries c.remove-2.new.self.entries (Slot n) None c.self.invariant.1 (λ i. refl) gone, c.self.invariant.2)
 
 pub returns-in_err-slot-clause-closed : goal.returns-in_err-slot-clause-closed
 returns-in_err-slot-clause-closed c =

@@ -13,7 +13,7 @@ invariant_of-self-2 c =
     let tied = opened c.self.inside.slots.entries spans.entries c.insert.new.self.entries s c.self.invariant.0 c.requires.place
     (subst (λ v. of_key s.key v ≡ []) (sym c.self.view_is) c.requires.key_free)
     (span-insert spans.entries c.insert.new.self.entries s.place s c.in_ok-insert.ensures.entries) put in
-    (tied.0, noted-other c.self.inside.scripts.notes spans.entries c.insert.new.self.entries s.place (Some s) c.self.invariant.1 (no_script s.key s.place c.requires.place c.requires.no_script) put)
+    (tied.0, noted-other c.self.inside.scripts.notes spans.entries c.insert.new.self.entries s.place (Some s) c.self.invariant.1 (no_script s.key s.place c.requires.place c.requires.no_script) put, c.self.invariant.2)
 
 pub returns-clause-ok : goal.returns-clause-ok
 returns-clause-ok c =

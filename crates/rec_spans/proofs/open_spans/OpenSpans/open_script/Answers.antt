@@ -22,6 +22,7 @@ invariant_of-self-in-Ok-insert c =
       tied.0,
       noted-opened notes c.note.new.self.notes spans.entries new index s c.self.invariant.1 c.args.id.now
           (script-free slots spans.entries s.key index c.self.invariant.0 c.requires.key key_free) c.requires.name renotes put,
+      c.note.ensures.none_empty c.self.invariant.2,
     )
 
 pub returns-in-Ok-insert-clause-ok : goal.returns-in-Ok-insert-clause-ok

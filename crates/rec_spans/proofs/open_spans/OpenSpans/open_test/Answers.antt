@@ -1,12 +1,12 @@
 use Rattle.std.proofs.Common.{◌≡◌, [], None, Some, ap, cond, refl, subst, sym, ◌∙◌}
 use Rattle.std.specs.Map.{values_of}
 use Rattle.rec_events.specs.declared.instances.OwnedTestInstanceId.{OwnedTestInstanceId}
+use Rattle.rec_events.specs.Tests.{test_eq}
 use Rattle.rec_spans.proofs.open_spans.OpenSpans.open_test.Goals as goal
 use Rattle.rec_spans.proofs.OpenScripts.{noted-other}
 use Rattle.rec_spans.proofs.OpenTests.{forgotten, test-opened}
 use Rattle.rec_spans.proofs.Orders.{slot-updates, span-insert, span-updates}
 use Rattle.rec_spans.specs.declared.spans.Place.TheVariants.{Slot}
-use Rattle.rec_spans.specs.Keys.{test_eq}
 use Rattle.rec_spans.specs.Noted.{AreNoted}
 use Rattle.rec_spans.specs.Past.{in_place, of_key, put_in}
 use Rattle.rec_spans.specs.Tied.{AreTied, slot_of}
@@ -25,7 +25,7 @@ invariant_of-self-in-Ok c =
     put
     (subst (λ v. (q : OwnedTestInstanceId) → slot_of c.insert.new.self.entries q ≡ cond (test_eq v q) (Some slot) (slot_of slots.entries q)) c.in_ok-try_clone.ensures.copy
     (slot-updates c.in_ok-try_clone.field-0 slots c.insert.new.self (Some slot) c.in_ok-insert.ensures.updates)) in
-    (tied.0, noted-other c.self.inside.scripts.notes spans.entries c.insert-2.new.self.entries (Slot slot) (Some s) c.self.invariant.1 (λ i. refl) put)
+    (tied.0, noted-other c.self.inside.scripts.notes spans.entries c.insert-2.new.self.entries (Slot slot) (Some s) c.self.invariant.1 (λ i. refl) put, c.self.invariant.2)
 
 pub returns-in-Ok-clause-ok : goal.returns-in-Ok-clause-ok
 returns-in-Ok-clause-ok c =
@@ -56,4 +56,4 @@ invariant_of-self-in-Err c =
     (subst (λ v. (q : OwnedTestInstanceId) → slot_of c.insert.new.self.entries q ≡ cond (test_eq v q) (Some slot) (slot_of slots.entries q)) c.in_ok-try_clone.ensures.copy
     (slot-updates c.in_ok-try_clone.field-0 slots c.insert.new.self (Some slot) c.in_ok-insert.ensures.updates))
     (slot-updates t c.insert.new.self c.remove.new.self None c.remove.ensures.updates)) in
-    (tied, noted)
+    (tied, noted, c.self.invariant.2)

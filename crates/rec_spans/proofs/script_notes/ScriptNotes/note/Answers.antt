@@ -1,10 +1,10 @@
-use Rattle.std.proofs.Common.{rules, ◌∙◌, Some, true, ap, cond}
+use Rattle.std.proofs.Common.{rules, ◌∙◌, IsSome, Some, true, ap, cond, refl, subst}
 use Rattle.std.proofs.lemmas.Map.Text.{btree_map_updates_text}
 use Rattle.std.proofs.lemmas.Result.{err_from_is_err_and}
 use Rattle.std.specs.BTreeMap.{is_at}
 use Rattle.std.specs.List.{list_any}
 use Rattle.std.specs.Ordering.{nat_cmp}
-use Rattle.rec_spans.proofs.Notings.{renoted, same_noted}
+use Rattle.rec_spans.proofs.Notings.{none_empty, renoted, same_noted}
 use Rattle.rec_spans.proofs.script_notes.ScriptNotes.note.Goals as goal
 use Rattle.rec_spans.specs.Noted.{is_among}
 
@@ -26,3 +26,22 @@ returns-clause-ok c =
     let puts = btree_map_updates_text c.args.id.now old new (Some indexes) ((c.get_mut.follows.holds indexes).3 (search rules)) in
     renoted old new c.args.id.now (Some indexes) puts c.args.index true
     (λ i. c.in_ok-insert.ensures.updates.0 i ∙ ap (λ o. cond (is_at (nat_cmp c.args.index) i) true (is_among i o)) c.in-Some.ensures.value)
+
+pub returns-in_err-insert-clause-none_empty : goal.returns-in_err-insert-clause-none_empty
+returns-in_err-insert-clause-none_empty c = λ none.
+    let old = c.args.self.now.notes in
+    let indexes = c.insert.new.self in
+    let new = c.get_mut.follows.lender indexes in
+    let id = c.args.id.now in
+    let puts = btree_map_updates_text id old new (Some indexes) ((c.get_mut.follows.holds indexes).3 (search rules)) in
+    let before = none id (subst IsSome c.in-Some.ensures.value refl) in
+    none_empty old new id (Some indexes) puts
+    (λ some. (before.0, ap (list_any (is_at (nat_cmp before.0))) c.in_err-insert.ensures.err ∙ ap (is_among before.0) c.in-Some.ensures.value ∙ before.1)) none
+
+pub returns-clause-none_empty : goal.returns-clause-none_empty
+returns-clause-none_empty c =
+    let old = c.args.self.now.notes in
+    let indexes = c.insert.new.self in
+    let new = c.get_mut.follows.lender indexes in
+    let puts = btree_map_updates_text c.args.id.now old new (Some indexes) ((c.get_mut.follows.holds indexes).3 (search rules)) in
+    none_empty old new c.args.id.now (Some indexes) puts (λ some. (c.args.index, c.in_ok-insert.ensures.updates.1))

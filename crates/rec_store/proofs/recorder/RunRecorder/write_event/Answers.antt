@@ -1,3 +1,5 @@
+use Rattle.std.proofs.Common.{◌∙◌, sym}
+use Rattle.rec_store.proofs.Accepted.{event_accepted}
 use Rattle.rec_store.proofs.Counts.{counts_logged}
 use Rattle.rec_store.proofs.Growing.{keeps_logged, outputs_stand}
 use Rattle.rec_store.proofs.recorder.RunRecorder.write_event.Goals as goal
@@ -43,4 +45,19 @@ returns-clause-later g c =
     c.write_loaded.new.self
     c.args.event
     c.write_loaded.result
+    c.write_loaded.ensures
+
+pub returns-clause-accepted : goal.returns-clause-accepted
+returns-clause-accepted g c =
+    event_accepted
+    g.S.Sink.taken
+    g.S.Sink.faults
+    g.L.Sink.taken
+    g.N.OutputNamer.number
+    g.L.Sink.faults
+    c.args.self.now
+    c.write_loaded.new.self
+    c.args.event
+    c.write_loaded.result
+    (sym c.is_failed.ensures.value ∙ c.if-is_failed.false)
     c.write_loaded.ensures

@@ -1,10 +1,17 @@
-use Rattle.std.proofs.Common.{◌≡◌, ℕ, List, ◌∙◌, ap, subst, sym, inr}
+use Rattle.std.proofs.Common.{◌≡◌, ℕ, List, Option, Some, None, is_some, IsTrue, option_and_then, ◌∙◌, ap, subst, sym, inr, arith, if◌then◌else◌}
 use Rattle.std.proofs.lemmas.Result.{on_ok_weaker}
+use Rattle.std.proofs.lemmas.Str.{is_utf8-from_IsUtf8}
+use Rattle.std.specs.Str.{is_utf8}
+use Rattle.serde_json.specs.Data.{Data}
+use Rattle.serde_json.specs.Read.{read}
 use Rattle.serde_json.specs.Written.{compact_text}
 use Rattle.rec_container.specs.Container.{Entry}
-use Rattle.rec_forms.specs.Recording.{test_list_value, record_opts_value}
+use Rattle.rec_forms.specs.Recording.{test_list_form, test_list_value, record_opts_form, record_opts_value}
+use Rattle.rec_forms.specs.TextForm.{bytes_form, text_form}
+use Rattle.rec_store.proofs.Accepted.{entries_accepted}
 use Rattle.rec_store.proofs.Counts.{counts_of_store}
-use Rattle.rec_store.proofs.Growing.{keeps_all}
+use Rattle.rec_store.proofs.EntrySpellings.{test_list_is, cargo_metadata_is, record_opts_is}
+use Rattle.rec_store.proofs.Growing.{entries_stand, keeps_all}
 use Rattle.rec_store.proofs.recorder.RunRecorder.write_meta.Goals as goal
 use Rattle.rec_store.proofs.Refusals.{if_err_weaker}
 use Rattle.rec_store.specs.declared.error.RunStoreError.{RunStoreError}
@@ -42,3 +49,23 @@ returns-clause-entries g c =
 pub returns-clause-later : goal.returns-clause-later
 returns-clause-later g c =
     counts_of_store g.S.Sink.taken g.S.Sink.faults g.L.Sink.faults c.args.self.now c.store_three.new.self (three_entries c.deref.result.now c.as_bytes.result.now c.deref-2.result.now) c.store_three.result c.store_three.ensures.kept c.store_three.ensures.ok c.store_three.ensures.err
+
+-- bytes that are a text that is read
+some_read : {T : Type 0} (form : Data → Option T) (bytes : List ℕ) (x : T) → IsTrue (is_utf8 bytes) → text_form form bytes ≡ Some x → IsTrue (is_some (bytes_form form bytes))
+some_read form bytes x utf8 h = ap (λ b. is_some (option_and_then form (if b then read bytes else None))) utf8 ∙ ap is_some h
+
+pub returns-clause-accepted : goal.returns-clause-accepted
+returns-clause-accepted g c =
+    let list = c.in_ok-test_list.ensures in
+    let opts = c.in_ok-opts.ensures in
+    let list_read = subst (λ b. IsTrue (is_some (bytes_form test_list_form b))) (sym c.deref.ensures.value) (some_read test_list_form _ _ list.utf8 (list.reads_back (omega arith))) in
+    let utf8 = subst (λ b. IsTrue (is_utf8 b)) (sym c.as_bytes.ensures.value) (is_utf8-from_IsUtf8 c.args.cargo_metadata_json.now c.utf8.cargo_metadata_json) in
+    let opts_read = subst (λ b. IsTrue (is_some (bytes_form record_opts_form b))) (sym c.deref-2.ensures.value) (some_read record_opts_form _ _ opts.utf8 (opts.reads_back (omega arith))) in
+    entries_accepted g.S.Sink.taken g.S.Sink.faults g.L.Sink.taken g.N.OutputNamer.number c.args.self.now c.store_three.new.self (three_entries c.deref.result.now c.as_bytes.result.now c.deref-2.result.now)
+    c.store_three.result (c.is_failed.ensures.store c.if-is_failed.false) ((test_list_is, list_read), ((cargo_metadata_is, utf8), ((record_opts_is, opts_read), tt)))
+    c.store_three.ensures.kept c.store_three.ensures.ok c.store_three.ensures.err
+
+pub returns-clause-stands : goal.returns-clause-stands
+returns-clause-stands g c =
+    entries_stand g.S.Sink.taken g.S.Sink.faults c.args.self.now.store c.store_three.new.self.store (three_entries c.deref.result.now c.as_bytes.result.now c.deref-2.result.now)
+    c.store_three.result (c.is_failed.ensures.store c.if-is_failed.false) c.store_three.ensures.ok

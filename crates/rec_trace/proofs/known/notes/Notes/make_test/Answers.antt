@@ -1,6 +1,6 @@
 use Rattle.std.proofs.Common.{◌≡◌, IsSome, None, ap, is_some, refl, subst, sym, ◌∙◌}
 use Rattle.std.specs.Map.{lookup}
-use Rattle.rec_spans.specs.Keys.{test_eq}
+use Rattle.rec_events.specs.Tests.{test_eq}
 use Rattle.rec_trace.proofs.known.notes.Notes.make_test.Goals as goal
 use Rattle.rec_trace.proofs.KnownMaps.{test-absent, test-get, test-there, test-unnoted}
 use Rattle.rec_trace.specs.declared.known.notes.TestNotes.{TestNotes}

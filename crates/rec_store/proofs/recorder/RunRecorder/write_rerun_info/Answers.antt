@@ -1,0 +1,11 @@
+use Rattle.std.proofs.Common.{ap, is_some}
+use Rattle.std.proofs.lemmas.Result.{on_ok_weaker}
+use Rattle.rec_store.proofs.Accepted.{entry_accepted}
+use Rattle.rec_store.proofs.EntrySpellings.{rerun_info_is}
+use Rattle.rec_store.proofs.recorder.RunRecorder.write_rerun_info.Goals as goal
+use Rattle.rec_store.specs.Store.{rerun_entry}
+
+pub returns-clause-accepted : goal.returns-clause-accepted
+returns-clause-accepted g c =
+    entry_accepted g.S.Sink.taken g.S.Sink.faults g.L.Sink.taken g.N.OutputNamer.number c.args.self.now c.store_item.new.self (rerun_entry c.args.rerun_info.now) c.store_item.result rerun_info_is
+    (on_ok_weaker c.store_item.result (λ read. ap is_some read) c.store_item.ensures.read) c.store_item.ensures.ok c.store_item.ensures.err
