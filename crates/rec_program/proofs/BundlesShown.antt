@@ -13,12 +13,12 @@ use Rattle.rec_portable.specs.Opening.{Opening, Opens, Unopened}
 use Rattle.rec_portable.specs.OuterEntries.{log_part}
 use Rattle.rec_spans.specs.declared.errors.ChromeTraceError.TheVariants as traces
 use Rattle.rec_spans.specs.declared.errors.ChromeTraceError.{ChromeTraceError}
-use Rattle.rec_program.specs.declared.reading_error.ReadingError.TheVariants.{OutOfMemory}
-use Rattle.rec_program.specs.declared.reading_error.ReadingError.{ReadingError}
-use Rattle.rec_program.specs.declared.settings.Settings.{Settings}
+use Rattle.rec_export.specs.declared.settings.Settings.{Settings}
+use Rattle.rec_faults.specs.declared.reading_error.ReadingError.TheVariants.{OutOfMemory}
+use Rattle.rec_faults.specs.declared.reading_error.ReadingError.{ReadingError}
+use Rattle.rec_faults.specs.ReadingErrors.{bundle_error, trace_error}
 use Rattle.rec_program.specs.LogTraces.{bundle_trace, log_lines, log_refusal, log_trace}
 use Rattle.rec_program.specs.ReadingCommands.{IsPrintedOf, Makes, Shows, Withholds, info_of, manifest_line, trace_of, trace_of_parts, trace_unless}
-use Rattle.rec_program.specs.ReadingErrors.{bundle_error, trace_error}
 
 -- ---- what each command prints, by the parts that it asks for
 

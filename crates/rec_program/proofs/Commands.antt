@@ -34,26 +34,26 @@ use Rattle.rec_spans.specs.declared.errors.ChromeTraceError.TheVariants as trace
 use Rattle.rec_spans.specs.declared.errors.ChromeTraceError.{ChromeTraceError}
 use Rattle.rec_spans.specs.declared.settings.ChromeTraceGroupBy.{ChromeTraceGroupBy}
 use Rattle.rec_spans.specs.Refusals.{events_refusal}
+use Rattle.rec_export.proofs.Complete.{no_more, same_session}
+use Rattle.rec_export.proofs.TimelinesDrawn.{draws_timeline}
+use Rattle.rec_export.specs.Bundle.{AreOf}
+use Rattle.rec_export.specs.declared.counts.Exported.{Exported}
+use Rattle.rec_export.specs.declared.refusal.RecordExportError.TheVariants as exports
+use Rattle.rec_export.specs.declared.refusal.RecordExportError.{RecordExportError}
+use Rattle.rec_export.specs.declared.settings.Settings.{Settings}
+use Rattle.rec_export.specs.Export.{Exports}
+use Rattle.rec_export.specs.LineFaults.{line_fault}
+use Rattle.rec_export.specs.Timelines.{DrawsTimeline}
+use Rattle.rec_export.specs.TraceFaults.{trace_fault}
+use Rattle.rec_faults.specs.declared.reading_error.ReadingError.TheVariants.{Bundle, Trace, Part, Line, Conversion, Report, OutOfMemory}
+use Rattle.rec_faults.specs.declared.reading_error.ReadingError.{ReadingError}
+use Rattle.rec_faults.specs.ReadingErrors.{bundle_error}
+use Rattle.rec_faults.specs.Status.{bundle_status, conversion_status, export_status, junit_status, part_status, reading_status}
 use Rattle.rec_program.proofs.BundlesShown.{trace_drawn}
-use Rattle.rec_program.proofs.Complete.{no_more, same_session}
 use Rattle.rec_program.proofs.RecordedDrawn.{recorded-is_drawn}
-use Rattle.rec_program.proofs.TimelinesDrawn.{draws_timeline}
-use Rattle.rec_program.specs.Bundle.{AreOf}
-use Rattle.rec_program.specs.declared.counts.Exported.{Exported}
-use Rattle.rec_program.specs.declared.reading_error.ReadingError.TheVariants.{Bundle, Trace, Part, Line, Conversion, Report, OutOfMemory}
-use Rattle.rec_program.specs.declared.reading_error.ReadingError.{ReadingError}
-use Rattle.rec_program.specs.declared.refusal.RecordExportError.TheVariants as exports
-use Rattle.rec_program.specs.declared.refusal.RecordExportError.{RecordExportError}
-use Rattle.rec_program.specs.declared.settings.Settings.{Settings}
-use Rattle.rec_program.specs.Export.{Exports}
-use Rattle.rec_program.specs.LineFaults.{line_fault}
 use Rattle.rec_program.specs.LogTraces.{bundle_trace, log_lines, log_refusal, plain_log}
 use Rattle.rec_program.specs.ReadingCommands.{IsPrintedOf, Shows, Withholds, info_of, manifest_line, part, trace_of, trace_of_parts, trace_unless}
-use Rattle.rec_program.specs.ReadingErrors.{bundle_error}
 use Rattle.rec_program.specs.Running.{Records, ShowsBundle}
-use Rattle.rec_program.specs.Status.{bundle_status, conversion_status, export_status, junit_status, part_status, reading_status}
-use Rattle.rec_program.specs.Timelines.{DrawsTimeline}
-use Rattle.rec_program.specs.TraceFaults.{trace_fault}
 
 -- ---- the statuses of refusals are above those of success and of faulty words
 

@@ -15,12 +15,12 @@ use Rattle.rec_reading.specs.declared.errors.ListingError.{ListingError}
 use Rattle.rec_reading.specs.Errors as errors
 use Rattle.rec_reading.specs.Listing as listings
 use Rattle.rec_reading.specs.Listing.{replay_of, report_of}
+use Rattle.rec_export.specs.declared.settings.Settings.{Settings}
+use Rattle.rec_faults.specs.declared.reading_error.ReadingError.{ReadingError}
+use Rattle.rec_faults.specs.ReadingErrors.{bundle_error, listing_error}
 use Rattle.rec_program.proofs.BundlesShown.{judged_of}
 use Rattle.rec_program.proofs.Commands.{part_read, printed_of, shown_whole}
-use Rattle.rec_program.specs.declared.reading_error.ReadingError.{ReadingError}
-use Rattle.rec_program.specs.declared.settings.Settings.{Settings}
 use Rattle.rec_program.specs.ReadingCommands.{Makes, listed, part, replay_printed, report_printed}
-use Rattle.rec_program.specs.ReadingErrors.{bundle_error, listing_error}
 use Rattle.rec_program.specs.Running.{ShowsBundle}
 
 -- ---- a bundle that isn't opened has no events

@@ -19,9 +19,9 @@ use Rattle.rec_spans.specs.Refusals.{events_refusal}
 use Rattle.rec_trace.specs.Converting.{Converts, HasNoTrace, IsRefused, IsUnread}
 use Rattle.rec_trace.specs.declared.settings.ChromeTraceMessageFormat.{ChromeTraceMessageFormat}
 use Rattle.rec_trace.specs.Traces.{trace_text}
-use Rattle.rec_program.proofs.SessionTraced.{refused_more}
+use Rattle.rec_export.proofs.SessionTraced.{refused_more}
+use Rattle.rec_export.specs.Timelines.{DrawsTimeline}
 use Rattle.rec_program.specs.LogTraces.{TracesLog, log_refusal, log_trace, plain_log}
-use Rattle.rec_program.specs.Timelines.{DrawsTimeline}
 
 -- ---- the refusal of a log
 

@@ -7,42 +7,34 @@ use Rattle.rec_container.specs.Container.{Entry, IsContainer, content_of}
 use Rattle.rec_events.specs.declared.events.TestEventSummary.{TestEventSummary}
 use Rattle.rec_events.specs.declared.outputs.RecordingSpec.{RecordingSpec}
 use Rattle.rec_events.specs.EventMaps.{event_with}
-use Rattle.rec_forms.specs.Recording.{record_opts_form, test_list_form}
-use Rattle.rec_forms.specs.Shape.{◌>>=◌}
 use Rattle.rec_forms.specs.TextForm.{bytes_form}
 use Rattle.rec_format.specs.declared.head.SessionHead.{SessionHead}
 use Rattle.rec_format.specs.declared.manifest.PortableManifest.{PortableManifest}
-use Rattle.rec_format.specs.RerunForms.{rerun_info_form}
 use Rattle.rec_format.specs.RunForms.{manifest_form}
 use Rattle.rec_format.specs.Runs.{info_of}
-use Rattle.rec_format.specs.ScopeForms.{recorded_scope_form}
 use Rattle.rec_codec.proofs.LineReadings.{log_events-whole}
 use Rattle.rec_codec.specs.Event.{LiveEvent, RecordedEvent, log_events}
 use Rattle.rec_codec.specs.LineReading.{events_before_fault, first_line_fault}
 use Rattle.rec_codec.specs.Lines.{NumberedLine, lines}
-use Rattle.rec_store.specs.Entries.{build_scope_path, bundle_entries, cargo_metadata_path, log_name, manifest_name, record_opts_path, rerun_info_path, test_list_path}
+use Rattle.rec_store.proofs.PartsOf.{parts_of_record, read_from}
+use Rattle.rec_store.specs.Entries.{bundle_entries, log_name, manifest_name}
 use Rattle.rec_store.specs.Kept.{event_resolved, outputs_kept, outputs_resolved}
-use Rattle.rec_store.specs.Reading.{RunRecord, maybe_part, outputs_of, part, record_of, recorded, text_part}
+use Rattle.rec_store.specs.Reading.{RunRecord, record_of, recorded}
 use Rattle.rec_spans.proofs.Plains.{event-plain}
 use Rattle.rec_spans.specs.declared.settings.ChromeTraceGroupBy.{ChromeTraceGroupBy}
 use Rattle.rec_spans.specs.Plain.{plain}
 use Rattle.rec_spans.specs.Refusals.{events_refusal}
 use Rattle.rec_trace.specs.Traces.{trace_text}
-use Rattle.rec_program.proofs.Judging.{after_count, after_head, after_lines, events_after}
+use Rattle.rec_export.proofs.Judging.{after_count, after_head, after_lines, events_after}
+use Rattle.rec_export.specs.Bundle.{AreOf, count_refusal, refusal_after, session_events, size_refusal}
+use Rattle.rec_export.specs.declared.settings.Settings.{Settings}
+use Rattle.rec_export.specs.Session.{event_lines, events_of, lines_refusal, session_lines}
+use Rattle.rec_export.specs.SessionTraces.{run_trace, trace_refusal}
+use Rattle.rec_export.specs.TraceFaults.{trace_fault}
 use Rattle.rec_program.proofs.LogTraced.{refusal-whole}
-use Rattle.rec_program.specs.Bundle.{AreOf, count_refusal, refusal_after, session_events, size_refusal}
-use Rattle.rec_program.specs.declared.settings.Settings.{Settings}
 use Rattle.rec_program.specs.LogTraces.{RecordedIsDrawn, bundle_trace, log_lines, log_refusal, log_trace, plain_log}
-use Rattle.rec_program.specs.Session.{event_lines, events_of, lines_refusal, session_lines}
-use Rattle.rec_program.specs.SessionTraces.{run_trace, trace_refusal}
-use Rattle.rec_program.specs.TraceFaults.{trace_fault}
 
 -- ---- what a record's manifest and log are
-
--- a step that was made
-made : {A B : Type 0} (o : Option A) (f : A → Option B) (b : B) → (o >>= f) ≡ Some b → (a : A) × (o ≡ Some a) × (f a ≡ Some b)
-made None f b h = absurd cc
-made (Some a) f b h = (a, refl, h)
 
 same-item : {A : Type 0} (x y : A) → Some x ≡ Some y → x ≡ y
 same-item x y h = cc
@@ -58,22 +50,15 @@ pub record ComeFrom (text log_bytes : List ℕ) (es : List Entry) (r : RunRecord
 
 come-from : (text log_bytes : List ℕ) (es : List Entry) (r : RunRecord) → record_of text log_bytes es ≡ Some r → ComeFrom text log_bytes es r
 come-from text log_bytes es r h =
-    let manifest = made (bytes_form manifest_form text) _ r h in
-    let events = made (log_events (lines log_bytes)) _ r manifest.2 in
-    let metadata = made (text_part es cargo_metadata_path) _ r events.2 in
-    let list = made (part test_list_form es test_list_path) _ r metadata.2 in
-    let opts = made (part record_opts_form es record_opts_path) _ r list.2 in
-    let scope = made (part recorded_scope_form es build_scope_path) _ r opts.2 in
-    let rerun = made (maybe_part rerun_info_form (content_of es rerun_info_path)) _ r scope.2 in
-    let outputs = made (outputs_of events.0 es) _ r rerun.2 in
-    let same = same-item _ r outputs.2 in
+    let made = parts_of_record text log_bytes es r h in
+    let from = read_from text log_bytes es made.0 made.1 in
     record {
-      manifest = manifest.0;
-      events = events.0;
-      manifest_read = manifest.1;
-      log_read = events.1;
-      run_is = ap (λ (x : RunRecord). x.run) same;
-      events_are = ap (λ (x : RunRecord). x.events) same;
+      manifest = from.manifest;
+      events = made.0.events;
+      manifest_read = from.is_manifest;
+      log_read = from.events;
+      run_is = from.run ∙ ap (λ (x : RunRecord). x.run) made.2;
+      events_are = ap (λ (x : RunRecord). x.events) made.2;
     }
 
 -- ---- the events of a log that was recorded

@@ -17,9 +17,9 @@ use Rattle.rec_spans.specs.Plain.{PlainEvent, plain}
 use Rattle.rec_spans.specs.Refusals.{events_refusal}
 use Rattle.rec_trace.specs.declared.settings.ChromeTraceMessageFormat.{ChromeTraceMessageFormat}
 use Rattle.rec_trace.specs.Traces.{trace_text}
-use Rattle.rec_program.specs.Bundle.{AreOf}
-use Rattle.rec_program.specs.declared.settings.Settings.{Settings}
-use Rattle.rec_program.specs.Timelines.{DrawsTimeline}
+use Rattle.rec_export.specs.Bundle.{AreOf}
+use Rattle.rec_export.specs.declared.settings.Settings.{Settings}
+use Rattle.rec_export.specs.Timelines.{DrawsTimeline}
 
 -- the lines of a log, numbered from 1
 abbrev pub log_lines : List ℕ → List NumberedLine

@@ -18,11 +18,11 @@ use Rattle.rec_replay.specs.declared.output_load.LoadOutput.{LoadOutput}
 use Rattle.rec_spans.specs.declared.errors.ChromeTraceError.{ChromeTraceError}
 use Rattle.rec_reading.specs.declared.errors.ListingError.{ListingError}
 use Rattle.rec_reading.specs.Listing.{replay_of, report_of}
-use Rattle.rec_program.specs.declared.reading_error.ReadingError.TheVariants.{OutOfMemory}
-use Rattle.rec_program.specs.declared.reading_error.ReadingError.{ReadingError}
-use Rattle.rec_program.specs.declared.settings.Settings.{Settings}
+use Rattle.rec_export.specs.declared.settings.Settings.{Settings}
+use Rattle.rec_faults.specs.declared.reading_error.ReadingError.TheVariants.{OutOfMemory}
+use Rattle.rec_faults.specs.declared.reading_error.ReadingError.{ReadingError}
+use Rattle.rec_faults.specs.ReadingErrors.{bundle_error, listing_error, trace_error}
 use Rattle.rec_program.specs.LogTraces.{bundle_trace, log_lines, log_refusal}
-use Rattle.rec_program.specs.ReadingErrors.{bundle_error, listing_error, trace_error}
 
 -- ---- what each command prints of the entries of a bundle, or why it prints nothing
 

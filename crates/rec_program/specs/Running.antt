@@ -6,21 +6,21 @@ use Rattle.rec_container.specs.Causes.{Rose}
 use Rattle.rec_container.specs.Container.{Entry}
 use Rattle.rec_container.specs.Taking.{TookPart}
 use Rattle.rec_sample.specs.Session.{sample_session}
-use Rattle.rec_program.specs.declared.counts.Exported.{Exported}
-use Rattle.rec_program.specs.declared.reading_error.ReadingError.{ReadingError}
-use Rattle.rec_program.specs.declared.refusal.RecordExportError.{RecordExportError}
-use Rattle.rec_program.specs.declared.settings.Settings.{Settings}
-use Rattle.rec_program.specs.declared.usage.TheConstants.{USAGE}
-use Rattle.rec_program.specs.declared.words.WordsError.{WordsError}
-use Rattle.rec_program.specs.Export.{Exports, Fails}
-use Rattle.rec_program.specs.FaultLine.{words_line, export_line, sink_line}
+use Rattle.rec_export.specs.declared.counts.Exported.{Exported}
+use Rattle.rec_export.specs.declared.refusal.RecordExportError.{RecordExportError}
+use Rattle.rec_export.specs.declared.settings.Settings.{Settings}
+use Rattle.rec_export.specs.Export.{Exports, Fails}
+use Rattle.rec_words.specs.declared.usage.TheConstants.{USAGE}
+use Rattle.rec_words.specs.declared.words.WordsError.{WordsError}
+use Rattle.rec_words.specs.Usage.{versions_text}
+use Rattle.rec_words.specs.Words.{Asked, recording, tracing, replaying, reporting, informing, sampling, help, version}
+use Rattle.rec_faults.specs.declared.reading_error.ReadingError.{ReadingError}
+use Rattle.rec_faults.specs.FaultLine.{words_line, export_line, sink_line}
+use Rattle.rec_faults.specs.ReadingLine.{reading_line}
+use Rattle.rec_faults.specs.Status.{export_status, reading_status}
+use Rattle.rec_faults.specs.WritingFaults.{WritesFault}
 use Rattle.rec_program.specs.ReadingCommands.{Shows, Withholds, info_of, replay_printed, report_printed, trace_of}
-use Rattle.rec_program.specs.ReadingLine.{reading_line}
 use Rattle.rec_program.specs.Samples.{SampleFails, Samples}
-use Rattle.rec_program.specs.Status.{export_status, reading_status}
-use Rattle.rec_program.specs.Usage.{versions_text}
-use Rattle.rec_program.specs.Words.{Asked, recording, tracing, replaying, reporting, informing, sampling, help, version}
-use Rattle.rec_program.specs.WritingFaults.{WritesFault}
 
 module _ {T G : Type 0} (out_taken : T → Option (List ℕ)) (out_faults : T → ℕ) (diag_taken : G → Option (List ℕ)) (diag_faults : G → ℕ) where
   -- the text was printed; or the output failed, which was reported

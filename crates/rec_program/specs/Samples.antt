@@ -5,12 +5,12 @@ use Rattle.std.specs.Prelude.{◌≡◌, ◌⊎◌, ℕ, ◌<◌, ◌≤◌, Lis
 use Rattle.rec_container.specs.Causes.{Rose}
 use Rattle.rec_container.specs.Taking.{TookPart}
 use Rattle.rec_store.specs.Bundle.{outputs_stored}
-use Rattle.rec_program.specs.Bundle.{AreOf, session_events, session_refusal}
-use Rattle.rec_program.specs.declared.counts.Exported.{Exported}
-use Rattle.rec_program.specs.declared.refusal.RecordExportError.TheVariants.{BundleFault, OutOfMemory, SessionTooLarge, TraceFault}
-use Rattle.rec_program.specs.declared.refusal.RecordExportError.{RecordExportError}
-use Rattle.rec_program.specs.declared.settings.Settings.{Settings}
-use Rattle.rec_program.specs.Export.{CountsOf}
+use Rattle.rec_export.specs.Bundle.{AreOf, session_events, session_refusal}
+use Rattle.rec_export.specs.declared.counts.Exported.{Exported}
+use Rattle.rec_export.specs.declared.refusal.RecordExportError.TheVariants.{BundleFault, OutOfMemory, SessionTooLarge, TraceFault}
+use Rattle.rec_export.specs.declared.refusal.RecordExportError.{RecordExportError}
+use Rattle.rec_export.specs.declared.settings.Settings.{Settings}
+use Rattle.rec_export.specs.Export.{CountsOf}
 
 -- how many events and outputs were recorded, as a line
 unfoldable pub counts_line : ℕ → ℕ → List ℕ

@@ -11,28 +11,26 @@ ghost use Rattle.rec_portable.specs.OuterEntries.{log_part};
 ghost use Rattle.rec_replay.specs.declared.output_load.LoadOutput.{LoadOutput};
 ghost use Rattle.rec_reading.specs.Listing.{replay_of, report_of};
 ghost use Rattle.rec_sample.specs.Session.{sample_session};
-ghost use Rattle.rec_program.specs.Bundle.{AreOf, session_refusal};
-ghost use Rattle.rec_program.specs.declared.counts.Exported.{Exported};
-ghost use Rattle.rec_program.specs.declared.settings.Settings.{Settings};
-ghost use Rattle.rec_program.specs.Export.{Exports};
+ghost use Rattle.rec_export.specs.Bundle.{AreOf, session_refusal};
+ghost use Rattle.rec_export.specs.declared.counts.Exported.{Exported};
+ghost use Rattle.rec_export.specs.declared.settings.Settings.{Settings};
+ghost use Rattle.rec_export.specs.Export.{Exports};
+ghost use Rattle.rec_export.specs.Timelines.{DrawsTimeline};
+ghost use Rattle.rec_words.specs.Words.{command, informing, recording, replaying, reporting, sampling, texts, tracing};
 ghost use Rattle.rec_program.specs.LogTraces.{bundle_trace, log_lines, log_refusal, plain_log};
 ghost use Rattle.rec_program.specs.ReadingCommands.{manifest_line};
 ghost use Rattle.rec_program.specs.Running.{Prints, Records, RecordsSample, Runs, ShowsMade};
 ghost use Rattle.rec_program.specs.Samples.{TakesSample, session_counts};
-ghost use Rattle.rec_program.specs.Timelines.{DrawsTimeline};
-ghost use Rattle.rec_program.specs.Words.{command, informing, recording, replaying, reporting, sampling, texts, tracing};
 
-use crate::export::record_and_export;
-use crate::fault_line::write_fault;
 use crate::reading::{read_info, read_replay, read_report, read_trace};
-use crate::reading_error::ReadingError;
 use crate::sample::record_sample;
-use crate::settings::Settings;
-use crate::status::{FAULTY_WORDS, OUTPUT_FAILED, SUCCESS, export_status, reading_status};
-use crate::usage::{USAGE, versions};
-use crate::words::{Command, read_words};
 use rec_container::{Sink, Source, write_all};
+use rec_export::{Settings, record_and_export};
+use rec_faults::{
+    FAULTY_WORDS, OUTPUT_FAILED, ReadingError, SUCCESS, export_status, reading_status, write_fault,
+};
 use rec_store::Sha256Namer;
+use rec_words::{Command, USAGE, read_words, versions};
 use std::alloc::Global;
 
 /// Does what the words ask for, and answers the status to end with.

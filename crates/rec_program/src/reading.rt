@@ -3,13 +3,13 @@ ghost use Rattle.std.specs.Prelude.{◌≡◌, List, [], IfOk, IfErr};
 ghost use Rattle.rec_container.specs.Container.{Entry, IsContainer};
 ghost use Rattle.rec_portable.specs.declared.errors.PortableRecordingReadError.{PortableRecordingReadError};
 ghost use Rattle.rec_portable.specs.Opening.{Opens, Unopened};
+ghost use Rattle.rec_faults.specs.ReadingErrors.{bundle_error};
 ghost use Rattle.rec_program.specs.ReadingCommands.{Makes, Shows, Withholds, info_of, listed, replay_printed, report_printed, trace_of};
-ghost use Rattle.rec_program.specs.ReadingErrors.{bundle_error};
 
 use crate::log_trace::trace_of_log;
-use crate::reading_error::ReadingError;
-use crate::settings::Settings;
 use rec_container::Source;
+use rec_export::Settings;
+use rec_faults::ReadingError;
 use rec_forms::write_text;
 use rec_portable::PortableRecording;
 use rec_reading::{ListingError, replay_text, report_text};

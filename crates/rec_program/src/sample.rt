@@ -4,11 +4,8 @@ ghost use Rattle.rec_store.specs.Namer.{sha256_number};
 ghost use Rattle.rec_sample.specs.Session.{sample_session};
 ghost use Rattle.rec_program.specs.Samples.{MakesSample, SampleFails, Samples, counts_line, sample_error};
 
-use crate::counts::Exported;
-use crate::export::record_and_export;
-use crate::refusal::RecordExportError;
-use crate::settings::Settings;
 use rec_container::{GrowingSink, Sink, SliceSource};
+use rec_export::{Exported, RecordExportError, Settings, record_and_export};
 use rec_sample::sample_session;
 use rec_store::Sha256Namer;
 use std::alloc::{AllocError, Global};

@@ -2,7 +2,7 @@
 #![tactic(auto)]
 
 ghost use Rattle.std.specs.Prelude.{◌≡◌, [], IfOk, string_bytes, unwrap_or};
-ghost use Rattle.rec_program.specs.Words.{bundle_of, command, texts};
+ghost use Rattle.rec_words.specs.Words.{bundle_of, command, texts};
 
 use rec_container::{FileSink, Sink, StdSink, StdSource};
 use rec_program::{FAULTY_WORDS, OUT_OF_MEMORY, bundle_path, run_program, write_fault};

@@ -1,15 +1,15 @@
 use Rattle.std.proofs.Common.{Result, subst}
 use Rattle.rec_store.specs.Namer.{sha256_number}
 use Rattle.rec_sample.specs.Session.{sample_session}
+use Rattle.rec_words.specs.declared.words.WordsError.{WordsError}
+use Rattle.rec_words.specs.Words.{Asked}
 use Rattle.rec_program.proofs.Commands.{info_printed, informed, recorded_whole, redrawn, shown_or_memory, trace_printed, traced}
 use Rattle.rec_program.proofs.EventsShown.{replay_has, replayed, report_has, reported}
 use Rattle.rec_program.proofs.program.run_program.Goals as goal
 use Rattle.rec_program.proofs.SamplesRecorded.{sampled, sampled_or_memory}
-use Rattle.rec_program.specs.declared.words.WordsError.{WordsError}
 use Rattle.rec_program.specs.LogTraces.{bundle_trace}
 use Rattle.rec_program.specs.ReadingCommands.{info_of, manifest_line, replay_printed, report_printed, trace_of}
 use Rattle.rec_program.specs.Running.{Runs}
-use Rattle.rec_program.specs.Words.{Asked}
 
 pub returns-clause-recorded : goal.returns-clause-recorded
 returns-clause-recorded g c = λ path settings asked zeroed.

@@ -1,9 +1,9 @@
 use Rattle.std.proofs.Common.{List, ℕ, [], sym, subst}
 use Rattle.std.proofs.lemmas.Result.{err_from_is_err_and}
 use Rattle.rec_container.specs.Container.{Entry, IsContainer}
+use Rattle.rec_faults.specs.declared.reading_error.ReadingError.{ReadingError}
 use Rattle.rec_program.proofs.BundlesShown.{info_refused, opened_shows, opened_withholds, unopened}
 use Rattle.rec_program.proofs.reading.read_info.Goals as goal
-use Rattle.rec_program.specs.declared.reading_error.ReadingError.{ReadingError}
 use Rattle.rec_program.specs.ReadingCommands.{Makes, Withholds, info_of}
 
 pub returns-in_err-bundle-clause-err : goal.returns-in_err-bundle-clause-err

@@ -1,9 +1,9 @@
 use Rattle.std.proofs.Common.{[], sym, subst}
 use Rattle.std.proofs.lemmas.Result.{err_from_is_err_and}
+use Rattle.rec_faults.specs.declared.reading_error.ReadingError.{ReadingError}
 use Rattle.rec_program.proofs.BundlesShown.{opened_shows, opened_withholds, unopened}
 use Rattle.rec_program.proofs.EventsShown.{replay_made, replay_refused}
 use Rattle.rec_program.proofs.reading.read_replay.Goals as goal
-use Rattle.rec_program.specs.declared.reading_error.ReadingError.{ReadingError}
 use Rattle.rec_program.specs.ReadingCommands.{Withholds, replay_printed}
 
 pub returns-in_err-bundle-clause-err : goal.returns-in_err-bundle-clause-err

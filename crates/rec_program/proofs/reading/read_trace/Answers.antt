@@ -1,8 +1,8 @@
 use Rattle.std.proofs.Common.{[], sym, subst}
 use Rattle.std.proofs.lemmas.Result.{err_from_is_err_and}
+use Rattle.rec_faults.specs.declared.reading_error.ReadingError.{ReadingError}
 use Rattle.rec_program.proofs.BundlesShown.{trace_refused, opened_shows, opened_withholds, unopened}
 use Rattle.rec_program.proofs.reading.read_trace.Goals as goal
-use Rattle.rec_program.specs.declared.reading_error.ReadingError.{ReadingError}
 use Rattle.rec_program.specs.ReadingCommands.{Withholds, trace_of}
 
 pub returns-in_err-bundle-clause-err : goal.returns-in_err-bundle-clause-err

@@ -1,0 +1,14 @@
+pub mod Bundles
+pub mod Complete
+pub mod Judging
+pub mod Recorded
+pub mod RecordedLines
+pub mod RecorderFaults
+pub mod SessionReads
+pub mod SessionTraced
+pub mod ShortLines
+pub mod ShortOutputs
+pub mod ShortTexts
+pub mod ShortTokens
+pub mod ShortValues
+pub mod TimelinesDrawn

@@ -1,0 +1,13 @@
+pub mod Bundle
+pub mod Export
+pub mod LineFaults
+pub mod Prepared
+pub mod Reading
+pub mod Recorded
+pub mod RecorderFaults
+pub mod Session
+pub mod SessionTraces
+pub mod Settings
+pub mod Sizes
+pub mod Timelines
+pub mod TraceFaults

@@ -1,0 +1,100 @@
+//! The trace of a session's events.
+ghost use Rattle.std.specs.Prelude.{◌≡◌, ◌≢◌, List, [], ◌∷◌, ◌++◌, IfOk, OnOk};
+ghost use Rattle.semver.specs.Parse.{Parts};
+ghost use Rattle.rec_spans.specs.declared.errors.ChromeTraceError.TheVariants.{OutOfMemory};
+ghost use Rattle.rec_spans.specs.declared.settings.ChromeTraceGroupBy.{ChromeTraceGroupBy};
+ghost use Rattle.rec_spans.specs.Plain.{PlainEvent, plain};
+ghost use Rattle.rec_trace.specs.declared.settings.ChromeTraceMessageFormat.{ChromeTraceMessageFormat};
+ghost use Rattle.rec_trace.specs.Traces.{trace_text};
+ghost use Rattle.rec_export.specs.SessionTraces.{IsTraceOf, AnswersTrace};
+
+use crate::refusal::RecordExportError;
+use rec_events::{LiveSpec, TestEventSummary, Version};
+use rec_trace::{ChromeTraceError, ChromeTraceGroupBy, ChromeTraceMessageFormat, TraceBuilder};
+use std::alloc::{AllocError, Global};
+
+/// Holds the trace of the events so far, or why they have none. A refusal is kept while further lines are
+/// read, since a line that fails comes before it.
+#[derive(Drop)]
+pub struct SessionTrace {
+    builder: TraceBuilder,
+    refusal: Option<ChromeTraceError>,
+}
+
+impl SessionTrace {
+    /// Makes the trace of no event, of runs by this version of the runner, which is written in this form.
+    pub fn new(
+        alloc: Global,
+        version: Version,
+        group_by: ChromeTraceGroupBy,
+        message_format: ChromeTraceMessageFormat,
+    ) -> SessionTrace
+        ensures { IsTraceOf message_format group_by version [] result }
+    {
+        SessionTrace {
+            builder: TraceBuilder::new(alloc, version, group_by, message_format),
+            refusal: None,
+        }
+    }
+
+    /// Adds what an event shows.
+    ///
+    /// # Errors
+    ///
+    /// Fails only where memory ran out.
+    pub fn add(
+        &mut self,
+        alloc: Global,
+        event: &TestEventSummary<LiveSpec>,
+    ) -> Result<(), AllocError>
+        ensures { (format : ChromeTraceMessageFormat) (g : ChromeTraceGroupBy) (version : Parts) (events : List PlainEvent)
+            → IsTraceOf format g version events self.old
+            → OnOk result (IsTraceOf format g version (events ++ plain event.now ∷ []) self.new) }
+    {
+        if self.refusal.is_some() {
+            return Ok(());
+        }
+        match self.builder.process_event(alloc, event) {
+            Ok(()) => Ok(()),
+            Err(error) => {
+                self.refusal = Some(refusal_of(error)?);
+                Ok(())
+            }
+        }
+    }
+
+    /// Writes the text of the trace.
+    ///
+    /// # Errors
+    ///
+    /// Why there is no trace, or `OutOfMemory`.
+    pub fn into_text(self, alloc: Global) -> Result<String, RecordExportError>
+        ensures { (format : ChromeTraceMessageFormat) (g : ChromeTraceGroupBy) (version : Parts) (events : List PlainEvent)
+            → IsTraceOf format g version events self
+            → AnswersTrace g events (trace_text format g version events) result }
+    {
+        let SessionTrace { builder, refusal } = self;
+        match refusal {
+            None => Ok(builder.into_text(alloc)?),
+            Some(refusal) => Err(RecordExportError::from(refusal)),
+        }
+    }
+}
+
+/// Returns why events have no trace, unless that is want of memory.
+fn refusal_of(error: ChromeTraceError) -> Result<ChromeTraceError, AllocError>
+    ensures { IfOk result (λ refusal. (refusal ≡ error) × (error ≢ OutOfMemory)) }
+{
+    match error {
+        ChromeTraceError::OutOfMemory => Err(AllocError),
+        ChromeTraceError::ReadError(_)
+        | ChromeTraceError::MissingTestStart { .. }
+        | ChromeTraceError::MissingScriptStart { .. }
+        | ChromeTraceError::MissingStressSubRunStart { .. }
+        | ChromeTraceError::SpanAlreadyOpen { .. }
+        | ChromeTraceError::SlotBusy { .. }
+        | ChromeTraceError::TimestampOutOfRange { .. }
+        | ChromeTraceError::RowOutOfRange { .. }
+        | ChromeTraceError::CountOutOfRange { .. } => Ok(error),
+    }
+}

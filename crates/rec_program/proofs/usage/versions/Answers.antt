@@ -1,8 +1,0 @@
--- The text of the versions computes.
-use Rattle.std.proofs.Common.{refl}
-use Rattle.std.specs.Fmt.{digits}
-use Rattle.rec_program.proofs.usage.versions.Goals as goal
-
-pub returns : goal.returns
-unfolding digits
-returns c = refl

@@ -1,0 +1,113 @@
+-- The words of the command line.
+use Rattle.std.specs.declared.alloc.Global.{Global}
+use Rattle.std.specs.Option.{ok_or}
+use Rattle.std.specs.Prelude.{◌≡◌, ◌≤◌, ℕ, List, [], ◌∷◌, map, Option, Some, None, Result, Ok, Err, String, string_bytes, codes, if◌then◌else◌, ⊤}
+use Rattle.std.specs.Str.{bytes_eq}
+use Rattle.rec_container.specs.Reading.{◌>>=◌}
+use Rattle.rec_replay.specs.declared.output_load.LoadOutput.{LoadOutput}
+use Rattle.rec_export.specs.declared.settings.Settings.{Settings}
+use Rattle.rec_words.specs.declared.options.CommandName.TheVariants.{Record, Trace, Replay, Report, Info, Sample}
+use Rattle.rec_words.specs.declared.options.CommandName.{CommandName}
+use Rattle.rec_words.specs.declared.words.Command.TheVariants as commands
+use Rattle.rec_words.specs.declared.words.Command.{Command}
+use Rattle.rec_words.specs.declared.words.WordsError.TheVariants.{NoCommand, UnknownCommand, MissingPositional, BadNumber}
+use Rattle.rec_words.specs.declared.words.WordsError.{WordsError}
+use Rattle.rec_words.specs.Options.{load_of, no_values, options_at, settings_from, settings_of, tests_of, values_from}
+
+-- what words ask for: a recording into a bundle at a path; the trace of a bundle, its events, its reports, or what its manifest says; a
+-- recording of a generated session of so many tests; or a text about the program
+pub data Asked : Type 0 where
+  recording : List ℕ → Settings → Asked
+  tracing : Settings → Asked
+  replaying : LoadOutput → Settings → Asked
+  reporting : Settings → Asked
+  informing : Settings → Asked
+  sampling : ℕ → List ℕ → Settings → Asked
+  help : Asked
+  version : Asked
+
+-- a command as plain data
+abbrev pub asked : Command → Asked
+asked (commands.Record bundle settings) = recording bundle.now settings
+asked (commands.Trace settings) = tracing settings
+asked (commands.Replay output settings) = replaying output settings
+asked (commands.Report settings) = reporting settings
+asked (commands.Info settings) = informing settings
+asked (commands.Sample n bundle settings) = sampling n bundle.now settings
+asked commands.Help = help
+asked commands.Version = version
+
+-- the bytes of each word
+abbrev pub texts : List (String Global) → List (List ℕ)
+texts words = map string_bytes words
+
+-- the command of a name
+unfoldable pub command_named : List ℕ → Option CommandName
+command_named word =
+    if bytes_eq word (codes "record") then Some Record
+    else if bytes_eq word (codes "trace") then Some Trace
+    else if bytes_eq word (codes "replay") then Some Replay
+    else if bytes_eq word (codes "report") then Some Report
+    else if bytes_eq word (codes "info") then Some Info
+    else if bytes_eq word (codes "sample") then Some Sample
+    else None
+
+-- what `sample` asks for with the words after its number of tests: the path of the bundle, and then its options
+abbrev pub sample_after : ℕ → List (List ℕ) → Result Asked WordsError
+sample_after n [] = Err (MissingPositional 2)
+sample_after n (bundle ∷ words) = settings_from Sample words >>= (λ settings. Ok (sampling n bundle settings))
+
+-- what a command asks for with the words after its name: its positional words, and then its options
+abbrev pub command_after : CommandName → List (List ℕ) → Result Asked WordsError
+command_after Record [] = Err (MissingPositional 1)
+command_after Record (bundle ∷ words) = settings_from Record words >>= (λ settings. Ok (recording bundle settings))
+command_after Trace words = settings_from Trace words >>= (λ settings. Ok (tracing settings))
+command_after Replay words = values_from Replay no_values (options_at Replay) words >>= (λ values. Ok (replaying (load_of values) (settings_of values)))
+command_after Report words = settings_from Report words >>= (λ settings. Ok (reporting settings))
+command_after Info words = settings_from Info words >>= (λ settings. Ok (informing settings))
+command_after Sample [] = Err (MissingPositional 1)
+command_after Sample (number ∷ words) = ok_or (tests_of number) (BadNumber 1) >>= (λ n. sample_after n words)
+
+-- what a word asks for that is the name of no such command, with the words after it
+abbrev pub other_command : List ℕ → List (List ℕ) → Result Asked WordsError
+other_command word [] =
+    if bytes_eq word (codes "--help") then Ok help else if bytes_eq word (codes "--version") then Ok version else Err (UnknownCommand 0)
+other_command word (next ∷ words) = Err (UnknownCommand 0)
+
+-- what the first word asks for, by the command that it names, with the words after it
+abbrev pub command_from : Option CommandName → List ℕ → List (List ℕ) → Result Asked WordsError
+command_from (Some name) word words = command_after name words
+command_from None word words = other_command word words
+
+-- what the words ask for, or their first fault from the left
+abbrev pub command : List (List ℕ) → Result Asked WordsError
+command [] = Err NoCommand
+command (word ∷ words) = command_from (command_named word) word words
+
+-- a command or a fault is answered, exactly as the words have it
+abbrev pub Reads : Result Command WordsError → Result Asked WordsError → Type 0
+Reads (Ok c) read = read ≡ Ok (asked c)
+Reads (Err fault) read = read ≡ Err fault
+
+-- the number of tests that a command asks for is at most 10000
+abbrev pub HasTests : Command → Type 0
+HasTests (commands.Record bundle settings) = ⊤
+HasTests (commands.Trace settings) = ⊤
+HasTests (commands.Replay output settings) = ⊤
+HasTests (commands.Report settings) = ⊤
+HasTests (commands.Info settings) = ⊤
+HasTests (commands.Sample n bundle settings) = n ≤ 10000
+HasTests commands.Help = ⊤
+HasTests commands.Version = ⊤
+
+-- the path of the bundle that a command writes
+abbrev pub bundle_of : Result Asked WordsError → Option (List ℕ)
+bundle_of (Ok (recording bundle settings)) = Some bundle
+bundle_of (Ok (tracing settings)) = None
+bundle_of (Ok (replaying output settings)) = None
+bundle_of (Ok (reporting settings)) = None
+bundle_of (Ok (informing settings)) = None
+bundle_of (Ok (sampling n bundle settings)) = Some bundle
+bundle_of (Ok help) = None
+bundle_of (Ok version) = None
+bundle_of (Err fault) = None

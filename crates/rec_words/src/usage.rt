@@ -1,0 +1,65 @@
+//! The texts that the program prints about itself.
+ghost use Rattle.std.specs.Prelude.{◌≡◌};
+ghost use Rattle.rec_words.specs.Usage.{versions_text};
+
+/// Says how the program is used.
+pub const USAGE: &str = "\
+Usage: rezovamy record BUNDLE [OPTION VALUE]..
+       rezovamy trace [OPTION VALUE]..
+       rezovamy replay [OPTION VALUE]..
+       rezovamy report [OPTION VALUE]..
+       rezovamy info [OPTION VALUE]..
+       rezovamy sample N BUNDLE [OPTION VALUE]..
+
+record reads the session of a test run from standard input, and writes it into
+the file BUNDLE, a portable recording. Its trace, a timeline for trace viewers,
+goes to standard output.
+
+trace, replay, report and info read such a bundle from standard input. trace
+prints the trace of its log, replay the events, a line for each, and report
+what came of the tests, a line of JSON for each run. info prints the manifest.
+
+sample makes a session of N tests, at most 10000, and writes it into the file
+BUNDLE as record does. It prints how many events and outputs were written.
+
+Options, each at most once, with a value after it; limits are in bytes:
+  --group-by        of record, trace and sample: binary draws a process for
+                    each test binary, and slot one process for all (binary)
+  --message-format  of record, trace and sample: json writes the trace in one
+                    line, and json-pretty over several (json)
+  --max-output      of record and sample: the most of an output that is kept
+                    whole (10485760)
+  --read-limit      the most of the manifest, of the log and of an entry of the
+                    store (268435456)
+  --session-limit   the most of the session or the bundle that is read
+                    (268435456)
+  --output          of replay alone: load reads the outputs of tests, and skip
+                    leaves them out (load)
+
+Other words, each of them alone:
+  --help     prints this text
+  --version  prints the version of the program and of its formats
+
+The status is 0 on success, 2 for faulty words, 3 if standard input can't be
+read, 4 if it is too long, 5 for a faulty line, 6 for other bytes under the
+name of an output, 7 for what is above the read limit, 8 for an event that
+needs what isn't open, starts what is, or takes a slot that is held, 9 for a
+number out of range, 10 if the bundle can't be written, 11 if standard output
+fails, 12 for a bundle that is damaged, incomplete or of another version, 13
+for an event that can't be replayed or reported, and 70 if memory runs out.
+With a status other than 0, a line on standard error names the cause.
+";
+
+/// Returns the version of the program, and those of the formats that it writes.
+pub fn versions() -> &'static str
+    ensures { result.now ≡ versions_text }
+{
+    VERSION
+}
+
+/// Names the version of the program, and those of the formats that it writes.
+const VERSION: &str = "\
+rezovamy 0.1.0
+portable recording format 1.1
+store format 3.1
+";

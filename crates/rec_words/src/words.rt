@@ -1,0 +1,227 @@
+//! The words of the command line.
+ghost use Rattle.std.specs.Option.{option_map};
+ghost use Rattle.std.specs.Prelude.{◌≡◌, ◌≤◌, IfOk};
+ghost use Rattle.rec_words.specs.declared.options.CommandName.TheVariants.{Record, Replay, Sample};
+ghost use Rattle.rec_words.specs.Words.{texts, command, command_after, command_named, other_command, bundle_of, sample_after, HasTests, Reads};
+
+use crate::options::{CommandName, read_options, read_settings, tests};
+use rec_export::Settings;
+use rec_replay::LoadOutput;
+use thiserror::Error;
+
+/// Says what the words ask for.
+#[derive(Clone, Copy)]
+pub enum Command<'w> {
+    /// Records the session on standard input into the file `bundle`.
+    Record {
+        bundle: &'w str,
+        settings: Settings,
+    },
+    /// Prints the trace of the bundle on standard input.
+    Trace {
+        settings: Settings,
+    },
+    /// Prints the events of the bundle on standard input, a line each.
+    Replay {
+        output: LoadOutput,
+        settings: Settings,
+    },
+    /// Prints the reports of the runs in the bundle on standard input, a line each.
+    Report {
+        settings: Settings,
+    },
+    /// Prints the manifest of the bundle on standard input.
+    Info {
+        settings: Settings,
+    },
+    /// Records a generated session of `n` tests, at most 10000, into the file `bundle`.
+    Sample {
+        n: u64,
+        bundle: &'w str,
+        settings: Settings,
+    },
+    /// Prints how the program is used.
+    Help,
+    /// Prints the program's version and those of the formats that it writes.
+    Version,
+}
+
+/// Names the first fault of the words, from the left. `at` is the index of a word, the first being 0, or
+/// the number of the words where one is missing.
+#[derive(Clone, Copy, Debug, PartialEq, Eq, Error)]
+pub enum WordsError {
+    /// There is no word.
+    #[error("no command")]
+    NoCommand,
+    /// The first word is no command, or stands not alone where it has to.
+    #[error("unknown command at word {at}")]
+    UnknownCommand { at: usize },
+    /// The bundle or the number of tests is missing.
+    #[error("missing argument at word {at}")]
+    MissingPositional { at: usize },
+    /// The word is no number of decimal digits up to 10000.
+    #[error("bad number at word {at}")]
+    BadNumber { at: usize },
+    /// The word is no option of the command.
+    #[error("unknown option at word {at}")]
+    UnknownOption { at: usize },
+    /// The option came before.
+    #[error("repeated option at word {at}")]
+    RepeatedOption { at: usize },
+    /// The value of the last option is missing.
+    #[error("missing value at word {at}")]
+    MissingValue { at: usize },
+    /// The value is no word that its option takes, or no number of decimal digits up to u64's greatest.
+    #[error("bad value at word {at}")]
+    BadValue { at: usize },
+}
+
+/// Reads the words, which don't hold the program's name. It takes no memory.
+///
+/// # Errors
+///
+/// The first fault from the left, as the variants of [`WordsError`] name it.
+pub fn read_words(words: &[String]) -> Result<Command<'_>, WordsError>
+    ensures reads { Reads result (command (texts words.now)) }
+    ensures within { IfOk result HasTests }
+{
+    let Some((first, others)) = words.split_first() else {
+        return Err(WordsError::NoCommand);
+    };
+    match command_named(first.as_str()) {
+        Some(name) => read_command(name, others),
+        None => read_other(first.as_str(), others),
+    }
+}
+
+/// Returns the command that a word names.
+#[tactic(auto, unfolding(crate::specs::Words::command_named))]
+fn command_named(word: &str) -> Option<CommandName>
+    ensures { result ≡ command_named word.now }
+{
+    match word {
+        "record" => Some(CommandName::Record),
+        "trace" => Some(CommandName::Trace),
+        "replay" => Some(CommandName::Replay),
+        "report" => Some(CommandName::Report),
+        "info" => Some(CommandName::Info),
+        "sample" => Some(CommandName::Sample),
+        _ => None,
+    }
+}
+
+/// Reads the words after the name of a command: its positional words, and options with their values.
+fn read_command(name: CommandName, words: &[String]) -> Result<Command<'_>, WordsError>
+    ensures reads { Reads result (command_after name (texts words.now)) }
+    ensures within { IfOk result HasTests }
+{
+    match name {
+        CommandName::Record => read_record(words),
+        CommandName::Trace => {
+            let settings = read_settings(CommandName::Trace, words)?;
+            Ok(Command::Trace { settings })
+        }
+        CommandName::Replay => read_replay(words),
+        CommandName::Report => {
+            let settings = read_settings(CommandName::Report, words)?;
+            Ok(Command::Report { settings })
+        }
+        CommandName::Info => {
+            let settings = read_settings(CommandName::Info, words)?;
+            Ok(Command::Info { settings })
+        }
+        CommandName::Sample => read_sample(words),
+    }
+}
+
+/// Reads the words after `record`: the bundle, and the options.
+fn read_record(words: &[String]) -> Result<Command<'_>, WordsError>
+    ensures reads { Reads result (command_after Record (texts words.now)) }
+    ensures within { IfOk result HasTests }
+{
+    let Some((bundle, options)) = words.split_first() else {
+        return Err(WordsError::MissingPositional { at: 1 });
+    };
+    let settings = read_settings(CommandName::Record, options)?;
+    Ok(Command::Record {
+        bundle: bundle.as_str(),
+        settings,
+    })
+}
+
+/// Reads the words after `replay`: the options, one of which is no setting.
+fn read_replay(words: &[String]) -> Result<Command<'_>, WordsError>
+    ensures reads { Reads result (command_after Replay (texts words.now)) }
+    ensures within { IfOk result HasTests }
+{
+    let values = read_options(CommandName::Replay, words)?;
+    let output = values.load_output();
+    let settings = values.settings();
+    Ok(Command::Replay { output, settings })
+}
+
+/// Reads the words after `sample`: the number of tests, the bundle, and the options.
+fn read_sample(words: &[String]) -> Result<Command<'_>, WordsError>
+    ensures reads { Reads result (command_after Sample (texts words.now)) }
+    ensures within { IfOk result HasTests }
+{
+    let Some((number, others)) = words.split_first() else {
+        return Err(WordsError::MissingPositional { at: 1 });
+    };
+    match tests(number.as_str()) {
+        Some(n) => read_sample_bundle(n, others),
+        None => Err(WordsError::BadNumber { at: 1 }),
+    }
+}
+
+/// Reads the words after the number of tests of `sample`.
+fn read_sample_bundle(n: u64, words: &[String]) -> Result<Command<'_>, WordsError>
+    requires { n ≤ 10000 }
+    ensures reads { Reads result (sample_after n (texts words.now)) }
+    ensures within { IfOk result HasTests }
+{
+    let Some((bundle, options)) = words.split_first() else {
+        return Err(WordsError::MissingPositional { at: 2 });
+    };
+    let settings = read_settings(CommandName::Sample, options)?;
+    Ok(Command::Sample {
+        n,
+        bundle: bundle.as_str(),
+        settings,
+    })
+}
+
+/// Reads a word that names no command with options, and the words after it.
+fn read_other<'w>(word: &str, others: &'w [String]) -> Result<Command<'w>, WordsError>
+    ensures reads { Reads result (other_command word.now (texts others.now)) }
+    ensures within { IfOk result HasTests }
+{
+    if !others.is_empty() {
+        return Err(WordsError::UnknownCommand { at: 0 });
+    }
+    match word {
+        "--help" => Ok(Command::Help),
+        "--version" => Ok(Command::Version),
+        _ => Err(WordsError::UnknownCommand { at: 0 }),
+    }
+}
+
+/// Returns the path of the bundle, where the words ask for a command that writes one.
+pub fn bundle_path(words: &[String]) -> Option<&str>
+    ensures { option_map (λ path. path.now) result ≡ bundle_of (command (texts words.now)) }
+{
+    match read_words(words) {
+        Ok(
+            Command::Record {
+                bundle,
+                settings: _,
+            }
+            | Command::Sample {
+                n: _,
+                bundle,
+                settings: _,
+            },
+        ) => Some(bundle),
+        _ => None,
+    }
+}
