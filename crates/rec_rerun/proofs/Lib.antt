@@ -1,0 +1,6 @@
+mod LastPlaces
+mod Gathered
+mod SuiteSets
+mod StandingMaps
+mod Parts
+mod SuiteSteps

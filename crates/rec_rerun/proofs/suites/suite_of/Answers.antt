@@ -1,0 +1,8 @@
+use Rattle.std.proofs.Common.{◌∙◌}
+use Rattle.rec_rerun.proofs.suites.suite_of.Goals as goal
+use Rattle.rec_rerun.proofs.SuiteSteps.{suite-made}
+
+pub returns : goal.returns
+returns c =
+    suite-made c.args.binary.now c.args.tests.now _ (c.new.ensures ∙ c.in_ok-from_str.ensures.ok) c.in_ok-names_that_stand.ensures.names c.in_ok-names_that_stand-2.ensures.names
+    c.in_ok-names_that_stand.ensures.rise c.in_ok-names_that_stand-2.ensures.rise c.requires
