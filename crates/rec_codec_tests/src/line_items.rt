@@ -3,9 +3,9 @@
 ghost use Rattle.std.specs.Prelude.{◌+◌, ◌<◌, ◌^◌, length};
 
 use crate::events::{attempt, finished, run_start};
-use rec_codec::{LineIter, OutputForm, has_all_outputs, log_line};
-use rec_events::{LiveSpec, RecordingSpec, TestEventSummary};
-use std::alloc::{AllocError, Global};
+use rec_codec::{LineIter, OutputForm};
+use rec_events::{LiveSpec, RecordingSpec};
+use std::alloc::Global;
 use std::test::Fail;
 
 // Shows the items of the lines of a log.
@@ -76,17 +76,6 @@ fn a_session_by_its_items(rt: HostRuntime) -> Result<(), Fail> {
     Ok(())
 }
 
-// After a line that is no text, the lines go on.
-#[test]
-fn the_line_after_one_that_is_no_text(rt: HostRuntime) -> Result<(), Fail> {
-    let alloc = rt.alloc();
-    let log = log(alloc, &[run_start().as_bytes(), b"", b"\xff", b"{}"])?;
-    let items = shown_items::<LiveSpec>(alloc, log.as_slice(), 2)?;
-    let want = "event;line 4 can't be read;line 5 isn't an event;";
-    assert!(rt; items.as_str() == want, "{items}");
-    Ok(())
-}
-
 #[test]
 fn a_log_by_its_items(rt: HostRuntime) -> Result<(), Fail> {
     let alloc = rt.alloc();
@@ -96,47 +85,16 @@ fn a_log_by_its_items(rt: HostRuntime) -> Result<(), Fail> {
     Ok(())
 }
 
+// After a line that is no text or no event, the lines go on.
 #[test]
-fn texts_without_events(rt: HostRuntime) -> Result<(), Fail> {
+fn the_line_after_one_with_a_fault(rt: HostRuntime) -> Result<(), Fail> {
     let alloc = rt.alloc();
-    for (text, want) in [
-        (b"".as_slice(), ""),
-        (b"\n \n\t\r\n", ""),
-        (b"\xc3\n", "line 1 can't be read;"),
-        (b"\n[]", "line 2 isn't an event;"),
-        (b"{\n}", "line 1 isn't an event;line 2 isn't an event;"),
-    ] {
-        let items = shown_items::<LiveSpec>(alloc, text, 1)?;
-        assert!(rt; items.as_str() == want, "{items}");
-    }
-    Ok(())
-}
-
-fn run_start_line() -> &'static str {
-    "{\"cli-args\":[],\"elapsed\":{\"nanos\":0,\"secs\":0},\"kind\":\"run-started\",\"profile-name\":\"default\",\"run-id\":\"550e8400-e29b-41d4-a716-446655440000\",\"timestamp\":{\"nanos\":0,\"offset\":0,\"secs\":1000}}\n"
-}
-
-// The line of an event, which ends here.
-fn logged(alloc: Global, event: TestEventSummary<RecordingSpec>) -> Result<Vec<u8>, AllocError> {
-    log_line(alloc, &event)
-}
-
-#[test]
-fn the_line_of_an_event(rt: HostRuntime) -> Result<(), Fail> {
-    let alloc = rt.alloc();
-    for item in LineIter::<RecordingSpec>::new(alloc, run_start().as_bytes(), 1) {
-        let line = logged(alloc, item?)?;
-        assert!(rt; line.as_slice() == run_start_line().as_bytes());
-    }
-    Ok(())
-}
-
-#[test]
-fn captured_outputs_are_there(rt: HostRuntime) -> Result<(), Fail> {
-    let alloc = rt.alloc();
-    let text = captured(alloc)?;
-    for item in LineIter::<LiveSpec>::new(alloc, text.as_str().as_bytes(), 1) {
-        assert!(rt; has_all_outputs(&item?));
-    }
+    let log = log(alloc, &[run_start().as_bytes(), b"", b"\xff", b"{}"])?;
+    let items = shown_items::<LiveSpec>(alloc, log.as_slice(), 2)?;
+    let want = "event;line 4 can't be read;line 5 isn't an event;";
+    assert!(rt; items.as_str() == want, "{items}");
+    let items = shown_items::<LiveSpec>(alloc, b"{\n}", 1)?;
+    let want = "line 1 isn't an event;line 2 isn't an event;";
+    assert!(rt; items.as_str() == want, "{items}");
     Ok(())
 }

@@ -81,7 +81,7 @@ fn takes_equal_content_again(rt: HostRuntime) -> Result<(), Fail> {
 
 #[test]
 fn answers_the_first_fault(rt: HostRuntime) -> Result<(), Fail> {
-    let cases: [(&[u8], ContainerError); 13] = [
+    let cases: [(&[u8], ContainerError); 14] = [
         (b"PK", ContainerError::BadMagic),
         (b"nxtcont2\0", ContainerError::BadMagic),
         (b"nxtcont1", ContainerError::Truncated { at: 8 }),
@@ -109,6 +109,10 @@ fn answers_the_first_fault(rt: HostRuntime) -> Result<(), Fail> {
         (
             b"nxtcont1\x01\0\x01a\0\0\0\0\0\0\0\x01x\x01\0\x01a\0\0\0\0\0\0\0\0\0",
             ContainerError::DuplicateName { at: 24 },
+        ),
+        (
+            b"nxtcont1\x01\0\x01b\0\0\0\0\0\0\0\0\x01\0\x01a\0\0\0\0\0\0\0\0\x01\0\x01a\0\0\0\0\0\0\0\0",
+            ContainerError::DuplicateName { at: 35 },
         ),
     ];
     for (bytes, fault) in cases {

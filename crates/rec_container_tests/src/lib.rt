@@ -6,6 +6,10 @@ mod containers;
 #[cfg(test)]
 mod disks;
 #[cfg(test)]
+mod fronts;
+#[cfg(test)]
+mod lookups;
+#[cfg(test)]
 mod real_files;
 #[cfg(test)]
 mod streams;

@@ -42,8 +42,17 @@ pub(crate) fn open<D: Disk>(
     alloc: Global,
     disk: &mut D,
 ) -> Result<RecordReader<'_, D>, RecordReadError> {
+    open_up_to(alloc, disk, AMPLE)
+}
+
+/// Opens the directory `r`, whose entries are read up to this length.
+pub(crate) fn open_up_to<D: Disk>(
+    alloc: Global,
+    disk: &mut D,
+    limit: u64,
+) -> Result<RecordReader<'_, D>, RecordReadError> {
     let run_dir = String::from_str(alloc, "r")?;
-    RecordReader::open(alloc, disk, run_dir, AMPLE)
+    RecordReader::open(alloc, disk, run_dir, limit)
 }
 
 /// Says why something wasn't read.

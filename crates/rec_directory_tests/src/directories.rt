@@ -1,8 +1,9 @@
 //! Directories that lack something.
 
-use crate::asking::{Part, events_of, fault_text, open, part_of, part_read, store_of};
+use crate::asking::{Part, events_of, fault_text, open, open_up_to, part_of, part_read, store_of};
 use crate::texts::{log_text, scope_text};
-use rec_container::MemoryDisk;
+use rec_container::{Disk, DiskError, MemoryDisk};
+use rec_directory::RecordReader;
 use std::alloc::Global;
 use std::test::Fail;
 
@@ -59,5 +60,76 @@ fn a_store_that_is_no_container_is_refused(rt: HostRuntime) -> Result<(), Fail> 
         "the store at r/store.zip is no container: not a container: it doesn't begin with nxtcont1";
     let answer = part_of(alloc, &mut disk, Part::Output("x-unknown"))?;
     assert!(rt; answer.as_str() == refused);
+    Ok(())
+}
+
+/// What a reader says of an output of three bytes, and of one of five.
+fn outputs(alloc: Global, reader: &mut RecordReader<'_, MemoryDisk>) -> Result<String, Fail> {
+    let short = part_read(alloc, reader, Part::Output("ba7816bf8f01cfea-stdout"))?;
+    let long = part_read(alloc, reader, Part::Output("2cf24dba5fb0a30e-stdout"))?;
+    Ok(format!(in alloc; "{short}, {long}")?)
+}
+
+/// What a reader of up to three bytes says of its events, and before and after them of two outputs.
+fn answers_around(alloc: Global, mut disk: MemoryDisk) -> Result<String, Fail> {
+    let mut reader = open_up_to(alloc, &mut disk, 3)?;
+    let before = outputs(alloc, &mut reader)?;
+    let events = events_of(alloc, &mut reader)?;
+    let after = outputs(alloc, &mut reader)?;
+    let run_dir = String::from_str(alloc, reader.run_dir())?;
+    Ok(format!(in alloc; "{before}\n{events}\n{after}\n{run_dir}")?)
+}
+
+/// What is said of the two outputs.
+fn outputs_text() -> &'static str {
+    "abc, the entry out/2cf24dba5fb0a30e-stdout has 5 bytes, and the limit is 3"
+}
+
+#[test]
+fn events_leave_the_reader(rt: HostRuntime) -> Result<(), Fail> {
+    let alloc = rt.alloc();
+    let store = store_of(alloc, scope_text())?;
+    let outputs = outputs_text();
+    let events = "event. line 3 is no event. event. ";
+    let whole = disk_of(alloc, Some(&store), Some(log_text()))?;
+    let answer = answers_around(alloc, whole)?;
+    assert!(rt; answer == format!(in alloc; "{outputs}\n{events}\n{outputs}\nr")?);
+    let refusal = "there is no event log at r/run.log.zst";
+    let alone = disk_of(alloc, Some(&store), None)?;
+    let answer = answers_around(alloc, alone)?;
+    assert!(rt; answer == format!(in alloc; "{outputs}\n{refusal}\n{outputs}\nr")?);
+    Ok(())
+}
+
+/// What `open` says of a disk with a directory `rr`, whose calls of these numbers fail; and whether it asked
+/// the disk only once, so that the next call is the second.
+fn refusal(alloc: Global, failing: Vec<u64>) -> Result<(String, bool), Fail> {
+    let mut disk = MemoryDisk::new(alloc, failing);
+    disk.put("rr/store.zip", b"nxtcont1\0")?;
+    let text = opened_text(alloc, &mut disk)?;
+    let asked_once = matches!(disk.exists("rr"), Err(DiskError::DiskFailed));
+    Ok((text, asked_once))
+}
+
+/// What `open` says of a disk.
+fn opened_text(alloc: Global, disk: &mut MemoryDisk) -> Result<String, Fail> {
+    match open(alloc, disk) {
+        Ok(reader) => {
+            drop(reader);
+            Ok(String::from_str(alloc, "opened")?)
+        }
+        Err(fault) => fault_text(alloc, fault),
+    }
+}
+
+#[test]
+fn a_refused_open_changes_no_file(rt: HostRuntime) -> Result<(), Fail> {
+    let alloc = rt.alloc();
+    let (text, asked_once) = refusal(alloc, vec![in alloc; 2]?)?;
+    assert!(rt; text.as_str() == "there is no run at r");
+    assert!(rt; asked_once);
+    let (text, asked_once) = refusal(alloc, vec![in alloc; 1, 2]?)?;
+    assert!(rt; text.as_str() == "the disk failed at r");
+    assert!(rt; asked_once);
     Ok(())
 }

@@ -1,11 +1,10 @@
 //! Live events, and what they are recorded as.
 
 use rec_events::{
-    CancelReason, CoreEventKind, Duration, FlakyResult, Items, LiveSpec, NextestRunMode,
-    NonZeroCount, OwnedTestInstanceId, ReportUuid, RunStats, RustBinaryId, Stamp, StressCondition,
-    StressConditionSummary, StressCount, TestCaseName, TestEvent, TestEventKind,
-    TestEventKindSummary, TestEventSummary, TestGroup, TestInstanceId, TestList, TestListSummary,
-    TestSlotAssignment, Text, TextMap,
+    CancelReason, CoreEventKind, Duration, Items, LiveSpec, NextestRunMode, NonZeroCount,
+    ReportUuid, RunStats, Stamp, StressCondition, StressConditionSummary, StressCount, TestEvent,
+    TestEventKind, TestEventKindSummary, TestEventSummary, TestList, TestListSummary, Text,
+    TextMap,
 };
 use std::alloc::{AllocError, Global};
 use std::test::Fail;
@@ -67,17 +66,32 @@ fn is_some_and_equal(
     }
 }
 
+/// A kind of event that only informs.
+fn informing(number: u64) -> TestEventKind<'static> {
+    match number {
+        0 => TestEventKind::InfoStarted,
+        1 => TestEventKind::InfoResponse,
+        2 => TestEventKind::InfoFinished,
+        3 => TestEventKind::InputEnter,
+        _ => TestEventKind::RunBeginKill,
+    }
+}
+
+/// Whether an event of this kind is recorded.
+fn is_recorded(alloc: Global, kind: TestEventKind<'_>) -> Result<bool, AllocError> {
+    let summary = recorded(alloc, kind);
+    let answer = match &summary {
+        Ok(found) => Ok(found.is_some()),
+        Err(_) => Err(AllocError),
+    };
+    drop(summary);
+    answer
+}
+
 #[test]
 fn what_only_informs_is_not_recorded(rt: HostRuntime) -> Result<(), Fail> {
-    let alloc = rt.alloc();
-    for kind in [
-        TestEventKind::InfoStarted,
-        TestEventKind::InfoResponse,
-        TestEventKind::InfoFinished,
-        TestEventKind::InputEnter,
-        TestEventKind::RunBeginKill,
-    ] {
-        assert!(rt; recorded(alloc, kind)?.is_none());
+    for number in 0..5 {
+        assert!(rt; !is_recorded(rt.alloc(), informing(number))?);
     }
     Ok(())
 }
@@ -126,6 +140,36 @@ fn run_started<'a>(
     })
 }
 
+/// The recorded start of a run, under a condition.
+fn recorded_start(
+    alloc: Global,
+    stress_condition: Option<StressConditionSummary>,
+) -> Result<CoreEventKind, AllocError> {
+    Ok(CoreEventKind::RunStarted {
+        run_id: ReportUuid::new(Uuid::nil()),
+        profile_name: Text::from_str(alloc, "default")?,
+        cli_args: Items::empty(alloc),
+        stress_condition,
+    })
+}
+
+/// Whether the start of a run under a condition is recorded with the other one.
+fn is_kept<'a>(
+    alloc: Global,
+    test_list: &'a TestList<'a>,
+    condition: Option<StressCondition>,
+    expected: Option<StressConditionSummary>,
+) -> Result<bool, AllocError> {
+    let kind = run_started(alloc, test_list, condition)?;
+    match recorded_start(alloc, expected) {
+        Ok(expected) => is_recorded_as(alloc, kind, expected),
+        Err(error) => {
+            drop(kind);
+            Err(error)
+        }
+    }
+}
+
 #[test]
 fn a_run_keeps_its_stress_condition(rt: HostRuntime) -> Result<(), Fail> {
     let alloc = rt.alloc();
@@ -149,27 +193,7 @@ fn a_run_keeps_its_stress_condition(rt: HostRuntime) -> Result<(), Fail> {
             Some(StressConditionSummary::Duration { duration: minute }),
         ),
     ] {
-        let expected = CoreEventKind::RunStarted {
-            run_id: ReportUuid::new(Uuid::nil()),
-            profile_name: Text::from_str(alloc, "default")?,
-            cli_args: Items::empty(alloc),
-            stress_condition: expected,
-        };
-        let kind = run_started(alloc, &test_list, condition)?;
-        assert!(rt; is_recorded_as(alloc, kind, expected)?);
+        assert!(rt; is_kept(alloc, &test_list, condition, expected)?);
     }
-    Ok(())
-}
-
-#[test]
-fn a_flaky_failure_has_a_message(rt: HostRuntime) -> Result<(), Fail> {
-    let alloc = rt.alloc();
-    assert!(rt; FlakyResult::Pass.fail_message(alloc, 2, 3)?.is_none());
-    let message = FlakyResult::Fail.fail_message(alloc, 2, 3)?;
-    let message = message.unwrap_or(String::new(alloc));
-    assert_eq!(rt;
-        message.as_str(),
-        "test passed on attempt 2/3 but is configured to fail when flaky"
-    );
     Ok(())
 }

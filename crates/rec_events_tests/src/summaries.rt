@@ -1,7 +1,6 @@
-//! How runs are summed up, and which skipped tests are reported.
+//! How runs are summed up.
 use rec_events::{
-    CancelReason, FinalRunStats, MismatchReason, ReportSkipPolicy, RunStats, StressFinalRunStats,
-    StressIndexSummary, StressRunStats,
+    CancelReason, FinalRunStats, RunStats, StressFinalRunStats, StressIndexSummary, StressRunStats,
 };
 
 // A run of ten tests and two scripts, all of which finished and passed.
@@ -170,23 +169,5 @@ fn stress_runs(rt: HostRuntime) {
             last_final_stats,
         };
         assert!(rt; stats.summarize_final() == want);
-    }
-}
-
-#[test]
-fn reported_skips(rt: HostRuntime) {
-    for reason in [
-        MismatchReason::NotBenchmark,
-        MismatchReason::Ignored,
-        MismatchReason::String,
-        MismatchReason::Expression,
-        MismatchReason::Partition,
-        MismatchReason::RerunAlreadyPassed,
-        MismatchReason::DefaultFilter,
-    ] {
-        let ignored = matches!(reason, MismatchReason::Ignored);
-        assert!(rt; !ReportSkipPolicy::None.should_report(reason));
-        assert_eq!(rt; ReportSkipPolicy::Ignored.should_report(reason), ignored);
-        assert!(rt; ReportSkipPolicy::All.should_report(reason));
     }
 }

@@ -3,7 +3,7 @@
 use rec_events::{
     Duration, Items, NamedTargets, NonEmpty, NonZeroCount, OutputFileName, OutputKind,
     OwnedTestInstanceId, ReportUuid, RustBinaryId, ScriptId, Stamp, TargetSelection, TestCaseName,
-    TestGroup, TestNames, Text, TextMap, TryClone, Version, VersionError,
+    TestGroup, TestNames, Text, TextMap, TryClone,
 };
 use std::alloc::{AllocError, Global};
 use std::test::Fail;
@@ -76,20 +76,6 @@ fn names(rt: HostRuntime) -> Result<(), Fail> {
 }
 
 #[test]
-fn versions(rt: HostRuntime) -> Result<(), Fail> {
-    let alloc = rt.alloc();
-    for text in ["0.9.111", "1.0.0-rc.1+build.01"] {
-        let version = Version::parse(alloc, text)?.try_clone(alloc)?;
-        assert!(rt; version.to_string(alloc)?.as_str() == text);
-    }
-    for text in ["", "1.0", "01.0.0", "1.0.0 ", "18446744073709551616.0.0"] {
-        let refused = matches!(Version::parse(alloc, text), Err(VersionError::NotAVersion));
-        assert!(rt; refused, "{text}");
-    }
-    Ok(())
-}
-
-#[test]
 fn times_and_counts(rt: HostRuntime) {
     for (secs, nanos, want) in [
         (-1, 999999999, Some(-1)),
@@ -133,26 +119,6 @@ fn output_names(rt: HostRuntime) -> Result<(), Fail> {
         assert!(rt; name.text(alloc)?.as_str() == text, "{text}");
     }
     Ok(())
-}
-
-#[test]
-fn other_texts_are_no_output_names(rt: HostRuntime) {
-    for text in [
-        "",
-        "-stdout",
-        "0123456789abcdef",
-        "0123456789abcdef-",
-        "0123456789abcde-stdout",
-        "0123456789abcdef0-stdout",
-        "0123456789ABCDEF-stdout",
-        "0123456789abcdeg-stdout",
-        "0123456789abcdef-Stdout",
-        "0123456789abcdef-stdout ",
-        "+123456789abcdef-stdout",
-        "é23456789abcdef-stdout",
-    ] {
-        assert!(rt; OutputFileName::parse(text).is_none(), "{text}");
-    }
 }
 
 #[test]

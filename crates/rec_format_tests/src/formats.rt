@@ -1,14 +1,13 @@
-//! Versions, paths, heads, statuses and manifests.
+//! Versions, paths, heads and what is known of runs.
 
 use rec_events::{RustBinaryId, TestNames};
 use rec_format::{
-    CompletedRunStats, ComponentSizes, OutputDict, PORTABLE_RECORDING_FORMAT_VERSION,
-    PortableManifest, PortableRecordingFormatMajorVersion, PortableRecordingFormatMinorVersion,
-    PortableRecordingFormatVersion, RecordedRunInfo, RecordedRunStatus, RecordedRunStatusFormat,
-    RecordedSizes, Release, RerunSuites, RerunTestSuiteInfo, STORE_FORMAT_VERSION, SessionHead,
-    StoreFormatMajorVersion, StoreFormatMinorVersion, StoreFormatVersion,
-    StoreVersionIncompatibility, StressCompletedRunStats, TooOldRecordingGuidance,
-    has_zip_extension, store_format_version_for,
+    CompletedRunStats, OutputDict, PORTABLE_RECORDING_FORMAT_VERSION,
+    PortableRecordingFormatMajorVersion, PortableRecordingFormatMinorVersion,
+    PortableRecordingFormatVersion, RecordedRunInfo, Release, RerunSuites, RerunTestSuiteInfo,
+    STORE_FORMAT_VERSION, SessionHead, StoreFormatMajorVersion, StoreFormatMinorVersion,
+    StoreFormatVersion, StoreVersionIncompatibility, StressCompletedRunStats,
+    TooOldRecordingGuidance, has_zip_extension, store_format_version_for,
 };
 use rec_forms::{Form, FromValueError, read_text, write_text};
 use std::alloc::Global;
@@ -29,9 +28,10 @@ fn portable_version(major: u32, minor: u32) -> PortableRecordingFormatVersion {
 }
 
 // What stands in the way of a store of a version.
-const STORES: [(u32, u32, &str); 7] = [
+const STORES: [(u32, u32, &str); 8] = [
     (3, 0, "read"),
-    (3, 1, "minor version 1 is newer than supported version 0"),
+    (3, 1, "read"),
+    (3, 2, "minor version 2 is newer than supported version 1"),
     (
         4,
         0,
@@ -130,7 +130,7 @@ const VERSIONS: [(&str, &str); 12] = [
 #[test]
 fn printed_versions(rt: HostRuntime) -> Result<(), Fail> {
     let alloc = rt.alloc();
-    assert!(rt; store_format_version_for(None) == Some(store_version(3, 0)));
+    assert!(rt; store_format_version_for(None) == Some(store_version(3, 1)));
     for (text, want) in &VERSIONS {
         let got = match store_format_version_for(Some(*text)) {
             Some(version) => format!(in alloc; "{version}")?,
@@ -231,92 +231,12 @@ const RERUN: &str =
 const WITH_RERUN: &str =
     r#"{"build-scope":{"build-kind":"cargo","scope":{"features":{"all-features":false,"features":[],"no-default-features":false},"packages":{"exclude":[],"specs":[],"workspace":false},"targets":{"all-targets":false,"benches":{"all":false,"names":[]},"bins":{"all":false,"names":[]},"examples":{"all":false,"names":[]},"lib":false,"tests":{"all":false,"names":[]}}}},"cargo-metadata":"{}","cli-args":[],"env-vars":{},"last-written-at":{"nanos":0,"offset":0,"secs":1011},"nextest-version":"0.9.111","record-opts":{"run-mode":"test"},"rerun-info":{"parent-run-id":"650e8400-e29b-41d4-a716-446655440000","root-info":{"build-scope":{"build-kind":"reused","scope":{"features":{"all-features":false,"features":[],"no-default-features":false},"packages":{"exclude":[],"specs":[],"workspace":false},"targets":{"all-targets":false,"benches":{"all":false,"names":[]},"bins":{"all":false,"names":[]},"examples":{"all":false,"names":[]},"lib":false,"tests":{"all":false,"names":[]}}}},"run-id":"750e8400-e29b-41d4-a716-446655440000"},"test-suites":[{"binary_id":"a","outstanding":[],"passing":["t","u"]},{"binary_id":"b","outstanding":["t"],"passing":[]}]},"run-id":"550e8400-e29b-41d4-a716-446655440000","started-at":{"nanos":0,"offset":0,"secs":1000},"status":{"status":"incomplete"},"test-list":{"suites":{}}}"#;
 
-// A part of the head, and what stands in its place in a text that is no head.
-const REFUSED: [(&str, &str); 21] = [
-    (r#""run-id""#, r#""run_id""#),
-    ("550e8400-e29b", "550e8400-e29"),
-    (r#""0.9.111""#, r#""0.9""#),
-    (r#""started-at":"#, r#""x":"#),
-    ("1000,", "1000.0,"),
-    (r#""status":{"#, r#""cli-args":null,"status":{"#),
-    (r#""status":{"#, r#""env-vars":[],"status":{"#),
-    (r#""status":{"#, r#""duration":{"secs":1},"status":{"#),
-    (r#"{"status":"incomplete"}"#, r#"{"status":null}"#),
-    (r#"{"status":"incomplete"}"#, r#""incomplete""#),
-    (r#""incomplete""#, r#""completed""#),
-    (r#""{}""#, "{}"),
-    (r#""suites""#, r#""suite""#),
-    (r#""test""#, r#""Test""#),
-    (r#""cargo""#, r#""other""#),
-    (r#","scope":{}"#, ""),
-    (r#""status":{"#, r#""rerun-info":{},"status":{"#),
-    (
-        r#""status":{"#,
-        r#""rerun-info":{"parent-run-id":"650e8400-e29b-41d4-a716-446655440000","root-info":{"run-id":"750e8400-e29b-41d4-a716-446655440000","build-scope":{"build-kind":"reused","scope":{}}},"test-suites":[{"binary_id":"a","passing":[],"outstanding":[]},{"binary_id":"a","passing":["t"],"outstanding":[]}]},"status":{"#,
-    ),
-    (
-        r#""status":{"#,
-        r#""rerun-info":{"parent-run-id":"650e8400-e29b-41d4-a716-446655440000","root-info":{"run-id":"750e8400-e29b-41d4-a716-446655440000","build-scope":{"build-kind":"reused","scope":{}}},"test-suites":[{"binary-id":"a","passing":[],"outstanding":[]}]},"status":{"#,
-    ),
-    (
-        r#""status":{"#,
-        r#""rerun-info":{"parent-run-id":"650e8400-e29b-41d4-a716-446655440000","root-info":{"run-id":"750e8400-e29b-41d4-a716-446655440000","build-scope":{"build-kind":"reused","scope":{}}},"test-suites":{"a":{"passing":[],"outstanding":[]}}},"status":{"#,
-    ),
-    (
-        r#""status":{"#,
-        r#""rerun-info":{"parent-run-id":"650e8400-e29b-41d4-a716-446655440000","root-info":{"run-id":"750e8400-e29b-41d4-a716-446655440000","build-scope":{"build-kind":"reused","scope":{}}},"test-suites":[{"binary_id":"a","passing":null,"outstanding":[]}]},"status":{"#,
-    ),
-];
-
 #[test]
 fn heads(rt: HostRuntime) -> Result<(), Fail> {
     let alloc = rt.alloc();
     assert!(rt; rewritten::<SessionHead>(alloc, HEAD)?.as_str() == PLAIN);
     assert!(rt; changed(alloc, "\"status\":", FIELDS)?.as_str() == WITH_FIELDS);
     assert!(rt; changed(alloc, "\"status\":{", RERUN)?.as_str() == WITH_RERUN);
-    for (part, other) in &REFUSED {
-        let got = changed(alloc, *part, *other)?;
-        assert!(rt; got.as_str() == "refused", "{part} as {other}");
-    }
-    Ok(())
-}
-
-const STATUSES: [(&str, &str); 9] = [
-    (
-        r#"{"status":"completed","initial-run-count":3,"passed":2,"failed":1,"exit-code":-100}"#,
-        r#"{"exit-code":-100,"failed":1,"initial-run-count":3,"passed":2,"status":"completed"}"#,
-    ),
-    (
-        r#"{"status":"cancelled","initial-run-count":3,"passed":0,"failed":0,"exit-code":4}"#,
-        r#"{"exit-code":4,"failed":0,"initial-run-count":3,"passed":0,"status":"cancelled"}"#,
-    ),
-    (
-        r#"{"status":"stress-completed","initial-iteration-count":5,"success-count":4,"failed-count":1,"exit-code":0}"#,
-        r#"{"exit-code":0,"failed-count":1,"initial-iteration-count":5,"status":"stress-completed","success-count":4}"#,
-    ),
-    (
-        r#"{"status":"stress-cancelled","initial-iteration-count":null,"success-count":0,"failed-count":0,"exit-code":0}"#,
-        r#"{"exit-code":0,"failed-count":0,"status":"stress-cancelled","success-count":0}"#,
-    ),
-    (
-        r#"{"status":"Completed","passed":true}"#,
-        r#"{"status":"unknown"}"#,
-    ),
-    (r#"{"status":"unknown"}"#, r#"{"status":"unknown"}"#),
-    (r#"{"status":null}"#, "refused"),
-    (r#""incomplete""#, "refused"),
-    (r#"{"status":"completed"}"#, "refused"),
-];
-
-#[test]
-fn statuses(rt: HostRuntime) -> Result<(), Fail> {
-    let alloc = rt.alloc();
-    for (text, want) in &STATUSES {
-        let got = rewritten::<RecordedRunStatus>(alloc, *text)?;
-        assert!(rt; got.as_str() == *want, "{text} as {got}");
-        let got = rewritten::<RecordedRunStatusFormat>(alloc, *text)?;
-        assert!(rt; got.as_str() == *want, "the format of {text} as {got}");
-    }
     Ok(())
 }
 
@@ -386,58 +306,6 @@ fn statistics(rt: HostRuntime) -> Result<(), Fail> {
     assert!(rt; first_other::<CompletedRunStats>(alloc, &STATS)? == None);
     assert!(rt; first_other::<StressCompletedRunStats>(alloc, &STRESS_STATS)? == None);
     assert!(rt; first_other::<StoreFormatVersion>(alloc, &STORE_VERSIONS)? == None);
-    Ok(())
-}
-
-const SIZES: RecordedSizes = RecordedSizes {
-    log: ComponentSizes {
-        compressed: 1,
-        uncompressed: 2,
-        entries: 3,
-    },
-    store: ComponentSizes {
-        compressed: 4,
-        uncompressed: 5,
-        entries: 6,
-    },
-};
-
-const MANIFEST: &str =
-    r#"{"format-version":{"major":1,"minor":1},"run":{"cli-args":[],"env-vars":{},"last-written-at":{"nanos":0,"offset":0,"secs":1011},"nextest-version":"0.9.111","run-id":"550e8400-e29b-41d4-a716-446655440000","sizes":{"log":{"compressed":1,"entries":3,"uncompressed":2},"store":{"compressed":4,"entries":6,"uncompressed":5}},"started-at":{"nanos":0,"offset":0,"secs":1000},"status":{"status":"incomplete"},"store-format-minor-version":0,"store-format-version":3}}"#;
-
-const SHORT_MANIFEST: &str =
-    r#"{"format-version":{"major":1,"minor":0},"run":{"last-written-at":{"nanos":0,"offset":0,"secs":1011},"nextest-version":"0.9.111","run-id":"550e8400-e29b-41d4-a716-446655440000","sizes":{"log":{"compressed":1,"uncompressed":2},"store":{"compressed":4,"entries":6,"uncompressed":5}},"started-at":{"nanos":0,"offset":0,"secs":1000},"status":{"status":"incomplete"},"store-format-version":2}}"#;
-
-fn read<T: Form>(alloc: Global, text: &str) -> Result<T, Fail> {
-    Ok(read_text(alloc, text.as_bytes())?)
-}
-
-fn manifest_of(alloc: Global, head: &SessionHead) -> Result<PortableManifest, Fail> {
-    let info = head.run_info(alloc, SIZES)?;
-    Ok(PortableManifest::new(alloc, &info)?)
-}
-
-// The manifest of the head's run.
-fn written_manifest(alloc: Global) -> Result<String, Fail> {
-    let head: SessionHead = read(alloc, HEAD)?;
-    let manifest = manifest_of(alloc, &head)?;
-    written(alloc, &manifest)
-}
-
-// How many events the log has by a manifest.
-fn events_by(alloc: Global, manifest: &PortableManifest) -> Result<u64, Fail> {
-    let info = manifest.run_info(alloc)?;
-    Ok(info.sizes.log.entries)
-}
-
-#[test]
-fn manifests(rt: HostRuntime) -> Result<(), Fail> {
-    let alloc = rt.alloc();
-    assert!(rt; written_manifest(alloc)?.as_str() == MANIFEST);
-    let manifest: PortableManifest = read(alloc, SHORT_MANIFEST)?;
-    assert!(rt; manifest.format_version == portable_version(1, 0));
-    assert!(rt; manifest.store_format_version() == store_version(2, 0));
-    assert_eq!(rt; events_by(alloc, &manifest)?, 0);
     Ok(())
 }
 

@@ -44,6 +44,26 @@ fn lists(rt: HostRuntime) -> Result<(), Fail> {
     Ok(())
 }
 
+// An older list of one run, whose store is older too, with members that nobody reads.
+fn older_list() -> &'static str {
+    r#"{"format-version":1,"more":true,"runs":[{"run-id":"550e8400-e29b-41d4-a716-446655440000","store-format-version":2,"store-format-minor-version":1,"nextest-version":"0.9.111","started-at":{"secs":1000,"nanos":0,"offset":0},"last-written-at":{"secs":1011,"nanos":0,"offset":0},"sizes":{"log":{"compressed":1,"uncompressed":2},"store":{"compressed":4,"uncompressed":5,"entries":6}},"status":{"status":"incomplete"},"more":[]}]}"#
+}
+
+// The list as it is written back: its version stays.
+fn written_older_list() -> &'static str {
+    r#"{"format-version":1,"runs":[{"cli-args":[],"env-vars":{},"last-written-at":{"nanos":0,"offset":0,"secs":1011},"nextest-version":"0.9.111","run-id":"550e8400-e29b-41d4-a716-446655440000","sizes":{"log":{"compressed":1,"entries":0,"uncompressed":2},"store":{"compressed":4,"entries":6,"uncompressed":5}},"started-at":{"nanos":0,"offset":0,"secs":1000},"status":{"status":"incomplete"},"store-format-minor-version":1,"store-format-version":2}]}"#
+}
+
+#[test]
+fn older_lists(rt: HostRuntime) -> Result<(), Fail> {
+    let alloc = rt.alloc();
+    let list = read(alloc, older_list())?;
+    assert!(rt; list.write_permission() == RunsJsonWritePermission::Allowed);
+    let bytes = write_text(alloc, &list)?;
+    assert!(rt; bytes.as_slice() == written_older_list().as_bytes());
+    Ok(())
+}
+
 #[derive(Drop)]
 struct Files {
     store: bool,

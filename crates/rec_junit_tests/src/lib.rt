@@ -7,5 +7,3 @@ mod made;
 mod suites;
 #[cfg(test)]
 mod test_ends;
-#[cfg(test)]
-mod words;

@@ -3,10 +3,9 @@
 use rec_events::{
     ChildExecutionOutputDescription, ChildOutputDescription, ChildSingleOutput, Duration,
     ExecuteStatus, ExecutionResultDescription, ExecutionStatuses, FailureDescription, FlakyResult,
-    Items, JunitFlakyFailStatus, LeakTimeoutResult, LiveSpec, NextestRunMode, NonEmpty,
-    OwnedTestInstanceId, ReportUuid, RetryData, RunFinishedStats, RunStats, RustBinaryId,
-    SlowTimeoutResult, Stamp, StressIndex, TestCaseName, TestEvent, TestEventKind,
-    TestOutputDisplay, Text,
+    Items, JunitFlakyFailStatus, LiveSpec, NextestRunMode, NonEmpty, OwnedTestInstanceId,
+    ReportUuid, RetryData, RunFinishedStats, RunStats, RustBinaryId, Stamp, TestCaseName,
+    TestEvent, TestEventKind, TestOutputDisplay, Text,
 };
 use rec_junit::{ErrorDescriber, JunitBuilder, JunitError, report_to_value};
 use serde_json::Value;
@@ -38,64 +37,26 @@ pub(crate) fn event(kind: TestEventKind<'_>) -> TestEvent<'_> {
 }
 
 /// A test of a binary.
-pub(crate) fn test(
-    alloc: Global,
-    binary: &str,
-    name: &str,
-) -> Result<OwnedTestInstanceId, AllocError> {
+fn test(alloc: Global, binary: &str, name: &str) -> Result<OwnedTestInstanceId, AllocError> {
     Ok(OwnedTestInstanceId {
         binary_id: RustBinaryId::new(String::from_str(alloc, binary)?),
         test_name: TestCaseName::new(String::from_str(alloc, name)?),
     })
 }
 
-/// How an attempt ended: `p` passed; `l` and `L` left an output open, and count as passed and as
-/// failed; `c` and `C` failed with exit code 101, the second with an output left open; `a` and `A` were
-/// aborted; `t` and `T` were stopped for their time, and count as passed and as failed; any other could
-/// not be started.
+/// How an attempt ended: `p` passed, `c` failed with exit code 101; any other could not be started.
 pub(crate) fn ending(letter: u8) -> ExecutionResultDescription {
     match letter {
         b'p' => ExecutionResultDescription::Pass,
-        b'l' => ExecutionResultDescription::Leak {
-            result: LeakTimeoutResult::Pass,
-        },
-        b'L' => ExecutionResultDescription::Leak {
-            result: LeakTimeoutResult::Fail,
-        },
-        b'c' => exit_code(false),
-        b'C' => exit_code(true),
-        b'a' => abort(false),
-        b'A' => abort(true),
-        b't' => ExecutionResultDescription::Timeout {
-            result: SlowTimeoutResult::Pass,
-        },
-        b'T' => ExecutionResultDescription::Timeout {
-            result: SlowTimeoutResult::Fail,
+        b'c' => ExecutionResultDescription::Fail {
+            failure: FailureDescription::ExitCode { code: 101 },
+            leaked: false,
         },
         _ => ExecutionResultDescription::ExecFail,
     }
 }
 
-fn exit_code(leaked: bool) -> ExecutionResultDescription {
-    ExecutionResultDescription::Fail {
-        failure: FailureDescription::ExitCode { code: 101 },
-        leaked,
-    }
-}
-
-fn abort(leaked: bool) -> ExecutionResultDescription {
-    ExecutionResultDescription::Fail {
-        failure: FailureDescription::Abort {
-            signal: 6,
-            name: None,
-        },
-        leaked,
-    }
-}
-
-/// What came of a process: `s` wrote to both streams, `o` and `e` to one that was captured, `b` to both
-/// combined, `u` what is no UTF-8; `!` could not be started; `E` had errors, and was not loaded; any other
-/// was not loaded.
+/// What came of a process: `s` wrote to both streams, `!` could not be started; any other was not loaded.
 pub(crate) fn output(
     alloc: Global,
     letter: u8,
@@ -103,11 +64,6 @@ pub(crate) fn output(
     match letter {
         b'!' => Ok(ChildExecutionOutputDescription::StartError {
             message: Text::from_str(alloc, "no such file")?,
-        }),
-        b'E' => Ok(ChildExecutionOutputDescription::Output {
-            result: None,
-            output: ChildOutputDescription::NotLoaded,
-            errors: Some(errors(alloc)?),
         }),
         _ => Ok(ChildExecutionOutputDescription::Output {
             result: None,
@@ -119,47 +75,19 @@ pub(crate) fn output(
 
 fn captured(alloc: Global, letter: u8) -> Result<ChildOutputDescription, AllocError> {
     match letter {
-        b's' => streams(
-            alloc,
-            Some(b"stdout".as_slice()),
-            Some(b"stderr".as_slice()),
-        ),
-        b'o' => streams(alloc, Some(b"stdout".as_slice()), None),
-        b'e' => streams(alloc, None, Some(b"stderr".as_slice())),
-        b'u' => streams(alloc, Some(b"a\xFFb".as_slice()), Some(b"".as_slice())),
-        b'b' => Ok(ChildOutputDescription::Combined {
-            output: bytes(alloc, b"both")?,
-        }),
+        b's' => streams(alloc),
         _ => Ok(ChildOutputDescription::NotLoaded),
     }
 }
 
-fn streams(
-    alloc: Global,
-    stdout: Option<&[u8]>,
-    stderr: Option<&[u8]>,
-) -> Result<ChildOutputDescription, AllocError> {
-    let stdout = stream(alloc, stdout)?;
-    let stderr = stream(alloc, stderr)?;
+fn streams(alloc: Global) -> Result<ChildOutputDescription, AllocError> {
+    let stdout = Some(bytes(alloc, b"stdout")?);
+    let stderr = Some(bytes(alloc, b"stderr")?);
     Ok(ChildOutputDescription::Split { stdout, stderr })
-}
-
-fn stream(alloc: Global, stream: Option<&[u8]>) -> Result<Option<ChildSingleOutput>, AllocError> {
-    match stream {
-        Some(stream) => Ok(Some(bytes(alloc, stream)?)),
-        None => Ok(None),
-    }
 }
 
 fn bytes(alloc: Global, bytes: &[u8]) -> Result<ChildSingleOutput, AllocError> {
     Ok(ChildSingleOutput::new(bytes.to_vec(alloc)?))
-}
-
-fn errors(alloc: Global) -> Result<Items<Text>, AllocError> {
-    let mut errors = Vec::new(alloc);
-    errors.push(Text::from_str(alloc, "first")?)?;
-    errors.push(Text::from_str(alloc, "second")?)?;
-    Ok(Items::new(errors))
 }
 
 /// The attempt of this number, which began at that second and took so long.
@@ -182,6 +110,7 @@ fn attempt(
         delay_before_start: seconds(0),
         error_summary: None,
         output_error_slice: None,
+        cpu_time: None,
     })
 }
 
@@ -208,12 +137,10 @@ fn attempts(
 }
 
 /// The end of a test whose attempts ended and wrote so. `f` in the flags says that it counts as failed
-/// where it is flaky, `s` that it is then reported as a success, `+` and `-` that outputs of successes
-/// and of failures are stored.
-pub(crate) fn finished<'a>(
+/// where it is flaky, `+` and `-` that outputs of successes and of failures are stored.
+fn finished<'a>(
     alloc: Global,
     test: &'a OwnedTestInstanceId,
-    stress_index: Option<StressIndex>,
     ended: &str,
     wrote: &str,
     flags: &str,
@@ -223,20 +150,15 @@ pub(crate) fn finished<'a>(
     } else {
         FlakyResult::Pass
     };
-    let junit_flaky_fail_status = if flags.contains('s') {
-        JunitFlakyFailStatus::Success
-    } else {
-        JunitFlakyFailStatus::Failure
-    };
     let run_statuses = attempts(alloc, ended, wrote, flaky_result)?;
     Ok(event(TestEventKind::TestFinished {
-        stress_index,
+        stress_index: None,
         test_instance: test.as_id(),
         success_output: TestOutputDisplay::Never,
         failure_output: TestOutputDisplay::Never,
         junit_store_success_output: flags.contains('+'),
         junit_store_failure_output: flags.contains('-'),
-        junit_flaky_fail_status,
+        junit_flaky_fail_status: JunitFlakyFailStatus::Failure,
         run_statuses,
         current_stats: RunStats::zero(),
         running: 0,
@@ -244,7 +166,7 @@ pub(crate) fn finished<'a>(
 }
 
 /// The end of the run, which began at second 7 and took 9 seconds.
-pub(crate) fn run_end() -> TestEvent<'static> {
+fn run_end() -> TestEvent<'static> {
     event(TestEventKind::RunFinished {
         run_id: ReportUuid::new(Uuid::nil()),
         start_time: instant(7),
@@ -255,7 +177,7 @@ pub(crate) fn run_end() -> TestEvent<'static> {
 }
 
 /// The name of a refusal.
-pub(crate) fn name_of(error: JunitError) -> &'static str {
+fn name_of(error: JunitError) -> &'static str {
     match error {
         JunitError::NotLoadedOutput => "NotLoadedOutput",
         JunitError::SuccessAsFailure => "SuccessAsFailure",
@@ -283,18 +205,10 @@ pub(crate) fn write_test<D: ErrorDescriber>(
     alloc: Global,
     builder: &mut JunitBuilder<'_, D>,
     names: (&str, &str),
-    stress_index: Option<StressIndex>,
     attempts: (&str, &str, &str),
 ) -> Result<&'static str, AllocError> {
     let test = test(alloc, names.0, names.1)?;
-    let event = finished(
-        alloc,
-        &test,
-        stress_index,
-        attempts.0,
-        attempts.1,
-        attempts.2,
-    )?;
+    let event = finished(alloc, &test, attempts.0, attempts.1, attempts.2)?;
     let answer = written(builder, &event);
     drop(event);
     Ok(answer)

@@ -1,93 +1,15 @@
-//! The suites of a report.
+//! Setup scripts whose outputs are stored, tests that are refused, and what a describer says.
 
-use crate::made::{
-    builder, ending, event, instant, output, said, seconds, test, write_test, written,
-};
+use crate::made::{builder, ending, event, instant, output, said, seconds, write_test, written};
 use rec_events::{
-    ChildExecutionOutputDescription, Items, LiveSpec, MismatchReason, NextestRunMode, NonZeroCount,
-    OwnedTestInstanceId, ReportSkipPolicy, ScriptId, SetupScriptExecuteStatus, StressIndex,
-    TestEvent, TestEventKind, Text, TextMap,
+    ChildExecutionOutputDescription, Items, LiveSpec, NextestRunMode, ScriptId,
+    SetupScriptExecuteStatus, TestEvent, TestEventKind, Text, TextMap,
 };
 use rec_junit::{ErrorDescriber, ErrorText, JunitBuilder, PlainDescriber};
 use std::alloc::{AllocError, Global};
 use std::test::Fail;
 
-// ---- tests that don't run
-
-/// Skips a test for this reason, and answers what came of it.
-fn write_skipped(
-    builder: &mut JunitBuilder<'_, PlainDescriber>,
-    test: &OwnedTestInstanceId,
-    reason: MismatchReason,
-    policy: ReportSkipPolicy,
-) -> &'static str {
-    let event = event(TestEventKind::TestSkipped {
-        stress_index: None,
-        test_instance: test.as_id(),
-        reason,
-        junit_report_skipped: policy,
-    });
-    let answer = written(builder, &event);
-    drop(event);
-    answer
-}
-
-/// The suites of the report of a test that is skipped for this reason, by this policy.
-fn of_skipped(
-    alloc: Global,
-    reason: MismatchReason,
-    policy: ReportSkipPolicy,
-) -> Result<String, Fail> {
-    let describer = PlainDescriber;
-    let test = test(alloc, "my-crate::my-bin", "tests::my_skipped_test")?;
-    let mut builder = builder(alloc, NextestRunMode::Test, &describer)?;
-    let answer = write_skipped(&mut builder, &test, reason, policy);
-    let text = said(alloc, &mut builder, answer, "/suites");
-    drop(builder);
-    text
-}
-
-/// What is said of a test that is ignored.
-fn ignored() -> &'static str {
-    "[{\"cases\":[{\"classname\":\"my-crate::my-bin\",\"name\":\"tests::my_skipped_test\",\"status\":{\"skipped\":\"Skipped: test does not match the run-ignored option\"},\"time\":{\"nanos\":0,\"secs\":0}}],\"name\":\"my-crate::my-bin\",\"properties\":[]}]"
-}
-
-/// What is said of a test of another partition.
-fn elsewhere() -> &'static str {
-    "[{\"cases\":[{\"classname\":\"my-crate::my-bin\",\"name\":\"tests::my_skipped_test\",\"status\":{\"skipped\":\"Skipped: test is in a different partition\"},\"time\":{\"nanos\":0,\"secs\":0}}],\"name\":\"my-crate::my-bin\",\"properties\":[]}]"
-}
-
-#[test]
-fn a_skipped_test_is_reported_by_its_policy(rt: HostRuntime) -> Result<(), Fail> {
-    for (reason, policy, expected) in [
-        (
-            MismatchReason::Ignored,
-            ReportSkipPolicy::Ignored,
-            ignored(),
-        ),
-        (MismatchReason::Ignored, ReportSkipPolicy::None, "[]"),
-        (MismatchReason::Partition, ReportSkipPolicy::Ignored, "[]"),
-        (
-            MismatchReason::Partition,
-            ReportSkipPolicy::All,
-            elsewhere(),
-        ),
-    ] {
-        let got = of_skipped(rt.alloc(), reason, policy)?;
-        assert!(rt; got.as_str() == expected);
-    }
-    Ok(())
-}
-
 // ---- setup scripts
-
-/// The second run of four, or of some number that is not known.
-fn second(total: Option<u32>) -> Option<StressIndex> {
-    Some(StressIndex {
-        current: 1,
-        total: total.and_then(NonZeroCount::new),
-    })
-}
 
 /// A run of a script that ended and wrote so.
 fn ran(
@@ -110,7 +32,6 @@ fn ran(
 /// The end of a script that ended and wrote so, with what it stores.
 fn script(
     alloc: Global,
-    stress_index: Option<StressIndex>,
     ended: u8,
     wrote: u8,
     stored: (bool, bool),
@@ -120,7 +41,7 @@ fn script(
     let args = args(alloc)?;
     let run_status = ran(alloc, ended, wrote)?;
     Ok(event(TestEventKind::SetupScriptFinished {
-        stress_index,
+        stress_index: None,
         index: 0,
         total: 1,
         script_id,
@@ -153,28 +74,21 @@ fn variables(alloc: Global) -> Result<TextMap<Text>, AllocError> {
 fn write_script(
     alloc: Global,
     builder: &mut JunitBuilder<'_, PlainDescriber>,
-    stress_index: Option<StressIndex>,
     ended: u8,
     wrote: u8,
     stored: (bool, bool),
 ) -> Result<&'static str, AllocError> {
-    let event = script(alloc, stress_index, ended, wrote, stored)?;
+    let event = script(alloc, ended, wrote, stored)?;
     let answer = written(builder, &event);
     drop(event);
     Ok(answer)
 }
 
 /// The first suite of the report of a script that ended and wrote so, or why there is none.
-fn of_script(
-    alloc: Global,
-    stress_index: Option<StressIndex>,
-    ended: u8,
-    wrote: u8,
-    stored: (bool, bool),
-) -> Result<String, Fail> {
+fn of_script(alloc: Global, ended: u8, wrote: u8, stored: (bool, bool)) -> Result<String, Fail> {
     let describer = PlainDescriber;
     let mut builder = builder(alloc, NextestRunMode::Benchmark, &describer)?;
-    let answer = write_script(alloc, &mut builder, stress_index, ended, wrote, stored)?;
+    let answer = write_script(alloc, &mut builder, ended, wrote, stored)?;
     let text = said(alloc, &mut builder, answer, "/suites/0");
     drop(builder);
     text
@@ -185,107 +99,55 @@ fn script_passed() -> &'static str {
     "{\"cases\":[{\"classname\":\"@setup-script:db\",\"name\":\"db\",\"status\":{\"success\":[]},\"system-err\":\"stderr\",\"system-out\":\"stdout\",\"time\":{\"nanos\":0,\"secs\":4},\"timestamp\":{\"nanos\":0,\"offset\":0,\"secs\":3}}],\"name\":\"@setup-script:db\",\"properties\":[{\"name\":\"command\",\"value\":\"./prepare db\"},{\"name\":\"args\",\"value\":\"'a b' c\"},{\"name\":\"output-env:PORT\",\"value\":\"1\"},{\"name\":\"output-env:URL\",\"value\":\"db://\"}]}"
 }
 
-/// What is said of a script that was stopped for its time, in the second run of a stress run.
-fn script_failed() -> &'static str {
-    "{\"cases\":[{\"classname\":\"@setup-script:db@stress-1\",\"name\":\"db\",\"status\":{\"non-success\":{\"description\":\"first\\nsecond\",\"kind\":\"failure\",\"message\":\"first\",\"rerun-kind\":\"rerun\",\"reruns\":[],\"type-text\":\"script timeout\"}},\"time\":{\"nanos\":0,\"secs\":4},\"timestamp\":{\"nanos\":0,\"offset\":0,\"secs\":3}}],\"name\":\"@setup-script:db@stress-1\",\"properties\":[{\"name\":\"command\",\"value\":\"./prepare db\"},{\"name\":\"args\",\"value\":\"'a b' c\"},{\"name\":\"output-env:PORT\",\"value\":\"1\"},{\"name\":\"output-env:URL\",\"value\":\"db://\"}]}"
-}
-
 #[test]
-fn scripts_have_suites_with_properties(rt: HostRuntime) -> Result<(), Fail> {
-    for (stress_index, ended, wrote, stored, expected) in [
-        (None, b'p', b's', (true, false), script_passed()),
-        (second(None), b'T', b'E', (true, false), script_failed()),
-        (None, b'c', b'n', (false, true), "NotLoadedOutput"),
+fn outputs_of_scripts_are_stored(rt: HostRuntime) -> Result<(), Fail> {
+    for (ended, wrote, stored, expected) in [
+        (b'p', b's', (true, false), script_passed()),
+        (b'c', b'n', (false, true), "NotLoadedOutput"),
     ] {
-        let got = of_script(rt.alloc(), stress_index, ended, wrote, stored)?;
+        let got = of_script(rt.alloc(), ended, wrote, stored)?;
         assert!(rt; got.as_str() == expected);
     }
     Ok(())
 }
 
-// ---- suites in their order
+// ---- tests that are refused
 
-/// A test whose attempts ended and wrote so, in a run of a stress run.
-#[derive(Clone, Copy, Drop)]
-struct Row {
-    names: (&'static str, &'static str),
-    stress_index: Option<StressIndex>,
-    attempts: (&'static str, &'static str, &'static str),
+/// Ends tests of the binary `b` whose attempts ended and wrote so, and answers the suites of their report.
+fn of_tests(alloc: Global, rows: &[(&str, (&str, &str, &str))]) -> Result<String, Fail> {
+    let describer = PlainDescriber;
+    let mut builder = builder(alloc, NextestRunMode::Test, &describer)?;
+    let suites = write_rows(alloc, &mut builder, rows);
+    drop(builder);
+    suites
 }
 
-/// A test of a binary that passed.
-fn passed(binary: &'static str, name: &'static str, stress_index: Option<StressIndex>) -> Row {
-    Row {
-        names: (binary, name),
-        stress_index,
-        attempts: ("p", "s", ""),
-    }
-}
-
-/// A test of a binary that is refused.
-fn refused(name: &'static str, attempts: (&'static str, &'static str, &'static str)) -> Row {
-    Row {
-        names: ("b", name),
-        stress_index: None,
-        attempts,
-    }
-}
-
-/// Ends these tests, and answers the suites of their report.
 fn write_rows(
     alloc: Global,
     builder: &mut JunitBuilder<'_, PlainDescriber>,
-    rows: &[Row],
+    rows: &[(&str, (&str, &str, &str))],
 ) -> Result<String, Fail> {
-    for row in rows {
-        let _answer = write_test(alloc, builder, row.names, row.stress_index, row.attempts)?;
+    for (name, attempts) in rows {
+        let _answer = write_test(alloc, builder, ("b", *name), *attempts)?;
     }
     said(alloc, builder, "accepted", "/suites")
 }
 
-/// What the reports of two runs with these tests say.
-fn of_runs(alloc: Global, first: &[Row], second: &[Row]) -> Result<(String, String), Fail> {
-    let describer = PlainDescriber;
-    let mut builder = builder(alloc, NextestRunMode::Test, &describer)?;
-    let first = write_rows(alloc, &mut builder, first)?;
-    let second = write_rows(alloc, &mut builder, second)?;
-    drop(builder);
-    Ok((first, second))
-}
-
-/// The suites of the first run: those of a binary by its stress indexes, in the order of their first
-/// cases.
-fn first_suites(alloc: Global) -> Result<String, AllocError> {
-    let tail =
-        "\"status\":{\"success\":[]},\"time\":{\"nanos\":0,\"secs\":1},\"timestamp\":{\"nanos\":0,\"offset\":0,\"secs\":1}}";
-    let b = "{\"cases\":[{\"classname\":\"b\",\"name\"";
-    format!(in alloc;
-        "[{b}:\"t1\",{tail},{{\"classname\":\"b\",\"name\":\"t7\",{tail}],\"name\":\"b\",\"properties\":[]}},{{\"cases\":[{{\"classname\":\"a\",\"name\":\"t2\",{tail}],\"name\":\"a\",\"properties\":[]}},{b}:\"t4\",{tail},{{\"classname\":\"b\",\"name\":\"t8\",{tail}],\"name\":\"b@stress-1\",\"properties\":[]}},{b}:\"t5\",{tail}],\"name\":\"b@stress-1\",\"properties\":[]}}]"
-    )
-}
-
-/// The suites of the second run.
-fn second_suites() -> &'static str {
-    "[{\"cases\":[{\"classname\":\"a\",\"name\":\"t9\",\"status\":{\"success\":[]},\"time\":{\"nanos\":0,\"secs\":1},\"timestamp\":{\"nanos\":0,\"offset\":0,\"secs\":1}}],\"name\":\"a\",\"properties\":[]}]"
+/// The suite of the tests that are not refused.
+fn suite_of_two() -> &'static str {
+    "[{\"cases\":[{\"classname\":\"b\",\"name\":\"t1\",\"status\":{\"success\":[]},\"time\":{\"nanos\":0,\"secs\":1},\"timestamp\":{\"nanos\":0,\"offset\":0,\"secs\":1}},{\"classname\":\"b\",\"name\":\"t7\",\"status\":{\"success\":[]},\"time\":{\"nanos\":0,\"secs\":1},\"timestamp\":{\"nanos\":0,\"offset\":0,\"secs\":1}}],\"name\":\"b\",\"properties\":[]}]"
 }
 
 #[test]
-fn suites_go_by_binary_and_stress_index(rt: HostRuntime) -> Result<(), Fail> {
-    let first = [
-        passed("b", "t1", None),
-        passed("a", "t2", None),
-        refused("t3", ("pp", "ss", "")),
-        passed("b", "t4", second(None)),
-        passed("b", "t5", second(Some(4))),
-        refused("t6", ("p", "n", "+")),
-        passed("b", "t7", None),
-        passed("b", "t8", second(None)),
+fn a_refused_test_adds_nothing(rt: HostRuntime) -> Result<(), Fail> {
+    let rows = [
+        ("t1", ("p", "s", "")),
+        ("t3", ("pp", "ss", "")),
+        ("t6", ("p", "n", "+")),
+        ("t7", ("p", "s", "")),
     ];
-    let next = [passed("a", "t9", None)];
-    let got = of_runs(rt.alloc(), &first, &next)?;
-    let expected = first_suites(rt.alloc())?;
-    assert!(rt; got.0.as_str() == expected.as_str());
-    assert!(rt; got.1.as_str() == second_suites());
+    let got = of_tests(rt.alloc(), &rows)?;
+    assert!(rt; got.as_str() == suite_of_two());
     Ok(())
 }
 
@@ -316,7 +178,7 @@ impl ErrorDescriber for Talkative {
 fn described(alloc: Global, flags: &str) -> Result<String, Fail> {
     let describer = Talkative;
     let mut builder = builder(alloc, NextestRunMode::Test, &describer)?;
-    let answer = write_test(alloc, &mut builder, ("b", "t"), None, ("xp", "!s", flags))?;
+    let answer = write_test(alloc, &mut builder, ("b", "t"), ("xp", "!s", flags))?;
     let text = said(alloc, &mut builder, answer, "");
     drop(builder);
     text
@@ -338,35 +200,5 @@ fn reports_say_what_the_describer_says(rt: HostRuntime) -> Result<(), Fail> {
         let got = described(rt.alloc(), flags)?;
         assert!(rt; got.as_str() == expected);
     }
-    Ok(())
-}
-
-// ---- other events
-
-/// Writes a pause, and answers what came of it.
-fn write_pause(builder: &mut JunitBuilder<'_, PlainDescriber>) -> &'static str {
-    let event = event(TestEventKind::RunPaused {
-        setup_scripts_running: 0,
-        running: 0,
-    });
-    let answer = written(builder, &event);
-    drop(event);
-    answer
-}
-
-/// The suites of the report of a run that was paused.
-fn of_pause(alloc: Global) -> Result<String, Fail> {
-    let describer = PlainDescriber;
-    let mut builder = builder(alloc, NextestRunMode::Test, &describer)?;
-    let answer = write_pause(&mut builder);
-    let text = said(alloc, &mut builder, answer, "/suites");
-    drop(builder);
-    text
-}
-
-#[test]
-fn other_events_add_nothing(rt: HostRuntime) -> Result<(), Fail> {
-    let got = of_pause(rt.alloc())?;
-    assert!(rt; got.as_str() == "[]");
     Ok(())
 }

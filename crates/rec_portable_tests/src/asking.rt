@@ -1,13 +1,11 @@
 //! Asks a bundle that is open, and prints what it answers.
 
-use crate::helpers::{AMPLE, open, refusal_text};
-use rec_codec::LineError;
+use crate::helpers::{open, refusal_text};
 use rec_container::{FailingSink, GrowingSink};
 use rec_format::{RerunInfo, RunFilesExist};
 use rec_forms::{Form, write_text};
 use rec_portable::{
-    ExtractOuterFileResult, PortableRecording, PortableRecordingReadError, PortableRecordingRunLog,
-    PortableStoreReader,
+    ExtractOuterFileResult, PortableRecording, PortableRecordingReadError, PortableStoreReader,
 };
 use rec_store::{RecordReadError, StoreReader};
 use std::alloc::{AllocError, Global};
@@ -18,11 +16,8 @@ use std::test::Fail;
 pub(crate) enum Question<'q> {
     Path,
     RunId,
-    StoreVersion,
     /// Which of its files are there.
     Files,
-    /// The items of its log.
-    Log,
     /// The bytes of its store.
     Window,
     /// A part of its store.
@@ -37,8 +32,6 @@ pub(crate) enum Question<'q> {
 #[derive(Clone, Copy)]
 pub(crate) enum Part<'q> {
     CargoMetadata,
-    TestList,
-    RecordOpts,
     BuildScope,
     RerunInfo,
     /// The output of this name.
@@ -48,13 +41,13 @@ pub(crate) enum Part<'q> {
 }
 
 /// What a bundle answers, within a limit on its entries.
-pub(crate) fn ask(
+fn ask(
     alloc: Global,
     bytes: &[u8],
     read_limit: u64,
     question: Question<'_>,
 ) -> Result<String, Fail> {
-    let recording = open(alloc, bytes, AMPLE, read_limit)?;
+    let recording = open(alloc, bytes, read_limit)?;
     let answer = answer(alloc, &recording, question);
     drop(recording);
     answer
@@ -80,9 +73,7 @@ fn answer(
     match question {
         Question::Path => Ok(String::from_str(alloc, recording.archive_path())?),
         Question::RunId => run_id(alloc, recording),
-        Question::StoreVersion => Ok(store_version(alloc, recording)?),
         Question::Files => Ok(files(alloc, recording)?),
-        Question::Log => log(alloc, recording.read_run_log(alloc)),
         Question::Window => text(alloc, recording.store_window().unwrap_or(b"none")),
         Question::Part(part) => part_of(alloc, recording.open_store(alloc), part),
         Question::Entry(name, check_limit) => entry(alloc, recording, name, check_limit),
@@ -97,11 +88,6 @@ fn run_id(alloc: Global, recording: &PortableRecording) -> Result<String, Fail> 
     Ok(text?)
 }
 
-fn store_version(alloc: Global, recording: &PortableRecording) -> Result<String, AllocError> {
-    let version = recording.manifest().store_format_version();
-    format!(in alloc; "{version}")
-}
-
 fn files(alloc: Global, recording: &PortableRecording) -> Result<String, AllocError> {
     let store = recording.store_zip_exists();
     let log = recording.run_log_exists();
@@ -112,34 +98,6 @@ fn files(alloc: Global, recording: &PortableRecording) -> Result<String, AllocEr
 fn text(alloc: Global, bytes: &[u8]) -> Result<String, Fail> {
     let text = std::str::from_utf8(bytes)?;
     Ok(String::from_str(alloc, text.trim())?)
-}
-
-/// The items of a log, a line each, or why there is no log.
-fn log(
-    alloc: Global,
-    log: Result<PortableRecordingRunLog<'_>, PortableRecordingReadError>,
-) -> Result<String, Fail> {
-    match log {
-        Ok(log) => Ok(items(alloc, &log)?),
-        Err(refusal) => Ok(refusal_text(alloc, Some(refusal))?),
-    }
-}
-
-fn items(alloc: Global, log: &PortableRecordingRunLog<'_>) -> Result<String, AllocError> {
-    let mut text = String::new(alloc);
-    for item in log.events(alloc) {
-        add_item(&mut text, item.err())?;
-    }
-    Ok(text)
-}
-
-fn add_item(text: &mut String, fault: Option<LineError>) -> Result<(), AllocError> {
-    match fault {
-        Some(LineError::ReadRunLog { line_number }) => write!(text, "unread {line_number} "),
-        Some(LineError::ParseEvent { line_number }) => write!(text, "no event {line_number} "),
-        Some(LineError::OutOfMemory) => Err(AllocError),
-        None => text.push_str("event "),
-    }
 }
 
 /// A part of a store, or why there is none.
@@ -165,8 +123,6 @@ fn part_read(
 ) -> Result<String, Fail> {
     match part {
         Part::CargoMetadata => string_text(alloc, reader.read_cargo_metadata(alloc)),
-        Part::TestList => item_text(alloc, reader.read_test_list(alloc)),
-        Part::RecordOpts => item_text(alloc, reader.read_record_opts(alloc)),
         Part::BuildScope => item_text(alloc, reader.read_build_scope(alloc)),
         Part::RerunInfo => rerun_text(alloc, reader.read_rerun_info(alloc)),
         Part::Output(name) => bytes_text(alloc, reader.read_output(alloc, name)),

@@ -1,24 +1,17 @@
-//! The log, the store and other entries of a bundle that is open.
+//! What a bundle that is open says of itself, and its entries.
 
-use crate::asking::{Part, Question, answers};
+use crate::asking::{Question, answers};
 use crate::helpers::{AMPLE, container, current_bundle, entry};
-use crate::texts::{format_1_1, log_text, manifest, store_3_0};
+use crate::texts::manifest;
 use std::alloc::Global;
 use std::test::Fail;
 
 // The bundle of a manifest and another entry.
-fn bundle_with(alloc: Global, name: &str, content: &[u8]) -> Result<Vec<u8>, Fail> {
-    let manifest = manifest(alloc, format_1_1(), store_3_0())?;
-    two_entries(alloc, manifest.as_bytes(), name, content)
-}
-
-fn two_entries<'a>(
-    alloc: Global,
-    manifest: &'a [u8],
-    name: &'a str,
-    content: &'a [u8],
-) -> Result<Vec<u8>, Fail> {
-    let contents = [entry("manifest.json", manifest), entry(name, content)];
+fn bundle_with<'a>(alloc: Global, name: &'a str, content: &'a [u8]) -> Result<Vec<u8>, Fail> {
+    let contents = [
+        entry("manifest.json", manifest().as_bytes()),
+        entry(name, content),
+    ];
     container(alloc, &contents)
 }
 
@@ -44,7 +37,6 @@ fn a_recording_says_what_it_is(rt: HostRuntime) -> Result<(), Fail> {
     let run_id = "550e8400-e29b-41d4-a716-446655440000";
     assert!(rt; other_answers(alloc, "x", Question::Path, "run.zip")?);
     assert!(rt; other_answers(alloc, "x", Question::RunId, run_id)?);
-    assert!(rt; other_answers(alloc, "x", Question::StoreVersion, "3.0")?);
     Ok(())
 }
 
@@ -63,52 +55,6 @@ fn a_window_shows_the_store(rt: HostRuntime) -> Result<(), Fail> {
     let alloc = rt.alloc();
     assert!(rt; other_answers(alloc, "store.zip", Question::Window, "kept")?);
     assert!(rt; other_answers(alloc, "run.log.zst", Question::Window, "none")?);
-    Ok(())
-}
-
-// Whether a bundle with this log answers this, within a limit on its entries.
-fn log_answers(alloc: Global, log: &[u8], read_limit: u64, want: &str) -> Result<bool, Fail> {
-    let bytes = current_bundle(alloc, log, b"")?;
-    answers(alloc, &bytes, read_limit, Question::Log, want)
-}
-
-#[test]
-fn lines_of_a_log_are_numbered_from_1(rt: HostRuntime) -> Result<(), Fail> {
-    let alloc = rt.alloc();
-    let want = "event no event 3 event ";
-    assert!(rt; log_answers(alloc, log_text().as_bytes(), AMPLE, want)?);
-    assert!(rt; log_answers(alloc, b"\xff", AMPLE, "unread 1 ")?);
-    Ok(())
-}
-
-#[test]
-fn a_log_may_be_missing_or_too_long(rt: HostRuntime) -> Result<(), Fail> {
-    let alloc = rt.alloc();
-    let missing = "the bundle has no run.log.zst";
-    assert!(rt; other_answers(alloc, "store.zip", Question::Log, missing)?);
-    let log = blanks(alloc, 1000)?;
-    assert!(rt; log_answers(alloc, &log, 1000, "")?);
-    let long = "run.log.zst has 1000 bytes, and the limit is 999";
-    assert!(rt; log_answers(alloc, &log, 999, long)?);
-    Ok(())
-}
-
-// Whether a bundle with this store answers this where it is opened.
-fn store_answers(alloc: Global, store: &[u8], want: &str) -> Result<bool, Fail> {
-    let bytes = current_bundle(alloc, b"", store)?;
-    let question = Question::Part(Part::RerunInfo);
-    answers(alloc, &bytes, AMPLE, question, want)
-}
-
-#[test]
-fn a_store_may_be_missing_or_no_container(rt: HostRuntime) -> Result<(), Fail> {
-    let alloc = rt.alloc();
-    let question = Question::Part(Part::RerunInfo);
-    let missing = "the bundle has no store.zip";
-    assert!(rt; other_answers(alloc, "run.log.zst", question, missing)?);
-    let cut = "the archive can't be read: cut off in the field at byte 9";
-    assert!(rt; store_answers(alloc, b"nxtcont1\x01\x00", cut)?);
-    assert!(rt; store_answers(alloc, b"nxtcont1\0", "none")?);
     Ok(())
 }
 

@@ -1,6 +1,6 @@
 //! Makes bundles, and opens them.
 
-use crate::texts::{format_1_1, manifest, store_3_0};
+use crate::texts::manifest;
 use rec_container::{ContainerWriter, GrowingSink, NamedContent, SliceSource};
 use rec_portable::{PortableRecording, PortableRecordingReadError};
 use std::alloc::{AllocError, Global};
@@ -26,36 +26,28 @@ pub(crate) fn container(alloc: Global, contents: &[NamedContent<'_>]) -> Result<
 }
 
 /// The bundle of a manifest, a log and a store.
-pub(crate) fn bundle<'a>(
+pub(crate) fn current_bundle<'a>(
     alloc: Global,
-    manifest: &'a [u8],
     log: &'a [u8],
     store: &'a [u8],
 ) -> Result<Vec<u8>, Fail> {
     let contents = [
-        entry("manifest.json", manifest),
+        entry("manifest.json", manifest().as_bytes()),
         entry("run.log.zst", log),
         entry("store.zip", store),
     ];
     container(alloc, &contents)
 }
 
-/// A bundle of the versions that are written.
-pub(crate) fn current_bundle(alloc: Global, log: &[u8], store: &[u8]) -> Result<Vec<u8>, Fail> {
-    let manifest = manifest(alloc, format_1_1(), store_3_0())?;
-    bundle(alloc, manifest.as_bytes(), log, store)
-}
-
-/// Opens these bytes, within the limits on the whole and on an entry.
+/// Opens these bytes, within the limit on an entry.
 pub(crate) fn open(
     alloc: Global,
     bytes: &[u8],
-    spool_limit: u64,
     read_limit: u64,
 ) -> Result<PortableRecording, PortableRecordingReadError> {
     let path = String::from_str(alloc, "run.zip")?;
     let mut source = SliceSource::new(bytes);
-    PortableRecording::open(alloc, path, &mut source, spool_limit, read_limit)
+    PortableRecording::open(alloc, path, &mut source, AMPLE, read_limit)
 }
 
 /// Why these bytes aren't opened, as it is printed.

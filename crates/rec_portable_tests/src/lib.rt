@@ -14,8 +14,6 @@ mod messages;
 #[cfg(test)]
 mod opening;
 #[cfg(test)]
-mod recorded;
-#[cfg(test)]
 mod stores;
 #[cfg(test)]
 mod texts;

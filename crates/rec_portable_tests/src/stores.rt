@@ -1,7 +1,8 @@
-//! Stores that can be opened, and whose entries are missing or faulty.
+//! Parts of stores that can be opened: what is read of them, and which are missing or faulty.
 
 use crate::asking::{Part, Question, answers};
-use crate::helpers::{container, current_bundle, entry};
+use crate::helpers::{AMPLE, container, current_bundle, entry};
+use crate::texts::{rerun_text, scope_text};
 use std::alloc::Global;
 use std::test::Fail;
 
@@ -15,7 +16,18 @@ fn part_answers(
 ) -> Result<bool, Fail> {
     let store = container(alloc, &[entry(path, content)])?;
     let bytes = current_bundle(alloc, b"", &store)?;
-    answers(alloc, &bytes, 1000, Question::Part(part), want)
+    answers(alloc, &bytes, AMPLE, Question::Part(part), want)
+}
+
+// Whether a part of a store with this text is this.
+fn text_answers(
+    alloc: Global,
+    path: &str,
+    content: &str,
+    part: Part<'_>,
+    want: &str,
+) -> Result<bool, Fail> {
+    part_answers(alloc, path, content.as_bytes(), part, want)
 }
 
 // The same of a store with an entry that has none of the paths.
@@ -24,53 +36,43 @@ fn empty_answers(alloc: Global, part: Part<'_>, want: &str) -> Result<bool, Fail
 }
 
 #[test]
-fn outputs_have_kinds(rt: HostRuntime) -> Result<(), Fail> {
+fn metadata_is_read(rt: HostRuntime) -> Result<(), Fail> {
+    let alloc = rt.alloc();
+    let text = r#"{"packages":[]}"#;
+    let part = Part::CargoMetadata;
+    assert!(rt; text_answers(alloc, "meta/cargo-metadata.json", text, part, text)?);
+    let text = scope_text();
+    let part = Part::BuildScope;
+    assert!(rt; text_answers(alloc, "meta/build-scope.json", text, part, text)?);
+    let text = rerun_text();
+    let part = Part::RerunInfo;
+    assert!(rt; text_answers(alloc, "meta/rerun-info.json", text, part, text)?);
+    Ok(())
+}
+
+#[test]
+fn outputs_are_read_by_their_kinds(rt: HostRuntime) -> Result<(), Fail> {
     let alloc = rt.alloc();
     let part = Part::Output("x-unknown");
     let missing = "the store has no entry out/x-unknown";
     assert!(rt; empty_answers(alloc, part, missing)?);
     let unknown = "the name x-unknown says no kind of output";
     assert!(rt; part_answers(alloc, "out/x-unknown", b"x", part, unknown)?);
-    let part = Part::Output("y-stdout");
-    assert!(rt; part_answers(alloc, "out/y-stdout", b"y", part, "y")?);
+    let path = "out/ba7816bf8f01cfea-stdout";
+    let part = Part::Extracted(path);
+    assert!(rt; text_answers(alloc, path, "abc", part, "3: abc")?);
     Ok(())
 }
 
 #[test]
-fn metadata_may_be_missing(rt: HostRuntime) -> Result<(), Fail> {
+fn parts_may_be_missing(rt: HostRuntime) -> Result<(), Fail> {
     let alloc = rt.alloc();
     let metadata = "the store has no entry meta/cargo-metadata.json";
     assert!(rt; empty_answers(alloc, Part::CargoMetadata, metadata)?);
-    let list = "the store has no entry meta/test-list.json";
-    assert!(rt; empty_answers(alloc, Part::TestList, list)?);
-    let opts = "the store has no entry meta/record-opts.json";
-    assert!(rt; empty_answers(alloc, Part::RecordOpts, opts)?);
-    Ok(())
-}
-
-#[test]
-fn other_parts_may_be_missing(rt: HostRuntime) -> Result<(), Fail> {
-    let alloc = rt.alloc();
     let scope = "the store has no entry meta/build-scope.json";
     assert!(rt; empty_answers(alloc, Part::BuildScope, scope)?);
     assert!(rt; empty_answers(alloc, Part::RerunInfo, "none")?);
     assert!(rt; empty_answers(alloc, Part::Extracted("y"), "the store has no entry y")?);
-    Ok(())
-}
-
-// Whether a test list of so many blanks isn't read for this reason.
-fn long_list_answers(alloc: Global, length: usize, want: &str) -> Result<bool, Fail> {
-    let list = vec![in alloc; b' '; length]?;
-    part_answers(alloc, "meta/test-list.json", &list, Part::TestList, want)
-}
-
-#[test]
-fn parts_may_be_too_long(rt: HostRuntime) -> Result<(), Fail> {
-    let alloc = rt.alloc();
-    let long = "the entry meta/test-list.json has 1001 bytes, and the limit is 1000";
-    assert!(rt; long_list_answers(alloc, 1001, long)?);
-    let blank = "the entry meta/test-list.json stands for no item of its kind";
-    assert!(rt; long_list_answers(alloc, 1000, blank)?);
     Ok(())
 }
 

@@ -1,23 +1,52 @@
 //! Faults of the source and of the sinks, at each of their calls.
 
 use crate::running::{Faults, SOUND, outcome, run};
-use crate::texts::{head, small_session, small_trace};
-use rec_container::{FailingSource, SliceSource};
+use crate::texts::{head, manifest};
+use rec_container::{FailingSource, GrowingSink, SliceSource};
+use rec_store::write_bundle;
 use std::alloc::{AllocError, Global};
 use std::test::Fail;
+
+/// A bundle of a manifest and empty parts.
+fn bundle(alloc: Global) -> Result<Vec<u8>, AllocError> {
+    let mut sink = GrowingSink::new(alloc);
+    let Ok(()) = write_bundle(&mut sink, manifest().as_bytes(), b"", b"") else {
+        return Err(AllocError);
+    };
+    Ok(sink.into_bytes())
+}
+
+/// What comes of the recording of a head alone in pieces, where a read fails. No read has the number 0.
+fn outcome_of_session(alloc: Global, piece: usize, failed_read: u64) -> Result<String, AllocError> {
+    let fail_at = [failed_read];
+    let mut source = FailingSource::new(head().as_bytes(), piece, &fail_at);
+    outcome(alloc, &["record", "b"], &mut source)
+}
+
+/// What comes of a command over a bundle in pieces of 200 bytes, where a read fails.
+fn outcome_of_bundle(alloc: Global, command: &str, failed_read: u64) -> Result<String, AllocError> {
+    let bundle = bundle(alloc)?;
+    let fail_at = [failed_read];
+    let mut source = FailingSource::new(&bundle, 200, &fail_at);
+    outcome(alloc, &[command], &mut source)
+}
 
 #[test]
 fn faults_of_sources(rt: HostRuntime) -> Result<(), Fail> {
     // Each read of a session in pieces of 100 bytes fails in turn, that of its end too.
     for call in 1..=5 {
-        let fail_at = [call];
-        let mut source = FailingSource::new(head().as_bytes(), 100, &fail_at);
-        let got = outcome(rt.alloc(), &["record", "b"], &mut source)?;
+        let got = outcome_of_session(rt.alloc(), 100, call)?;
         assert!(rt; got.as_str() == "3 SourceFault\n", "{got}");
     }
-    let mut source = FailingSource::new(head().as_bytes(), 1, &[]);
-    let got = outcome(rt.alloc(), &["record", "b"], &mut source)?;
+    let got = outcome_of_session(rt.alloc(), 1, 0)?;
     assert!(rt; got.as_str() == "0 bundle out ", "{got}");
+    // And so does each read of a bundle.
+    for call in 1..=4 {
+        for command in ["info", "trace"] {
+            let got = outcome_of_bundle(rt.alloc(), command, call)?;
+            assert!(rt; got.as_str() == "3 SourceFault\n", "{command}: {got}");
+        }
+    }
     Ok(())
 }
 
@@ -115,57 +144,66 @@ fn faults_of_other_sinks(rt: HostRuntime) -> Result<(), Fail> {
     Ok(())
 }
 
-/// What comes of a run with one test, and what the sinks took.
-fn outcome_of_small(alloc: Global, failed_read: u64, faults: Faults) -> Result<String, Fail> {
-    let session = small_session(alloc)?;
-    let failed_reads = [failed_read];
-    let mut source = FailingSource::new(session.as_bytes(), faults.piece, &failed_reads);
+/// The trace of a head alone, 83 bytes.
+fn empty_trace() -> &'static str {
+    r#"{"displayTimeUnit":"ms","otherData":{"nextest_version":"0.9.111"},"traceEvents":[]}"#
+}
+
+/// What comes of a head alone, where a write of the trace in pieces of 10 bytes fails, and what the sinks
+/// took.
+fn outcome_of_trace(alloc: Global, out: u64) -> Result<String, AllocError> {
+    let faults = Faults {
+        piece: 10,
+        out,
+        ..SOUND
+    };
+    let mut source = SliceSource::new(head().as_bytes());
     let ran = run(alloc, &["record", "b"], &mut source, faults)?;
-    let is_prefix = small_trace().as_bytes().starts_with(&ran.out);
-    Ok(if is_prefix {
-        ran.outcome_and_lengths(alloc)?
+    let is_prefix = empty_trace().as_bytes().starts_with(&ran.out);
+    if is_prefix {
+        ran.outcome_and_lengths(alloc)
     } else {
-        String::from_str(alloc, "another trace")?
-    })
+        String::from_str(alloc, "another trace")
+    }
 }
 
 #[test]
-fn pieces_of_one_byte(rt: HostRuntime) -> Result<(), Fail> {
-    let alloc = rt.alloc();
-    // No call has the number 0.
-    for (failed_read, failed_write, expected) in [
-        (0, 0, "0 3014 1835 "),
-        (2, 0, "3 0 0 SourceFault\n"),
-        (0, 1, "10 0 0 BundleFault\n"),
-        (0, 3014, "10 3013 0 BundleFault\n"),
+fn faults_of_the_trace_leave_the_bundle_whole(rt: HostRuntime) -> Result<(), Fail> {
+    for (call, expected) in [
+        (1, "11 1052 0 TraceFault\n"),
+        (2, "11 1052 10 TraceFault\n"),
+        (9, "11 1052 80 TraceFault\n"),
+        (10, "0 1052 83 "),
     ] {
-        let faults = Faults {
-            piece: 1,
-            bundle: failed_write,
-            ..SOUND
-        };
-        let got = outcome_of_small(alloc, failed_read, faults)?;
+        let got = outcome_of_trace(rt.alloc(), call)?;
         assert!(rt; got.as_str() == expected, "{got}");
     }
     Ok(())
 }
 
+/// What comes of a command over a bundle, where a call of standard output fails, and what the sinks took.
+fn outcome_of_out(alloc: Global, command: &str, out: u64) -> Result<String, AllocError> {
+    let bundle = bundle(alloc)?;
+    let faults = Faults {
+        piece: 60,
+        out,
+        ..SOUND
+    };
+    run(alloc, &[command], &mut SliceSource::new(&bundle), faults)?.outcome_and_lengths(alloc)
+}
+
 #[test]
-fn faults_of_the_trace_leave_the_bundle_whole(rt: HostRuntime) -> Result<(), Fail> {
-    let alloc = rt.alloc();
-    for (fail_at, expected) in [
-        (1, "11 3014 0 TraceFault\n"),
-        (2, "11 3014 100 TraceFault\n"),
-        (19, "11 3014 1800 TraceFault\n"),
-        (20, "0 3014 1835 "),
+fn faults_of_standard_output(rt: HostRuntime) -> Result<(), Fail> {
+    for (command, call, expected) in [
+        ("info", 1, "11 0 0 SinkFailed\n"),
+        ("info", 8, "11 0 420 SinkFailed\n"),
+        ("info", 9, "0 0 463 "),
+        ("trace", 1, "11 0 0 SinkFailed\n"),
+        ("trace", 2, "11 0 60 SinkFailed\n"),
+        ("trace", 3, "0 0 83 "),
     ] {
-        let faults = Faults {
-            piece: 100,
-            out: fail_at,
-            ..SOUND
-        };
-        let got = outcome_of_small(alloc, 0, faults)?;
-        assert!(rt; got.as_str() == expected, "{got}");
+        let got = outcome_of_out(rt.alloc(), command, call)?;
+        assert!(rt; got.as_str() == expected, "{command}: {got}");
     }
     Ok(())
 }

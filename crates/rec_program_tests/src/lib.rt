@@ -2,11 +2,7 @@
 #![tactic(auto)]
 
 #[cfg(test)]
-mod bundles;
-#[cfg(test)]
 mod commands;
-#[cfg(test)]
-mod events;
 #[cfg(test)]
 mod exports;
 #[cfg(test)]
@@ -16,10 +12,6 @@ mod lines;
 #[cfg(test)]
 mod part_lines;
 #[cfg(test)]
-mod pause_and_retry;
-#[cfg(test)]
-mod reading;
-#[cfg(test)]
 mod running;
 #[cfg(test)]
 mod samples;
@@ -27,5 +19,3 @@ mod samples;
 mod sessions;
 #[cfg(test)]
 mod texts;
-#[cfg(test)]
-mod traces;

@@ -1,8 +1,7 @@
 //! Runs the program, and shows what it did as texts.
 
-use crate::texts::session_of;
-use rec_container::{FailingSink, GrowingSink, MemorySink, SliceSource, Source};
-use rec_program::{FaultLine, bundle_path, run_program, write_fault};
+use rec_container::{FailingSink, MemorySink, Source};
+use rec_program::{FaultLine, run_program, write_fault};
 use std::alloc::{AllocError, Global};
 use std::str;
 
@@ -70,7 +69,7 @@ impl Ran {
     }
 }
 
-pub(crate) fn words_of(alloc: Global, texts: &[&str]) -> Result<Vec<String>, AllocError> {
+fn words_of(alloc: Global, texts: &[&str]) -> Result<Vec<String>, AllocError> {
     let mut words = Vec::new(alloc);
     for text in texts {
         words.push(String::from_str(alloc, text)?)?;
@@ -99,25 +98,6 @@ fn run_words<S: Source>(
     let mut diag = sink(alloc, faults.piece, faults.diag)?;
     let status = run_program(alloc, words, source, &mut bundle, &mut out, &mut diag);
     all_taken(alloc, status, &bundle, &out, &diag)
-}
-
-/// Runs the program with sinks that have room for whatever it writes.
-pub(crate) fn run_whole<S: Source>(
-    alloc: Global,
-    words: &[&str],
-    source: &mut S,
-) -> Result<Ran, AllocError> {
-    let words = words_of(alloc, words)?;
-    let mut bundle = GrowingSink::new(alloc);
-    let mut out = GrowingSink::new(alloc);
-    let mut diag = GrowingSink::new(alloc);
-    let status = run_program(alloc, &words, source, &mut bundle, &mut out, &mut diag);
-    Ok(Ran {
-        status,
-        bundle: bundle.into_bytes(),
-        out: out.into_bytes(),
-        diag: diag.into_bytes(),
-    })
 }
 
 /// A sink with room, of which a call fails.
@@ -152,31 +132,6 @@ pub(crate) fn outcome<S: Source>(
     source: &mut S,
 ) -> Result<String, AllocError> {
     run(alloc, words, source, SOUND)?.outcome(alloc)
-}
-
-/// What a recording with these options after the bundle's path makes of a session.
-pub(crate) fn recorded(alloc: Global, options: &[&str], session: &[u8]) -> Result<Ran, AllocError> {
-    let mut words = words_of(alloc, &["record", "b"])?;
-    for option in options {
-        words.push(String::from_str(alloc, option)?)?;
-    }
-    run_words(alloc, &words, &mut SliceSource::new(session), SOUND)
-}
-
-/// What comes of these lines after a head, under a read limit.
-pub(crate) fn outcome_of_lines(
-    alloc: Global,
-    lines: &[&str],
-    read_limit: &str,
-) -> Result<String, AllocError> {
-    let session = session_of(alloc, lines)?;
-    recorded(alloc, &["--read-limit", read_limit], session.as_bytes())?.outcome(alloc)
-}
-
-/// The path of the bundle that the words name.
-pub(crate) fn path_of(alloc: Global, words: &[&str]) -> Result<String, AllocError> {
-    let words = words_of(alloc, words)?;
-    String::from_str(alloc, bundle_path(&words).unwrap_or("none"))
 }
 
 /// The line of a fault.

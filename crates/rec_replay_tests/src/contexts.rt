@@ -1,10 +1,24 @@
 //! Tests that are registered.
 
-use crate::bundles::instance;
-use rec_events::{NextestRunMode, TestList, TestListSummary, TextMap};
+use rec_events::{
+    NextestRunMode, OwnedTestInstanceId, RustBinaryId, TestCaseName, TestList, TestListSummary,
+    TextMap,
+};
 use rec_replay::ReplayContext;
 use std::alloc::{AllocError, Global};
 use std::test::Fail;
+
+/// The test of these names.
+fn instance(
+    alloc: Global,
+    binary_id: &str,
+    test_name: &str,
+) -> Result<OwnedTestInstanceId, AllocError> {
+    Ok(OwnedTestInstanceId {
+        binary_id: RustBinaryId::new(String::from_str(alloc, binary_id)?),
+        test_name: TestCaseName::new(String::from_str(alloc, test_name)?),
+    })
+}
 
 fn is_known(
     context: &ReplayContext<'_>,
@@ -26,11 +40,8 @@ fn finds_what_is_registered(rt: HostRuntime) -> Result<(), Fail> {
     let list = TestList::from_summary(NextestRunMode::Benchmark, &summary);
     let mut context = ReplayContext::new(alloc, &list);
     assert!(rt; context.mode() == NextestRunMode::Benchmark);
-    assert!(rt; !is_known(&context, alloc, "b", "t")?);
     context.register_test(instance(alloc, "b", "t")?)?;
-    context.register_test(instance(alloc, "a", "u")?)?;
     assert!(rt; is_known(&context, alloc, "b", "t")?);
-    assert!(rt; is_known(&context, alloc, "a", "u")?);
     assert!(rt; !is_known(&context, alloc, "a", "t")?);
     Ok(())
 }

@@ -2,8 +2,6 @@
 #![tactic(auto)]
 
 #[cfg(test)]
-mod bundles;
-#[cfg(test)]
 mod contexts;
 #[cfg(test)]
 mod headers;
@@ -13,5 +11,3 @@ mod lines;
 mod refusals;
 #[cfg(test)]
 mod reporters;
-#[cfg(test)]
-mod texts;

@@ -1,70 +1,33 @@
-//! Events that are refused.
+//! What refusals print.
 
-use crate::bundles::is_replayed;
-use crate::texts::{no_runs, test_finished, test_started};
-use rec_replay::LoadOutput;
+use rec_events::{RustBinaryId, TestCaseName, Text};
+use rec_replay::ReplayConversionError;
+use rec_store::RecordReadError;
 use std::alloc::Global;
 use std::test::Fail;
 
-/// Whether an event with these members is refused so, whether its outputs are loaded or not.
-fn refused(alloc: Global, members: &str, want: &str) -> Result<bool, Fail> {
-    Ok(
-        is_replayed(alloc, members, LoadOutput::Load, want)?
-            && is_replayed(alloc, members, LoadOutput::Skip, want)?,
-    )
+/// What a refusal prints.
+fn printed(alloc: Global, error: ReplayConversionError) -> Result<String, Fail> {
+    let text = format!(in alloc; "{error}");
+    drop(error);
+    Ok(text?)
 }
 
 #[test]
-fn events_that_need_no_output(rt: HostRuntime) -> Result<(), Fail> {
+fn refusals_are_printed(rt: HostRuntime) -> Result<(), Fail> {
     let alloc = rt.alloc();
-    let other = test_started(alloc, "t1")?;
-    assert!(rt; refused(alloc, other.as_str(), "test not found under `bin-0`: t1")?);
-    let count = "invalid stress count: expected non-zero value, got 0";
-    assert!(rt; refused(alloc, no_runs(), count)?);
-    Ok(())
-}
-
-/// Whether the end of a test whose attempts have these outputs is refused so.
-fn finish_refused(alloc: Global, first: &str, last: &str, want: &str) -> Result<bool, Fail> {
-    let members = test_finished(alloc, first, last)?;
-    is_replayed(alloc, members.as_str(), LoadOutput::Load, want)
-}
-
-fn nine() -> &'static str {
-    r#"{"split":{"stdout":{"full":"0000000000000001-stdout"}}}"#
-}
-
-fn long() -> &'static str {
-    r#"{"split":{"stdout":{"full":"0000000000000004-stdout"}}}"#
-}
-
-fn missing() -> &'static str {
-    r#"{"split":{"stdout":"empty","stderr":{"full":"0000000000000009-stderr"}}}"#
-}
-
-fn both_missing() -> &'static str {
-    r#"{"split":{"stdout":{"full":"0000000000000008-stdout"},"stderr":{"full":"0000000000000009-stderr"}}}"#
-}
-
-#[test]
-fn outputs_that_are_not_read(rt: HostRuntime) -> Result<(), Fail> {
-    let alloc = rt.alloc();
-    let last = "error reading record: the store has no entry out/0000000000000009-stderr";
-    assert!(rt; finish_refused(alloc, nine(), missing(), last)?);
-    assert!(rt; finish_refused(alloc, missing(), both_missing(), last)?);
-    let first = "error reading record: the store has no entry out/0000000000000008-stdout";
-    assert!(rt; finish_refused(alloc, both_missing(), long(), first)?);
-    let limit =
-        "error reading record: the entry out/0000000000000004-stdout has 1000 bytes, and the limit is 900";
-    assert!(rt; finish_refused(alloc, long(), missing(), limit)?);
-    Ok(())
-}
-
-#[test]
-fn outputs_are_skipped(rt: HostRuntime) -> Result<(), Fail> {
-    let alloc = rt.alloc();
-    let members = test_finished(alloc, long(), missing())?;
-    let line = "1002.000000005 test-finished bin-0 t0 not-loaded";
-    assert!(rt; is_replayed(alloc, members.as_str(), LoadOutput::Skip, line)?);
+    let unknown = ReplayConversionError::TestNotFound {
+        binary_id: RustBinaryId::new(String::from_str(alloc, "bin-0")?),
+        test_name: TestCaseName::new(String::from_str(alloc, "t1")?),
+    };
+    let unknown = printed(alloc, unknown)?;
+    assert!(rt; unknown.as_str() == "test not found under `bin-0`: t1");
+    let count = printed(alloc, ReplayConversionError::InvalidStressCount)?;
+    assert!(rt; count.as_str() == "invalid stress count: expected non-zero value, got 0");
+    let unread = RecordReadError::FileNotFound {
+        file_name: Text::from_str(alloc, "out/0000000000000009-stderr")?,
+    };
+    let unread = printed(alloc, ReplayConversionError::RecordRead(unread))?;
+    assert!(rt; unread.as_str() == "error reading record");
     Ok(())
 }

@@ -6,7 +6,6 @@ use rec_replay::{
     EventReporter, LineReporter, LoadOutput, OutputLoadDecider, ReplayReporterBuilder,
     WriteEventError, write_event_dyn,
 };
-use std::alloc::Global;
 use std::test::Fail;
 
 fn paused() -> TestEvent<'static> {
@@ -36,13 +35,21 @@ fn replay<R: EventReporter>(reporter: &mut R) -> Result<(), WriteEventError> {
     written
 }
 
+/// Hands a pause to a reporter of any type.
+fn write_pause(reporter: &mut dyn EventReporter) -> Result<(), WriteEventError> {
+    let event = paused();
+    let written = write_event_dyn(reporter, &event);
+    drop(event);
+    written
+}
+
 #[test]
 fn events_are_passed_on(rt: HostRuntime) -> Result<(), Fail> {
     let alloc = rt.alloc();
     let mut sink = GrowingSink::new(alloc);
     let mut lines = LineReporter::new(alloc, &mut sink, OutputLoadDecider::Always);
     replay(&mut lines)?;
-    write_event_dyn(&mut lines, &paused())?;
+    write_pause(&mut lines)?;
     assert!(rt; lines.decider().should_load_output() == LoadOutput::Load);
     drop(lines);
     assert!(rt;

@@ -39,6 +39,7 @@ fn calls_in_memory(rt: HostRuntime) -> Result<(), Fail> {
 fn runs_are_pruned_from_the_front(rt: HostRuntime) -> Result<(), Fail> {
     let alloc = rt.alloc();
     let mut watched = WatchedKeeper {
+        alloc,
         inner: MemoryKeeper::new(alloc, Vec::new(alloc)),
         calls: String::new(alloc),
     };

@@ -76,6 +76,7 @@ pub(crate) fn config(
 /// A keeper in memory whose calls are written down, and of which these calls fail.
 pub(crate) fn keeper(alloc: Global, fail_at: &[u64]) -> Result<WatchedKeeper, Fail> {
     Ok(WatchedKeeper {
+        alloc,
         inner: MemoryKeeper::new(alloc, Vec::from_slice(alloc, fail_at)?),
         calls: String::new(alloc),
     })

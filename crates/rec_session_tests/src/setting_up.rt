@@ -125,11 +125,11 @@ fn session_text(alloc: Global, keeper: &mut WatchedKeeper, run_id: &str) -> Resu
 }
 
 fn first_text() -> &'static str {
-    "550e8400-e29b-41d4-a716-446655440000 /w 5 50e8400-e29b-41d4-a716-446655440000"
+    "550e8400-e29b-41d4-a716-446655440000 /state 5 50e8400-e29b-41d4-a716-446655440000"
 }
 
 fn second_text() -> &'static str {
-    "550e8abc-e29b-41d4-a716-446655440000 /w 550e8a bc-e29b-41d4-a716-446655440000"
+    "550e8abc-e29b-41d4-a716-446655440000 /state 550e8a bc-e29b-41d4-a716-446655440000"
 }
 
 fn both_runs() -> &'static str {

@@ -1,15 +1,25 @@
 //! A keeper in memory that writes down which calls are made.
-ghost use Rattle.std.specs.Prelude.{◌≡◌, ◌≤◌, None};
+ghost use Rattle.std.specs.Prelude.{◌≡◌, ◌≤◌, codes, None};
 ghost use Rattle.rec_session.specs.Keepers.{HasKeeperCause};
 
 use rec_events::{Duration, ReportUuid};
 use rec_format::{RecordedRunInfo, RecordedRunStatus, ShortestRunIdPrefix};
 use rec_session::{KeeperError, MemoryKeeper, PruneResult, RecordRetentionPolicy, RunKeeper};
 use rec_store::StoreSizes;
+use std::alloc::Global;
 
-/// Writes down the calls of a keeper, a letter each: directory, open, lock, unlock, create, end, prune.
+/// The directory of each workspace's state, which is no workspace's root.
+pub(crate) fn state_dir() -> &'static str
+    ensures { result.now ≡ codes "/state" }
+{
+    "/state"
+}
+
+/// Writes down the calls of a keeper, a letter each: directory, open, lock, unlock, create, end, prune. A store that is
+/// opened at another directory than that which was answered is an `x`.
 #[derive(Drop)]
 pub(crate) struct WatchedKeeper {
+    pub(crate) alloc: Global,
     pub(crate) inner: MemoryKeeper,
     pub(crate) calls: String,
 }
@@ -28,18 +38,19 @@ impl RunKeeper for WatchedKeeper {
 
     ghost faults = { λ k. k.inner.faults };
 
-    ghost directory = { λ root. root };
+    ghost directory = { λ _. codes "/state" };
 
     ghost pruned = { λ _ runs. record { runs = runs; answer = None } };
 
     fn state_dir(&mut self, workspace_root: &str) -> Result<String, KeeperError> {
         self.note("d");
-        self.inner.state_dir(workspace_root)
+        drop(self.inner.state_dir(workspace_root)?);
+        Ok(String::from_str(self.alloc, state_dir())?)
     }
 
-    fn open_store(&mut self, state_dir: &str) -> Result<(), KeeperError> {
-        self.note("o");
-        self.inner.open_store(state_dir)
+    fn open_store(&mut self, directory: &str) -> Result<(), KeeperError> {
+        self.note(if directory == state_dir() { "o" } else { "x" });
+        self.inner.open_store(directory)
     }
 
     fn lock(&mut self) -> Result<(), KeeperError> {

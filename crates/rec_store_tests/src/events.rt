@@ -1,26 +1,10 @@
 //! Events, their outputs and their lines.
 
 use crate::helpers::{Call, Left, Setup, recorded};
-use crate::texts::{
-    failed_attempt, failed_attempt_line, finished, lines, paused, paused_line, script, script_line,
-    started, started_line, two_attempts, two_attempts_line,
-};
+use crate::texts::{failed_attempt, finished, lines, script, script_line, started, two_attempts};
 use rec_store::{ConstantNamer, OutputNamer, Sha256Namer};
 use std::alloc::Global;
 use std::test::Fail;
-
-#[test]
-fn an_event_is_a_line_of_the_log(rt: HostRuntime) -> Result<(), Fail> {
-    let alloc = rt.alloc();
-    let setup = Setup::sound(&Sha256Namer, 10);
-    let left = recorded(alloc, &setup, &[Call::Event(started())])?;
-    assert!(rt; left.log.as_str() == started_line());
-    assert!(rt; left.sizes.as_str() == "188 188 1, 9 0 0, 197 188");
-    let left = recorded(alloc, &setup, &[Call::Event(paused())])?;
-    assert!(rt; left.log.as_str() == paused_line());
-    assert!(rt; left.store.is_empty());
-    Ok(())
-}
 
 /// Finished tests with outputs, and what is recorded of them.
 #[derive(Drop)]
@@ -67,75 +51,23 @@ fn abc() -> &'static str {
     r#"{"output":{"output":{"split":{"stdout":"616263"}}}}"#
 }
 
-fn abc_logged() -> &'static str {
-    r#"{"output":{"output":{"split":{"stdout":{"full":"ba7816bf8f01cfea-stdout"}}}}}"#
-}
-
-fn abc_cut_logged() -> &'static str {
-    r#"{"output":{"output":{"split":{"stdout":{"truncated":{"file-name":"f324c488732c58a3-stdout","original-size":3}}}}}}"#
-}
-
 fn abc_as_stderr() -> &'static str {
     r#"{"output":{"output":{"split":{"stdout":"","stderr":"616263"}}}}"#
-}
-
-fn abc_as_stderr_logged() -> &'static str {
-    r#"{"output":{"output":{"split":{"stderr":{"full":"ba7816bf8f01cfea-stderr"},"stdout":"empty"}}}}"#
 }
 
 fn abcd() -> &'static str {
     r#"{"output":{"output":{"split":{"stdout":"61626364"}}}}"#
 }
 
-fn abcd_cut_logged() -> &'static str {
-    r#"{"output":{"output":{"split":{"stdout":{"truncated":{"file-name":"f324c488732c58a3-stdout","original-size":4}}}}}}"#
-}
-
 fn abc_in_store() -> &'static str {
     "out/ba7816bf8f01cfea-stdout abc\n"
 }
 
-fn abc_twice_in_store() -> &'static str {
-    "out/ba7816bf8f01cfea-stdout abc\nout/ba7816bf8f01cfea-stderr abc\n"
-}
-
-fn marker_in_store() -> &'static str {
-    "out/f324c488732c58a3-stdout \n\n... [truncated 1 bytes] ...\n\n\n"
-}
-
-fn abc_and_marker_in_store() -> &'static str {
-    "out/ba7816bf8f01cfea-stdout abc\nout/f324c488732c58a3-stdout \n\n... [truncated 1 bytes] ...\n\n\n"
-}
-
 #[test]
-fn outputs_are_cut_at_the_limit_and_stored_once(rt: HostRuntime) -> Result<(), Fail> {
-    let alloc = rt.alloc();
-    for case in [
-        Case {
-            max_size: 2,
-            outputs: &[abc()],
-            answers: "accepted\nsound",
-            logged: &[abc_cut_logged()],
-            store: marker_in_store(),
-        },
-        Case {
-            max_size: 3,
-            outputs: &[abc(), abcd()],
-            answers: "accepted\naccepted\nsound",
-            logged: &[abc_logged(), abcd_cut_logged()],
-            store: abc_and_marker_in_store(),
-        },
-        Case {
-            max_size: 100,
-            outputs: &[abc(), abc(), abc_as_stderr()],
-            answers: "accepted\naccepted\naccepted\nsound",
-            logged: &[abc_logged(), abc_logged(), abc_as_stderr_logged()],
-            store: abc_twice_in_store(),
-        },
-    ] {
-        let max_size = case.max_size;
-        assert!(rt; is_recorded(alloc, &Sha256Namer, &case)?, "{max_size}");
-    }
+fn a_store_without_outputs_has_its_size(rt: HostRuntime) -> Result<(), Fail> {
+    let setup = Setup::sound(&Sha256Namer, 10);
+    let left = recorded(rt.alloc(), &setup, &[Call::Event(started())])?;
+    assert!(rt; left.sizes.as_str() == "188 188 1, 9 0 0, 197 188");
     Ok(())
 }
 
@@ -213,27 +145,6 @@ fn outputs_stand_under_their_numbers(rt: HostRuntime) -> Result<(), Fail> {
         store: stored_under_zero(),
     };
     assert!(rt; is_recorded(alloc, &ConstantNamer { number: 0 }, &zero)?);
-    Ok(())
-}
-
-fn three_in_store() -> &'static str {
-    "out/ba7816bf8f01cfea-stdout abc\nout/2cf24dba5fb0a30e-combined hello\nout/486ea46224d1bb4f-stdout world\n"
-}
-
-#[test]
-fn outputs_of_all_kinds_are_stored(rt: HostRuntime) -> Result<(), Fail> {
-    let alloc = rt.alloc();
-    let calls = [
-        Call::Event(script()),
-        Call::Event(failed_attempt()),
-        Call::Event(two_attempts()),
-    ];
-    let left = recorded(alloc, &Setup::sound(&Sha256Namer, 100), &calls)?;
-    assert!(rt; left.store.as_str() == three_in_store());
-    let mut log = String::from_str(alloc, script_line())?;
-    log.push_str(failed_attempt_line())?;
-    log.push_str(two_attempts_line())?;
-    assert!(rt; left.log.as_str() == log.as_str());
     Ok(())
 }
 

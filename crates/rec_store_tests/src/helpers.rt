@@ -203,6 +203,7 @@ fn attempt(output: ChildOutputDescription) -> ExecuteStatus<LiveSpec> {
         delay_before_start: Duration { secs: 0, nanos: 0 },
         error_summary: None,
         output_error_slice: None,
+        cpu_time: None,
     }
 }
 

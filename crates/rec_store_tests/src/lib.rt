@@ -12,6 +12,8 @@ mod helpers;
 #[cfg(test)]
 mod metadata;
 #[cfg(test)]
+mod names;
+#[cfg(test)]
 mod parts;
 #[cfg(test)]
 mod sizes;

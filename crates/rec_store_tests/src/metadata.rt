@@ -2,47 +2,28 @@
 
 use crate::helpers::{Call, Setup, recorded};
 use crate::texts::{started, stored_text};
-use rec_store::{OutputNamer, Sha256Namer};
+use rec_store::Sha256Namer;
 use std::test::Fail;
 
-#[test]
-fn outputs_are_named_by_their_digest(rt: HostRuntime) {
-    for (bytes, number) in [
-        ("abc", 0xba78_16bf_8f01_cfea),
-        ("hello", 0x2cf2_4dba_5fb0_a30e),
-        ("", 0xe3b0_c442_98fc_1c14),
-    ] {
-        assert_eq!(rt; Sha256Namer.name(bytes.as_bytes()), number, "{bytes:?}");
-    }
-}
-
-fn all_accepted() -> &'static str {
-    "accepted\naccepted\naccepted\naccepted\nsound"
+fn one_collides() -> &'static str {
+    "accepted\naccepted\naccepted\naccepted\nother bytes are stored under meta/cargo-metadata.json\nsound"
 }
 
 #[test]
-fn metadata_is_stored_in_order(rt: HostRuntime) -> Result<(), Fail> {
+fn equal_metadata_changes_nothing_and_other_is_refused(rt: HostRuntime) -> Result<(), Fail> {
     let alloc = rt.alloc();
-    // Equal metadata changes nothing.
-    let calls = [Call::Scope, Call::Rerun, Call::Meta("{}"), Call::Meta("{}")];
+    let calls = [
+        Call::Scope,
+        Call::Rerun,
+        Call::Meta("{}"),
+        Call::Meta("{}"),
+        Call::Meta("[]"),
+    ];
     let left = recorded(alloc, &Setup::sound(&Sha256Namer, 10), &calls)?;
-    assert!(rt; left.answers.as_str() == all_accepted());
+    assert!(rt; left.answers.as_str() == one_collides());
     assert!(rt; left.sizes.as_str() == "0 0 0, 1066 897 5, 1066 897");
     assert!(rt; left.store.as_str() == stored_text());
     assert!(rt; left.log.is_empty());
-    Ok(())
-}
-
-fn one_collides() -> &'static str {
-    "accepted\nother bytes are stored under meta/cargo-metadata.json\nsound"
-}
-
-#[test]
-fn other_metadata_is_refused(rt: HostRuntime) -> Result<(), Fail> {
-    let alloc = rt.alloc();
-    let calls = [Call::Meta("{}"), Call::Meta("[]")];
-    let left = recorded(alloc, &Setup::sound(&Sha256Namer, 10), &calls)?;
-    assert!(rt; left.answers.as_str() == one_collides());
     Ok(())
 }
 

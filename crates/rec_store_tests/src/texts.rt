@@ -44,11 +44,6 @@ pub(crate) fn started() -> &'static str {
     r#"{"timestamp":{"secs":1000,"nanos":0,"offset":0},"elapsed":{"secs":0,"nanos":0},"kind":"run-started","run-id":"550e8400-e29b-41d4-a716-446655440000","profile-name":"default","cli-args":[]}"#
 }
 
-pub(crate) fn started_line() -> &'static str {
-    r#"{"cli-args":[],"elapsed":{"nanos":0,"secs":0},"kind":"run-started","profile-name":"default","run-id":"550e8400-e29b-41d4-a716-446655440000","timestamp":{"nanos":0,"offset":0,"secs":1000}}
-"#
-}
-
 /// A setup script that wrote `abc`.
 pub(crate) fn script() -> &'static str {
     r#"{"timestamp":{"secs":1000,"nanos":0,"offset":0},"elapsed":{"secs":0,"nanos":0},"kind":"setup-script-finished","index":0,"total":1,"script-id":"db","program":"./db.sh","args":["up"],"no-capture":false,"run-status":{"output":{"output":{"output":{"split":{"stdout":"616263"}}}},"result":"pass","start-time":{"secs":1000,"nanos":0,"offset":0},"time-taken":{"secs":1,"nanos":0},"is-slow":false,"env-map":{"DB_URL":"db:1"}}}"#
@@ -77,11 +72,6 @@ pub(crate) fn two_attempts() -> &'static str {
 pub(crate) fn two_attempts_line() -> &'static str {
     r#"{"current-stats":{"exec-failed":0,"failed":0,"failed-slow":0,"failed-timed-out":0,"finished-count":0,"flaky":0,"initial-run-count":0,"leaky":0,"leaky-failed":0,"passed":0,"passed-slow":0,"passed-timed-out":0,"setup-scripts-exec-failed":0,"setup-scripts-failed":0,"setup-scripts-finished-count":0,"setup-scripts-initial-count":0,"setup-scripts-passed":0,"setup-scripts-timed-out":0,"skipped":0},"elapsed":{"nanos":0,"secs":4},"failure-output":"never","junit-flaky-fail-status":"failure","junit-store-failure-output":false,"junit-store-success-output":false,"kind":"test-finished","run-statuses":{"flaky-result":"pass","statuses":[{"delay-before-start":{"nanos":0,"secs":2},"is-slow":false,"output":{"output":{"output":{"split":{"stdout":{"full":"ba7816bf8f01cfea-stdout"}}}}},"result":"exec-fail","retry-data":{"attempt":2,"total-attempts":3},"start-time":{"nanos":0,"offset":0,"secs":1002},"time-taken":{"nanos":0,"secs":1}},{"delay-before-start":{"nanos":7,"secs":0},"is-slow":true,"output":{"output":{"output":{"split":{"stdout":{"full":"486ea46224d1bb4f-stdout"}}}}},"result":"pass","retry-data":{"attempt":3,"total-attempts":3},"start-time":{"nanos":0,"offset":0,"secs":1003},"time-taken":{"nanos":5,"secs":0}}]},"running":0,"success-output":"never","test-instance":{"binary-id":"b","test-name":"t"},"timestamp":{"nanos":0,"offset":0,"secs":1004}}
 "#
-}
-
-/// A run that is paused.
-pub(crate) fn paused() -> &'static str {
-    r#"{"timestamp":{"secs":1002,"nanos":0,"offset":0},"elapsed":{"secs":2,"nanos":0},"kind":"run-paused","setup-scripts-running":0,"running":1}"#
 }
 
 pub(crate) fn paused_line() -> &'static str {

@@ -1,17 +1,5 @@
-//! The tests of `rec_trace_events`.
+//! The tests of `rec_trace_events` for which no case of the built program can stand; those are in `tools/cases`.
 #![tactic(auto)]
 
 #[cfg(test)]
-mod attempts;
-#[cfg(test)]
-mod events;
-#[cfg(test)]
-mod made;
-#[cfg(test)]
-mod names;
-#[cfg(test)]
-mod runs;
-#[cfg(test)]
-mod scripts;
-#[cfg(test)]
-mod starts;
+mod slow;

@@ -47,7 +47,7 @@ const OTHER_RUN: &str =
 fn with_refusals() -> [Line; 20] {
     [
         SubRunEnd(1000),
-        Run(1000, 0),
+        Run(1000),
         Event(1001, OTHER_RUN),
         Start(1001, 1, 0),
         End(1002, 1, 18446744073709551615),

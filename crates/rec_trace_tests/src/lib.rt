@@ -1,39 +1,13 @@
-//! The tests of `rec_trace`.
+//! The tests of `rec_trace` for which no case of the built program can stand; those are in `tools/cases`.
 #![tactic(auto)]
 
 #[cfg(test)]
-mod arrows;
-#[cfg(test)]
 mod builder;
-#[cfg(test)]
-mod converting;
-#[cfg(test)]
-mod counts;
 #[cfg(test)]
 mod drawn;
 #[cfg(test)]
-mod ends;
+mod errors;
 #[cfg(test)]
 mod lines;
 #[cfg(test)]
-mod marks;
-#[cfg(test)]
-mod metadata;
-#[cfg(test)]
-mod pauses;
-#[cfg(test)]
-mod pretty;
-#[cfg(test)]
-mod refusals;
-#[cfg(test)]
-mod runs;
-#[cfg(test)]
-mod scripts;
-#[cfg(test)]
-mod starts;
-#[cfg(test)]
-mod traces;
-#[cfg(test)]
 mod values;
-#[cfg(test)]
-mod whole;

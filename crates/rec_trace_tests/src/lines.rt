@@ -10,10 +10,8 @@ use std::test::Fail;
 pub(crate) enum Line {
     // Any event, by its members.
     Event(i64, &'static str),
-    // The run starts, so many nanoseconds later.
-    Run(i64, u32),
+    Run(i64),
     RunEnd(i64),
-    SubRun(i64),
     SubRunEnd(i64),
     // The setup script of this index starts, under an id.
     Script(i64, u64, u32),
@@ -28,20 +26,12 @@ pub(crate) enum Line {
     Retry(i64, u32, u64),
     // It ends, and so many have failed beside one that could not be executed.
     End(i64, u32, u64),
-    Slow(i64, u32),
-    Skip(i64, u32),
-    // The run pauses, continues or is cancelled, while so many setup scripts run.
-    Pause(i64, u64),
-    Continue(i64, u64),
-    Cancel(i64, u64),
-    // No event.
-    Faulty,
 }
 
 // An event of these members, at an instant.
-fn event(alloc: Global, secs: i64, nanos: u32, members: &str) -> Result<String, Fail> {
+fn event(alloc: Global, secs: i64, members: &str) -> Result<String, Fail> {
     Ok(format!(in alloc;
-        r#"{{"timestamp":{{"secs":{secs},"nanos":{nanos},"offset":0}},"elapsed":{{"secs":1,"nanos":0}},{members}}}"#
+        r#"{{"timestamp":{{"secs":{secs},"nanos":0,"offset":0}},"elapsed":{{"secs":1,"nanos":0}},{members}}}"#
     )?)
 }
 
@@ -61,11 +51,7 @@ fn run_finished(alloc: Global, secs: i64) -> Result<String, Fail> {
     let members = format!(in alloc;
         r#""kind":"run-finished","run-id":"550e8400-e29b-41d4-a716-446655440000","start-time":{{"secs":1000,"nanos":0,"offset":0}},"run-elapsed":{{"secs":1,"nanos":0}},"run-stats":{{"single":{stats}}}"#
     )?;
-    event(alloc, secs, 0, members.as_str())
-}
-
-fn sub_run_started() -> &'static str {
-    r#""kind":"stress-sub-run-started","progress":{"count":{"elapsed":{"secs":1,"nanos":0},"completed":0}}"#
+    event(alloc, secs, members.as_str())
 }
 
 fn sub_run_finished(alloc: Global, secs: i64) -> Result<String, Fail> {
@@ -73,7 +59,7 @@ fn sub_run_finished(alloc: Global, secs: i64) -> Result<String, Fail> {
     let members = format!(in alloc;
         r#""kind":"stress-sub-run-finished","progress":{{"count":{{"elapsed":{{"secs":1,"nanos":0}},"completed":1}}}},"sub-elapsed":{{"secs":1,"nanos":0}},"sub-stats":{stats}"#
     )?;
-    event(alloc, secs, 0, members.as_str())
+    event(alloc, secs, members.as_str())
 }
 
 // An event of the setup script of this index.
@@ -87,7 +73,7 @@ fn script_event(
     let members = format!(in alloc;
         r#""index":{index},"total":2,"script-id":"db{id}","program":"sh","args":[],"no-capture":false,{members}"#
     )?;
-    event(alloc, secs, 0, members.as_str())
+    event(alloc, secs, members.as_str())
 }
 
 fn script_started() -> &'static str {
@@ -102,11 +88,11 @@ fn script_slow(alloc: Global, secs: i64, id: u32) -> Result<String, Fail> {
     let members = format!(in alloc;
         r#""kind":"setup-script-slow","script-id":"db{id}","program":"sh","args":[],"slow-elapsed":{{"secs":1,"nanos":0}},"will-terminate":false"#
     )?;
-    event(alloc, secs, 0, members.as_str())
+    event(alloc, secs, members.as_str())
 }
 
 // The binary of a test.
-pub(crate) fn binary(test: u32) -> &'static str {
+fn binary(test: u32) -> &'static str {
     if test < 3 { "alpha::a" } else { "beta::b" }
 }
 
@@ -116,7 +102,7 @@ fn test_event(alloc: Global, secs: i64, test: u32, members: &str) -> Result<Stri
     let members = format!(in alloc;
         r#""test-instance":{{"binary-id":"{binary}","test-name":"t{test}"}},{members}"#
     )?;
-    event(alloc, secs, 0, members.as_str())
+    event(alloc, secs, members.as_str())
 }
 
 // An event of a test that says how many run.
@@ -181,70 +167,22 @@ fn test_end(
     counted_test_event(alloc, secs, test, running, members.as_str())
 }
 
-fn test_slow() -> &'static str {
-    r#""kind":"test-slow","retry-data":{"attempt":1,"total-attempts":2},"slow-elapsed":{"secs":1,"nanos":0},"will-terminate":false"#
-}
-
-fn test_skipped() -> &'static str {
-    r#""kind":"test-skipped","reason":"ignored","junit-report-skipped":"none""#
-}
-
-// An event that says how many setup scripts and tests run.
-fn count_event(
-    alloc: Global,
-    secs: i64,
-    scripts: u64,
-    running: u64,
-    members: &str,
-) -> Result<String, Fail> {
-    let members = format!(in alloc;
-        r#""setup-scripts-running":{scripts},"running":{running},{members}"#
-    )?;
-    event(alloc, secs, 0, members.as_str())
-}
-
-fn paused() -> &'static str {
-    r#""kind":"run-paused""#
-}
-
-fn continued() -> &'static str {
-    r#""kind":"run-continued""#
-}
-
-fn cancelled() -> &'static str {
-    r#""kind":"run-begin-cancel","reason":"signal""#
-}
-
-// The text of a line about the run or a setup script, at which so many tests run.
-fn run_line(alloc: Global, line: Line, running: u64) -> Result<String, Fail> {
+// The text of a line, at which so many tests run.
+fn line_text(alloc: Global, line: Line, running: u64) -> Result<String, Fail> {
     match line {
-        Line::Event(secs, members) => event(alloc, secs, 0, members),
-        Line::Run(secs, nanos) => event(alloc, secs, nanos, run_started()),
+        Line::Event(secs, members) => event(alloc, secs, members),
+        Line::Run(secs) => event(alloc, secs, run_started()),
         Line::RunEnd(secs) => run_finished(alloc, secs),
-        Line::SubRun(secs) => event(alloc, secs, 0, sub_run_started()),
         Line::SubRunEnd(secs) => sub_run_finished(alloc, secs),
         Line::Script(secs, index, id) => script_event(alloc, secs, index, id, script_started()),
         Line::ScriptEnd(secs, index, id) => script_event(alloc, secs, index, id, script_passed()),
         Line::ScriptSlow(secs, id) => script_slow(alloc, secs, id),
-        Line::Pause(secs, scripts) => count_event(alloc, secs, scripts, running, paused()),
-        Line::Continue(secs, scripts) => count_event(alloc, secs, scripts, running, continued()),
-        Line::Cancel(secs, scripts) => count_event(alloc, secs, scripts, running, cancelled()),
-        _ => Ok(String::from_str(alloc, "{}")?),
-    }
-}
-
-// The text of a line, at which so many tests run.
-fn line_text(alloc: Global, line: Line, running: u64) -> Result<String, Fail> {
-    match line {
         Line::Start(secs, test, slot) => test_start(alloc, secs, test, slot, running),
         Line::Fail(secs, test) => {
             counted_test_event(alloc, secs, test, running, attempt_failed())
         }
         Line::Retry(secs, test, slot) => test_retry(alloc, secs, test, slot, running),
         Line::End(secs, test, failed) => test_end(alloc, secs, test, failed, running),
-        Line::Slow(secs, test) => test_event(alloc, secs, test, test_slow()),
-        Line::Skip(secs, test) => test_event(alloc, secs, test, test_skipped()),
-        _ => run_line(alloc, line, running),
     }
 }
 

@@ -1,5 +1,0 @@
-//! The tests of `rec_sample`.
-#![tactic(auto)]
-
-#[cfg(test)]
-mod sessions;
