@@ -1,0 +1,4 @@
+//! A target of this name is in both packages.
+
+#[test]
+fn passes() {}
