@@ -1,0 +1,1 @@
+"""Man pages and completions of the programs, made of the parsers that print their `--help`."""

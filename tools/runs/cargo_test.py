@@ -1,0 +1,104 @@
+"""Runs `cargo test` so that its test binaries print lines of JSON, which docs/CLI.md describes."""
+
+import contextlib
+import os
+import signal
+import subprocess
+import time
+
+from libtest.lines import LONGEST_WAIT, Lines
+from runs.fault import Fault
+
+EVENTS = ["-Z", "unstable-options", "--format", "json", "--report-time", "--show-output"]
+PAUSE = 0.2
+# How long the processes of a run that was broken off have to end by themselves.
+GRACE = 2
+
+
+def split(words):
+    """What stands before the first `--`, and what stands behind it."""
+    place = words.index("--") if "--" in words else len(words)
+    return words[:place], words[place + 1:]
+
+
+def has(words, option):
+    return any(word == option or word.startswith(option + "=") for word in words)
+
+
+def cargo_words(words):
+    """The command that runs `cargo test` with these words and prints events; what is behind another `--` is for the binaries."""
+    own, of_tests = split(words)
+    toolchain = own[:1] if own and own[0].startswith("+") else []
+    own = own[len(toolchain):]
+    if has(of_tests, "--format"):
+        raise Fault("--format of the test binaries is what the front end sets: leave it out", 2)
+    added = [] if has(own, "--no-fail-fast") else ["--no-fail-fast"]
+    added += [] if has(own, "--message-format") else ["--message-format", "json-render-diagnostics"]
+    events = [word for word in EVENTS if word not in of_tests or not word.startswith("--")]
+    return ["cargo", *toolchain, "test", *added, *own, "--", *events, *of_tests]
+
+
+def manifest_of(words):
+    """The value of `--manifest-path` among the words, None where it isn't there."""
+    own, _ = split(words)
+    for place, word in enumerate(own):
+        if word.startswith("--manifest-path="):
+            return word.partition("=")[2]
+        if word == "--manifest-path" and place + 1 < len(own):
+            return own[place + 1]
+    return None
+
+
+class CargoTest(Lines):
+    """A run of cargo, and the lines that it prints. A signal that asks the front end to end is handed to all of its processes.
+
+    It runs in a group of its own, so that none of them stays. `watch` is called while no line comes.
+    """
+
+    def __init__(self, words, watch):
+        self.watch, self.process = watch, None
+        reading, writing = os.pipe()
+        super().__init__(reading, PAUSE)
+        signal.signal(signal.SIGHUP, lambda _number, frame: self.stop(signal.SIGTERM, frame))
+        environment = {"RUSTC_BOOTSTRAP": "1", **os.environ}
+        try:
+            self.process = subprocess.Popen(
+                words, stdin=subprocess.DEVNULL, stdout=writing, stderr=writing, env=environment, process_group=0,
+            )
+        except OSError as error:
+            raise Fault(f"cargo can't be run: {error.strerror}; install Rust, or put cargo on the path") from error
+        finally:
+            os.close(writing)
+        if self.broken:
+            self.send(signal.SIGTERM)
+
+    def stop(self, number, frame):
+        super().stop(number, frame)
+        self.send(number)
+
+    def send(self, number):
+        """Sends a signal to all processes of the run that are left."""
+        with contextlib.suppress(ProcessLookupError, PermissionError):
+            if self.process:
+                os.killpg(self.process.pid, number)
+
+    def idle(self):
+        """Shows how far the run is. Once cargo has ended, what it left running is waited for no longer than a moment."""
+        self.watch()
+        if self.process.poll() is not None:
+            self.until = time.monotonic() + LONGEST_WAIT
+
+    def end(self):
+        """What cargo answered, as a shell says it; None where the run was broken off."""
+        if self.broken:
+            with contextlib.suppress(subprocess.TimeoutExpired):
+                self.process.wait(GRACE)
+            self.send(signal.SIGKILL)
+        code = self.process.wait()
+        if code < 0:
+            # Nobody is left who would end the test that ran.
+            self.send(signal.SIGKILL)
+        os.close(self.descriptor)
+        if self.broken:
+            return None
+        return 128 - code if code < 0 else code

@@ -1,0 +1,45 @@
+"""Writes the JUnit XML of a recorded run, as tools/junit_xml.py makes it of the program's report."""
+
+import pathlib
+import tempfile
+
+import junit_xml
+from runs import program, store
+from runs.fault import Fault
+
+SUMMARY = "write JUnit XML of a run, for a CI"
+FOLDER = "rezovamy-junit"
+
+
+def add_options(parser):
+    """Takes a run, and where the XML goes."""
+    store.add_run(parser)
+    parser.add_argument(
+        "--to", type=pathlib.Path, metavar="FOLDER", help=f"where junit.xml goes ({FOLDER} beside the folder of the runs)",
+    )
+    parser.add_argument("--fail", action="store_true", help="end with status 4 where a test failed")
+
+
+def run(words):
+    """Writes the files, and prints their paths."""
+    runs = store.here()
+    path = runs.find(words.run)
+    return write(path, words.to or beside(runs), words.fail)
+
+
+def write(path, folder, fails=False):
+    """Writes the files of a bundle's run, prints their paths, and answers the status."""
+    with open(path, "rb") as bundle:
+        report = program.run(["report", *program.limits(path.stat().st_size)], stdin=bundle)
+    with tempfile.NamedTemporaryFile(suffix=".reports") as reports:
+        reports.write(report)
+        reports.flush()
+        more = ["--fail"] if fails else []
+        return junit_xml.run(junit_xml.options([*more, "--events", str(path), reports.name, str(folder)]))
+
+
+def beside(runs):
+    """The folder for the XML where none is named."""
+    if not runs.is_somewhere():
+        raise Fault("no Cargo.toml is here or above, whose folder of runs could have the XML beside it: name a folder with --to")
+    return runs.folder.parent / FOLDER

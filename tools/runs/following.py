@@ -1,0 +1,76 @@
+"""Makes a session of the lines of a test run while they come, by what tools/session_from_libtest.py is made of."""
+
+import argparse
+import dataclasses
+import hashlib
+import re
+import uuid
+
+from libtest import ends, telling
+from libtest.cargo import Targets
+from libtest.reader import Reader
+from libtest.runs import SECOND, Clock, arrivals
+from make_session import text
+from runs.fault import Fault
+
+NEXTEST_VERSION = "0.9.111"
+OWN_WORDS = re.compile(r"session_from_libtest: (.*)", re.S)
+# What cargo answers of words that it doesn't take; of a build that fails it is another status.
+REFUSED = 1
+UNKNOWN = re.compile(r"\d+ lines are no event of a run")
+
+
+@dataclasses.dataclass
+class Session:
+    """The session of a run, and the status with which its tests ended."""
+
+    run_id: str
+    data: bytes
+    status: int
+
+
+def spoken(say):
+    """Says what the reader says, but for its count of lines that aren't events, of which cargo prints many."""
+    def hand_on(line):
+        own = OWN_WORDS.fullmatch(line)
+        if own is None:
+            say(line)
+        elif not UNKNOWN.fullmatch(own[1]):
+            say(f"rezovamy-runs: {own[1]}")
+    return hand_on
+
+
+class Following:
+    """Reads the lines of a run. Without a start its instants are those at which the lines come."""
+
+    def __init__(self, say, start=None):
+        clock = Clock(arrivals(), 0) if start is None else Clock(None, start * SECOND)
+        self.reader = Reader(clock, spoken(say), Targets())
+        self.digest = hashlib.sha256()
+        self.is_kept = start is not None
+
+    def read(self, line):
+        """Takes the next line, as bytes."""
+        self.digest.update(line)
+        self.reader.read(line)
+
+    def session(self, status, broken, profile, cli_args):
+        """The session of the lines that came. The status is cargo's, None where it isn't known."""
+        self.reader.broken = broken
+        self.reader.finish(status)
+        if self.reader.first is None:
+            raise Fault("no test ran, so nothing is recorded: see what stands above, and what was asked for", status or 1)
+        if status == REFUSED and all(run.name == ends.BUILD for run in self.reader.runs):
+            raise Fault("cargo didn't take its words, so nothing is recorded: see what stands above, and correct them", status)
+        # Cargo answers 0 where a test ended its process with 0, and that test has failed.
+        words = argparse.Namespace(status=status or None, profile=profile, nextest_version=NEXTEST_VERSION)
+        run_id = str(uuid.uuid5(uuid.NAMESPACE_OID, self.digest.hexdigest()) if self.is_kept else uuid.uuid4())
+        head, started, *events = telling.session(self.reader, words, run_id)
+        head, started = {**head, "cli-args": cli_args}, {**started, "cli-args": cli_args}
+        data = "".join(text(value) + "\n" for value in (head, started, *events)).encode()
+        return Session(run_id, data, self.status_of(head["status"], status))
+
+    def status_of(self, ended, status):
+        """The status of the tests; where the end of a run of `nextest` wasn't told, that of what was seen."""
+        seen = 100 if any(run.has_failed() for run in self.reader.runs) else 1
+        return ended.get("exit-code", status or seen)

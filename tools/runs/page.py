@@ -1,0 +1,127 @@
+"""The command `page`: a run as one HTML file that asks for nothing outside of itself."""
+
+import base64
+import contextlib
+import hashlib
+import html
+import json
+import os
+import pathlib
+import re
+import sys
+import tempfile
+
+from command_line import whole
+from runs import bundle, store
+from runs.fault import Fault
+from runs.page_data import MOST_OUTPUT, Outputs, page_data
+from runs.slices import draw
+
+SUMMARY = "write a run as one HTML page: timeline, failures, outputs"
+PARTS = pathlib.Path(__file__).resolve().parent / "page"
+# In the order in which they need one another.
+SCRIPTS = ("text", "data", "head", "list", "timeline", "drawing", "pointing", "details", "overview", "main")
+
+
+def add_options(parser):
+    """Takes the run, where the page goes, and how much of an output it has."""
+    parser.add_argument(
+        "run", nargs="?", default="last", metavar="RUN", help="the beginning of a run's id, the path of a bundle, or last (last)",
+    )
+    parser.add_argument(
+        "--to", metavar="FILE", help="where the page goes, - for standard output (beside the bundle, with its name and .html)",
+    )
+    parser.add_argument(
+        "--most-output", type=whole(0, 10**9), metavar="BYTES", default=MOST_OUTPUT,
+        help=f"the most bytes of an output; of a longer one the middle is left out ({MOST_OUTPUT})",
+    )
+
+
+def embedded_json(value):
+    """JSON that may stand in a script of a page: ASCII, without a character by which a tag or a comment begins."""
+    text = json.dumps(value, ensure_ascii=True, separators=(",", ":"))
+    return text.replace("<", "\\u003c").replace(">", "\\u003e").replace("&", "\\u0026")
+
+
+def part(name):
+    return (PARTS / name).read_text(encoding="utf-8")
+
+
+def policy_hash(text):
+    """What a policy of contents calls a text."""
+    return f"'sha256-{base64.b64encode(hashlib.sha256(text.encode()).digest()).decode()}'"
+
+
+def page_title(value):
+    """The name of the page's window."""
+    states = [test["state"] for test in value["tests"]]
+    failed, passed = states.count("failed"), states.count("passed") + states.count("flaky")
+    told = f"{failed} failed" if failed else f"{passed} passed"
+    return f"{told} · {value['run']['profile']} · {value['run']['when']}"
+
+
+def page_html(value):
+    """The page of a value that `page_data` made. Its policy lets no script run but its own, and nothing be fetched."""
+    style = part("style.css")
+    script = "(() => {\n\"use strict\";\n" + "\n".join(part(f"{name}.js") for name in SCRIPTS) + "})();\n"
+    policy = (
+        f"default-src 'none'; script-src {policy_hash(script)}; style-src {policy_hash(style)}; img-src data:; "
+        "base-uri 'none'; form-action 'none'"
+    )
+    parts = {
+        "title": html.escape(page_title(value)), "policy": html.escape(policy, quote=False), "style": style, "script": script,
+        "data": embedded_json(value),
+    }
+    return re.sub(r"\{\{(\w+)\}\}", lambda match: parts[match[1]], part("page.html"))
+
+
+def page_of(path, most_output=MOST_OUTPUT):
+    """The page of the bundle at a path."""
+    def ask(opened):
+        return page_data(opened.run(True), draw(opened.lines()), Outputs(most_output))
+    return page_html(bundle.read(path, ask))
+
+
+def write_whole(path, text):
+    """Writes a file aside and renames it, so that it is there whole or as it was; a pipe or a device is written to."""
+    data = text.encode("utf-8", "backslashreplace")
+    if path.exists() and not path.is_file():
+        path.write_bytes(data)
+        return
+    path = path.resolve()
+    descriptor, aside = tempfile.mkstemp(prefix=f".{path.name}.", dir=path.parent)
+    try:
+        with open(descriptor, "wb") as file:
+            file.write(data)
+        os.chmod(aside, 0o666 & ~store.current_umask())
+        os.replace(aside, path)
+    finally:
+        with contextlib.suppress(FileNotFoundError):
+            os.unlink(aside)
+
+
+def beside(path):
+    """Where the page of a bundle goes if no other file is named."""
+    return path.with_suffix(".html")
+
+
+def written(text, target):
+    """Writes a page, and returns where it is."""
+    try:
+        write_whole(target, text)
+    except OSError as error:
+        raise Fault(f"the page can't be written to {target}: {error.strerror}; name another file with --to") from error
+    return target
+
+
+def run(words):
+    """Writes the page, and prints where it is."""
+    path = store.here().find(words.run)
+    text = page_of(path, words.most_output)
+    if words.to == "-":
+        if sys.stdout is None:
+            raise Fault("standard output is closed: name a file with --to")
+        print(text, end="", flush=True)
+        return 0
+    print(written(text, pathlib.Path(words.to) if words.to else beside(path)), flush=True)
+    return 0

@@ -1,0 +1,138 @@
+// What is known of the test that is chosen: its attempts in their order, with what each one printed.
+
+const details = document.getElementById("details");
+const MOST_SHOWN = 40_000;
+
+const ENDINGS = {
+  pass: "passed", leak: "passed, with a leak", "leak-fail": "failed for a leak", fail: "failed", abort: "aborted",
+  timeout: "timed out", "timeout-pass": "passed at its timeout", "exec-fail": "could not be started", unfinished: "never ended",
+};
+
+function ending_of(attempt) {
+  return (ENDINGS[attempt.result] ?? attempt.result) + (attempt.detail ? `, ${attempt.detail}` : "");
+}
+
+function tries_of(attempt) {
+  const most = Math.max(attempt.total, attempt.test.attempts.length);
+  return most > 1 ? `attempt ${attempt.number} of ${most}` : "";
+}
+
+function result_state({ kind }) {
+  return { retried: "failed", script: "passed", flaky: "passed" }[kind] ?? kind;
+}
+
+// Of several slices a pause cut the attempt: the time between them isn't part of it.
+function times_of(attempt) {
+  if (!attempt.slices.length) return "";
+  const gaps = attempt.slices.slice(1).reduce((sum, [from], at) => sum + from - attempt.slices[at][1], 0);
+  return `from ${duration(attempt.begin)}${gaps > 0 ? `, without ${duration(gaps)} of pause` : ""}`;
+}
+
+function attempt_card(attempt) {
+  const card = element("article", "attempt");
+  card.id = `attempt-${attempt.at}`;
+  const title = tries_of(attempt) || (attempt.is_script ? "its run" : "attempt");
+  const also = [
+    attempt.seconds === undefined ? "" : duration(attempt.seconds), times_of(attempt),
+    attempt.slot === undefined || attempt.is_script ? "" : `slot ${attempt.slot}`, attempt.slow ? "slow" : "",
+  ];
+  card.append(element("header", "",
+    element("h3", "", title[0].toUpperCase() + title.slice(1)),
+    element("span", `result is-${result_state(attempt)}`, ending_of(attempt)),
+    ...also.filter(Boolean).map((one) => element("span", "also", one)),
+  ));
+  if (attempt.error) card.append(element("div", "error mono", safe_nodes(attempt.error, sought_in_outputs())));
+  for (const [stream, at] of attempt.outputs) card.append(output_part(stream, OUTPUTS[at], attempt));
+  const silence = silence_of(attempt);
+  if (silence) card.append(element("p", "none", silence));
+  return card;
+}
+
+function silence_of(attempt) {
+  if (attempt.result === "unfinished") return "What it printed isn't known.";
+  if (!attempt.outputs.length) return "No output was kept.";
+  return attempt.outputs.every(([, at]) => !OUTPUTS[at].size) ? "It printed nothing." : "";
+}
+
+function sought_in_outputs() {
+  return in_outputs.checked ? sought() : "";
+}
+
+const STREAMS = { stdout: "Standard output", stderr: "Standard error", combined: "Output" };
+
+function output_part(stream, output) {
+  if (!output.size) return "";
+  const part = element("details", "output");
+  part.open = true;
+  const lines = output.text.split("\n").length - (output.text.endsWith("\n") ? 1 : 0);
+  const told = bytes(output.size) + (output.note ? "" : `, ${plural(lines, "line")}`);
+  const summary = element("summary", "", element("b", "", STREAMS[stream]), told);
+  if (output.text) summary.append(copy_button(output.text));
+  part.append(summary);
+  if (output.text) {
+    const text = element("pre", "", ...shown_nodes(output.text));
+    text.tabIndex = 0;
+    text.setAttribute("aria-label", STREAMS[stream]);
+    part.append(text);
+  }
+  if (output.note) part.append(element("p", "note", output.note));
+  return part;
+}
+
+// A long text is drawn from its begin and its end, until all of it is asked for.
+function shown_nodes(text) {
+  if (text.length <= MOST_SHOWN) return [safe_nodes(text, sought_in_outputs())];
+  const begin = character_before(text, MOST_SHOWN / 2), end = character_before(text, text.length - MOST_SHOWN / 2);
+  const button = element("button", "quiet all", `Show ${whole(end - begin)} characters more`);
+  button.type = "button";
+  button.addEventListener("click", () => button.parentElement.replaceChildren(safe_nodes(text, sought_in_outputs())));
+  return [safe_nodes(text.slice(0, begin), sought_in_outputs()), button, safe_nodes(text.slice(end), sought_in_outputs())];
+}
+
+// The place, or the one before it where a pair of surrogates stands across it.
+function character_before(text, place) {
+  return /[\ud800-\udbff]/.test(text[place - 1]) ? place - 1 : place;
+}
+
+function copy_button(text) {
+  const button = element("button", "quiet", "Copy");
+  button.type = "button";
+  button.addEventListener("click", async (event) => {
+    event.preventDefault();
+    const clean = text.replace(SPECIAL, (part, colour) => (colour === undefined ? spelled(part) : ""));
+    button.textContent = await copied(clean) ? "Copied" : "Not copied";
+    setTimeout(() => { button.textContent = "Copy"; }, 1500);
+  });
+  return button;
+}
+
+async function copied(text) {
+  try {
+    await navigator.clipboard.writeText(text);
+    return true;
+  } catch {
+    return false;
+  }
+}
+
+function back_button() {
+  const words = [element("span", "only-narrow", "← Tests"), element("span", "only-wide", "← Overview")];
+  const button = element("button", "quiet back", ...words);
+  button.type = "button";
+  button.addEventListener("click", back_to_run);
+  return button;
+}
+
+function draw_test(test, attempt) {
+  const head = element("h2", "", state_mark(test.state), element("span", "", safe_nodes(test.name)));
+  const facts = [
+    test.place, STATES[test.state].word, time_of(test),
+    test.flaky_fails ? "passing at a later attempt counts as a failure" : "", test.command ?? "",
+  ];
+  const under = element("p", "under", ...facts.filter(Boolean).map((one) => element("span", "", safe_nodes(one))));
+  const parts = [back_button(), head, under];
+  if (test.reason) parts.push(element("p", "under", `Skipped: ${test.reason}.`));
+  details.replaceChildren(...parts, ...test.attempts.map((one) => attempt_card(one)));
+  details.scrollTop = 0;
+  if (attempt?.at) document.getElementById(`attempt-${attempt.at}`).scrollIntoView({ block: "nearest" });
+}

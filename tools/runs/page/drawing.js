@@ -1,0 +1,292 @@
+// Draws the timeline on its canvas: pauses, slices, retries, the axis and the names of rows.
+
+const FONT = '11px system-ui, -apple-system, "Segoe UI", Roboto, "Liberation Sans", Arial, sans-serif';
+const COLOURS = ["panel", "ink", "muted", "faint", "line", "accent", "on-slice", "on-failed", "pause", "pause-line"];
+const KINDS = ["passed", "script", "flaky", "retried", "unfinished", "failed"];
+
+function read_colours() {
+  const style = getComputedStyle(document.documentElement);
+  const colour = (name) => style.getPropertyValue(`--${name}`).trim();
+  paint = Object.fromEntries(KINDS.map((kind) => [kind, colour(`slice-${kind}`)]));
+  for (const name of COLOURS) paint[name] = colour(name);
+  paint.strong = colour("failed");
+  paint.slow = colour("flaky");
+  paint.hatch = hatching();
+}
+
+// A pattern of thin slanted lines, in which nothing ran.
+function hatching() {
+  const tile = document.createElement("canvas");
+  const scale = devicePixelRatio || 1, size = 8;
+  tile.width = tile.height = size * scale;
+  const context = tile.getContext("2d");
+  context.scale(scale, scale);
+  context.fillStyle = paint.pause;
+  context.fillRect(0, 0, size, size);
+  context.strokeStyle = paint["pause-line"];
+  for (const shift of [-size, 0, size]) {
+    context.beginPath();
+    context.moveTo(shift, size);
+    context.lineTo(shift + size, 0);
+    context.stroke();
+  }
+  const pattern = context.createPattern(tile, "repeat");
+  pattern.setTransform(new DOMMatrix().scale(1 / scale));
+  return pattern;
+}
+
+function draw_lanes() {
+  if (!width) return;
+  const context = canvas.getContext("2d");
+  context.clearRect(0, 0, width, height);
+  context.font = FONT;
+  context.textBaseline = "middle";
+  const first = Math.max(0, Math.floor(lanes.scrollTop / lane));
+  const end = Math.min(rows.length, Math.ceil((lanes.scrollTop + height) / lane));
+  context.save();
+  context.beginPath();
+  context.rect(gutter, AXIS, width - gutter, height - AXIS);
+  context.clip();
+  draw_grid(context, first, end);
+  draw_pauses(context);
+  draw_retries(context, false);
+  for (let at = first; at < end; at++) draw_row(context, rows[at], AXIS + at * lane - lanes.scrollTop);
+  draw_retries(context, true);
+  draw_chosen(context);
+  draw_marks(context);
+  context.restore();
+  draw_names(context, first, end);
+  draw_axis(context);
+}
+
+function draw_grid(context, first, end) {
+  context.fillStyle = paint.line;
+  for (const time of ticks()) context.fillRect(Math.round(x_at(time)), AXIS, 1, height);
+  for (let at = first; at < end; at++) {
+    const top = Math.round(AXIS + at * lane - lanes.scrollTop);
+    if (rows_by === "binary" && rows[at].first && at) context.fillRect(gutter, top, width, 1);
+  }
+}
+
+function draw_pauses(context) {
+  for (const [from, to] of PAUSES) {
+    const left = x_at(from), right = x_at(to);
+    if (right < gutter || left > width) continue;
+    context.fillStyle = paint.hatch;
+    context.fillRect(left, AXIS, Math.max(1, right - left), height);
+    const label = `paused ${duration(to - from)}`;
+    const begin = Math.max(left, gutter), room = Math.min(right, width) - begin, needs = context.measureText(label).width + 10;
+    if (room < needs) continue;
+    const bottom = Math.min(height, AXIS + rows.length * lane - lanes.scrollTop);
+    context.fillStyle = paint.panel;
+    context.fillRect(begin + (room - needs) / 2, (AXIS + bottom) / 2 - 8, needs, 16);
+    context.fillStyle = paint.muted;
+    context.fillText(label, begin + (room - needs) / 2 + 5, (AXIS + bottom) / 2 + 1);
+  }
+}
+
+// The slices of a row, those that failed last, so that no other one hides them.
+function draw_row(context, row, top) {
+  const seen = between(row.attempts, view.from, view.to);
+  const loud = seen.filter((one) => LOUD[one.kind]);
+  for (const one of seen) if (!LOUD[one.kind]) draw_attempt(context, one, top, 0.75);
+  for (const one of loud) draw_attempt(context, one, top, 2);
+}
+
+function draw_attempt(context, attempt, top, least) {
+  context.fillStyle = paint[attempt.kind];
+  const labelled = [];
+  for (const [from, to] of attempt.slices) {
+    const left = x_at(from), right = Math.max(x_at(to), left + least);
+    if (right < gutter || left > width) continue;
+    const begin = Math.max(left, gutter - 4), wide = Math.min(right, width + 4) - begin;
+    const gap = wide > 4 ? 1 : 0;
+    if (wide > 5) fill_round(context, begin, top + 3, wide - gap, lane - 6, 2.5);
+    else context.fillRect(begin, top + 3, wide - gap, lane - 6);
+    if (wide > 30) labelled.push([begin, wide]);
+  }
+  if (attempt.slow_at) draw_slow(context, attempt, top);
+  for (const place of labelled) draw_label(context, attempt, place, top);
+}
+
+function fill_round(context, left, top, wide, high, radius) {
+  context.beginPath();
+  context.roundRect(left, top, wide, high, Math.min(radius, wide / 2));
+  context.fill();
+}
+
+// A label starts where the slice can be seen, and ends before the slice does.
+function draw_label(context, attempt, [left, wide], top) {
+  const begin = Math.max(left, gutter) + 5, room = left + wide - begin - 5;
+  const text = attempt.at || attempt.kind === "retried" ? `${attempt.test.shown} (${attempt.number})` : attempt.test.shown;
+  const label = fitted(context, text, room);
+  if (!label) return;
+  context.fillStyle = attempt.kind === "failed" ? paint["on-failed"] : paint["on-slice"];
+  if (attempt.kind === "retried" || attempt.kind === "unfinished" || attempt.kind === "flaky") context.fillStyle = paint.ink;
+  context.fillText(label, begin, top + lane / 2 + 0.5);
+}
+
+// As much of a text as fits; of a path its last parts are what tells it.
+function fitted(context, text, room) {
+  if (room < 18) return "";
+  const guess = Math.ceil(room / 4);
+  let part = text.length > guess * 2 ? text.slice(-guess * 2) : text;
+  if (context.measureText(part).width <= room && part === text) return text;
+  const last = text.split("::").at(-1);
+  if (context.measureText(last).width <= room) return last;
+  part = last.slice(0, guess);
+  while (part && context.measureText(`${part}…`).width > room) part = part.slice(0, -1);
+  return part.length > 1 ? `${part}…` : "";
+}
+
+// Where the runner said that it is slow.
+function draw_slow(context, attempt, top) {
+  context.fillStyle = paint.slow;
+  for (const time of attempt.slow_at) {
+    const x = x_at(time / 1e6);
+    context.beginPath();
+    context.moveTo(x - 4, top + lane - 2);
+    context.lineTo(x + 4, top + lane - 2);
+    context.lineTo(x, top + lane - 7);
+    context.fill();
+  }
+}
+
+// An arrow leads from a failed attempt to the one by which it is tried again: behind the slices, or before them where it is loud.
+function draw_retries(context, loud) {
+  const tests = loud || RETRIED.length <= 400 ? RETRIED : [];
+  for (const test of tests.filter((one) => (one === chosen || one === hovered?.test) === loud)) {
+    context.strokeStyle = context.fillStyle = loud ? paint.ink : paint.muted;
+    context.lineWidth = loud ? 1.6 : 1;
+    for (let at = 1; at < test.attempts.length; at++) draw_arrow(context, test.attempts[at - 1], test.attempts[at]);
+  }
+}
+
+function draw_arrow(context, from, to) {
+  if (!from.slices.length || !to.slices.length || to.begin < view.from || from.end > view.to) return;
+  // It runs between the rows, so that it strikes no label through.
+  const down = to.row > from.row, top = (attempt) => AXIS + attempt.row * lane - lanes.scrollTop;
+  const left = x_at(from.end) - 2, right = x_at(to.begin), bend = Math.max(10, Math.abs(right - left) / 2);
+  const begin = top(from) + (down ? lane - 2 : 2), end = top(to) + (from.row === to.row || down ? 4 : lane - 4);
+  const lift = from.row === to.row ? lane * 0.4 : 0;
+  context.beginPath();
+  context.moveTo(left, begin);
+  context.bezierCurveTo(left + bend, begin - lift, right - bend, end - lift, right - 3, end);
+  context.stroke();
+  context.beginPath();
+  context.arc(left, begin, 2, 0, 7);
+  context.fill();
+  context.beginPath();
+  context.moveTo(right + 1, end);
+  context.lineTo(right - 5, end - 3.5);
+  context.lineTo(right - 5, end + 3.5);
+  context.fill();
+}
+
+function draw_chosen(context) {
+  for (const test of new Set([chosen, hovered?.test])) {
+    if (!test) continue;
+    context.strokeStyle = test === chosen ? paint.accent : paint.muted;
+    context.lineWidth = test === chosen ? 2 : 1;
+    for (const attempt of test.attempts) {
+      const top = AXIS + attempt.row * lane - lanes.scrollTop;
+      for (const [from, to] of attempt.slices) {
+        const left = Math.max(x_at(from), gutter - 6), right = Math.min(x_at(to), width + 6);
+        context.beginPath();
+        context.roundRect(left - 1.5, top + 1.5, Math.max(3, right - left + 2), lane - 3, 3.5);
+        if (right > gutter && left < width) context.stroke();
+      }
+    }
+  }
+}
+
+// A line where the run was cancelled.
+function draw_marks(context) {
+  for (const [time] of RUN.marks) {
+    const x = Math.round(x_at(time / 1e6)) + 0.5;
+    context.strokeStyle = paint.strong;
+    context.setLineDash([3, 3]);
+    context.lineWidth = 1;
+    context.beginPath();
+    context.moveTo(x, AXIS);
+    context.lineTo(x, height);
+    context.stroke();
+    context.setLineDash([]);
+  }
+}
+
+// The words for these lines stand in the axis, where no slice is below them.
+function draw_mark_names(context) {
+  for (const [time, label] of RUN.marks) {
+    const x = x_at(time / 1e6), wide = context.measureText(label).width + 8;
+    const left = Math.max(gutter, Math.min(x - wide / 2, width - wide));
+    if (x < gutter || x > width) continue;
+    context.fillStyle = paint.panel;
+    context.fillRect(left, 0, wide, AXIS - 5);
+    context.fillStyle = paint.strong;
+    context.fillText(label, left + 4, AXIS / 2);
+  }
+}
+
+function draw_names(context, first, end) {
+  context.fillStyle = paint.panel;
+  context.fillRect(0, 0, gutter, height);
+  context.save();
+  context.beginPath();
+  context.rect(0, AXIS, gutter - 4, height);
+  context.clip();
+  for (let at = first; at < end; at++) {
+    const row = rows[at], middle = AXIS + (at + 0.5) * lane - lanes.scrollTop + 0.5;
+    context.fillStyle = row.first || rows_by === "slot" ? paint.muted : paint.faint;
+    const room = gutter - 22 - (row.under ? 24 : 0);
+    context.fillText(fitted(context, row.label, room), 16, middle);
+    context.fillStyle = paint.faint;
+    context.textAlign = "right";
+    context.fillText(row.under, gutter - 10, middle);
+    context.textAlign = "left";
+  }
+  context.restore();
+  context.fillStyle = paint.line;
+  context.fillRect(gutter - 1, 0, 1, height);
+}
+
+// Round times, about a hundred pixels from one to the next.
+function ticks() {
+  const rough = (view.to - view.from) / Math.max(2, (width - gutter) / 100);
+  const steps = [1, 2, 5, 10, 15, 30, 60, 120, 300, 600, 900, 1800, 3600, 7200, 14400, 43200, 86400];
+  const tens = 10 ** Math.floor(Math.log10(rough));
+  const small = [1, 2, 5, 10].map((one) => one * tens).find((one) => one >= rough * 0.999);
+  const step = rough > 1 ? steps.find((one) => one >= rough) ?? Math.ceil(rough / 86400) * 86400 : small;
+  const first = Math.ceil(view.from / step), found = [];
+  for (let at = first; at * step <= view.to; at++) found.push(at * step);
+  return found;
+}
+
+function tick_label(time, step) {
+  if (time === 0) return "0";
+  if (step >= 1 && time >= 60) {
+    const whole_seconds = Math.round(time), hours = Math.floor(whole_seconds / 3600);
+    const two = (number) => String(number).padStart(2, "0");
+    const rest = `${two(Math.floor(whole_seconds / 60) % 60)}:${two(whole_seconds % 60)}`;
+    return hours ? `${hours}:${rest}` : rest.replace(/^0/, "");
+  }
+  const is_fine = step < 0.1 && time < 60;
+  const unit = is_fine && step >= 1e-4 && view.to < 10 ? [1e3, "ms"] : is_fine && view.to < 0.01 ? [1e6, "µs"] : [1, "s"];
+  const digits = Math.max(0, Math.ceil(-Math.log10(step * unit[0]) - 1e-9));
+  return `${(time * unit[0]).toFixed(digits)} ${unit[1]}`;
+}
+
+function draw_axis(context) {
+  context.fillStyle = paint.panel;
+  context.fillRect(gutter, 0, width, AXIS);
+  const times = ticks(), step = times.length > 1 ? times[1] - times[0] : view.to - view.from;
+  context.fillStyle = paint.faint;
+  for (const time of times) {
+    const label = tick_label(time, step), x = x_at(time);
+    if (x + context.measureText(label).width + 4 < width) context.fillText(label, x + 4, AXIS / 2);
+    context.fillRect(Math.round(x), AXIS - 5, 1, 5);
+  }
+  draw_mark_names(context);
+  context.fillStyle = paint.line;
+  context.fillRect(0, AXIS - 1, width, 1);
+}

@@ -1,0 +1,78 @@
+// The top of the page: how the run ended, in a line, and whose it is.
+
+function draw_headline() {
+  const parts = ["failed", "unfinished", "flaky", "passed", "skipped"].filter((state) => COUNTS[state]);
+  const headline = document.getElementById("headline");
+  headline.replaceChildren();
+  parts.forEach((state, at) => {
+    const loud = state === "failed" || (state === "passed" && !COUNTS.failed && !COUNTS.unfinished);
+    const comma = at < parts.length - 1 ? element("span", "rest", ",") : "";
+    const told = `${whole(COUNTS[state])} ${STATES[state].word}`;
+    headline.append(element("span", "", element("span", loud ? state : "rest", told), comma), " ");
+  });
+  if (!parts.length) headline.append("No test ran");
+}
+
+function draw_facts() {
+  const { run } = RUN;
+  const facts = document.getElementById("facts");
+  const id = element("span", "mono", run.id.slice(0, 8));
+  id.title = run.id;
+  const status = run.status === "completed" ? "" : run.status, exit = run.exit ? `exit code ${run.exit}` : "";
+  const told = [plural(TEST_COUNT - COUNTS.skipped, "test"), duration(run.seconds), status, exit, run.when, `profile ${run.profile}`];
+  facts.replaceChildren(...told.filter(Boolean).map((fact) => element("span", "", safe_nodes(fact))), id);
+}
+
+// A thin line that shows the shares of the states.
+function draw_share() {
+  const share = document.getElementById("share");
+  for (const state of ["failed", "unfinished", "flaky", "passed", "skipped"]) {
+    if (!COUNTS[state]) continue;
+    const part = element("i");
+    part.style.flex = `${COUNTS[state]} 0 0`;
+    part.style.background = `var(--${state === "skipped" ? "line" : state})`;
+    share.append(part);
+  }
+}
+
+// Light or dark as the system has it, until one is chosen.
+const THEMES = ["auto", "light", "dark"];
+const prefers_dark = matchMedia("(prefers-color-scheme: dark)");
+let theme = "auto";
+
+function kept(key, value) {
+  try {
+    if (value !== undefined) localStorage.setItem(key, value);
+    return localStorage.getItem(key);
+  } catch {
+    return null;
+  }
+}
+
+function apply_theme() {
+  const dark = theme === "dark" || (theme === "auto" && prefers_dark.matches);
+  document.documentElement.dataset.theme = dark ? "dark" : "light";
+  const button = document.getElementById("theme");
+  button.textContent = { auto: "Theme: auto", light: "Theme: light", dark: "Theme: dark" }[theme];
+  document.dispatchEvent(new Event("theme"));
+}
+
+function start_head() {
+  draw_headline();
+  draw_facts();
+  draw_share();
+  theme = THEMES.find((one) => one === kept("rezovamy-theme")) ?? "auto";
+  apply_theme();
+  prefers_dark.addEventListener("change", apply_theme);
+  document.getElementById("theme").addEventListener("click", () => {
+    theme = THEMES[(THEMES.indexOf(theme) + 1) % THEMES.length];
+    kept("rezovamy-theme", theme);
+    apply_theme();
+  });
+  const keys = document.getElementById("keys"), help = document.getElementById("help");
+  keys.addEventListener("click", () => {
+    help.hidden = !help.hidden;
+    keys.setAttribute("aria-expanded", String(!help.hidden));
+    document.dispatchEvent(new Event("resized"));
+  });
+}

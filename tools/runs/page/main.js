@@ -1,0 +1,107 @@
+// Which test is chosen, and the keys of the whole page.
+
+let chosen = null;
+const said = document.getElementById("said");
+
+function announce(text) {
+  said.textContent = text;
+}
+
+function is_narrow() {
+  return matchMedia("(max-width: 760px)").matches;
+}
+
+// Shows a test, or the whole run. `from` says where it was chosen, and `quiet` that the keyboard stays there.
+function choose(test, { from = "", attempt = null, quiet = false } = {}) {
+  chosen = test;
+  if (test) draw_test(test, attempt);
+  else draw_run();
+  document.body.classList.toggle("chosen", Boolean(test) && !quiet);
+  details.setAttribute("aria-label", test ? `Details of ${test.shown}` : "Overview of the run");
+  if (test) reveal_row(test);
+  draw_rows();
+  if (test && from !== "timeline") {
+    cursor = test.attempts.findLast((one) => one.slices.length) ?? cursor;
+    reveal_test(test);
+  } else redraw();
+  if (!test) cursor = null;
+  if (is_narrow() && test && !quiet) open_details();
+  keep_in_address(test);
+}
+
+// Goes to the outputs. In a narrow window they take the place of the list.
+function open_details() {
+  document.body.classList.add("chosen");
+  details.focus();
+  if (is_narrow()) scrollTo(0, 0);
+}
+
+// So that the address leads to the test again.
+function keep_in_address(test) {
+  try {
+    const place = test ? `#${encodeURIComponent(`${test.place}::${test.name}`)}` : location.pathname + location.search;
+    history.replaceState(null, "", place);
+  } catch {
+    // Some browsers refuse that for files; the page works without.
+  }
+}
+
+function choose_by_address() {
+  try {
+    const wanted = decodeURIComponent(location.hash.slice(1));
+    const found = wanted && TESTS.find((test) => `${test.place}::${test.name}` === wanted);
+    if (found) choose(found, { from: "address" });
+  } catch {
+    // An address that isn't spelled well names no test.
+  }
+}
+
+function step_failure(steps) {
+  if (!FAILURES.length) return announce("No test failed");
+  const at = FAILURES.indexOf(chosen), first = steps > 0 ? 0 : FAILURES.length - 1;
+  const next = FAILURES[at < 0 ? first : (at + steps + FAILURES.length) % FAILURES.length];
+  choose(next, { from: "keys", quiet: !document.body.classList.contains("chosen") });
+  announce(`${next.shown}, ${why(next)}`);
+}
+
+function escape() {
+  if (document.activeElement === search && search.value) {
+    search.value = "";
+    refresh_list();
+  } else if (details.contains(document.activeElement) && chosen && !is_narrow()) list.focus();
+  else if (chosen) back_to_run();
+}
+
+function back_to_run() {
+  choose(null);
+  list.focus();
+}
+
+function page_key(event) {
+  if (event.altKey || event.ctrlKey || event.metaKey) return;
+  if (event.key === "Escape") {
+    escape();
+    event.preventDefault();
+    return;
+  }
+  if (event.target.matches("input, select")) return;
+  if (event.key === "/") {
+    if (is_narrow() && chosen) choose(null);
+    search.focus();
+    search.select();
+  } else if (event.key === "n") step_failure(1);
+  else if (event.key === "p") step_failure(-1);
+  else if (event.key === "?") document.getElementById("keys").click();
+  else return;
+  event.preventDefault();
+}
+
+start_head();
+start_list();
+start_timeline();
+choose(null);
+choose_by_address();
+addEventListener("hashchange", choose_by_address);
+addEventListener("resize", draw_rows);
+document.addEventListener("keydown", page_key);
+document.documentElement.dataset.ready = "yes";

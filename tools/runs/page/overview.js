@@ -1,0 +1,96 @@
+// What is told of the run where no test is chosen: failures first, then what was tried again, the slowest tests, and binaries.
+
+const FAILURES = TESTS.filter((test) => test.state === "failed" || test.state === "unfinished").sort(ORDERS.failures);
+const MOST_ITEMS = 50;
+
+function first_line(text) {
+  return text.split("\n").map((line) => line.trim()).find(Boolean) ?? "";
+}
+
+function why(test) {
+  const last = test.attempts.findLast((attempt) => attempt.bad || attempt.result === "unfinished");
+  if (!last) return test.flaky_fails ? "it passed at a later attempt, which counts as a failure" : "";
+  return last.error ? first_line(last.error) : ending_of(last);
+}
+
+function item(test, { reason = "", bar = false } = {}) {
+  const button = element("button", "item");
+  button.type = "button";
+  const name = element("span", "name", safe_nodes(test.name), " ", element("span", "place", safe_nodes(test.place)));
+  const tries = test.attempts.length > 1 ? `${test.attempts.length} attempts` : "";
+  button.append(state_mark(test.state), name, element("span", "took", [tries, time_of(test)].filter(Boolean).join(", ")));
+  if (reason) button.append(element("span", "why", safe_nodes(reason)));
+  if (bar) {
+    const part = element("i");
+    part.style.width = `${100 * test.seconds / LONGEST}%`;
+    const long = element("span", "long", part);
+    long.setAttribute("aria-hidden", "true");
+    button.append(long);
+  }
+  button.addEventListener("click", () => choose(test, { from: "overview" }));
+  return element("li", "", button);
+}
+
+function part(title, tests, options) {
+  if (!tests.length) return "";
+  const items = element("ul", "items", ...tests.slice(0, MOST_ITEMS).map((test) => item(test, options(test))));
+  if (tests.length > MOST_ITEMS) items.append(element("li", "more", `${whole(tests.length - MOST_ITEMS)} more are in the list`));
+  return element("section", "", element("h3", "", title), items);
+}
+
+function line_of_binary(name, sum, states) {
+  const cell = (state) => element("td", sum[state] ? (state === "failed" ? "is-failed" : "") : "zero", whole(sum[state]));
+  return element("tr", "", element("td", "", safe_nodes(name)), ...states.map(cell), element("td", "", duration(sum.seconds)));
+}
+
+function table_of_binaries() {
+  const sums = new Map();
+  for (const test of TESTS.filter((one) => one.state !== "script")) {
+    if (!sums.has(test.binary)) sums.set(test.binary, { failed: 0, flaky: 0, passed: 0, skipped: 0, unfinished: 0, seconds: 0 });
+    const sum = sums.get(test.binary);
+    sum[test.state]++;
+    sum.seconds += test.seconds;
+  }
+  const states = ["failed", "unfinished", "flaky", "passed", "skipped"].filter((state) => COUNTS[state]);
+  const head = element("tr", "", ...["Binary", ...states.map((state) => STATES[state].word), "time"].map((word) => {
+    const cell = element("th", "", word);
+    cell.scope = "col";
+    return cell;
+  }));
+  const worst = [...sums].sort(([, one], [, other]) => other.failed - one.failed || other.seconds - one.seconds);
+  const body = worst.slice(0, MOST_ITEMS).map(([binary, sum]) => line_of_binary(BINARIES[binary], sum, states));
+  const table = element("table", "", element("thead", "", head), element("tbody", "", ...body));
+  const left = worst.length - body.length;
+  const more = left ? element("p", "more", `${plural(left, "binary", "binaries")} more aren't shown`) : "";
+  return sums.size ? element("section", "", element("h3", "", "Binaries"), element("div", "wide-table", table), more) : "";
+}
+
+function about_run() {
+  const { run } = RUN;
+  const pauses = PAUSES.slice(0, 5).map(([from, to]) => `${duration(to - from)} at ${duration(from)}`);
+  if (PAUSES.length > 5) pauses.push(`and ${plural(PAUSES.length - 5, "time")} more`);
+  const facts = [
+    ["Run", run.id], ["Started", run.when], ["Took", duration(run.seconds)], ["Ended", run.ended], ["Profile", run.profile],
+    ["Arguments", run.args.join(" ")], ["Paused", pauses.join(", ")], ["Bundle", run.bundle],
+  ];
+  const about = element("dl", "about");
+  for (const [name, value] of facts) if (value) about.append(element("dt", "", name), element("dd", "", safe_nodes(value)));
+  return element("section", "", element("h3", "", "This run"), about);
+}
+
+function draw_run() {
+  const tests = TESTS.filter((test) => test.state !== "script" && test.attempts.length);
+  const flaky = tests.filter((test) => test.state === "flaky");
+  const scripts = TESTS.filter((test) => test.state === "script" && test.attempts.some((attempt) => attempt.bad));
+  const slowest = [...tests].sort(ORDERS.slowest).slice(0, 10);
+  const warnings = RUN.notes.map((note) => element("p", "warning", note));
+  const with_reason = (test) => ({ reason: why(test) });
+  details.replaceChildren(
+    ...warnings, part("Failures", [...scripts, ...FAILURES], with_reason), part("Passed when tried again", flaky, with_reason),
+    element("div", "pair",
+      part("Slowest tests", slowest, () => ({ bar: true })), element("div", "", table_of_binaries(), about_run())),
+  );
+  const first = details.querySelector("h3");
+  if (first && !warnings.length) first.style.marginTop = "0";
+  details.scrollTop = 0;
+}

@@ -1,0 +1,123 @@
+// Texts for people: durations, sizes, and outputs whose control characters do no harm.
+
+function element(name, classes, ...contents) {
+  const made = document.createElement(name);
+  if (classes) made.className = classes;
+  made.append(...contents.filter((one) => one !== null && one !== undefined && one !== ""));
+  return made;
+}
+
+function whole(number) {
+  return String(number).replace(/\B(?=(\d{3})+$)/g, ",");
+}
+
+function plural(number, one, several = `${one}s`) {
+  return `${whole(number)} ${number === 1 ? one : several}`;
+}
+
+function duration(seconds) {
+  if (seconds === null || seconds === undefined) return "–";
+  const sign = seconds < 0 ? "−" : "", size = Math.abs(seconds);
+  if (size === 0) return "0 s";
+  if (size < 0.5e-6) return "< 1 µs";
+  if (size < 0.0009995) return `${sign}${(size * 1e6).toFixed(0)} µs`;
+  if (size < 0.9995) return `${sign}${(size * 1e3).toPrecision(size < 0.00995 ? 2 : 3).replace(/\.0+$/, "")} ms`;
+  if (size < 9.995) return `${sign}${size.toFixed(2)} s`;
+  if (size < 59.95) return `${sign}${size.toFixed(1)} s`;
+  const all = Math.round(size), hours = Math.floor(all / 3600), minutes = Math.floor(all / 60) % 60;
+  return sign + (hours ? `${hours} h ${minutes} min` : `${minutes} min ${all % 60} s`);
+}
+
+function bytes(size) {
+  if (size < 1000) return `${size} B`;
+  const step = size < 999_500 ? 1 : size < 999_500_000 ? 2 : 3, number = size / 1000 ** step;
+  const digits = number < 9.995 ? 2 : number < 99.95 ? 1 : 0;
+  return `${number.toFixed(digits)} ${["", "kB", "MB", "GB"][step]}`;
+}
+
+// Sequences that colour text; then runs of bytes that aren't UTF-8 (Python's surrogates of them), of control
+// characters, and of characters that turn the direction of text or can't be seen.
+const CONTROLS = String.raw`\0-\x08\x0b\x0c\x0e-\x1a\x1c-\x1f\x7f-\x9f`;
+const UNSEEN = String.raw`\xad\u061c\u200b-\u200f\u2028-\u202e\u2060-\u206f\ufeff\ufff9-\ufffb`;
+const SPECIAL = new RegExp(
+  String.raw`\x1b\[([0-9;]*)m|[\udc80-\udcff]+|(?:\r(?!\n)|[${CONTROLS}${UNSEEN}]|\x1b(?!\[[0-9;]*m))+`, "gu",
+);
+
+function spelled(text) {
+  return Array.from(text, (one) => {
+    const code = one.codePointAt(0);
+    if (code >= 0xdc80 && code <= 0xdcff) return `\\x${(code - 0xdc00).toString(16)}`;
+    if (one === "\r") return "\\r";
+    return code < 256 ? `\\x${code.toString(16).padStart(2, "0")}` : `\\u{${code.toString(16)}}`;
+  }).join("");
+}
+
+// The names of a style after the codes of a sequence that colours text. Backgrounds and colours of many bits are left out.
+function styled(style, codes) {
+  const numbers = codes.split(";").map(Number);
+  const styles = { 1: "s-bold", 2: "s-dim", 3: "s-italic", 4: "s-underline" };
+  for (let at = 0; at < numbers.length; at++) {
+    const code = numbers[at];
+    if (code === 0) style = [];
+    else if (styles[code]) style = [...style, styles[code]];
+    else if (code === 22) style = style.filter((one) => one !== "s-bold" && one !== "s-dim");
+    else if ((code >= 30 && code <= 37) || (code >= 90 && code <= 97)) style = [...colourless(style), `s-${code % 10}`];
+    else if (code === 39) style = colourless(style);
+    else if (code === 38 || code === 48) at += numbers[at + 1] === 5 ? 2 : 4;
+  }
+  return style;
+}
+
+function colourless(style) {
+  return style.filter((one) => !/^s-\d$/.test(one));
+}
+
+// The nodes of a text with all that could do harm spelled out, and what is sought in it marked.
+function safe_nodes(text, sought = "") {
+  const nodes = document.createDocumentFragment();
+  let style = [], from = 0;
+  const plain = (part) => {
+    if (!part) return;
+    const inner = marked(part.replace(/\r\n/g, "\n"), sought);
+    nodes.append(style.length ? element("span", style.join(" "), inner) : inner);
+  };
+  for (const found of text.matchAll(SPECIAL)) {
+    plain(text.slice(from, found.index));
+    from = found.index + found[0].length;
+    if (found[1] !== undefined) style = styled(style, found[1]);
+    else {
+      const is_bytes = /^[\udc80-\udcff]/u.test(found[0]);
+      const made = element("span", is_bytes ? "byte" : "control", spelled(found[0]));
+      made.title = is_bytes ? "bytes that aren't UTF-8" : "control characters";
+      nodes.append(made);
+    }
+  }
+  plain(text.slice(from));
+  return nodes;
+}
+
+// A text as nodes in which what is sought is marked, at most a thousand times.
+function marked(text, sought) {
+  const nodes = document.createDocumentFragment();
+  const low = sought ? text.toLowerCase() : "";
+  let from = 0, count = 0;
+  if (low.length === text.length) {
+    for (let at = low.indexOf(sought); sought && at >= 0 && count < 1000; at = low.indexOf(sought, from), count++) {
+      nodes.append(text.slice(from, at), element("mark", "", text.slice(at, at + sought.length)));
+      from = at + sought.length;
+    }
+  }
+  nodes.append(text.slice(from));
+  return nodes;
+}
+
+// The mark of a state, which a screen reader hears as a word.
+function state_mark(state, hidden = false) {
+  const made = element("span", `mark is-${state}`, STATES[state].mark);
+  if (hidden) made.setAttribute("aria-hidden", "true");
+  else {
+    made.setAttribute("role", "img");
+    made.setAttribute("aria-label", STATES[state].word);
+  }
+  return made;
+}

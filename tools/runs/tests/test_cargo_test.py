@@ -1,0 +1,35 @@
+"""The words with which cargo is run."""
+
+import unittest
+
+from runs import cargo_test
+from runs.fault import Fault
+
+EVENTS = ["-Z", "unstable-options", "--format", "json", "--report-time", "--show-output"]
+SET = ["--no-fail-fast", "--message-format", "json-render-diagnostics"]
+
+
+class Words(unittest.TestCase):
+    def test_words_of_cargo_and_of_the_binaries(self):
+        for words, command in [
+            ([], ["cargo", "test", *SET, "--", *EVENTS]),
+            (["-p", "x", "name"], ["cargo", "test", *SET, "-p", "x", "name", "--", *EVENTS]),
+            (["x", "--", "--ignored"], ["cargo", "test", *SET, "x", "--", *EVENTS, "--ignored"]),
+            (["--", "--show-output"], ["cargo", "test", *SET, "--", *EVENTS[:-1], "--show-output"]),
+            (["+nightly", "-q"], ["cargo", "+nightly", "test", *SET, "-q", "--", *EVENTS]),
+            (["--no-fail-fast"], ["cargo", "test", *SET[1:], "--no-fail-fast", "--", *EVENTS]),
+            (["--message-format=json"], ["cargo", "test", "--no-fail-fast", "--message-format=json", "--", *EVENTS]),
+        ]:
+            self.assertEqual(cargo_test.cargo_words(words), command)
+
+    def test_the_format_of_the_binaries_is_set(self):
+        for words in (["--", "--format", "pretty"], ["--", "--format=json"]):
+            with self.assertRaisesRegex(Fault, "leave it out"):
+                cargo_test.cargo_words(words)
+
+    def test_the_manifest(self):
+        for words, path in [
+            ([], None), (["--manifest-path", "x/Cargo.toml"], "x/Cargo.toml"), (["--manifest-path=y"], "y"),
+            (["--manifest-path"], None), (["--", "--manifest-path", "x"], None),
+        ]:
+            self.assertEqual(cargo_test.manifest_of(words), path)

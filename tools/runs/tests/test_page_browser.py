@@ -1,0 +1,184 @@
+"""A page in a headless Chromium: by mouse, by keyboard, light and dark, with little and with much in it."""
+
+import contextlib
+import pathlib
+import tempfile
+import unittest
+
+from runs import page
+from runs.tests import browser
+from runs.tests.made import bundle_of, event, exit_code, finished, session_of, started, status
+from runs.tests.test_page import EXAMPLES, nasty_session
+
+PROGRAM = browser.find()
+READY = "document.documentElement.dataset.ready === 'yes'"
+DETAILS = "document.getElementById('details').innerText"
+ROWS = "[...document.querySelectorAll('.row .name')].map((name) => name.textContent)"
+MANY = 10_000
+
+
+def many_tests():
+    """A run of many tests on eight slots, of which every thousandth fails."""
+    events = []
+    for number in range(MANY):
+        at, fails = number // 8, number % 1000 == 999
+        printed = b"the last words of test 1999\n" if number == 1999 else b"nothing special\n"
+        events += [started(at, f"test_{number}", number % 8),
+                   finished(at + 0.5, f"test_{number}", status(at, 0.5, exit_code() if fails else "pass", stdout=printed))]
+    return session_of(sorted(events, key=lambda one: (one["timestamp"]["secs"], one["timestamp"]["nanos"])))
+
+
+@unittest.skipIf(PROGRAM is None, "no Chromium is here; CHROMIUM may name one")
+class InBrowser(unittest.TestCase):
+    @classmethod
+    def setUpClass(cls):
+        with contextlib.ExitStack() as stack:
+            cls.folder = pathlib.Path(stack.enter_context(tempfile.TemporaryDirectory()))
+            cls.browser = stack.enter_context(browser.opened(PROGRAM))
+            stack.push(lambda *_: False)
+            cls.addClassCleanup(stack.pop_all().close)
+
+    def open(self, session, **window):
+        """Opens the page of a session."""
+        bundle, path = self.folder / "run.bundle", self.folder / f"{self.id()}.html"
+        bundle.write_bytes(bundle_of(session))
+        path.write_text(page.page_of(bundle))
+        self.browser.events.clear()
+        self.browser.open(path, **window)
+        self.browser.wait_until(READY)
+        self.address = path.as_uri()
+
+    def tearDown(self):
+        self.assertEqual(self.browser.complaints(), [])
+        self.assertEqual(self.browser.requests(), [self.address])
+
+    def search(self, text):
+        """Seeks a text as somebody who types it, and goes to the first test that is found."""
+        self.browser.press("/", 191, "/")
+        self.browser.write(text)
+        self.browser.press("Enter", 13, "\r")
+
+    def test_a_failing_test_is_found_and_its_output_seen(self):
+        self.open((EXAMPLES / "sums.session").read_text())
+        self.assertEqual(self.browser.evaluate("document.getElementById('headline').innerText"), "2 failed, 5 passed, 1 skipped")
+        told = self.browser.evaluate(DETAILS)
+        self.assertIn("panicked at tests/wrong.rs:7:5: assertion `left == right` failed: that is the product", told)
+        self.search("product")
+        self.assertEqual(self.browser.evaluate(ROWS), ["expects_a_product"])
+        told = self.browser.evaluate(DETAILS)
+        self.assertIn("failed, exit code 101", told)
+        self.assertIn("2 + 3 – or 2 × 3?\nabout to fail\n", told)
+        self.assertEqual(self.browser.evaluate("document.getElementById('found').innerText"), "1 of 8 shown")
+        self.assertEqual(self.browser.evaluate("location.hash"), "#sums%3A%3Awrong%3A%3Aexpects_a_product")
+
+    def test_failures_come_first(self):
+        self.open((EXAMPLES / "sums.session").read_text())
+        self.assertEqual(self.browser.evaluate(ROWS), [
+            "answers_an_error", "expects_a_product", "tests::adds", "tests::none_above_the_range", "takes_a_moment",
+            "takes_a_second", "panics", "tests::adds_very_many",
+        ])
+        self.browser.evaluate("document.getElementById('sort').value = 'slowest'")
+        self.browser.evaluate("document.getElementById('sort').dispatchEvent(new Event('change'))")
+        self.assertEqual(self.browser.evaluate(ROWS)[:2], ["takes_a_second", "takes_a_moment"])
+
+    def test_what_could_do_harm_is_shown(self):
+        self.open(nasty_session())
+        self.search("a</script>")
+        told = self.browser.evaluate(DETAILS)
+        self.assertIn("</script><script>alert(1)</script><!--", told)
+        self.assertIn("&lt; {{data}} é \U0001f980\\xff\\x00", told)
+        self.assertNotIn("\x1b", told)
+        self.assertEqual(self.browser.evaluate("document.querySelectorAll('script').length"), 2)
+        self.assertEqual(self.browser.evaluate("document.querySelector('.byte').textContent"), "\\xff")
+
+    def test_attempts_are_shown_in_their_order(self):
+        self.open(nasty_session())
+        self.search("flaky")
+        titles = self.browser.evaluate("[...document.querySelectorAll('.attempt > header')].map((header) => header.innerText)")
+        self.assertEqual([" ".join(title.split()) for title in titles], [
+            "Attempt 1 of 3 failed, exit code 101 1.00 s from 1.00 s slot 1", "Attempt 2 of 3 passed 1.00 s from 6.00 s slot 3",
+        ])
+        self.search("hangs")
+        self.assertIn("never ended\nfrom 1.50 s, without 2.00 s of pause", self.browser.evaluate(DETAILS))
+
+    def test_a_search_in_outputs(self):
+        self.open(nasty_session())
+        self.browser.evaluate("document.getElementById('in-outputs').click()")
+        self.search("ready")
+        self.assertEqual(self.browser.evaluate(ROWS), ["flaky", "database"])
+        self.assertEqual(self.browser.evaluate("document.querySelector('pre mark').textContent"), "ready")
+
+    def test_the_keyboard_goes_everywhere(self):
+        self.open((EXAMPLES / "sums.session").read_text())
+        self.browser.press("n", text="n")
+        self.assertIn("answers_an_error", self.browser.evaluate("document.querySelector('#details h2').innerText"))
+        self.browser.evaluate("document.getElementById('list').focus()")
+        self.browser.press("ArrowDown", 40)
+        row = self.browser.evaluate("document.getElementById('list').getAttribute('aria-activedescendant')")
+        self.assertEqual(self.browser.evaluate(f"document.querySelector('#{row} .name').textContent"), "expects_a_product")
+        self.browser.press("Enter", 13, "\r")
+        self.assertEqual(self.browser.evaluate("document.activeElement.id"), "details")
+        self.browser.press("Escape", 27)
+        self.assertEqual(self.browser.evaluate("document.activeElement.id"), "list")
+        self.browser.press("Escape", 27)
+        self.assertIn("Slowest tests", self.browser.evaluate(DETAILS))
+        self.browser.evaluate("document.getElementById('lanes').focus()")
+        self.browser.press("ArrowRight", 39)
+        said = self.browser.evaluate("document.getElementById('said').textContent")
+        self.assertEqual(said.strip(), "tests::adds, sums, passed, 7 µs, slot 0")
+
+    def test_a_click_on_a_slice_shows_its_test(self):
+        self.open((EXAMPLES / "pause_and_retry.session").read_text())
+        box = self.browser.evaluate("document.getElementById('canvas').getBoundingClientRect().toJSON()")
+        second_row = box["top"] + 22 + 24 * 1.5
+        # It is that of slot 1, on which t2 runs from the first to the third second of eleven.
+        self.browser.click(box["width"] * 0.2, second_row)
+        self.browser.wait_until("document.querySelector('#details h2')")
+        self.assertIn("t2", self.browser.evaluate("document.querySelector('#details h2').innerText"))
+        self.browser.press("Escape", 27)
+        # In the pause there is nothing to click on.
+        self.browser.click(box["width"] * 0.42, second_row)
+        self.assertIn("Slowest tests", self.browser.evaluate(DETAILS))
+
+    def test_a_long_output_is_drawn_when_it_is_asked_for(self):
+        self.open(session_of([started(0, "long", 0), finished(1, "long", status(0, 1, stdout=b"a" * 30_000 + b"b" * 30_000))]))
+        self.search("long")
+        self.assertEqual(self.browser.evaluate("document.querySelector('pre button').innerText"), "Show 20,000 characters more")
+        self.assertNotIn("a" * 20_001, self.browser.evaluate("document.querySelector('pre').textContent"))
+        self.browser.evaluate("document.querySelector('pre button').click()")
+        self.assertEqual(self.browser.evaluate("document.querySelector('pre').textContent"), "a" * 30_000 + "b" * 30_000)
+
+    def test_light_and_dark(self):
+        colour = "getComputedStyle(document.body).backgroundColor"
+        self.open((EXAMPLES / "sums.session").read_text())
+        self.assertEqual(self.browser.evaluate(colour), "rgb(246, 246, 244)")
+        self.open((EXAMPLES / "sums.session").read_text(), dark=True)
+        self.assertEqual(self.browser.evaluate(colour), "rgb(18, 21, 24)")
+
+    def test_a_narrow_window_shows_one_thing_at_a_time(self):
+        self.open((EXAMPLES / "sums.session").read_text(), wide=380, high=800)
+        self.assertTrue(self.browser.evaluate("document.documentElement.scrollWidth <= 380"))
+        self.browser.evaluate("document.querySelector('.row').click()")
+        self.assertEqual(self.browser.evaluate("getComputedStyle(document.getElementById('tests')).display"), "none")
+        self.assertTrue(self.browser.evaluate("document.documentElement.scrollWidth <= 380"))
+        self.browser.evaluate("document.querySelector('.back').click()")
+        self.assertEqual(self.browser.evaluate("getComputedStyle(document.getElementById('tests')).display"), "flex")
+
+    def test_many_tests(self):
+        self.open(many_tests())
+        self.assertEqual(self.browser.evaluate("document.getElementById('headline').innerText"), "10 failed, 9,990 passed")
+        self.assertLess(self.browser.evaluate("document.querySelectorAll('*').length"), 1000)
+        self.search("test_1999")
+        self.assertEqual(self.browser.evaluate(ROWS), ["test_1999"])
+        self.assertIn("the last words of test 1999", self.browser.evaluate(DETAILS))
+
+    def test_a_run_without_tests(self):
+        self.open(session_of([event("run-started", 0, profile_name="default", cli_args=[])]))
+        self.assertEqual(self.browser.evaluate("document.getElementById('headline').innerText"), "No test ran")
+        self.browser.evaluate("document.getElementById('lanes').focus()")
+        self.browser.press("ArrowRight", 39)
+        self.browser.press("n", text="n")
+
+
+if __name__ == "__main__":
+    unittest.main()

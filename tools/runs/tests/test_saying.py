@@ -1,0 +1,77 @@
+"""Texts for people."""
+
+import io
+import os
+import unittest
+from unittest import mock
+
+from runs import saying
+
+
+class Texts(unittest.TestCase):
+    def test_durations(self):
+        for seconds, text in [
+            (0, "0.000s"), (0.0124, "0.012s"), (0.9994, "0.999s"), (1, "1.0s"), (59.94, "59.9s"), (59.95, "1m 00s"),
+            (125, "2m 05s"), (3599.4, "59m 59s"), (3600, "1h 00m"), (90061, "25h 01m"),
+        ]:
+            self.assertEqual(saying.duration(seconds), text)
+
+    def test_sizes(self):
+        for count, text in [
+            (0, "0 B"), (1023, "1023 B"), (1024, "1.0 KiB"), (1536, "1.5 KiB"), (1024**2 - 1, "1.0 MiB"),
+            (5 * 1024**3, "5.0 GiB"), (1024**4, "1.0 TiB"),
+        ]:
+            self.assertEqual(saying.size(count), text)
+
+    def test_counts(self):
+        self.assertEqual([saying.count(number, "test") for number in (0, 1, 2)], ["0 tests", "1 test", "2 tests"])
+
+    def test_instants_that_no_calendar_has(self):
+        self.assertEqual(saying.moment(1e18), "second 1000000000000000000")
+
+
+class Harmless(unittest.TestCase):
+    def test_control_characters_are_spelled(self):
+        self.assertEqual(saying.harmless("a\x1b]0;title\x07b\x9b2J\x7f\0"), "a\\x1b]0;title\\x07b\\x9b2J\\x7f\\x00")
+
+    def test_colours_go(self):
+        self.assertEqual(saying.harmless("\x1b[1;31mred\x1b[0m\x1b[m\x1b[2J"), "red\\x1b[2J")
+
+    def test_lines_and_tabs_stay(self):
+        self.assertEqual(saying.harmless("a\tb\r\nc\rd\n"), "a\tb\nc\\x0dd\n")
+
+    def test_what_reorders_text_is_spelled(self):
+        self.assertEqual(saying.harmless("a\u202eb\u2066c\ufeffé😀"), "a\\u{202e}b\\u{2066}c\\u{feff}é😀")
+
+    def test_a_name_is_one_line(self):
+        self.assertEqual(saying.name("a\nb\tc\x1b[31m"), "a\\x0ab\\x09c\\x1b[31m")
+
+    def test_bytes_that_are_not_utf8_are_shown(self):
+        self.assertEqual(saying.output(b"a\xff\xc3\xa9\x00"), "a\\xffé\\x00")
+
+
+class Terminal(io.StringIO):
+    def isatty(self):
+        return True
+
+
+class Colours(unittest.TestCase):
+    def setUp(self):
+        self.enterContext(mock.patch.dict(os.environ, {"TERM": "xterm"}))
+        os.environ.pop("NO_COLOR", None)
+
+    def test_colours_are_for_terminals(self):
+        self.assertTrue(saying.colours(Terminal()))
+        self.assertFalse(saying.colours(io.StringIO()))
+        self.assertFalse(saying.colours(None))
+
+    def test_nobody_asked_for_none(self):
+        for name, value in (("NO_COLOR", "1"), ("TERM", "dumb")):
+            with mock.patch.dict(os.environ, {name: value}):
+                self.assertFalse(saying.colours(Terminal()))
+        with mock.patch.dict(os.environ, {"NO_COLOR": ""}):
+            self.assertTrue(saying.colours(Terminal()))
+
+    def test_paint(self):
+        self.assertEqual(saying.Paint(True)("red", "x"), "\x1b[31mx\x1b[0m")
+        self.assertEqual(saying.Paint(False)("red", "x"), "x")
