@@ -10,10 +10,11 @@ what makes one large, what helps, and which stay above it and why. A crate that 
 is left out. The status is 1 where a function is above the limit that docs/PROVING.md does not name.
 """
 
-import argparse
 import pathlib
 import re
 import sys
+
+from command_line import command_line, whole
 
 LIMIT = 4_000_000
 SUFFIX = ".Lts.oantt"
@@ -50,10 +51,13 @@ def excused():
 
 
 def main():
-    parser = argparse.ArgumentParser(description=__doc__, formatter_class=argparse.RawDescriptionHelpFormatter)
-    parser.add_argument("--most", type=int, default=5, help="how many functions of a crate (5)")
+    parser = command_line(__doc__)
+    parser.add_argument("--most", type=whole(0, 10**6), default=5, help="how many functions of a crate (5)")
     parser.add_argument("crates", nargs="*", metavar="NAME")
     words = parser.parse_args()
+    unknown = set(words.crates) - set(crates())
+    if unknown:
+        parser.error(f"no crate is called {', '.join(sorted(unknown))}")
     known = excused()
     unexcused = 0
     for crate in words.crates or crates():

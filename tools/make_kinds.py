@@ -10,8 +10,7 @@ ten seconds. The second run is cancelled. With `--least` each member that may be
 out.
 """
 
-import sys
-
+from command_line import command_line
 from make_session import RUN_ID, event, head, instant, span, stats, text
 
 START = 1000
@@ -145,6 +144,7 @@ def failed_attempt(base):
         base + 26, 4, (1, 2), output(split("", "assertion failed\n")),
         {"fail": {"failure": failure, "leaked": False}}, error_summary=summary("aborted"),
         output_error_slice=Option({"slice": "assertion failed", "start": 0}),
+        cpu_time=Option(span(2)),
     )
 
 
@@ -250,9 +250,11 @@ def session():
 
 
 def main():
-    least = sys.argv[1:] == ["--least"]
+    parser = command_line(__doc__)
+    parser.add_argument("--least", action="store_true", help="leave out what may be left out")
+    words = parser.parse_args()
     for line in session():
-        print(text(settled(line, least)))
+        print(text(settled(line, words.least)))
 
 
 if __name__ == "__main__":

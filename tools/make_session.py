@@ -6,16 +6,17 @@
     tools/make_session.py 100 --distinct 1048576 > outputs.session
     tools/make_session.py 10000 --binaries 10000 > binaries.session
 
-Test i is `t{i}` of the binary `bin-{i mod 4}`, or `bin-{i mod N}` with `--binaries N`, on slot i mod 8. Eight tests run at a time, in
-batches four seconds apart, and every hundredth one fails. Each test writes one of sixteen lines on
-standard output; with `--distinct N` it writes N bytes of its own, on standard output and again on
-standard error.
+Test i is `t{i}` of the binary `bin-{i mod 4}`, or `bin-{i mod N}` with `--binaries N`, on slot i mod 8. Eight tests run at a
+time, in batches four seconds apart, and every hundredth one fails. Each test writes one of sixteen lines on standard output;
+with `--distinct N` it writes N bytes of its own, on standard output and again on standard error.
 """
 
-import argparse
 import json
 
+from command_line import command_line, whole
+
 SLOTS = 8
+MOST = 10**9
 RUN_ID = "550e8400-e29b-41d4-a716-446655440000"
 COUNTS = [
     "initial-run-count", "finished-count", "setup-scripts-initial-count",
@@ -114,10 +115,10 @@ def session(count, binaries, distinct):
 
 
 def main():
-    parser = argparse.ArgumentParser(description=__doc__, formatter_class=argparse.RawDescriptionHelpFormatter)
-    parser.add_argument("count", type=int, help="how many tests")
-    parser.add_argument("--distinct", type=int, metavar="N", help="the bytes of each of a test's two own outputs")
-    parser.add_argument("--binaries", type=int, metavar="N", default=4, help="how many test binaries (4)")
+    parser = command_line(__doc__)
+    parser.add_argument("count", type=whole(0, MOST), help="how many tests")
+    parser.add_argument("--distinct", type=whole(0, MOST), metavar="N", help="the bytes of each of a test's two own outputs")
+    parser.add_argument("--binaries", type=whole(1, MOST), metavar="N", default=4, help="how many test binaries (4)")
     words = parser.parse_args()
     for line in session(words.count, words.binaries, words.distinct):
         print(text(line))

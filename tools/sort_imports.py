@@ -8,9 +8,12 @@ Imports that stand one below the other are a block. In a block those of the stan
 then those of other libraries, then those of the crates of this repository from the lowest up, each group
 in the order of their paths.
 """
+
 import pathlib
 import re
 import sys
+
+from command_line import command_line
 
 TOP = pathlib.Path(__file__).resolve().parent.parent
 IMPORT = re.compile(r"^\s*(?:ghost )?use Rattle\.(\S+)")
@@ -43,7 +46,9 @@ def in_order(text, crates):
 
 
 def main():
-    crates, write, found = layers(), sys.argv[1:] == ["--write"], False
+    parser = command_line(__doc__)
+    parser.add_argument("--write", action="store_true", help="put the imports in order")
+    write, crates, found = parser.parse_args().write, layers(), False
     for path in sorted((TOP / "crates").glob("*/*/**/*")):
         if path.suffix not in (".rt", ".antt") or path.parts[len(TOP.parts) + 2] == "out":
             continue

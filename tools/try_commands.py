@@ -3,10 +3,10 @@
 
     tools/try_commands.py [crates/rezovamy/out/rezovamy]
 
-The real session is that of `examples/`, of a run of a small crate's tests. Of the made ones one is of
-`tools/make_kinds.py`, with each kind of event, and one has a pause and a retry, with its trace written by hand. Each is recorded; its bundle is looked into, its trace
-is drawn again, its events are replayed, and its report is written as JUnit XML, which Python's own
-parser reads. What is printed is held to the session, event by event.
+The real session is that of `examples/`, of a run of a small crate's tests. Of the made ones one is of `tools/make_kinds.py`,
+with each kind of event, and one has a pause and a retry, with its trace written by hand. Each is recorded; its bundle is
+looked into, its trace is drawn again, its events are replayed, and its report is written as JUnit XML, which is held against
+its schema and read by Python's own parser. What is printed is held to the session, event by event.
 """
 
 import collections
@@ -16,6 +16,9 @@ import subprocess
 import sys
 import tempfile
 import xml.etree.ElementTree as ElementTree
+
+from command_line import command_line, demand_program
+from junit import schema
 
 HERE = pathlib.Path(__file__).resolve().parent
 OUTPUT_KINDS = ("setup-script-finished", "test-attempt-failed-will-retry", "test-finished")
@@ -60,7 +63,9 @@ def try_trace(name, drawn, events):
     if any(event["kind"] == "run-paused" for event in events):
         demand(sum(begins.values()) - sum(ends.values()) in (0, 1, 2), f"{name}: slices don't end")
         return
-    starts = collections.Counter(event["test-instance"]["test-name"] for event in events if event["kind"] in ("test-started", "test-retry-started"))
+    starts = collections.Counter(
+        event["test-instance"]["test-name"] for event in events if event["kind"] in ("test-started", "test-retry-started")
+    )
     demand(all(begins[test] == count for test, count in starts.items()), f"{name}: a test isn't drawn once an attempt")
     demand(begins == ends, f"{name}: slices don't end")
 
@@ -86,7 +91,9 @@ def xml_of(program, name, bundle, events):
     demand(len(reports.read_bytes().splitlines()) == ended, f"{name}: not a report for each run that ended")
     written = subprocess.run([HERE / "junit_xml.py", reports, program.folder / f"{name}-junit"], capture_output=True, text=True)
     demand(written.returncode == 0, f"{name}: no XML: {written.stderr}")
-    return [ElementTree.parse(path).getroot() for path in written.stdout.split()]
+    paths = written.stdout.split()
+    demand(not schema.faults(paths), f"{name}: {schema.faults(paths)}")
+    return [ElementTree.parse(path).getroot() for path in paths]
 
 
 def try_example(program):
@@ -118,8 +125,14 @@ def try_pause_and_retry(program):
 def try_log_line(program):
     """A line of a session is logged with its members in order."""
     head = (HERE.parent / "examples/pause_and_retry.session").read_bytes().splitlines()[0]
-    paused = b'{"timestamp":{"secs":1002,"nanos":0,"offset":0},"elapsed":{"secs":2,"nanos":0},"kind":"run-paused","setup-scripts-running":0,"running":1}'
-    logged = b'{"elapsed":{"nanos":0,"secs":2},"kind":"run-paused","running":1,"setup-scripts-running":0,"timestamp":{"nanos":0,"offset":0,"secs":1002}}'
+    paused = (
+        b'{"timestamp":{"secs":1002,"nanos":0,"offset":0},"elapsed":{"secs":2,"nanos":0},"kind":"run-paused",'
+        b'"setup-scripts-running":0,"running":1}'
+    )
+    logged = (
+        b'{"elapsed":{"nanos":0,"secs":2},"kind":"run-paused","running":1,"setup-scripts-running":0,'
+        b'"timestamp":{"nanos":0,"offset":0,"secs":1002}}'
+    )
     program.run(["record", "line.bundle"], head + b"\n" + paused)
     demand((program.folder / "line.bundle").read_bytes().count(logged) == 1, "line: it is logged as another")
 
@@ -141,7 +154,10 @@ def try_sample(program):
 
 
 def main():
-    path = sys.argv[1] if len(sys.argv) > 1 else HERE.parent / "crates/rezovamy/out/rezovamy"
+    parser = command_line(__doc__)
+    parser.add_argument("program", nargs="?", default=HERE.parent / "crates/rezovamy/out/rezovamy", help="the built program")
+    path = parser.parse_args().program
+    demand_program(parser, path)
     with tempfile.TemporaryDirectory() as folder:
         program = Program(path, pathlib.Path(folder))
         try_example(program)
