@@ -107,8 +107,12 @@ IsSound-push es fs name content compressed uncompressed size h some short text a
     subst (λ (l : List Entry). IsSound l size (uncompressed + length content)) (sym same)
     (record { entries = AreFrom-push [] es (entry_named name content) h.entries is absent; sizes = HasSizes-push es name content compressed uncompressed size h.sizes e })
 
--- what an entry of the map has, at an index
+-- the entry of the map at an index, and what it has
+pub entry_of_pair : (es : List Entry) (ps : List (String Global × Vec ℕ Global)) (i : ℕ) (p : String Global × Vec ℕ Global) → es ≡ entries_of ps → slice_get ps i ≡ Some p
+    → slice_get es i ≡ Some (entry_of p)
+entry_of_pair es ps i p is at = ap (λ l. slice_get l i) is ∙ slice_get-map entry_of ps i ∙ ap (option_map entry_of) at
+
 pub entry_at : {T : Type 0} (show : Entry → T) (es : List Entry) (ps : List (String Global × Vec ℕ Global)) (i : ℕ) (p : String Global × Vec ℕ Global) → es ≡ entries_of ps → slice_get ps i ≡ Some p
     → slice_get (map show es) i ≡ Some (show (entry_of p))
 entry_at show es ps i p is at =
-    ap (λ l. slice_get (map show l) i) is ∙ slice_get-map show (entries_of ps) i ∙ ap (option_map show) (slice_get-map entry_of ps i ∙ ap (option_map entry_of) at)
+    slice_get-map show es i ∙ ap (option_map show) (entry_of_pair es ps i p is at)

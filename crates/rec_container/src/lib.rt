@@ -30,7 +30,9 @@ pub use front::FrontError;
 pub use growing::GrowingSink;
 pub use memory::{EndlessSource, MemorySink, SliceSource};
 pub use memory_disk::MemoryDisk;
-pub use named_contents::{NamedContent, container_length, write_container};
+pub use named_contents::{
+    NamedContent, container_length, nested_length, write_container, write_nested,
+};
 pub use reader::Container;
 pub use std_disk::StdDisk;
 pub use step_count::Steps;

@@ -9,6 +9,7 @@ ghost use Rattle.rec_container.specs.Taking.{TookPart};
 ghost use Rattle.rec_container.specs.Writing.{entry_named, refusal, Accepts, Adds, Refuses, RefusesLate, HasSizesOf, Unfinished, entries_of};
 
 use crate::errors::{ContainerSizes, ContainerWriteError};
+use crate::named_contents::{NamedContent, write_content, write_magic};
 use crate::streams::{Sink, SinkFailed, write_all};
 use indexmap::IndexMap;
 use std::alloc::{AllocError, Global};
@@ -130,6 +131,50 @@ impl<K: Sink> ContainerWriter<K> {
         ensures { slice_get (map (λ e. e.content) self.now.entries) i ≡ Some result.now }
     {
         self.entries.get_index(i).unwrap().1.as_slice()
+    }
+
+    /// Returns the sizes of the container that the entries make.
+    pub fn sizes(&self) -> ContainerSizes
+        ensures sizes { HasSizesOf self.now.entries result }
+
+        // Names are distinct, and each entry has a spelling.
+        ensures entries { AreFrom [] self.now.entries }
+    {
+        ContainerSizes {
+            compressed: self.compressed,
+            uncompressed: self.uncompressed,
+            entries: self.entries.len() as u64,
+        }
+    }
+
+    /// Writes the container of the entries to another sink. It takes no memory.
+    ///
+    /// # Errors
+    ///
+    /// `SinkFailed` means that this sink failed. It took a proper prefix of the container.
+    pub fn write_to<T: Sink>(&self, sink: &mut T) -> Result<(), SinkFailed>
+        ensures ok { OnOk result (Appends (T.taken sink.old) (T.taken sink.new) (spell self.now.entries)) }
+        ensures fault { OnErr result (TookPart (T.taken sink.old) (T.taken sink.new) (spell self.now.entries)) }
+        ensures cause { HasCause (T.faults sink.old) (T.faults sink.new) result }
+    {
+        write_magic(sink)?;
+        for i in 0..self.len() {
+            write_content(sink, &self.entry(i))?;
+        }
+        write_all(sink, &[0])
+    }
+
+    /// Returns an entry.
+    fn entry(&self, i: usize) -> NamedContent<'_>
+        requires { i < length self.now.entries }
+        ensures found { slice_get self.now.entries i ≡ Some (entry_named result.name.now result.content.now) }
+        ensures short { length result.name.now < 65536 }
+    {
+        let (name, content) = self.entries.get_index(i).unwrap();
+        NamedContent {
+            name: name.as_str(),
+            content: content.as_slice(),
+        }
     }
 
     /// Adds an entry. A name that is there with equal bytes changes nothing.

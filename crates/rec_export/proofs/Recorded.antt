@@ -25,6 +25,7 @@ use Rattle.rec_store.specs.EventOutputs.{event_entries, event_recorded}
 use Rattle.rec_store.specs.Logging.{Logs, Unlogged}
 use Rattle.rec_store.specs.Recording.{AddsEach, Recording, Stores, has_failed}
 use Rattle.rec_store.specs.Store.{metadata_of, store_entries}
+use Rattle.rec_export.specs.declared.discarding.DiscardingSink.{DiscardingSink}
 use Rattle.rec_export.specs.declared.refusal.RecordExportError.TheVariants as refusals
 use Rattle.rec_export.specs.Recorded.{HasRecorded, IsRunOf}
 use Rattle.rec_export.specs.RecorderFaults.{event_fault}
@@ -43,8 +44,15 @@ metadata_new scope (Some info) metadata list opts = (refl, (refl, (refl, (refl, 
 abbrev pub text_taken : GrowingSinkState → Option (List ℕ)
 text_taken b = Some b.bytes
 
+-- what a sink tells that keeps nothing: no bytes, and no faults
+abbrev pub unknown : DiscardingSink → Option (List ℕ)
+unknown s = None
+
+abbrev pub never : DiscardingSink → ℕ
+never s = 0
+
 -- a recorder that has written nothing
-abbrev pub fresh : {N : Type 0} → N → ℕ → GrowingSinkState → GrowingSinkState → Recording GrowingSinkState GrowingSinkState N
+abbrev pub fresh : {S N : Type 0} → N → ℕ → S → GrowingSinkState → Recording S GrowingSinkState N
 fresh namer limit store log = record {
   store = record { entries = []; sink = store; failed = false };
   log = log;
@@ -71,35 +79,34 @@ logged_push : (number : List ℕ → ℕ) (m : ℕ) (events : List LiveEvent) (e
 logged_push number m [] e h p = (p, tt)
 logged_push number m (x ∷ xs) e h p = (h.0, logged_push number m xs e h.1 p)
 
-module _ {N : Type 0} (number : N → List ℕ → ℕ) (faults : GrowingSinkState → ℕ) (head : SessionHead) where
+module _ {S N : Type 0} (number : N → List ℕ → ℕ) (taken : S → Option (List ℕ)) (faults : S → ℕ) (head : SessionHead) where
   -- a fresh recorder that stored the metadata has recorded no events
-  pub begun : (namer : N) (m : ℕ) (store log : GrowingSinkState) (now : Recording GrowingSinkState GrowingSinkState N) → store.bytes ≡ [] → log.bytes ≡ []
-      → Stores text_taken faults (fresh namer m store log) now (store_entries head) → HasRecorded number namer m head [] now
-  begun namer m store log now store_empty log_empty stored =
+  pub begun : (namer : N) (m : ℕ) (store : S) (log : GrowingSinkState) (now : Recording S GrowingSinkState N) → log.bytes ≡ []
+      → Stores taken faults (fresh namer m store log) now (store_entries head) → HasRecorded number namer m head [] now
+  begun namer m store log now log_empty stored =
       let start = fresh namer m store log in
       let new = metadata_new head.build_scope head.rerun_info head.cargo_metadata head.test_list head.record_opts in
       record {
-        namer_kept = ap (λ (r : Recording GrowingSinkState GrowingSinkState N). r.namer) stored.kept;
-        limit_kept = ap (λ (r : Recording GrowingSinkState GrowingSinkState N). r.max_output) stored.kept;
+        namer_kept = ap (λ (r : Recording S GrowingSinkState N). r.namer) stored.kept;
+        limit_kept = ap (λ (r : Recording S GrowingSinkState N). r.max_output) stored.kept;
         sound =
-            neither now.store.failed now.log_failed (sound_after text_taken faults start.store now.store (store_entries head) stored.added refl)
-            (ap (λ (r : Recording GrowingSinkState GrowingSinkState N). r.log_failed) stored.kept);
+            neither now.store.failed now.log_failed (sound_after taken faults start.store now.store (store_entries head) stored.added refl)
+            (ap (λ (r : Recording S GrowingSinkState N). r.log_failed) stored.kept);
         entries_stored =
-            entries_after text_taken faults start.store now.store (store_entries head) stored.added
+            entries_after taken faults start.store now.store (store_entries head) stored.added
             ∙ with_entries-new [] (store_entries head) new ∙ sym (append-nil (store_entries head));
-        store_taken = taken_after text_taken faults (Some []) start.store now.store (store_entries head) stored.added store_empty;
-        log_taken = ap (λ (r : Recording GrowingSinkState GrowingSinkState N). r.log.bytes) stored.kept ∙ log_empty;
-        log_counted = ap (λ (r : Recording GrowingSinkState GrowingSinkState N). r.log_bytes) stored.kept;
-        events_counted = ap (λ (r : Recording GrowingSinkState GrowingSinkState N). r.events) stored.kept;
+        log_taken = ap (λ (r : Recording S GrowingSinkState N). r.log.bytes) stored.kept ∙ log_empty;
+        log_counted = ap (λ (r : Recording S GrowingSinkState N). r.log_bytes) stored.kept;
+        events_counted = ap (λ (r : Recording S GrowingSinkState N). r.events) stored.kept;
         recorded = record { logged = tt; distinct = refl };
       }
 
-  -- what a recorder leaves that is ended
-  pub ended : (namer : N) (m : ℕ) (events : List LiveEvent) (now : Recording GrowingSinkState GrowingSinkState N) (store : GrowingSinkState) (sizes : StoreSizes) → HasRecorded number namer m head events now
-      → AreFrom [] now.store.entries → Appends (text_taken now.store.sink) (text_taken store) (ending now.store.entries) → sizes ≡ sizes_of now
-      → IsRunOf (number namer) m head events store.bytes now.log.bytes (record { log = sizes.log; store = sizes.store })
-  ended namer m events now store sizes has sound after same = record {
-    store_spelled = after ∙ ap (λ l. l ++ ending now.store.entries) has.store_taken ∙ prefix-ending now.store.entries ∙ ap spell has.entries_stored;
+  -- what a recorder leaves that is taken apart
+  pub taken_apart : (namer : N) (m : ℕ) (events : List LiveEvent) (now : Recording S GrowingSinkState N) (sizes : StoreSizes) → HasRecorded number namer m head events now
+      → AreFrom [] now.store.entries → sizes ≡ sizes_of now
+      → IsRunOf (number namer) m head events now.store.entries now.log.bytes (record { log = sizes.log; store = sizes.store })
+  taken_apart namer m events now sizes has sound same = record {
+    stored = has.entries_stored;
     sound = subst (AreFrom []) has.entries_stored sound;
     log_written = has.log_taken;
     sized =
@@ -111,14 +118,14 @@ module _ {N : Type 0} (number : N → List ℕ → ℕ) (faults : GrowingSinkSta
   }
 
 -- a recorder that recorded an event has not failed
-pub sound_logged : {N : Type 0} (number : N → List ℕ → ℕ) (faults : GrowingSinkState → ℕ) (event : LiveEvent) (old new : Recording GrowingSinkState GrowingSinkState N)
-    → Logs text_taken faults text_taken faults number old new event → has_failed new ≡ false
-sound_logged {N = N} number faults event old new logs =
+pub sound_logged : {S N : Type 0} (number : N → List ℕ → ℕ) (taken : S → Option (List ℕ)) (faults : S → ℕ) (log_faults : GrowingSinkState → ℕ) (event : LiveEvent) (old new : Recording S GrowingSinkState N)
+    → Logs taken faults text_taken log_faults number old new event → has_failed new ≡ false
+sound_logged {S = S} {N = N} number taken faults log_faults event old new logs =
     let fs = event_entries (number old.namer) old.max_output event in
-    neither new.store.failed new.log_failed (sound_after text_taken faults old.store new.store fs logs.2 (first_false old.store.failed old.log_failed logs.0))
-    (ap (λ (r : Recording GrowingSinkState GrowingSinkState N). r.log_failed) logs.3.kept ∙ second_false old.store.failed old.log_failed logs.0)
+    neither new.store.failed new.log_failed (sound_after taken faults old.store new.store fs logs.2 (first_false old.store.failed old.log_failed logs.0))
+    (ap (λ (r : Recording S GrowingSinkState N). r.log_failed) logs.3.kept ∙ second_false old.store.failed old.log_failed logs.0)
 
-module _ {N : Type 0} (number : N → List ℕ → ℕ) (faults : GrowingSinkState → ℕ) (head : SessionHead) (events : List LiveEvent) (event : LiveEvent) (old new : Recording GrowingSinkState GrowingSinkState N)
+module _ {S N : Type 0} (number : N → List ℕ → ℕ) (taken : S → Option (List ℕ)) (faults : S → ℕ) (log_faults : GrowingSinkState → ℕ) (head : SessionHead) (events : List LiveEvent) (event : LiveEvent) (old new : Recording S GrowingSinkState N)
     (has : HasRecorded number old.namer old.max_output head events old) where
   store_sound : old.store.failed ≡ false
   store_sound = first_false old.store.failed old.log_failed has.sound
@@ -132,21 +139,21 @@ module _ {N : Type 0} (number : N → List ℕ → ℕ) (faults : GrowingSinkSta
       ∙ ap (λ es. clash es fs) (sym has.entries_stored)
 
   -- an event whose outputs were stored clashes with none before
-  pub no_clash : AddsEach text_taken faults old.store new.store (event_entries (number old.namer) old.max_output event)
+  pub no_clash : AddsEach taken faults old.store new.store (event_entries (number old.namer) old.max_output event)
       → clash (outputs_stored (number old.namer) old.max_output events) (event_entries (number old.namer) old.max_output event) ≡ None
-  no_clash added = same_clash ∙ (clash_none text_taken faults old.store new.store (event_entries (number old.namer) old.max_output event) store_sound added).0
+  no_clash added = same_clash ∙ (clash_none taken faults old.store new.store (event_entries (number old.namer) old.max_output event) store_sound added).0
 
   -- the path that was refused is that of the first clash
-  pub clash_at : (path : List ℕ) → Unlogged text_taken faults text_taken faults number old new event (NameCollision path)
+  pub clash_at : (path : List ℕ) → Unlogged taken faults text_taken log_faults number old new event (NameCollision path)
       → clash (outputs_stored (number old.namer) old.max_output events) (event_entries (number old.namer) old.max_output event) ≡ Some path
   clash_at path (inl h) = absurd (let k = h.0 in cc)
   clash_at path (inr (inl h)) = absurd (let k = h.0 in cc)
   clash_at path (inr (inr (inl h))) =
-      same_clash ∙ clash_found text_taken faults old.store new.store (event_entries (number old.namer) old.max_output event) path store_sound h.3
+      same_clash ∙ clash_found taken faults old.store new.store (event_entries (number old.namer) old.max_output event) path store_sound h.3
   clash_at path (inr (inr (inr h))) = absurd h.3
 
   -- what is refused of an event is a clash, or want of memory
-  pub refused_event : (e : RunStoreError) → Unlogged text_taken faults text_taken faults number old new event e
+  pub refused_event : (e : RunStoreError) → Unlogged taken faults text_taken log_faults number old new event e
       → (event_fault e ≡ refusals.OutOfMemory)
       ⊎ (option_map refusals.NameCollision (clash (outputs_stored (number old.namer) old.max_output events) (event_entries (number old.namer) old.max_output event)) ≡ Some (event_fault e))
   refused_event (NameCollision path) u = inr (ap (option_map refusals.NameCollision) (clash_at path u))
@@ -158,7 +165,7 @@ module _ {N : Type 0} (number : N → List ℕ → ℕ) (faults : GrowingSinkSta
   refused_event OutOfMemory u = inl refl
 
   -- the recorder has recorded one more event
-  pub recorded_more : Logs text_taken faults text_taken faults number old new event → IsLogged (event_recorded (number old.namer) old.max_output event)
+  pub recorded_more : Logs taken faults text_taken log_faults number old new event → IsLogged (event_recorded (number old.namer) old.max_output event)
       → HasRecorded number old.namer old.max_output head (events ++ event ∷ []) new
   recorded_more logs logged =
       let number' = number old.namer in
@@ -168,25 +175,24 @@ module _ {N : Type 0} (number : N → List ℕ → ℕ) (faults : GrowingSinkSta
       let line = event_line (event_recorded number' m event) in
       let kept = logs.3.kept in
       record {
-        namer_kept = ap (λ (r : Recording GrowingSinkState GrowingSinkState N). r.namer) kept;
-        limit_kept = ap (λ (r : Recording GrowingSinkState GrowingSinkState N). r.max_output) kept;
+        namer_kept = ap (λ (r : Recording S GrowingSinkState N). r.namer) kept;
+        limit_kept = ap (λ (r : Recording S GrowingSinkState N). r.max_output) kept;
         sound =
-            neither new.store.failed new.log_failed (sound_after text_taken faults old.store new.store fs logs.2 store_sound)
-            (ap (λ (r : Recording GrowingSinkState GrowingSinkState N). r.log_failed) kept ∙ second_false old.store.failed old.log_failed has.sound);
+            neither new.store.failed new.log_failed (sound_after taken faults old.store new.store fs logs.2 store_sound)
+            (ap (λ (r : Recording S GrowingSinkState N). r.log_failed) kept ∙ second_false old.store.failed old.log_failed has.sound);
         entries_stored =
-            (clash_none text_taken faults old.store new.store fs store_sound logs.2).1
+            (clash_none taken faults old.store new.store fs store_sound logs.2).1
             ∙ ap (λ es. with_entries es fs) has.entries_stored
             ∙ with_outputs head outs fs (outputs_of_event number' m event)
             ∙ ap (λ l. store_entries head ++ l) (sym (outputs_push number' m events event));
-        store_taken = taken_after text_taken faults (Some []) old.store new.store fs logs.2 has.store_taken;
         log_taken = logs.3.taken_line ∙ ap (λ l. l ++ line) has.log_taken ∙ sym (log_push number' m events event);
         log_counted =
-            ap (λ (r : Recording GrowingSinkState GrowingSinkState N). r.log_bytes) kept
+            ap (λ (r : Recording S GrowingSinkState N). r.log_bytes) kept
             ∙ ap (λ n. n + length line) has.log_counted
             ∙ sym (length-append (run_log number' m events) line)
             ∙ ap length (sym (log_push number' m events event));
         events_counted =
-            ap (λ (r : Recording GrowingSinkState GrowingSinkState N). r.events) kept
+            ap (λ (r : Recording S GrowingSinkState N). r.events) kept
             ∙ ap (λ n. n + 1) has.events_counted
             ∙ sym (length-append events (event ∷ []));
         recorded = record {

@@ -80,8 +80,8 @@ module _ (number : List ℕ → ℕ) (m : ℕ) (events : List LiveEvent) where
       ap (λ o. option_or o (lines_refusal number m (with_entries (outputs_stored number m events) (outputs_at number m (event_at line))) rest)) none
       ∙ ap (λ es. lines_refusal number m es rest) (sym (outputs_next (event_at line)))
 
-module _ {N : Type 0} (number : N → List ℕ → ℕ) (namer : N) (m : ℕ) (head : SessionHead) (events : List LiveEvent) (line : NumberedLine) (rest : List NumberedLine)
-    (new : Recording GrowingSinkState GrowingSinkState N) where
+module _ {S N : Type 0} (number : N → List ℕ → ℕ) (namer : N) (m : ℕ) (head : SessionHead) (events : List LiveEvent) (line : NumberedLine) (rest : List NumberedLine)
+    (new : Recording S GrowingSinkState N) where
   -- the refusal of a line is that of all from it on
   pub refused_here : (e : RecordExportError) → RecordsLine number namer m head events line new (Err e) → RecordsLines number namer m head events (line ∷ rest) new (Err e)
   refused_here e (inl h) = inl h
@@ -98,7 +98,7 @@ module _ {N : Type 0} (number : N → List ℕ → ℕ) (namer : N) (m : ℕ) (h
   recorded_here (Err e) none (inl h) = inl h
   recorded_here (Err e) none (inr h) = inr (refusal_next (number namer) m events line rest none ∙ h)
 
-module _ {N : Type 0} (number : N → List ℕ → ℕ) (namer : N) (m : ℕ) (head : SessionHead) (events : List LiveEvent) (event : LiveEvent) (line : NumberedLine) (new : Recording GrowingSinkState GrowingSinkState N)
+module _ {S N : Type 0} (number : N → List ℕ → ℕ) (namer : N) (m : ℕ) (head : SessionHead) (events : List LiveEvent) (event : LiveEvent) (line : NumberedLine) (new : Recording S GrowingSinkState N)
     (refusal : line_refusal (number namer) m (outputs_stored (number namer) m events) line ≡ option_map NameCollision (clash (outputs_stored (number namer) m events) (event_entries (number namer) m event)))
     (has_event : event_at line ≡ Some event) where
   -- a line with an event does what its event does
@@ -108,18 +108,18 @@ module _ {N : Type 0} (number : N → List ℕ → ℕ) (namer : N) (m : ℕ) (h
   line_recorded (Err e) (inr h) = inr (refusal ∙ h)
 
 -- what is said of a recorder's own namer and limit is said of those that it was made with
-pub made_with : {N : Type 0} (number : N → List ℕ → ℕ) (namer : N) (m : ℕ) (head : SessionHead) (events : List LiveEvent) (r : Recording GrowingSinkState GrowingSinkState N)
+pub made_with : {S N : Type 0} (number : N → List ℕ → ℕ) (namer : N) (m : ℕ) (head : SessionHead) (events : List LiveEvent) (r : Recording S GrowingSinkState N)
     → HasRecorded number namer m head events r → HasRecorded number r.namer r.max_output head events r
 made_with number namer m head events r has =
     subst (λ k. HasRecorded number r.namer k head events r) (sym has.limit_kept) (subst (λ n. HasRecorded number n m head events r) (sym has.namer_kept) has)
 
-pub line_with : {N : Type 0} (number : N → List ℕ → ℕ) (namer : N) (m : ℕ) (head : SessionHead) (events : List LiveEvent) (line : NumberedLine) (old new : Recording GrowingSinkState GrowingSinkState N)
+pub line_with : {S N : Type 0} (number : N → List ℕ → ℕ) (namer : N) (m : ℕ) (head : SessionHead) (events : List LiveEvent) (line : NumberedLine) (old new : Recording S GrowingSinkState N)
     (r : Result ⊤ RecordExportError) → HasRecorded number namer m head events old → RecordsLine number old.namer old.max_output head events line new r
     → RecordsLine number namer m head events line new r
 line_with number namer m head events line old new r has h =
     subst (λ k. RecordsLine number namer k head events line new r) has.limit_kept (subst (λ n. RecordsLine number n old.max_output head events line new r) has.namer_kept h)
 
-pub lines_with : {N : Type 0} (number : N → List ℕ → ℕ) (namer : N) (m : ℕ) (head : SessionHead) (events : List LiveEvent) (lines : List NumberedLine) (old new : Recording GrowingSinkState GrowingSinkState N)
+pub lines_with : {S N : Type 0} (number : N → List ℕ → ℕ) (namer : N) (m : ℕ) (head : SessionHead) (events : List LiveEvent) (lines : List NumberedLine) (old new : Recording S GrowingSinkState N)
     (r : Result ⊤ RecordExportError) → HasRecorded number namer m head events old → RecordsLines number old.namer old.max_output head events lines new r
     → RecordsLines number namer m head events lines new r
 lines_with number namer m head events lines old new r has h =

@@ -9,13 +9,12 @@ use Rattle.rec_codec.specs.Live.{is_loaded}
 use Rattle.rec_store.proofs.Adding.{AreNew, no_collision_among}
 use Rattle.rec_store.specs.declared.error.RunStoreError.TheVariants.{Failed, NotLoadedOutput, NameCollision, CountOutOfRange, StoreWrite, RunLogWrite, OutOfMemory}
 use Rattle.rec_store.specs.declared.error.RunStoreError.{RunStoreError}
-use Rattle.rec_store.specs.Ending.{Unended}
 use Rattle.rec_store.specs.Logging.{Unlogged}
 use Rattle.rec_store.specs.Recording.{AddsUpTo, Recording, Unstored, has_failed}
 use Rattle.rec_store.specs.Stopping.{Stops}
 use Rattle.rec_store.specs.Store.{store_entries}
 use Rattle.rec_export.proofs.Recorded.{metadata_new}
-use Rattle.rec_export.specs.RecorderFaults.{ComesAtEnd, ComesOfEvent, ComesOfHead}
+use Rattle.rec_export.specs.RecorderFaults.{ComesOfEvent, ComesOfHead}
 
 module _ {S : Type 0} (taken : S → Option (List ℕ)) (faults : S → ℕ) where
   -- entries are never refused for an earlier failure, an output that isn't loaded or the log
@@ -58,16 +57,6 @@ module _ {S L N : Type 0} (taken : S → Option (List ℕ)) (faults : S → ℕ)
   head_comes head RunLogWrite empty (inl h) = absurd (let k = h.0 in cc)
   head_comes head RunLogWrite empty (inr h) = absurd (not_logged taken faults old.store new.store (store_entries head) h.2)
   head_comes head OutOfMemory empty u = tt
-
-  -- the end of a store
-  pub end_comes : (store : S) (e : RunStoreError) → Unended taken faults old store e → ComesAtEnd e
-  end_comes store Failed u = absurd (let k = sym sound ∙ u.0 in cc)
-  end_comes store StoreWrite u = tt
-  end_comes store NotLoadedOutput u = u
-  end_comes store (NameCollision path) u = u
-  end_comes store CountOutOfRange u = u
-  end_comes store RunLogWrite u = u
-  end_comes store OutOfMemory u = u
 
   module _ (log_taken : L → Option (List ℕ)) (log_faults : L → ℕ) (number : N → List ℕ → ℕ) (event : LiveEvent) (loaded : kind_loaded is_loaded event.kind ≡ true) where
     -- an event that is loaded

@@ -15,7 +15,7 @@ bundle_of_contents manifest log store = spell (bundle_entries manifest log store
 
 -- the bundle of what was prepared
 abbrev pub prepared_bundle : Prepared → List ℕ
-prepared_bundle p = bundle_of_contents p.manifest.items p.log.bytes p.store.bytes
+prepared_bundle p = bundle_of_contents p.manifest.items p.log.bytes (spell p.store.entries)
 
 -- why a bundle is refused, if it is: its length is no u64
 abbrev pub length_refusal : List ℕ → Option RecordExportError

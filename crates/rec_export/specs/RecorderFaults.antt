@@ -24,16 +24,6 @@ ComesOfHead store.StoreWrite = Unit {0}
 ComesOfHead store.RunLogWrite = ⊥
 ComesOfHead store.OutOfMemory = Unit {0}
 
--- at the end of a store, where no sink has failed
-abbrev pub ComesAtEnd : RunStoreError → Type 0
-ComesAtEnd store.Failed = ⊥
-ComesAtEnd store.NotLoadedOutput = ⊥
-ComesAtEnd (store.NameCollision path) = ⊥
-ComesAtEnd store.CountOutOfRange = ⊥
-ComesAtEnd store.StoreWrite = Unit {0}
-ComesAtEnd store.RunLogWrite = ⊥
-ComesAtEnd store.OutOfMemory = ⊥
-
 -- the refusal of the session: a clash is its own, and the rest is want of memory
 abbrev pub event_fault : RunStoreError → RecordExportError
 event_fault (store.NameCollision path) = NameCollision path

@@ -2,6 +2,7 @@
 ghost use Rattle.std.specs.Option.{option_or};
 ghost use Rattle.std.specs.Prelude.{◌≡◌, ◌<◌, ◌^◌, length, IfOk};
 ghost use Rattle.serde_json.specs.Written.{compact_text};
+ghost use Rattle.rec_container.specs.Container.{spell};
 ghost use Rattle.rec_container.specs.Writing.{entry_named};
 ghost use Rattle.rec_format.specs.RunForms.{manifest_value};
 ghost use Rattle.rec_format.specs.Runs.{manifest_of, recorded_info};
@@ -9,10 +10,12 @@ ghost use Rattle.rec_store.specs.Entries.{log_name, manifest_name};
 ghost use Rattle.rec_export.specs.Prepared.{bundle_of_contents, contents_refusal};
 ghost use Rattle.rec_export.specs.Sizes.{AnswersRefusal, entry_refusal};
 
+use crate::discarding::DiscardingSink;
 use crate::refusal::RecordExportError;
 use crate::sizes::judge_size;
+use rec_container::ContainerWriter;
 use rec_format::{PORTABLE_MANIFEST_FILE_NAME, RUN_LOG_FILE_NAME, RecordedSizes, SessionHead};
-use rec_store::{bundle_length, write_manifest};
+use rec_store::{recorded_bundle_length, write_manifest};
 use std::alloc::{AllocError, Global};
 
 /// Holds the manifest of a bundle that a reader takes.
@@ -37,15 +40,15 @@ pub fn judge_contents(
     head: &SessionHead,
     sizes: RecordedSizes,
     log: &[u8],
-    store: &[u8],
+    store: &ContainerWriter<DiscardingSink>,
 ) -> Result<JudgedManifest, RecordExportError>
     ensures text { IfOk result (λ j. j.text.items ≡ compact_text (manifest_value (manifest_of (recorded_info head.now sizes)))) }
-    ensures bytes { IfOk result (λ j. j.bundle_bytes ≡ length (bundle_of_contents j.text.items log.now store.now)) }
-    ensures fits { IfOk result (λ j. length (bundle_of_contents j.text.items log.now store.now) < 2 ^ 64) }
-    ensures judged { AnswersRefusal result (contents_refusal limit (compact_text (manifest_value (manifest_of (recorded_info head.now sizes)))) log.now store.now) }
+    ensures bytes { IfOk result (λ j. j.bundle_bytes ≡ length (bundle_of_contents j.text.items log.now (spell store.now.entries))) }
+    ensures fits { IfOk result (λ j. length (bundle_of_contents j.text.items log.now (spell store.now.entries)) < 2 ^ 64) }
+    ensures judged { AnswersRefusal result (contents_refusal limit (compact_text (manifest_value (manifest_of (recorded_info head.now sizes)))) log.now (spell store.now.entries)) }
 {
     let text = build_manifest(alloc, head, sizes)?;
-    let Some(bundle_bytes) = bundle_length(&text, log, store) else {
+    let Some(bundle_bytes) = recorded_bundle_length(&text, log, store) else {
         return Err(RecordExportError::CountOutOfRange { event: None });
     };
     judge_two(alloc, limit, &text, log)?;

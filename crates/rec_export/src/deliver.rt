@@ -7,7 +7,7 @@ ghost use Rattle.rec_export.specs.Prepared.{prepared_bundle};
 use crate::prepare::Prepared;
 use crate::refusal::RecordExportError;
 use rec_container::{Sink, write_all};
-use rec_store::write_bundle;
+use rec_store::write_recorded_bundle;
 
 /// Writes the whole bundle, and then the whole trace. It takes no memory, and copies nothing.
 ///
@@ -25,8 +25,8 @@ pub fn deliver<B: Sink, T: Sink>(
     ensures err { IfErr result (Undelivered B.taken B.faults T.taken T.faults bundle.old bundle.new trace.old trace.new
         (prepared_bundle prepared.now) (string_bytes prepared.now.trace)) }
 {
-    let (log, store) = (prepared.log.bytes(), prepared.store.bytes());
-    if write_bundle(bundle, &prepared.manifest, log, store).is_err() {
+    let log = prepared.log.bytes();
+    if write_recorded_bundle(bundle, &prepared.manifest, log, &prepared.store).is_err() {
         return Err(RecordExportError::BundleFault);
     }
     if write_all(trace, prepared.trace.as_bytes()).is_err() {

@@ -7,6 +7,7 @@
 mod bundle;
 mod counts;
 mod deliver;
+mod discarding;
 mod export;
 mod head;
 pub mod laws;

@@ -2,6 +2,7 @@
 ghost use Rattle.std.specs.Option.{option_or};
 ghost use Rattle.std.specs.Prelude.{◌≡◌, ◌⊎◌, ◌<◌, ◌^◌, [], length, map, Some, None, IfOk, IfErr, OnOk, string_bytes, List, ℕ};
 ghost use Rattle.serde_json.specs.Written.{compact_text};
+ghost use Rattle.rec_container.specs.Container.{spell};
 ghost use Rattle.rec_format.specs.HeadForms.{IsHead};
 ghost use Rattle.rec_format.specs.RunForms.{manifest_value};
 ghost use Rattle.rec_format.specs.Runs.{manifest_of, recorded_info};
@@ -20,25 +21,27 @@ ghost use Rattle.rec_export.specs.Sizes.{AnswersRefusal};
 
 use crate::bundle::{JudgedManifest, judge_contents};
 use crate::counts::Exported;
+use crate::discarding::DiscardingSink;
 use crate::head::{read_head, take_head};
 use crate::record::{RecordedInMemory, record_run};
 use crate::refusal::RecordExportError;
 use crate::settings::Settings;
 use rec_codec::Lines;
-use rec_container::GrowingSink;
+use rec_container::{ContainerWriter, GrowingSink};
 use rec_format::{RecordedSizes, SessionHead};
 use rec_store::OutputNamer;
 use std::alloc::Global;
 
-/// Holds what is exported of a session, in memory. The bundle is written from its three contents.
+/// Holds what is exported of a session, in memory. The bundle is written from manifest, log and the
+/// entries of the store.
 #[derive(Drop)]
 pub struct Prepared {
     /// The text of the manifest.
     pub manifest: Vec<u8>,
     /// The event log.
     pub log: GrowingSink,
-    /// The store, a whole container.
-    pub store: GrowingSink,
+    /// The writer of the store, with all its entries.
+    pub store: ContainerWriter<DiscardingSink>,
     /// The text of the trace.
     pub trace: String,
     /// What is counted of all this.
@@ -104,15 +107,7 @@ fn prepare_run<N: OutputNamer>(
         trace,
     } = run;
     let limit = settings.read_limit;
-    let manifest = match judge_run(
-        alloc,
-        limit,
-        head,
-        sizes,
-        log.bytes(),
-        store.bytes(),
-        too_large,
-    ) {
+    let manifest = match judge_run(alloc, limit, head, sizes, log.bytes(), &store, too_large) {
         Ok(manifest) => manifest,
         Err(error) => {
             // By a call, as the head in `prepare`.
@@ -144,14 +139,14 @@ fn judge_run(
     head: &SessionHead,
     sizes: RecordedSizes,
     log: &[u8],
-    store: &[u8],
+    store: &ContainerWriter<DiscardingSink>,
     too_large: Option<RecordExportError>,
 ) -> Result<JudgedManifest, RecordExportError>
     ensures text { IfOk result (λ j. j.text.items ≡ compact_text (manifest_value (manifest_of (recorded_info head.now sizes)))) }
-    ensures bytes { IfOk result (λ j. j.bundle_bytes ≡ length (bundle_of_contents j.text.items log.now store.now)) }
-    ensures fits { IfOk result (λ j. length (bundle_of_contents j.text.items log.now store.now) < 2 ^ 64) }
+    ensures bytes { IfOk result (λ j. j.bundle_bytes ≡ length (bundle_of_contents j.text.items log.now (spell store.now.entries))) }
+    ensures fits { IfOk result (λ j. length (bundle_of_contents j.text.items log.now (spell store.now.entries)) < 2 ^ 64) }
     ensures judged { AnswersRefusal result (option_or
-        (contents_refusal limit (compact_text (manifest_value (manifest_of (recorded_info head.now sizes)))) log.now store.now) too_large) }
+        (contents_refusal limit (compact_text (manifest_value (manifest_of (recorded_info head.now sizes)))) log.now (spell store.now.entries)) too_large) }
 {
     match judge_contents(alloc, limit, head, sizes, log, store) {
         Ok(manifest) => accept_entries(manifest, too_large),

@@ -2,7 +2,6 @@
 ghost use Rattle.std.specs.Option.{option_to_list};
 ghost use Rattle.std.specs.Prelude.{◌≡◌, ◌⊎◌, ◌++◌, ◌∷◌, [], List, map, ℕ, false, true, None, Some, Ok, length, IfOk, IfErr, OnOk};
 ghost use Rattle.semver.specs.Parse.{Parts};
-ghost use Rattle.rec_container.specs.Memory.{GrowingSinkState};
 ghost use Rattle.rec_format.specs.declared.head.SessionHead.{SessionHead};
 ghost use Rattle.rec_codec.specs.Event.{LiveEvent};
 ghost use Rattle.rec_codec.specs.EventForms.{kind_loaded};
@@ -14,29 +13,31 @@ ghost use Rattle.rec_store.specs.Store.{store_entries};
 ghost use Rattle.rec_spans.specs.declared.settings.ChromeTraceGroupBy.{ChromeTraceGroupBy};
 ghost use Rattle.rec_spans.specs.Plain.{PlainEvent, plain};
 ghost use Rattle.rec_trace.specs.declared.settings.ChromeTraceMessageFormat.{ChromeTraceMessageFormat};
+ghost use Rattle.rec_export.specs.declared.discarding.DiscardingSink.{DiscardingSink};
 ghost use Rattle.rec_export.specs.declared.refusal.RecordExportError.TheVariants.{OutOfMemory};
 ghost use Rattle.rec_export.specs.Recorded.{HasRecorded, IsRunOf, RecordsEvent, RecordsLine, RecordsLines};
-ghost use Rattle.rec_export.specs.RecorderFaults.{ComesAtEnd, ComesOfEvent, ComesOfHead, event_fault};
+ghost use Rattle.rec_export.specs.RecorderFaults.{ComesOfEvent, ComesOfHead, event_fault};
 ghost use Rattle.rec_export.specs.Session.{event_at, events_of, lines_refusal};
 ghost use Rattle.rec_export.specs.SessionTraces.{IsTraceOf};
 ghost use Rattle.rec_export.specs.Sizes.{entries_refusal};
 
+use crate::discarding::DiscardingSink;
 use crate::refusal::RecordExportError;
 use crate::settings::Settings;
 use crate::sizes::first_too_large;
 use crate::trace::SessionTrace;
 use rec_codec::{Line, Lines, read_line};
-use rec_container::{GrowingSink, Sink};
+use rec_container::{ContainerWriter, GrowingSink, Sink};
 use rec_events::{LiveSpec, TestEventSummary, TryClone};
 use rec_format::{RecordedSizes, SessionHead};
-use rec_store::{OutputNamer, RunRecorder, RunStoreError, StoreSizes, write_metadata};
+use rec_store::{OutputNamer, RunRecorder, RunStoreError, write_metadata};
 use std::alloc::{AllocError, Global};
 
 /// Holds a run that was recorded in memory.
 #[derive(Drop)]
 pub struct RecordedInMemory {
-    /// The store, a whole container.
-    pub store: GrowingSink,
+    /// The writer of the store, with all its entries.
+    pub store: ContainerWriter<DiscardingSink>,
     /// The log.
     pub log: GrowingSink,
     /// The sizes of both.
@@ -48,7 +49,7 @@ pub struct RecordedInMemory {
 }
 
 /// Records a run into memory.
-type MemoryRecorder<'n, N> = RunRecorder<'n, GrowingSink, GrowingSink, N>;
+type MemoryRecorder<'n, N> = RunRecorder<'n, DiscardingSink, GrowingSink, N>;
 
 /// Records a head, and the events of the lines after it.
 ///
@@ -64,7 +65,7 @@ pub fn record_run<N: OutputNamer>(
     lines: Lines<'_>,
 ) -> Result<RecordedInMemory, RecordExportError>
     ensures valid { OnOk result (lines_refusal (N.number namer.now) settings.now.max_output [] lines.entry ≡ None) }
-    ensures run { IfOk result (λ r. IsRunOf (N.number namer.now) settings.now.max_output head.now (events_of lines.entry) r.store.bytes r.log.bytes r.sizes) }
+    ensures run { IfOk result (λ r. IsRunOf (N.number namer.now) settings.now.max_output head.now (events_of lines.entry) r.store.entries r.log.bytes r.sizes) }
     ensures too_large { IfOk result (λ r. r.too_large
         ≡ entries_refusal settings.now.read_limit (run_store (N.number namer.now) settings.now.max_output head.now (events_of lines.entry))) }
     ensures traced { IfOk result (λ r. IsTraceOf settings.now.message_format settings.now.group_by head.now.nextest_version
@@ -75,7 +76,7 @@ pub fn record_run<N: OutputNamer>(
     let mut trace = new_trace(alloc, settings, head)?;
     let mut recorder = RunRecorder::new(
         alloc,
-        GrowingSink::new(alloc),
+        DiscardingSink,
         GrowingSink::new(alloc),
         namer,
         settings.max_output,
@@ -108,38 +109,32 @@ fn new_trace(
     Ok(SessionTrace::new(alloc, version, settings.group_by, settings.message_format))
 }
 
-/// Judges the sizes of the store's entries, and ends a recording.
+/// Judges the sizes of the store's entries, and takes a recording apart.
 fn end_run<N: OutputNamer>(
     alloc: Global,
     limit: u64,
     recorder: MemoryRecorder<'_, N>,
     trace: SessionTrace,
 ) -> Result<RecordedInMemory, RecordExportError>
-    requires sound { has_failed recorder ≡ false }
     ensures run { (namer : N) (m : ℕ) (head : SessionHead) (events : List LiveEvent)
         → HasRecorded N.number namer m head events recorder.entry
-        → IfOk result (λ r. IsRunOf (N.number namer) m head events r.store.bytes r.log.bytes r.sizes) }
+        → IfOk result (λ r. IsRunOf (N.number namer) m head events r.store.entries r.log.bytes r.sizes) }
     ensures too_large { (namer : N) (m : ℕ) (head : SessionHead) (events : List LiveEvent)
         → HasRecorded N.number namer m head events recorder.entry
         → IfOk result (λ r. r.too_large ≡ entries_refusal limit (run_store (N.number namer) m head events)) }
     ensures traced { IfOk result (λ r. r.trace ≡ trace) }
     ensures err { IfErr result (λ e. e ≡ OutOfMemory) }
 {
-    // The entries are judged while the recorder has them.
     let Ok(too_large) = first_too_large(alloc, limit, recorder.store()) else {
         drop(recorder);
         drop(trace);
         return Err(RecordExportError::OutOfMemory);
     };
-    let end = recorder.finish();
-    let Ok(sizes) = sizes_at_end(end.result) else {
-        drop(too_large);
-        drop(trace);
-        return Err(RecordExportError::OutOfMemory);
-    };
+    let sizes = recorder.sizes();
+    let (store, log) = recorder.into_parts();
     Ok(RecordedInMemory {
-        store: end.store,
-        log: end.log,
+        store,
+        log,
         sizes: RecordedSizes {
             log: sizes.log,
             store: sizes.store,
@@ -147,33 +142,6 @@ fn end_run<N: OutputNamer>(
         too_large,
         trace,
     })
-}
-
-/// Returns the sizes of what was recorded, or the want of memory for which a store has no end.
-fn sizes_at_end(ended: Result<StoreSizes, RunStoreError>) -> Result<StoreSizes, AllocError>
-    requires { IfErr ended ComesAtEnd }
-    ensures { IfOk result (λ sizes. ended ≡ Ok sizes) }
-{
-    match ended {
-        Ok(sizes) => Ok(sizes),
-        Err(error) => Err(end_refusal(error)),
-    }
-}
-
-/// Returns the want of memory for which a store has no end.
-fn end_refusal(error: RunStoreError) -> AllocError
-    requires { ComesAtEnd error }
-{
-    match error {
-        // A sink in memory fails only for want of memory.
-        RunStoreError::StoreWrite => AllocError,
-        RunStoreError::Failed
-        | RunStoreError::NotLoadedOutput
-        | RunStoreError::NameCollision { .. }
-        | RunStoreError::CountOutOfRange
-        | RunStoreError::RunLogWrite
-        | RunStoreError::OutOfMemory => unreachable!(),
-    }
 }
 
 /// Records the events of lines, and traces them.
@@ -286,7 +254,7 @@ fn record_head<N: OutputNamer>(
 ) -> Result<(), AllocError>
     requires sound { has_failed recorder.old ≡ false }
     requires empty { recorder.old.store.entries ≡ [] }
-    ensures ok { OnOk result (Stores (λ (b : GrowingSinkState). Some b.bytes) (λ (b : GrowingSinkState). b.faults) recorder.old recorder.new (store_entries head.now)) }
+    ensures ok { OnOk result (Stores (λ (s : DiscardingSink). None) (λ (s : DiscardingSink). 0) recorder.old recorder.new (store_entries head.now)) }
     ensures sound { OnOk result (has_failed recorder.new ≡ false) }
 {
     match write_head(recorder, head) {

@@ -4,8 +4,9 @@ ghost use Rattle.std.specs.Prelude.{◌≡◌, IfOk};
 ghost use Rattle.rec_container.specs.Writing.{entry_named};
 ghost use Rattle.rec_export.specs.Sizes.{entries_refusal, entry_refusal, size_fault, AnswersRefusal};
 
+use crate::discarding::DiscardingSink;
 use crate::refusal::RecordExportError;
-use rec_container::{ContainerWriter, GrowingSink};
+use rec_container::ContainerWriter;
 use rec_store::TooLarge;
 use std::alloc::{AllocError, Global};
 
@@ -17,7 +18,7 @@ use std::alloc::{AllocError, Global};
 pub fn first_too_large(
     alloc: Global,
     limit: u64,
-    entries: &ContainerWriter<GrowingSink>,
+    entries: &ContainerWriter<DiscardingSink>,
 ) -> Result<Option<RecordExportError>, AllocError>
     ensures { IfOk result (λ r. r ≡ entries_refusal limit entries.now.entries) }
 {

@@ -19,7 +19,7 @@ mod sizes;
 mod sizes_judged;
 mod store_reader;
 
-pub use bundle::{bundle_length, write_bundle};
+pub use bundle::{bundle_length, recorded_bundle_length, write_bundle, write_recorded_bundle};
 pub use cut::{CutOutput, truncate_output};
 pub use error::RunStoreError;
 pub use metadata::{write_manifest, write_metadata};

@@ -134,6 +134,25 @@ impl<'n, S: Sink, L: Sink, N: OutputNamer> RunRecorder<'n, S, L, N> {
         &self.store
     }
 
+    /// Hands over the writer of the store, which has no end yet, and the log's sink.
+    pub fn into_parts(self) -> (ContainerWriter<S>, L)
+        ensures store { result.0 ≡ self.entry.store }
+        ensures log { result.1 ≡ self.entry.log }
+    {
+        (self.store, self.log)
+    }
+
+    /// Returns the sizes of log and store, where the store ends with the entries so far.
+    pub fn sizes(&self) -> StoreSizes
+        ensures sizes { result ≡ sizes_of self.now }
+        ensures sound { AreFrom [] self.now.store.entries }
+    {
+        StoreSizes {
+            log: log_sizes(self.log_bytes, self.events),
+            store: component_sizes(self.store.sizes()),
+        }
+    }
+
     /// Writes the end of the store, and hands both sinks back in every case.
     ///
     /// # Errors

@@ -3,7 +3,7 @@ ghost use Rattle.std.specs.Prelude.{◌≡◌, IfOk};
 ghost use Rattle.rec_container.specs.Writing.{entry_named};
 ghost use Rattle.rec_store.specs.SizesJudged as judged;
 
-use rec_container::{ContainerWriter, GrowingSink};
+use rec_container::{ContainerWriter, Sink};
 use rec_events::Text;
 use std::alloc::{AllocError, Global};
 use thiserror::Error;
@@ -25,10 +25,10 @@ pub struct TooLarge {
 /// # Errors
 ///
 /// `AllocError` comes where memory ran out.
-pub fn first_too_large(
+pub fn first_too_large<K: Sink>(
     alloc: Global,
     limit: u64,
-    entries: &ContainerWriter<GrowingSink>,
+    entries: &ContainerWriter<K>,
 ) -> Result<Option<TooLarge>, AllocError>
     ensures { IfOk result (λ found. found ≡ judged.first_too_large limit entries.now.entries) }
 {

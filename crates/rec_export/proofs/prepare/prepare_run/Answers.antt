@@ -23,8 +23,8 @@ returns-in-Err-clause-err g c =
     let events = events_of c.args.lines in
     let run = c.in_ok-run.ensures in
     let e = c.in-Err.error in
-    let same = same_judged number settings c.args.head.now events c.in_ok-run.run'.sizes run.run.sized c.bytes.result.now c.bytes-2.result.now c.in_ok-run.run'.too_large
-    (c.bytes.ensures ∙ run.run.log_written) (c.bytes-2.ensures ∙ run.run.store_spelled) run.too_large in
+    let same = same_judged number settings c.args.head.now events c.in_ok-run.run'.sizes run.run.sized c.bytes.result.now (spell c.in_ok-run.run'.store.entries) c.in_ok-run.run'.too_large
+    (c.bytes.ensures ∙ run.run.log_written) (ap spell run.run.stored) run.too_large in
     refused_sizes number settings c.args.head.now c.args.lines e run.valid
     (subst (λ (o : Option RecordExportError). (e ≡ OutOfMemory) ⊎ (o ≡ Some e)) same c.in-Err.ensures.judged)
 
@@ -33,7 +33,7 @@ returns-clause-bundle g c =
     let number = g.N.OutputNamer.number c.args.namer.now in
     let run = c.in_ok-run.ensures.run in
     ap spell (same_entries number c.args.settings.now.max_output c.args.head.now (events_of c.args.lines) c.in_ok-run.run'.sizes c.in-Ok.manifest.text.items run.sized c.in-Ok.ensures.text
-    c.in_ok-run.run'.log.bytes c.in_ok-run.run'.store.bytes run.log_written run.store_spelled)
+    c.in_ok-run.run'.log.bytes (spell c.in_ok-run.run'.store.entries) run.log_written (ap spell run.stored))
 
 pub returns-clause-reads : goal.returns-clause-reads
 returns-clause-reads g c = λ is_head.
@@ -42,9 +42,9 @@ returns-clause-reads g c = λ is_head.
     let events = events_of c.args.lines in
     let run = c.in_ok-run.ensures.run in
     let same = ap spell (same_entries number m c.args.head.now events c.in_ok-run.run'.sizes c.in-Ok.manifest.text.items run.sized c.in-Ok.ensures.text
-    c.in_ok-run.run'.log.bytes c.in_ok-run.run'.store.bytes run.log_written run.store_spelled) in
+    c.in_ok-run.run'.log.bytes (spell c.in_ok-run.run'.store.entries) run.log_written (ap spell run.stored)) in
     let fits = subst (λ (b : List ℕ). length b < 2 ^ 64) same
-    (subst (λ (b : List ℕ). length b < 2 ^ 64) (ap (λ l. spell (bundle_entries c.in-Ok.manifest.text.items l c.bytes-2.result.now)) c.bytes.ensures ∙ ap (λ s. spell (bundle_entries c.in-Ok.manifest.text.items c.in_ok-run.run'.log.bytes s)) c.bytes-2.ensures) c.in-Ok.ensures.fits) in
+    (subst (λ (b : List ℕ). length b < 2 ^ 64) (ap (λ l. spell (bundle_entries c.in-Ok.manifest.text.items l (spell c.in_ok-run.run'.store.entries))) c.bytes.ensures) c.in-Ok.ensures.fits) in
     subst (λ (b : List ℕ). IsReading b (recorded number m c.args.head.now events)) (sym same)
     (bundle_reads_logged number m c.args.head.now events is_head run.recorded.logged run.recorded.distinct fits)
 
@@ -57,8 +57,8 @@ returns-clause-valid g c =
     let settings = c.args.settings.now in
     let events = events_of c.args.lines in
     let run = c.in_ok-run.ensures in
-    let same = same_judged number settings c.args.head.now events c.in_ok-run.run'.sizes run.run.sized c.bytes.result.now c.bytes-2.result.now c.in_ok-run.run'.too_large
-    (c.bytes.ensures ∙ run.run.log_written) (c.bytes-2.ensures ∙ run.run.store_spelled) run.too_large in
+    let same = same_judged number settings c.args.head.now events c.in_ok-run.run'.sizes run.run.sized c.bytes.result.now (spell c.in_ok-run.run'.store.entries) c.in_ok-run.run'.too_large
+    (c.bytes.ensures ∙ run.run.log_written) (ap spell run.run.stored) run.too_large in
     let traced = c.in_ok-trace.ensures settings.message_format settings.group_by c.args.head.now.nextest_version (map plain events) run.traced in
     trace_left number settings c.args.head.now c.args.lines run.valid (sym same ∙ c.in-Ok.ensures.judged) ∙ ap (option_map trace_fault) traced.0
 
@@ -68,8 +68,8 @@ returns-in_err-trace-clause-err g c =
     let settings = c.args.settings.now in
     let events = events_of c.args.lines in
     let run = c.in_ok-run.ensures in
-    let same = same_judged number settings c.args.head.now events c.in_ok-run.run'.sizes run.run.sized c.bytes.result.now c.bytes-2.result.now c.in_ok-run.run'.too_large
-    (c.bytes.ensures ∙ run.run.log_written) (c.bytes-2.ensures ∙ run.run.store_spelled) run.too_large in
+    let same = same_judged number settings c.args.head.now events c.in_ok-run.run'.sizes run.run.sized c.bytes.result.now (spell c.in_ok-run.run'.store.entries) c.in_ok-run.run'.too_large
+    (c.bytes.ensures ∙ run.run.log_written) (ap spell run.run.stored) run.too_large in
     let left = trace_left number settings c.args.head.now c.args.lines run.valid (sym same ∙ c.in-Ok.ensures.judged) in
     let e = c.in_err-trace.field-0.0 in
     let refused = c.in_err-trace.ensures settings.message_format settings.group_by c.args.head.now.nextest_version (map plain events) run.traced in

@@ -9,6 +9,7 @@ use Rattle.rec_spans.specs.declared.settings.ChromeTraceGroupBy.{ChromeTraceGrou
 use Rattle.rec_spans.specs.Plain.{PlainEvent, plain}
 use Rattle.rec_trace.specs.declared.settings.ChromeTraceMessageFormat.{ChromeTraceMessageFormat}
 use Rattle.rec_export.proofs.record.record_lines.Given as goal
+use Rattle.rec_export.specs.declared.discarding.DiscardingSink.{DiscardingSink}
 use Rattle.rec_export.specs.declared.refusal.RecordExportError.{RecordExportError}
 use Rattle.rec_export.specs.Recorded.{HasRecorded, RecordsLines}
 use Rattle.rec_export.specs.Session.{events_of}
@@ -24,7 +25,7 @@ invariant-loop-line g l =
       sound : has_failed l.recorder ≡ false;
       recorded : (head : SessionHead) (events : List LiveEvent) → HasRecorded number namer m head events l.fn.recorder
           → (so_far : List LiveEvent) × HasRecorded number namer m head so_far l.recorder
-          × ((r : Result ⊤ RecordExportError) (new : Recording GrowingSinkState GrowingSinkState _) → RecordsLines number namer m head so_far l.line-iterator new r → RecordsLines number namer m head events l.fn.lines new r);
+          × ((r : Result ⊤ RecordExportError) (new : Recording DiscardingSink GrowingSinkState _) → RecordsLines number namer m head so_far l.line-iterator new r → RecordsLines number namer m head events l.fn.lines new r);
       traced : (format : ChromeTraceMessageFormat) (group : ChromeTraceGroupBy) (version : Parts) (before : List PlainEvent) → IsTraceOf format group version before l.fn.trace
           → (so_far : List PlainEvent) × IsTraceOf format group version so_far l.trace
           × (before ++ map plain (events_of l.fn.lines) ≡ so_far ++ map plain (events_of l.line-iterator));

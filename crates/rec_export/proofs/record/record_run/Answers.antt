@@ -5,8 +5,9 @@ use Rattle.rec_store.specs.Recording.{Recording, Stores}
 use Rattle.rec_store.specs.Store.{store_entries}
 use Rattle.rec_spans.specs.Plain.{plain}
 use Rattle.rec_export.proofs.record.record_run.Goals as goal
-use Rattle.rec_export.proofs.Recorded.{always, begun, text_taken}
+use Rattle.rec_export.proofs.Recorded.{always, begun, never, unknown}
 use Rattle.rec_export.proofs.RecordedLines.{lines_with, made_with}
+use Rattle.rec_export.specs.declared.discarding.DiscardingSink.{DiscardingSink}
 use Rattle.rec_export.specs.declared.record.RecordedInMemory.{RecordedInMemory}
 use Rattle.rec_export.specs.Session.{events_of}
 use Rattle.rec_export.specs.SessionTraces.{IsTraceOf}
@@ -18,8 +19,8 @@ returns-in-Err-clause-err g c =
     let m = c.args.settings.now.max_output in
     let head = c.args.head.now in
     let start = c.record_head.new.recorder in
-    let stored = subst (λ (r : Recording GrowingSinkState GrowingSinkState g.row.N.Denot). Stores text_taken (λ (b : GrowingSinkState). b.faults) r start (store_entries head)) c.new-recorder.ensures.made c.in-Ok.ensures.ok in
-    let has = begun number (λ (b : GrowingSinkState). b.faults) head namer m c.new.result c.new-2.result start c.new.ensures.bytes c.new-2.ensures.bytes stored in
+    let stored = subst (λ (r : Recording DiscardingSink GrowingSinkState g.row.N.Denot). Stores unknown never r start (store_entries head)) c.new-recorder.ensures.made c.in-Ok.ensures.ok in
+    let has = begun number unknown never head namer m (record {}) c.new.result start c.new.ensures.bytes stored in
     lines_with number namer m head [] c.args.lines start c.record_lines.new.recorder (Err c.in-Err.error) has (c.in-Err.ensures.recorded head [] (made_with number namer m head [] start has))
 
 pub returns-in-Ok-record_lines-clause-valid : goal.returns-in-Ok-record_lines-clause-valid
@@ -29,8 +30,8 @@ returns-in-Ok-record_lines-clause-valid g c =
     let m = c.args.settings.now.max_output in
     let head = c.args.head.now in
     let start = c.record_head.new.recorder in
-    let stored = subst (λ (r : Recording GrowingSinkState GrowingSinkState g.row.N.Denot). Stores text_taken (λ (b : GrowingSinkState). b.faults) r start (store_entries head)) c.new-recorder.ensures.made c.in-Ok.ensures.ok in
-    let has = begun number (λ (b : GrowingSinkState). b.faults) head namer m c.new.result c.new-2.result start c.new.ensures.bytes c.new-2.ensures.bytes stored in
+    let stored = subst (λ (r : Recording DiscardingSink GrowingSinkState g.row.N.Denot). Stores unknown never r start (store_entries head)) c.new-recorder.ensures.made c.in-Ok.ensures.ok in
+    let has = begun number unknown never head namer m (record {}) c.new.result start c.new.ensures.bytes stored in
     let recorded = lines_with number namer m head [] c.args.lines start c.record_lines.new.recorder (Ok tt) has (c.in-Ok-record_lines.ensures.recorded head [] (made_with number namer m head [] start has)) in
     always c.end_run.result recorded.0
 
@@ -41,8 +42,8 @@ returns-in-Ok-record_lines-clause-run g c =
     let m = c.args.settings.now.max_output in
     let head = c.args.head.now in
     let start = c.record_head.new.recorder in
-    let stored = subst (λ (r : Recording GrowingSinkState GrowingSinkState g.row.N.Denot). Stores text_taken (λ (b : GrowingSinkState). b.faults) r start (store_entries head)) c.new-recorder.ensures.made c.in-Ok.ensures.ok in
-    let has = begun number (λ (b : GrowingSinkState). b.faults) head namer m c.new.result c.new-2.result start c.new.ensures.bytes c.new-2.ensures.bytes stored in
+    let stored = subst (λ (r : Recording DiscardingSink GrowingSinkState g.row.N.Denot). Stores unknown never r start (store_entries head)) c.new-recorder.ensures.made c.in-Ok.ensures.ok in
+    let has = begun number unknown never head namer m (record {}) c.new.result start c.new.ensures.bytes stored in
     let recorded = lines_with number namer m head [] c.args.lines start c.record_lines.new.recorder (Ok tt) has (c.in-Ok-record_lines.ensures.recorded head [] (made_with number namer m head [] start has)) in
     c.end_run.ensures.run namer m head (events_of c.args.lines) recorded.1
 
@@ -53,8 +54,8 @@ returns-in-Ok-record_lines-clause-too_large g c =
     let m = c.args.settings.now.max_output in
     let head = c.args.head.now in
     let start = c.record_head.new.recorder in
-    let stored = subst (λ (r : Recording GrowingSinkState GrowingSinkState g.row.N.Denot). Stores text_taken (λ (b : GrowingSinkState). b.faults) r start (store_entries head)) c.new-recorder.ensures.made c.in-Ok.ensures.ok in
-    let has = begun number (λ (b : GrowingSinkState). b.faults) head namer m c.new.result c.new-2.result start c.new.ensures.bytes c.new-2.ensures.bytes stored in
+    let stored = subst (λ (r : Recording DiscardingSink GrowingSinkState g.row.N.Denot). Stores unknown never r start (store_entries head)) c.new-recorder.ensures.made c.in-Ok.ensures.ok in
+    let has = begun number unknown never head namer m (record {}) c.new.result start c.new.ensures.bytes stored in
     let recorded = lines_with number namer m head [] c.args.lines start c.record_lines.new.recorder (Ok tt) has (c.in-Ok-record_lines.ensures.recorded head [] (made_with number namer m head [] start has)) in
     c.end_run.ensures.too_large namer m head (events_of c.args.lines) recorded.1
 
