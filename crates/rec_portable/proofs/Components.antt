@@ -11,7 +11,7 @@ use Rattle.rec_portable.specs.declared.errors.PortableRecordingReadError.TheVari
 use Rattle.rec_portable.specs.declared.errors.PortableRecordingReadError.{PortableRecordingReadError}
 use Rattle.rec_portable.specs.Judging.{content_judged, manifest_read, versions_checked, within}
 
-within_limit : (limit : ℕ) (name content : List ℕ) → length content ≤ limit → within limit name content ≡ Ok content
+pub within_limit : (limit : ℕ) (name content : List ℕ) → length content ≤ limit → within limit name content ≡ Ok content
 within_limit limit name content short =
     let made : Result (List ℕ) PortableRecordingReadError = Ok content in
     ap (λ b. if b then Err (FileTooLarge name (length content) limit) else made) (le-ltb limit (length content) short)

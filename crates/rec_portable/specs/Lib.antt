@@ -3,5 +3,8 @@ pub mod Errors
 pub mod Judging
 pub mod Opening
 pub mod OuterEntries
+pub mod Rewriting
 pub mod Stores
+pub mod Upgrades
+pub mod Upgrading
 pub mod Windows

@@ -38,7 +38,7 @@ pub(crate) fn extract(
 }
 
 /// Lends the entries of bytes that are a container, so that only memory can be wanting.
-fn entries_of<'a>(alloc: Global, bytes: &'a [u8]) -> Result<Container<'a>, AllocError>
+pub(crate) fn entries_of<'a>(alloc: Global, bytes: &'a [u8]) -> Result<Container<'a>, AllocError>
     requires { (es : List Entry) × IsContainer bytes.now es }
     ensures { (es : List Entry) → IsContainer bytes.now es → IfOk result (λ c. c.entries ≡ es) }
 {

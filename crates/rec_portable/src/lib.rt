@@ -12,6 +12,9 @@ mod parts;
 mod recording;
 mod run_log;
 mod store;
+mod upgrade_error;
+mod upgrades;
+mod upgrading;
 mod window;
 
 pub use bundle::bundle_text;
@@ -20,3 +23,5 @@ pub use extraction::ExtractOuterFileResult;
 pub use recording::PortableRecording;
 pub use run_log::{PortableRecordingEventIter, PortableRecordingRunLog};
 pub use store::PortableStoreReader;
+pub use upgrade_error::UpgradeError;
+pub use upgrades::{Upgraded, upgrade};

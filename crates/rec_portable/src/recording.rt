@@ -12,12 +12,12 @@ ghost use Rattle.rec_portable.specs.OuterEntries.{log_part, OpensStore, Extracts
 ghost use Rattle.rec_portable.specs.Windows.{bytes_in};
 
 use crate::errors::PortableRecordingReadError;
-use crate::extraction::{ExtractOuterFileResult, extract};
+use crate::extraction::{ExtractOuterFileResult, entries_of, extract};
 use crate::parts::BundleParts;
 use crate::run_log::PortableRecordingRunLog;
 use crate::store::PortableStoreReader;
 use crate::window::Window;
-use rec_container::{Sink, Source, read_within};
+use rec_container::{Container, Sink, Source, read_within};
 use rec_format::{PortableManifest, RecordedRunInfo, RunFilesExist};
 use std::alloc::{AllocError, Global};
 use std::marker::Model;
@@ -115,6 +115,20 @@ impl PortableRecording {
         &self.parts.manifest
     }
 
+    /// Returns the most bytes of an entry that is read.
+    pub(crate) fn limit(&self) -> u64
+        ensures { result ≡ self.now.limit }
+    {
+        self.limit
+    }
+
+    /// Lends the entries of the bundle.
+    pub(crate) fn outer_entries(&self, alloc: Global) -> Result<Container<'_>, AllocError>
+        ensures { (es : List Entry) → IsContainer self.now.bytes es → IfOk result (λ c. c.entries ≡ es) }
+    {
+        entries_of(alloc, &self.bytes)
+    }
+
     /// Copies the metadata of the run.
     ///
     /// # Errors
@@ -141,6 +155,14 @@ impl PortableRecording {
     {
         let found = part_of(&self.bytes, self.parts.log);
         PortableRecordingRunLog::within(alloc, self.limit, found)
+    }
+
+    /// Lends the bytes of the log, whatever their length. It takes no memory. `None` comes exactly where
+    /// the bundle has no entry `run.log.zst`.
+    pub fn log_window(&self) -> Option<&[u8]>
+        ensures { (es : List Entry) → IsContainer self.now.bytes es → option_map (λ b. b.now) result ≡ content_of es log_name }
+    {
+        part_of(&self.bytes, self.parts.log)
     }
 
     /// Lends the bytes of the store. It takes no memory. `None` comes exactly where the bundle has no

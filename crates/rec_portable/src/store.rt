@@ -49,6 +49,13 @@ impl<'a> PortableStoreReader<'a> {
         let entries = parse(alloc, bytes)?;
         Ok(PortableStoreReader { entries, limit })
     }
+
+    /// Lends the entries of the store.
+    pub(crate) fn entries(&self) -> &Container<'a>
+        ensures { result.now.entries ≡ self.now.entries }
+    {
+        &self.entries
+    }
 }
 
 impl StoreReader for PortableStoreReader<'_> {

@@ -18,8 +18,10 @@ pub(crate) enum Question<'q> {
     RunId,
     /// Which of its files are there.
     Files,
+    /// The bytes of its log.
+    LogWindow,
     /// The bytes of its store.
-    Window,
+    StoreWindow,
     /// A part of its store.
     Part(Part<'q>),
     /// An entry, with its length checked against the limit or not.
@@ -74,7 +76,8 @@ fn answer(
         Question::Path => Ok(String::from_str(alloc, recording.archive_path())?),
         Question::RunId => run_id(alloc, recording),
         Question::Files => Ok(files(alloc, recording)?),
-        Question::Window => text(alloc, recording.store_window().unwrap_or(b"none")),
+        Question::LogWindow => text(alloc, recording.log_window().unwrap_or(b"none")),
+        Question::StoreWindow => text(alloc, recording.store_window().unwrap_or(b"none")),
         Question::Part(part) => part_of(alloc, recording.open_store(alloc), part),
         Question::Entry(name, check_limit) => entry(alloc, recording, name, check_limit),
         Question::EntryUnwritten(name) => entry_unwritten(alloc, recording, name),

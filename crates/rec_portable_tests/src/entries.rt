@@ -51,10 +51,12 @@ fn files_are_there(rt: HostRuntime) -> Result<(), Fail> {
 }
 
 #[test]
-fn a_window_shows_the_store(rt: HostRuntime) -> Result<(), Fail> {
+fn windows_show_the_log_and_the_store(rt: HostRuntime) -> Result<(), Fail> {
     let alloc = rt.alloc();
-    assert!(rt; other_answers(alloc, "store.zip", Question::Window, "kept")?);
-    assert!(rt; other_answers(alloc, "run.log.zst", Question::Window, "none")?);
+    assert!(rt; other_answers(alloc, "store.zip", Question::StoreWindow, "kept")?);
+    assert!(rt; other_answers(alloc, "run.log.zst", Question::StoreWindow, "none")?);
+    assert!(rt; other_answers(alloc, "run.log.zst", Question::LogWindow, "kept")?);
+    assert!(rt; other_answers(alloc, "store.zip", Question::LogWindow, "none")?);
     Ok(())
 }
 

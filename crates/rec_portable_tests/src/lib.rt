@@ -17,3 +17,5 @@ mod opening;
 mod stores;
 #[cfg(test)]
 mod texts;
+#[cfg(test)]
+mod upgrading;

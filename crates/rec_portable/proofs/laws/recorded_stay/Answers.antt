@@ -1,0 +1,6 @@
+use Rattle.rec_portable.proofs.laws.recorded_stay.Goals as goal
+use Rattle.rec_portable.proofs.UpgradeLaws.{recorded_again}
+
+pub returns : goal.returns
+returns c number m head events is logged agree small q has =
+    recorded_again number m head events is logged agree small c.one_record.ensures (c.recordings_are_written.ensures.bytes number m head events) q has
