@@ -1,0 +1,14 @@
+mod FoundEntries
+mod GatheredLines
+mod Judged
+mod KeptBundle
+mod KeptEntries
+mod NamedPaths
+mod ReadLines
+mod RecordedOutputs
+mod Refused
+mod ResolvedEvents
+mod SoundLines
+mod Stopped
+mod StoreSteps
+mod WholeLog

@@ -1,0 +1,15 @@
+//! Salvage of a recording that was stopped: a bundle of the events that stand whole in its log, with the outputs that
+//! they name.
+#![tactic(auto)]
+
+mod directory;
+mod errors;
+mod gathering;
+mod log_lines;
+mod metadata;
+mod salvaging;
+mod store;
+
+pub use directory::salvage_dir;
+pub use errors::SalvageError;
+pub use salvaging::{Salvaged, salvage};
