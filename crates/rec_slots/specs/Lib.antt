@@ -1,0 +1,9 @@
+pub mod Gaps
+pub mod Acts
+pub mod Seen
+pub mod Runs
+pub mod Usage
+pub mod Refusals
+pub mod Clocks
+pub mod Beats
+pub mod Walked
