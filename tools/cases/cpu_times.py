@@ -47,6 +47,14 @@ REPORT = (
 # cpu time too.
 READ_VERSIONS = [(b"0", b""), (b"0", ONE_SECOND), (b"1", b""), (b"1", ONE_SECOND)]
 
+# The trace of an attempt with this member: its end has the time, too.
+TRACES = {
+    b"": SMALL_TRACE,
+    ONE_SECOND: replaced(
+        SMALL_TRACE, b'"binary_id":"alpha::a","is_slow"', b'"binary_id":"alpha::a","cpu_time":{"nanos":0,"secs":1},"is_slow"'
+    ),
+}
+
 # An attempt that failed, as a session has it, up to the last members of its status; and as it is logged.
 BEFORE_LAST_MEMBERS = (
     '{"timestamp":{"secs":1002,"nanos":0,"offset":0},"elapsed":{"secs":2,"nanos":0},"kind":"test-attempt-failed-will-retry",'
@@ -132,7 +140,7 @@ CASES = [
         for minor, member in READ_VERSIONS
         for command, last, out in [
             ("info", b"", manifest_of(minor) + b"\n"),
-            ("trace", b"", SMALL_TRACE),
+            ("trace", b"", TRACES[member]),
             ("replay", b"", REPLAY),
             ("report", RUN_FINISHED, REPORT),
         ]

@@ -9,6 +9,7 @@ from cases.made import (
 from cases.outlines import outlined, printed, refused, unwrapped
 
 HEAVY = {"global-slot": 0, "test-group": "heavy"}
+BUSY = {"cpu-time": duration(1)}
 ERROR = {"error-summary": {"short-message": "exit code 101", "description": "thread panicked"}}
 
 # How an attempt ended: `p` passed, `c` failed with exit code 101, `x` could not be started.
@@ -131,6 +132,16 @@ FAILED_AT_LAST = """\
     "time_taken":{"nanos":0,"secs":2},"total_attempts":2}
 """
 
+FAILED_BUSY = """\
+{"attempt":1,"binary_id":"alpha::a","cpu_time":{"nanos":0,"secs":1},"is_slow":false,"result":"exec-fail","test_group":"@global",
+    "test_name":"t1","time_taken":{"nanos":0,"secs":2},"total_attempts":2}
+"""
+
+PASSED_BUSY = """\
+{"attempt":2,"binary_id":"alpha::a","cpu_time":{"nanos":0,"secs":1},"flaky_result":"pass","is_slow":false,"result":"pass",
+    "test_group":"@global","test_name":"t1","time_taken":{"nanos":0,"secs":2},"total_attempts":2}
+"""
+
 ATTEMPTS = [
     ("a failure of all", [test_start(HEAVY, []), failed(INDEX, attempted(1, "c", 6, ERROR), 4)], FAILED_OF_ALL),
     ("a failure of least", [LIGHT, failed({}, attempted(1, "x", 0, {}), 0)], FAILED_OF_LEAST),
@@ -139,6 +150,8 @@ ATTEMPTS = [
     ("a flaky failure", [LIGHT, finished("cp", "fail", {})], FLAKY_FAILURE),
     ("a flaky failure with an error", [LIGHT, finished("cp", "fail", ERROR)], FLAKY_FAILURE_WITH_ERROR),
     ("failed at last", [LIGHT, finished("cx", "fail", {})], FAILED_AT_LAST),
+    ("a failure with a time of processors", [LIGHT, failed({}, attempted(1, "x", 0, BUSY), 0)], FAILED_BUSY),
+    ("passed with a time of processors", [LIGHT, finished("cp", "pass", BUSY)], PASSED_BUSY),
 ]
 
 STARTS = [

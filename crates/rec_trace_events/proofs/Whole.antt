@@ -232,7 +232,7 @@ slow_test_args_whole test i r elapsed will_terminate =
 module _ {S O : Type 0} where
   attempt_end_whole : (test : OwnedTestInstanceId) (i : Option StressIndexSummary) (g : TestGroup) (s : ExecuteStatus S O) (flaky : Option FlakyResult)
       → AreWhole (attempt_end_fields test i g s flaky)
-  attempt_end_whole test i g s flaky = (refl, (refl, (duration_whole s.time_taken, (result_whole s.result, (refl, (refl, (refl, (refl, (index_field_whole i, (only_whole _ (duration_value s.delay_before_start) (duration_whole s.delay_before_start), (error_of_whole s.error_summary s.retry_data flaky, (optional_whole flaky_result_value (λ r. refl) flaky, tt))))))))))))
+  attempt_end_whole test i g s flaky = (refl, (refl, (duration_whole s.time_taken, (result_whole s.result, (refl, (refl, (refl, (refl, (index_field_whole i, (only_whole _ (duration_value s.delay_before_start) (duration_whole s.delay_before_start), (error_of_whole s.error_summary s.retry_data flaky, (optional_whole flaky_result_value (λ r. refl) flaky, (optional_whole duration_value duration_whole s.cpu_time, tt)))))))))))))
 
   pub failed_attempt_args_whole : (test : OwnedTestInstanceId) (i : Option StressIndexSummary) (g : TestGroup) (s : ExecuteStatus S O) (delay : Span)
       → has_float (failed_attempt_args test i g s delay) ≡ false

@@ -151,6 +151,7 @@ module _ {S O : Type 0} where
       ∷ delay_field (codes "delay_before_start") s.delay_before_start
       ∷ given (codes "error") (error_of s.error_summary s.retry_data flaky)
       ∷ optional (codes "flaky_result") flaky_result_value flaky
+      ∷ optional (codes "cpu_time") duration_value s.cpu_time
       ∷ []
 
   -- the end of an attempt after which another one follows

@@ -61,6 +61,7 @@ fn put_attempt_end<S: OutputSpec>(
     let summary = &status.error_summary;
     put_error(alloc, object, summary, &status.retry_data, flaky)?;
     put_optional(alloc, object, "flaky_result", &flaky)?;
+    put_optional(alloc, object, "cpu_time", &status.cpu_time)?;
     Ok(())
 }
 
