@@ -6,7 +6,8 @@
 The real session is that of `examples/`, of a run of a small crate's tests. Of the made ones one is of `tools/make_kinds.py`,
 with each kind of event, and one has a pause and a retry, with its trace written by hand. Each is recorded; its bundle is
 looked into, its trace is drawn again, its events are replayed, and its report is written as JUnit XML, which is held against
-its schema and read by Python's own parser. What is printed is held to the session, event by event.
+its schema and read by Python's own parser. What is printed is held to the session, event by event, and how slots were used to
+sums over the gaps between its events.
 """
 
 import collections
@@ -83,6 +84,39 @@ def try_lines(name, program, bundle, events):
         demand(says == (kind in OUTPUT_KINDS), f"{name}: outputs are loaded although they are skipped: {line}")
 
 
+def instant_of(event):
+    """The instant of an event, in nanoseconds."""
+    return event["timestamp"]["secs"] * 10**9 + event["timestamp"]["nanos"]
+
+
+def usage_of(events):
+    """What `slots` prints of the events of one run: for each slot the time of the gaps in which it is busy, paused and idle."""
+    kinds = [event["kind"] for event in events]
+    begin, end = kinds.index("run-started"), kinds.index("run-finished")
+    slots = sorted({event["slot-assignment"]["global-slot"] for event in events if "slot-assignment" in event})
+    used = {slot: collections.Counter() for slot in slots}
+    running, paused = {}, False
+    for event, following in zip(events[begin:end], events[begin + 1:]):
+        paused = {"run-paused": True, "run-continued": False}.get(event["kind"], paused)
+        test = json.dumps(event.get("test-instance"))
+        if "slot-assignment" in event:
+            running[test] = event["slot-assignment"]["global-slot"]
+        elif event["kind"] in ("test-attempt-failed-will-retry", "test-finished"):
+            del running[test]
+        for slot in slots:
+            what = "paused" if paused else "busy" if slot in running.values() else "idle"
+            used[slot][what] += instant_of(following) - instant_of(event)
+    lines = [f"slot={slot} " + " ".join(f"{what}={used[slot][what]}" for what in ("busy", "paused", "idle")) for slot in slots]
+    return "".join(f"{line}\n" for line in [f"run={instant_of(events[end]) - instant_of(events[begin])}", *lines])
+
+
+def try_slots(program, name, session, bundle):
+    """How the slots of a run were used is what the gaps between its events say."""
+    printed = program.run(["slots"], bundle).decode()
+    _, *events = [json.loads(line) for line in session.splitlines()]
+    demand(printed == usage_of(events), f"{name}: its slots are used so: {printed}")
+
+
 def xml_of(program, name, bundle, events):
     """The JUnit XML of each report of a bundle, as Python reads it."""
     reports = program.folder / f"{name}.reports"
@@ -100,6 +134,7 @@ def try_example(program):
     """The run of the example: seven tests ran, two of which failed, and one was skipped."""
     session = (HERE.parent / "examples/sums.session").read_bytes()
     root, = try_session(program, "sums", session)
+    try_slots(program, "sums", session, (program.folder / "sums.bundle").read_bytes())
     cases = [case.get("name") for case in root.iter("testcase")]
     demand(sorted(set(cases)) == sorted(cases) and len(cases) == 8, f"sums: the report has the tests {cases}")
     failed = [case.get("name") for case in root.iter("testcase") if case.find("failure") is not None]
@@ -116,6 +151,7 @@ def try_pause_and_retry(program):
     demand(len(json.loads(trace)["traceEvents"]) == 54, "pause: not 54 trace events")
     bundle = (program.folder / "pause.bundle").read_bytes()
     demand(program.run(["trace"], bundle) == trace, "pause: another trace is drawn of the bundle")
+    try_slots(program, "pause", session, bundle)
     sizes = json.loads(program.run(["info"], bundle))["run"]["sizes"]
     demand((sizes["log"]["entries"], sizes["store"]["entries"]) == (14, 6), f"pause: the bundle has {sizes}")
     passed, failed = (bundle.find(b"out/%s-stdout" % name) for name in (b"ba7816bf8f01cfea", b"2cf24dba5fb0a30e"))

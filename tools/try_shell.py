@@ -55,7 +55,7 @@ def left(line):
     return f"exec 3<>pipe 4>pipe 3<&-; {line} >&4"
 
 
-READERS = ("info", "trace", "trace --message-format json-pretty", "replay", "report")
+READERS = ("info", "trace", "trace --message-format json-pretty", "replay", "report", "slots", "rerun")
 PRINTERS = [*[f"rezovamy {words} < large" for words in READERS], "rezovamy --help", "rezovamy --version"]
 RECORD = "rezovamy record b < session"
 

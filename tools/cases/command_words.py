@@ -28,6 +28,12 @@ COMMANDS = [
     (["replay", "b"], 2, "UnknownOption at=1", False, False),
     (["replay"], 12, "ReadArchive fault=BadMagic", False, False),
     (["report"], 12, "ReadArchive fault=BadMagic", False, False),
+    (["slots", "b"], 2, "UnknownOption at=1", False, False),
+    (["slots"], 12, "ReadArchive fault=BadMagic", False, False),
+    (["rerun", "b"], 2, "UnknownOption at=1", False, False),
+    (["rerun"], 12, "ReadArchive fault=BadMagic", False, False),
+    (["slots", "--session-limit", "9"], 4, "SpoolTooLarge limit=9", False, False),
+    (["rerun", "--session-limit", "9"], 4, "SpoolTooLarge limit=9", False, False),
     (["sample"], 2, "MissingPositional at=1", False, False),
     (["sample", "5"], 2, "MissingPositional at=2", False, False),
     (["sample", "10001"], 2, "BadNumber at=1", False, False),
@@ -101,6 +107,19 @@ REFUSED = [
     ("trace --output load", "UnknownOption at=1"),
     ("info --output load", "UnknownOption at=1"),
     ("record b --output load", "UnknownOption at=2"),
+    ("slots --output load", "UnknownOption at=1"),
+    ("slots --group-by slot", "UnknownOption at=1"),
+    ("slots --message-format json", "UnknownOption at=1"),
+    ("slots --max-output 1", "UnknownOption at=1"),
+    ("slots --read-limit", "MissingValue at=2"),
+    ("slots --read-limit 1 --read-limit 1", "RepeatedOption at=3"),
+    ("rerun --output load", "UnknownOption at=1"),
+    ("rerun --group-by slot", "UnknownOption at=1"),
+    ("rerun --message-format json", "UnknownOption at=1"),
+    ("rerun --max-output 1", "UnknownOption at=1"),
+    ("rerun --session-limit x", "BadValue at=2"),
+    ("slot", "UnknownCommand at=0"),
+    ("reruns", "UnknownCommand at=0"),
     ("sample 10001 b", "BadNumber at=1"),
     ("sample 18446744073709551616 b", "BadNumber at=1"),
     ("sample 18446744073709551615 b", "BadNumber at=1"),
@@ -152,15 +171,21 @@ Usage: rezovamy record BUNDLE [OPTION VALUE]..
        rezovamy replay [OPTION VALUE]..
        rezovamy report [OPTION VALUE]..
        rezovamy info [OPTION VALUE]..
+       rezovamy slots [OPTION VALUE]..
+       rezovamy rerun [OPTION VALUE]..
        rezovamy sample N BUNDLE [OPTION VALUE]..
 
 record reads the session of a test run from standard input, and writes it into
 the file BUNDLE, a portable recording. Its trace, a timeline for trace viewers,
 goes to standard output.
 
-trace, replay, report and info read such a bundle from standard input. trace
-prints the trace of its log, replay the events, a line for each, and report
-what came of the tests, a line of JSON for each run. info prints the manifest.
+The next six read such a bundle from standard input. trace prints the trace of
+its log, replay the events, a line for each, and report what came of the tests,
+a line of JSON for each run. info prints the manifest. slots prints how long a
+run took and how long each of its slots was busy, paused and idle, all in
+nanoseconds. rerun prints which tests are to run again after a run: a line of
+JSON, and then a line for each test of its list that runs again, that is
+skipped, or that is to run again but is no longer listed.
 
 sample makes a session of N tests, at most 10000, and writes it into the file
 BUNDLE as record does. It prints how many events and outputs were written.
@@ -189,7 +214,8 @@ name of an output, 7 for what is above the read limit, 8 for an event that
 needs what isn't open, starts what is, or takes a slot that is held, 9 for a
 number out of range, 10 if the bundle can't be written, 11 if standard output
 fails, 12 for a bundle that is damaged, incomplete or of another version, 13
-for an event that can't be replayed or reported, and 70 if memory runs out.
+for an event that can't be replayed or reported, 14 for a log of which slots
+can't tell the use, and 70 if memory runs out.
 With a status other than 0, a line on standard error names the cause.
 """
 

@@ -3,25 +3,28 @@
 Beside these, proved tests show what no input of the built program brings about. `tools/check_pages.py` looks whether they are
 there.
 
+- A source and sinks that take single bytes: `rec_program_tests`: `single_bytes_change_nothing`.
 - A source in pieces, of which a read fails: `rec_program_tests`: `faults_of_sources`;
   `rec_portable_tests`: `a_source_that_fails_is_no_bundle`.
 - Sinks in pieces, of which a write fails: `rec_program_tests`: `faults_of_the_bundle_leave_no_trace`,
   `faults_of_the_trace_leave_the_bundle_whole`, `faults_of_standard_output`, `faults_of_other_sinks`.
-- Names that don't tell contents apart: `rec_program_tests`: `outputs_clash`.
+- Names that don't tell the outputs of two tests apart: `rec_program_tests`: `outputs_clash`.
 """
 
 from cases.case import SOME, Case, Endless
 from cases.made import ONE_TEST, bundle, end, go_on, log_of, pause, run, run_end, start, store
 from cases.outlines import GROUPINGS, printed
+from cases.recorded_bundles import outputs_are
 from cases.texts import (
-    LOGGED_PAUSE, LOG_LINES, MANIFEST, METADATA, NO_SIZES, PAUSE_ALONE, RUN_PAUSED, SMALL_TRACE, replaced, session_of,
+    LOGGED_PAUSE, LOG_LINES, MANIFEST, METADATA, NO_SIZES, PAUSE_ALONE, RUN_PAUSED, SMALL_TRACE, TEST_STARTED, finished, replaced,
+    session_of,
 )
 from cases.trace_slices import RUN, marks, of_test
 from container import container
 
 RECORD, INFO = ("record", "b"), ("info",)
 
-# The session of a pause alone, 480 bytes, and its bundle, 1194 bytes.
+# The session of a pause alone, 479 bytes, and its bundle, 1194 bytes.
 SESSION = session_of(RUN_PAUSED)
 PAUSE_SIZES = (
     b'"sizes":{"log":{"compressed":138,"entries":1,"uncompressed":138},"store":{"compressed":515,"entries":4,"uncompressed":377}}'
@@ -31,7 +34,7 @@ BUNDLE = container([
     (b"run.log.zst", LOGGED_PAUSE),
     (b"store.zip", container(METADATA)),
 ])
-# Where its parts begin behind the magic: tag, length of the name, name, length of the content and content of each entry, and the
+# Where its parts begin after the magic: tag, length of the name, name, length of the content and content of each entry, and the
 # end mark.
 PARTS = (8, 9, 11, 24, 32, 498, 499, 501, 512, 520, 658, 659, 661, 670, 678, 1193)
 
@@ -43,6 +46,10 @@ header 550e8400-e29b-41d4-a716-446655440000 incomplete
 1001.000000000 test-started alpha::a t1
 1002.000000000 test-finished alpha::a t1 not-loaded
 """
+
+# Two tests with one output, which is stored once.
+ONE_OUTPUT = session_of(*(line.replace(b"t1", name) for name in (b"t1", b"t2") for line in (TEST_STARTED, finished())))
+STORED_ONCE = outputs_are([(b"out/ba7816bf8f01cfea-stdout", b"abc")])
 
 # A run, and tests on three slots: one goes on after a pause, one ends in it, and one starts in a pause that is the last. The run
 # ends in a pause, twice; and pauses and continuations come twice.
@@ -68,6 +75,7 @@ def cut(length):
 HOSTILE = [
     ("nothing hostile", RECORD, SESSION, 0, b"", PAUSE_ALONE, BUNDLE),
     ("the greatest limit", (*RECORD, "--session-limit", "18446744073709551615"), SESSION, 0, b"", PAUSE_ALONE, BUNDLE),
+    ("one output of two tests", RECORD, ONE_OUTPUT, 0, b"", SOME, STORED_ONCE),
     ("a full device", ("record", "/dev/full"), SESSION, 10, b"BundleFault\n", b"", None),
     ("lines without an end", (*RECORD, "--session-limit", "10"), Endless(""), 4, b"SessionTooLarge limit=10\n", b"", None),
     ("a line of 128 nested arrays", RECORD, session_of(b"[" * 128 + b"]" * 128), 5, b"ParseEvent line_number=2\n", b"", None),

@@ -165,7 +165,7 @@ STORES = (
      b"DeserializeMetadata file_name=meta/test-list.json\n"),
 )
 
-# Parts of a length, with blanks behind their texts.
+# Parts of a length, with blanks after their texts.
 
 
 def of_log(length):

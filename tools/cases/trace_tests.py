@@ -341,6 +341,6 @@ CASES = [
     *outlined("arrows: pending until it finishes", "sf", FINISHED, FINISHED_DRAWN),
     *outlined("arrows: each test has its own, and another process", "sf", OWN, OWN_DRAWN),
     *outlined("arrows: none without a failed attempt", "sf", [retry(1000, 1, 0), end(1001, 1, 0), start(1002, 1, 0)], ""),
-    # An arrow finishes between the begin and the end of a slice in a pause, and starts behind the end of one.
+    # An arrow finishes between the begin and the end of a slice in a pause, and starts after the end of one.
     *outlined("arrows: in a pause", "BEsf", ARROW_IN_A_PAUSE, ARROW_IN_A_PAUSE_DRAWN),
 ]

@@ -1,80 +1,76 @@
 -- A line that is written piece by piece.
-use Rattle.std.proofs.Common.{◌≡◌, zero, suc, ℕ, ◌+◌, ◌≤◌, List, [], ◌∷◌, ◌++◌, length, drop, Option, ap, sym, refl, ◌∙◌, arith, append_assoc, subst, add-one, append-nil}
-use lib.ListN.{get_or}
-use Rattle.std.proofs.KnownBytes.{Appends-trans}
+use Rattle.std.proofs.Common.{◌≡◌, inl, inr, ℕ, List, [], ◌∷◌, ◌++◌, Bool, true, false, Option, Result, Ok, Err, OnOk, OnErr, is_err, refl, sym, ap, ◌∙◌, arith, subst, append_assoc, append-nil}
+use Rattle.std.proofs.KnownBytes.{Appends-nil, Appends-trans}
+use Rattle.std.specs.Bool.{⊤}
+use Rattle.std.specs.Fmt.{decimal}
 use Rattle.std.specs.Io.KnownBytes.{Appends}
 use Rattle.rec_container.proofs.Parts.{took_part}
+use Rattle.rec_container.specs.Causes.{HasCause}
+use Rattle.rec_container.specs.declared.streams.SinkFailed.{SinkFailed}
 use Rattle.rec_container.specs.Taking.{TookPart}
-use Rattle.rec_faults.specs.declared.line.Field.{Field}
-use Rattle.rec_faults.specs.declared.line.FieldValue.TheVariants.{Text}
-use Rattle.rec_faults.specs.LinePieces.{fields_bytes, value_bytes}
+use Rattle.rec_format.specs.declared.incompatibility.Release.{Release}
+use Rattle.rec_format.specs.Incompatibility.{release_text}
+use Rattle.rec_format.specs.Versions.{version_text}
+use Rattle.rec_faults.specs.WritingFaults.{Remains, Writes, WritesFault}
 
--- the prefix of a line was taken that this rest is left of, and the count has not fallen
-pub record Begun (before now : Option (List ℕ)) (faults_before faults_now : ℕ) (line rest : List ℕ) : Type 0 where
-  pub done : List ℕ
-  pub split : line ≡ done ++ rest
-  pub taken : Appends before now done
-  pub later : faults_before ≤ faults_now
+module _ {G : Type 0} (taken : G → Option (List ℕ)) (faults : G → ℕ) where
+  -- of a line of which nothing is written, all of it is left
+  all_remains : (g : G) (line : List ℕ) → Remains taken faults g line line false g
+  all_remains g line = record { done = []; split = refl; appended = Appends-nil (taken g); later = omega arith }
 
--- the next piece was taken too
-pub begun_more : (a b c : Option (List ℕ)) (f g h : ℕ) (line piece rest : List ℕ) → Begun a b f g line (piece ++ rest) → Appends b c piece → g ≤ h → Begun a c f h line rest
-begun_more a b c f g h line piece rest w took later = record {
-  done = w.done ++ piece;
-  split = w.split ∙ sym (append_assoc w.done piece rest);
-  taken = Appends-trans a b c _ _ w.taken took;
-  later = omega (arith, w.later, later);
-}
+  -- a line of which nothing is left was written, or a part of it
+  nothing_remains : (fails : Bool) (old new : G) (line : List ℕ) → Remains taken faults old line [] fails new → WritesFault taken faults old new line
+  nothing_remains false old new line w = inl (subst (Appends (taken old) (taken new)) (sym (w.split ∙ append-nil w.done)) w.appended)
+  nothing_remains true old new line w = inr w
 
--- the next piece was taken in part
-pub begun_failed : (a b c : Option (List ℕ)) (f g : ℕ) (line piece rest : List ℕ) → Begun a b f g line (piece ++ rest) → TookPart b c piece → TookPart a c line
-begun_failed a b c f g line piece rest w took = took_part a b c w.done piece rest line w.taken took w.split
+  -- what was written before a line feed is the line
+  pub line_written : (before : List ℕ → List ℕ) (failed fails ended : Bool) (old mid new : G) → failed ≡ false → Writes taken faults before failed old fails mid
+      → Writes taken faults (λ rest. 10 ∷ rest) fails mid ended new → WritesFault taken faults old new (before (10 ∷ []))
+  line_written before true fails ended old mid new begun first last = absurd cc
+  line_written before false fails ended old mid new begun first last =
+      let line = before (10 ∷ []) in
+      nothing_remains ended old new line (last.goes old line (10 ∷ []) [] refl (first.goes old line line (10 ∷ []) refl (all_remains old line)))
 
--- a part was taken after a prefix
-pub part_after : (a b c : Option (List ℕ)) (prefix part : List ℕ) → Appends a b prefix → TookPart b c part → TookPart a c (prefix ++ part)
-part_after a b c prefix part p t = took_part a b c prefix part [] (prefix ++ part) p t (ap (λ (l : List ℕ). prefix ++ l) (sym (append-nil part)))
+  -- a piece was written to the sink, or in part
+  taken_or_part : (first old new : G) (line piece rest : List ℕ) (r : Result ⊤ SinkFailed) → Remains taken faults first line (piece ++ rest) false old
+      → OnOk r (Appends (taken old) (taken new) piece) → OnErr r (TookPart (taken old) (taken new) piece) → HasCause (faults old) (faults new) r → Remains taken faults first line rest (is_err r) new
+  taken_or_part first old new line piece rest (Ok x) w ok fault cause = record {
+    done = w.done ++ piece;
+    split = w.split ∙ sym (append_assoc w.done piece rest);
+    appended = Appends-trans (taken first) (taken old) (taken new) w.done piece w.appended ok;
+    later = let a = w.later in let b = cause.later in omega (arith, a, b);
+  }
+  taken_or_part first old new line piece rest (Err e) w ok fault cause = (
+    (let a = w.later in let b = cause.failed in omega (arith, a, b)),
+    took_part (taken first) (taken old) (taken new) w.done piece rest line w.appended fault w.split,
+  )
 
--- pieces that are the same two, with the same after them
-pub piece_is : (a a' b b' r r' : List ℕ) → a ≡ a' → b ≡ b' → r ≡ r' → a ++ (b ++ r) ≡ a' ++ (b' ++ r')
-piece_is a a' b b' r r' p q s = rw (p, q, s) refl
+  pub piece_written : (old new : G) (bytes piece : List ℕ) → bytes ≡ piece → (r : Result ⊤ SinkFailed) (failed fails : Bool) → failed ≡ false → fails ≡ is_err r
+      → OnOk r (Appends (taken old) (taken new) bytes) → OnErr r (TookPart (taken old) (taken new) bytes) → HasCause (faults old) (faults new) r
+      → Writes taken faults (λ rest. piece ++ rest) failed old fails new
+  piece_written old new bytes piece same r true fails goes is ok fault cause = absurd cc
+  piece_written old new bytes piece same r false fails goes is ok fault cause = record {
+    goes = λ first line whole rest split w.
+        subst (λ (b : Bool). Remains taken faults first line rest b new) (sym is)
+        (taken_or_part first old new line bytes rest r (subst (λ (l : List ℕ). Remains taken faults first line l false old) (split ∙ ap (λ (l : List ℕ). l ++ rest) (sym same)) w) ok fault cause);
+  }
 
--- a field of which nothing is written
-abbrev pub blank : Field
-blank = record { label = record { ref_ptr = (0, 0); now = [] }; value = Text (record { ref_ptr = (0, 0); now = [] }) }
+module _ {G : Type 0} {taken : G → Option (List ℕ)} {faults : G → ℕ} where
+  -- one after the other
+  infixr 40 ◌▸◌
+  pub ◌▸◌ : {p q : List ℕ → List ℕ} {failed fails ends : Bool} {old mid new : G} → Writes taken faults p failed old fails mid → Writes taken faults q fails mid ends new
+      → Writes taken faults (λ rest. p (q rest)) failed old ends new
+  ◌▸◌ {q = q} first second = record { goes = λ start line whole rest split w. second.goes start line (q rest) rest refl (first.goes start line whole (q rest) split w) }
 
--- the field at an index, and those after it
-field_next : (fs : List Field) (i : ℕ) (rest : List ℕ)
-    → fields_bytes (drop i fs) rest ≡ ((get_or fs i blank).label.now ++ value_bytes (get_or fs i blank).value) ++ fields_bytes (drop (suc i) fs) rest
-field_next [] zero rest = refl
-field_next [] (suc i) rest = refl
-field_next (x ∷ fs) zero rest = sym (append_assoc {A = ℕ} x.label.now (value_bytes x.value) (fields_bytes fs rest))
-field_next (x ∷ fs) (suc i) rest = field_next fs i rest
+  -- the same text, spelled otherwise
+  pub spelled : {p : List ℕ → List ℕ} (q : List ℕ → List ℕ) {failed fails : Bool} {old new : G} → ((rest : List ℕ) → q rest ≡ p rest) → Writes taken faults p failed old fails new
+      → Writes taken faults q failed old fails new
+  spelled q same written = record { goes = λ start line whole rest split w. written.goes start line whole rest (split ∙ same rest) w }
 
--- past the last field nothing but the rest is left
-pub fields_done : (fs : List Field) (i : ℕ) (rest : List ℕ) → length fs ≤ i → fields_bytes (drop i fs) rest ≡ rest
-fields_done [] zero rest h = refl
-fields_done [] (suc i) rest h = refl
-fields_done (x ∷ fs) zero rest h = absurd (omega (arith, h))
-fields_done (x ∷ fs) (suc i) rest h = fields_done fs i rest (omega (arith, h))
+-- versions and releases, number by number
+pub version_spelled : (major minor : ℕ) (rest : List ℕ) → version_text major minor ++ rest ≡ decimal major ++ (46 ∷ (decimal minor ++ rest))
+version_spelled major minor rest = append_assoc (decimal major) (46 ∷ decimal minor) rest
 
-module _ (a b c : Option (List ℕ)) (f g : ℕ) (line : List ℕ) (fs : List Field) (i : ℕ) (rest : List ℕ) (begun : Begun a b f g line (fields_bytes (drop i fs) rest)) where
-  here : Begun a b f g line (((get_or fs i blank).label.now ++ value_bytes (get_or fs i blank).value) ++ fields_bytes (drop (suc i) fs) rest)
-  here = subst (λ (l : List ℕ). Begun a b f g line l) (field_next fs i rest) begun
-
-  pub field_taken : (h : ℕ) → Appends b c ((get_or fs i blank).label.now ++ value_bytes (get_or fs i blank).value) → g ≤ h → Begun a c f h line (fields_bytes (drop (i + 1) fs) rest)
-  field_taken h took later =
-      subst (λ (n : ℕ). Begun a c f h line (fields_bytes (drop n fs) rest)) (sym (add-one i))
-      (begun_more a b c f g h line ((get_or fs i blank).label.now ++ value_bytes (get_or fs i blank).value) (fields_bytes (drop (suc i) fs) rest) here took later)
-
-  pub field_failed : TookPart b c ((get_or fs i blank).label.now ++ value_bytes (get_or fs i blank).value) → TookPart a c line
-  field_failed took = begun_failed a b c f g line ((get_or fs i blank).label.now ++ value_bytes (get_or fs i blank).value) (fields_bytes (drop (suc i) fs) rest) here took
-
-module _ (a b c : Option (List ℕ)) (f g : ℕ) (line : List ℕ) (fs : List Field) (i : ℕ) (rest : List ℕ) (begun : Begun a b f g line (fields_bytes (drop i fs) rest)) (past : length fs ≤ i) where
-  only_rest : line ≡ begun.done ++ rest
-  only_rest = begun.split ∙ ap (λ (l : List ℕ). begun.done ++ l) (fields_done fs i rest past)
-
-  -- after the last field the rest was taken
-  pub rest_taken : Appends b c rest → Appends a c line
-  rest_taken took = subst (λ (l : List ℕ). Appends a c l) (sym only_rest) (Appends-trans a b c begun.done rest begun.taken took)
-
-  pub rest_failed : TookPart b c rest → TookPart a c line
-  rest_failed took = took_part a b c begun.done rest [] line begun.taken took (only_rest ∙ ap (λ (l : List ℕ). begun.done ++ l) (sym (append-nil rest)))
+pub release_spelled : (r : Release) (rest : List ℕ) → release_text r ++ rest ≡ decimal r.major ++ (46 ∷ (decimal r.minor ++ (46 ∷ (decimal r.patch ++ rest))))
+release_spelled r rest =
+    append_assoc (version_text r.major r.minor) (46 ∷ decimal r.patch) rest ∙ version_spelled r.major r.minor (46 ∷ (decimal r.patch ++ rest))

@@ -37,7 +37,7 @@ abbrev mutual
   fields_text (unnamed value fields) rest = 32 ∷ shown_text value (fields_text fields rest)
 
 -- the line of a fault, with its LF
-abbrev pub line : Shown → List ℕ
+unfoldable pub line : Shown → List ℕ
 line fault = shown_text fault (10 ∷ [])
 
 -- a number that may be absent
@@ -52,30 +52,20 @@ span_shown spans.SubRun = variant (codes "SubRun") no_fields
 span_shown (spans.Script index) = variant (codes "Script") (unnamed (number index) no_fields)
 span_shown (spans.Test test) = variant (codes "Test") (field (codes "binary_id") (text test.binary_id) (field (codes "test_name") (text test.test_name) no_fields))
 
--- the name and the fields of faulty words
-abbrev pub words_name : WordsError → List ℕ
-words_name NoCommand = codes "NoCommand"
-words_name (UnknownCommand at) = codes "UnknownCommand"
-words_name (MissingPositional at) = codes "MissingPositional"
-words_name (BadNumber at) = codes "BadNumber"
-words_name (UnknownOption at) = codes "UnknownOption"
-words_name (RepeatedOption at) = codes "RepeatedOption"
-words_name (MissingValue at) = codes "MissingValue"
-words_name (BadValue at) = codes "BadValue"
-
 -- the index of a word or of a byte
 abbrev pub at_place : ℕ → Fields
 at_place at = field (codes "at") (number at) no_fields
 
-abbrev pub words_fields : WordsError → Fields
-words_fields NoCommand = no_fields
-words_fields (UnknownCommand at) = at_place at
-words_fields (MissingPositional at) = at_place at
-words_fields (BadNumber at) = at_place at
-words_fields (UnknownOption at) = at_place at
-words_fields (RepeatedOption at) = at_place at
-words_fields (MissingValue at) = at_place at
-words_fields (BadValue at) = at_place at
+-- faulty words
+abbrev pub words_shown : WordsError → Shown
+words_shown NoCommand = variant (codes "NoCommand") no_fields
+words_shown (UnknownCommand at) = variant (codes "UnknownCommand") (at_place at)
+words_shown (MissingPositional at) = variant (codes "MissingPositional") (at_place at)
+words_shown (BadNumber at) = variant (codes "BadNumber") (at_place at)
+words_shown (UnknownOption at) = variant (codes "UnknownOption") (at_place at)
+words_shown (RepeatedOption at) = variant (codes "RepeatedOption") (at_place at)
+words_shown (MissingValue at) = variant (codes "MissingValue") (at_place at)
+words_shown (BadValue at) = variant (codes "BadValue") (at_place at)
 
 -- what is wrong with the bytes of a container
 abbrev pub container_shown : ContainerError → Shown
@@ -87,57 +77,34 @@ container_shown (containers.DuplicateName at) = variant (codes "DuplicateName") 
 container_shown (containers.TrailingBytes at) = variant (codes "TrailingBytes") (at_place at)
 container_shown containers.OutOfMemory = variant (codes "OutOfMemory") no_fields
 
--- the name and the fields of the refusal of a session
-abbrev pub export_name : RecordExportError → List ℕ
-export_name SourceFault = codes "SourceFault"
-export_name (SessionTooLarge limit) = codes "SessionTooLarge"
-export_name ParseHead = codes "ParseHead"
-export_name (ReadRunLog line_number) = codes "ReadRunLog"
-export_name (ParseEvent line_number) = codes "ParseEvent"
-export_name (NameCollision file_name) = codes "NameCollision"
-export_name (CountOutOfRange event) = codes "CountOutOfRange"
-export_name (FileTooLarge file_name size limit) = codes "FileTooLarge"
-export_name (MissingTestStart event binary_id test_name) = codes "MissingTestStart"
-export_name (MissingScriptStart event script_id) = codes "MissingScriptStart"
-export_name (MissingStressSubRunStart event) = codes "MissingStressSubRunStart"
-export_name (SpanAlreadyOpen event span) = codes "SpanAlreadyOpen"
-export_name (SlotBusy event slot) = codes "SlotBusy"
-export_name (TimestampOutOfRange event) = codes "TimestampOutOfRange"
-export_name (RowOutOfRange event row) = codes "RowOutOfRange"
-export_name BundleFault = codes "BundleFault"
-export_name TraceFault = codes "TraceFault"
-export_name OutOfMemory = codes "OutOfMemory"
+-- the refusal of a session
+abbrev pub export_shown : RecordExportError → Shown
+export_shown SourceFault = variant (codes "SourceFault") no_fields
+export_shown (SessionTooLarge limit) = variant (codes "SessionTooLarge") (field (codes "limit") (number limit) no_fields)
+export_shown ParseHead = variant (codes "ParseHead") no_fields
+export_shown (ReadRunLog line_number) = variant (codes "ReadRunLog") (field (codes "line_number") (number line_number) no_fields)
+export_shown (ParseEvent line_number) = variant (codes "ParseEvent") (field (codes "line_number") (number line_number) no_fields)
+export_shown (NameCollision file_name) = variant (codes "NameCollision") (field (codes "file_name") (text file_name) no_fields)
+export_shown (CountOutOfRange event) = variant (codes "CountOutOfRange") (field (codes "event") (optional_number event) no_fields)
+export_shown (FileTooLarge file_name size limit) =
+    variant (codes "FileTooLarge") (field (codes "file_name") (text file_name) (field (codes "size") (number size) (field (codes "limit") (number limit) no_fields)))
+export_shown (MissingTestStart event binary_id test_name) =
+    variant (codes "MissingTestStart") (field (codes "event") (number event) (field (codes "binary_id") (text binary_id) (field (codes "test_name") (text test_name) no_fields)))
+export_shown (MissingScriptStart event script_id) =
+    variant (codes "MissingScriptStart") (field (codes "event") (number event) (field (codes "script_id") (text script_id) no_fields))
+export_shown (MissingStressSubRunStart event) = variant (codes "MissingStressSubRunStart") (field (codes "event") (number event) no_fields)
+export_shown (SpanAlreadyOpen event span) =
+    variant (codes "SpanAlreadyOpen") (field (codes "event") (number event) (field (codes "span") (span_shown span) no_fields))
+export_shown (SlotBusy event slot) = variant (codes "SlotBusy") (field (codes "event") (number event) (field (codes "slot") (number slot) no_fields))
+export_shown (TimestampOutOfRange event) = variant (codes "TimestampOutOfRange") (field (codes "event") (number event) no_fields)
+export_shown (RowOutOfRange event row) = variant (codes "RowOutOfRange") (field (codes "event") (number event) (field (codes "number") (number row) no_fields))
+export_shown BundleFault = variant (codes "BundleFault") no_fields
+export_shown TraceFault = variant (codes "TraceFault") no_fields
+export_shown OutOfMemory = variant (codes "OutOfMemory") no_fields
 
-abbrev pub export_fields : RecordExportError → Fields
-export_fields SourceFault = no_fields
-export_fields (SessionTooLarge limit) = field (codes "limit") (number limit) no_fields
-export_fields ParseHead = no_fields
-export_fields (ReadRunLog line_number) = field (codes "line_number") (number line_number) no_fields
-export_fields (ParseEvent line_number) = field (codes "line_number") (number line_number) no_fields
-export_fields (NameCollision file_name) = field (codes "file_name") (text file_name) no_fields
-export_fields (CountOutOfRange event) = field (codes "event") (optional_number event) no_fields
-export_fields (FileTooLarge file_name size limit) = field (codes "file_name") (text file_name) (field (codes "size") (number size) (field (codes "limit") (number limit) no_fields))
-export_fields (MissingTestStart event binary_id test_name) =
-    field (codes "event") (number event) (field (codes "binary_id") (text binary_id) (field (codes "test_name") (text test_name) no_fields))
-export_fields (MissingScriptStart event script_id) = field (codes "event") (number event) (field (codes "script_id") (text script_id) no_fields)
-export_fields (MissingStressSubRunStart event) = field (codes "event") (number event) no_fields
-export_fields (SpanAlreadyOpen event span) = field (codes "event") (number event) (field (codes "span") (span_shown span) no_fields)
-export_fields (SlotBusy event slot) = field (codes "event") (number event) (field (codes "slot") (number slot) no_fields)
-export_fields (TimestampOutOfRange event) = field (codes "event") (number event) no_fields
-export_fields (RowOutOfRange event row) = field (codes "event") (number event) (field (codes "number") (number row) no_fields)
-export_fields BundleFault = no_fields
-export_fields TraceFault = no_fields
-export_fields OutOfMemory = no_fields
+-- a sink that failed, and memory that ran out
+abbrev pub sink_shown : Shown
+sink_shown = variant (codes "SinkFailed") no_fields
 
--- the lines of faulty words, of a session that isn't exported, of a sink that failed and of memory that ran out
-unfoldable pub words_line : WordsError → List ℕ
-words_line fault = line (variant (words_name fault) (words_fields fault))
-
-unfoldable pub export_line : RecordExportError → List ℕ
-export_line fault = line (variant (export_name fault) (export_fields fault))
-
-unfoldable pub sink_line : List ℕ
-sink_line = line (variant (codes "SinkFailed") no_fields)
-
-unfoldable pub memory_line : List ℕ
-memory_line = line (variant (codes "AllocError") no_fields)
+abbrev pub memory_shown : Shown
+memory_shown = variant (codes "AllocError") no_fields

@@ -1,6 +1,4 @@
 pub mod FaultLine
-pub mod LinePieces
-pub mod ReadingErrors
 pub mod ReadingLine
 pub mod ReplayLine
 pub mod Status

@@ -8,16 +8,19 @@ use Rattle.rec_format.specs.declared.incompatibility.TooOldRecordingGuidance.The
 use Rattle.rec_format.specs.declared.incompatibility.TooOldRecordingGuidance.{TooOldRecordingGuidance}
 use Rattle.rec_format.specs.Incompatibility.{release_text}
 use Rattle.rec_format.specs.Versions.{version_text}
+use Rattle.rec_codec.specs.declared.line_events.LineError.{LineError}
 use Rattle.rec_portable.specs.declared.errors.PortableRecordingReadError.TheVariants.{SourceFault, SpoolTooLarge, ReadArchive, NotAWrapperArchive, FileTooLarge, ParseManifest, UnsupportedFormatVersion, UnsupportedStoreFormatVersion, MissingFile, ExtractFile, OutOfMemory}
 use Rattle.rec_portable.specs.declared.errors.PortableRecordingReadError.{PortableRecordingReadError}
 use Rattle.rec_spans.specs.declared.errors.ChromeTraceError.TheVariants.{ReadError}
 use Rattle.rec_spans.specs.declared.errors.ChromeTraceError.{ChromeTraceError}
+use Rattle.rec_slots.specs.declared.report.SlotError.TheVariants as slots
+use Rattle.rec_slots.specs.declared.report.SlotError.{SlotError}
+use Rattle.rec_reading.specs.declared.errors.ReadingError.TheVariants as reading
+use Rattle.rec_reading.specs.declared.errors.ReadingError.{ReadingError}
 use Rattle.rec_export.specs.LineFaults.{line_fault}
 use Rattle.rec_export.specs.TraceFaults.{trace_fault}
-use Rattle.rec_faults.specs.declared.reading_error.ReadingError.TheVariants as reading
-use Rattle.rec_faults.specs.declared.reading_error.ReadingError.{ReadingError}
-use Rattle.rec_faults.specs.FaultLine.{Shown, Fields, text, number, variant, no_fields, field, unnamed, line, export_name, export_fields, container_shown}
-use Rattle.rec_faults.specs.ReplayLine.{part_name, part_fields, conversion_name, conversion_fields, junit_name}
+use Rattle.rec_faults.specs.FaultLine.{Shown, Fields, text, number, variant, no_fields, field, unnamed, export_shown, container_shown}
+use Rattle.rec_faults.specs.ReplayLine.{part_shown, conversion_shown, junit_shown}
 
 -- what to do with a recording that is too old
 abbrev pub guidance_shown : TooOldRecordingGuidance → Shown
@@ -49,62 +52,48 @@ abbrev pub unsupported : List ℕ → List ℕ → Shown → Fields
 unsupported found supported incompatibility =
     field (codes "found") (text found) (field (codes "supported") (text supported) (field (codes "incompatibility") incompatibility no_fields))
 
--- the name and the fields of a bundle that isn't read
-abbrev pub bundle_name : PortableRecordingReadError → List ℕ
-bundle_name SourceFault = codes "SourceFault"
-bundle_name (SpoolTooLarge limit) = codes "SpoolTooLarge"
-bundle_name (ReadArchive fault) = codes "ReadArchive"
-bundle_name (NotAWrapperArchive file_count zip_count) = codes "NotAWrapperArchive"
-bundle_name (FileTooLarge file_name size limit) = codes "FileTooLarge"
-bundle_name ParseManifest = codes "ParseManifest"
-bundle_name (UnsupportedFormatVersion found supported incompatibility) = codes "UnsupportedFormatVersion"
-bundle_name (UnsupportedStoreFormatVersion found supported incompatibility) = codes "UnsupportedStoreFormatVersion"
-bundle_name (MissingFile file_name) = codes "MissingFile"
-bundle_name (ExtractFile file_name) = codes "ExtractFile"
-bundle_name OutOfMemory = codes "OutOfMemory"
+-- a bundle that isn't read
+abbrev pub bundle_shown : PortableRecordingReadError → Shown
+bundle_shown SourceFault = variant (codes "SourceFault") no_fields
+bundle_shown (SpoolTooLarge limit) = variant (codes "SpoolTooLarge") (field (codes "limit") (number limit) no_fields)
+bundle_shown (ReadArchive fault) = variant (codes "ReadArchive") (field (codes "fault") (container_shown fault) no_fields)
+bundle_shown (NotAWrapperArchive file_count zip_count) =
+    variant (codes "NotAWrapperArchive") (field (codes "file_count") (number file_count) (field (codes "zip_count") (number zip_count) no_fields))
+bundle_shown (FileTooLarge file_name size limit) =
+    variant (codes "FileTooLarge") (field (codes "file_name") (text file_name) (field (codes "size") (number size) (field (codes "limit") (number limit) no_fields)))
+bundle_shown ParseManifest = variant (codes "ParseManifest") no_fields
+bundle_shown (UnsupportedFormatVersion found supported incompatibility) =
+    variant (codes "UnsupportedFormatVersion") (unsupported (version_text found.major found.minor) (version_text supported.major supported.minor) (bundle_version_shown incompatibility))
+bundle_shown (UnsupportedStoreFormatVersion found supported incompatibility) =
+    variant (codes "UnsupportedStoreFormatVersion") (unsupported (version_text found.major found.minor) (version_text supported.major supported.minor) (store_version_shown incompatibility))
+bundle_shown (MissingFile file_name) = variant (codes "MissingFile") (field (codes "file_name") (text file_name) no_fields)
+bundle_shown (ExtractFile file_name) = variant (codes "ExtractFile") (field (codes "file_name") (text file_name) no_fields)
+bundle_shown OutOfMemory = variant (codes "OutOfMemory") no_fields
 
-abbrev pub bundle_fields : PortableRecordingReadError → Fields
-bundle_fields SourceFault = no_fields
-bundle_fields (SpoolTooLarge limit) = field (codes "limit") (number limit) no_fields
-bundle_fields (ReadArchive fault) = field (codes "fault") (container_shown fault) no_fields
-bundle_fields (NotAWrapperArchive file_count zip_count) = field (codes "file_count") (number file_count) (field (codes "zip_count") (number zip_count) no_fields)
-bundle_fields (FileTooLarge file_name size limit) = field (codes "file_name") (text file_name) (field (codes "size") (number size) (field (codes "limit") (number limit) no_fields))
-bundle_fields ParseManifest = no_fields
-bundle_fields (UnsupportedFormatVersion found supported incompatibility) =
-    unsupported (version_text found.major found.minor) (version_text supported.major supported.minor) (bundle_version_shown incompatibility)
-bundle_fields (UnsupportedStoreFormatVersion found supported incompatibility) =
-    unsupported (version_text found.major found.minor) (version_text supported.major supported.minor) (store_version_shown incompatibility)
-bundle_fields (MissingFile file_name) = field (codes "file_name") (text file_name) no_fields
-bundle_fields (ExtractFile file_name) = field (codes "file_name") (text file_name) no_fields
-bundle_fields OutOfMemory = no_fields
+-- the fault of a line, as where a session is refused for it
+abbrev pub line_shown : LineError → Shown
+line_shown e = export_shown (line_fault e)
 
 -- a log that can't be read shows its line's fault under `ReadError`; what else is refused is shown as where a session is refused for it
-abbrev pub trace_name : ChromeTraceError → List ℕ
-trace_name (ReadError fault) = codes "ReadError"
-trace_name e = export_name (trace_fault e)
+abbrev pub trace_shown : ChromeTraceError → Shown
+trace_shown (ReadError fault) = variant (codes "ReadError") (unnamed (line_shown fault) no_fields)
+trace_shown e = export_shown (trace_fault e)
 
-abbrev pub trace_fields : ChromeTraceError → Fields
-trace_fields (ReadError fault) = unnamed (variant (export_name (line_fault fault)) (export_fields (line_fault fault))) no_fields
-trace_fields e = export_fields (trace_fault e)
+-- events that have no report of their slots; what is refused stands under `Refused`
+abbrev pub slots_shown : SlotError → Shown
+slots_shown (slots.Refused e) = variant (codes "Refused") (unnamed (trace_shown e) no_fields)
+slots_shown slots.NotOneRun = variant (codes "NotOneRun") no_fields
+slots_shown (slots.AttemptOutside event) = variant (codes "AttemptOutside") (field (codes "event") (number event) no_fields)
+slots_shown (slots.StampFell event) = variant (codes "StampFell") (field (codes "event") (number event) no_fields)
+slots_shown slots.OutOfMemory = variant (codes "OutOfMemory") no_fields
 
--- the name and the fields of what a command doesn't print of a bundle
-abbrev pub reading_name : ReadingError → List ℕ
-reading_name (reading.Bundle e) = bundle_name e
-reading_name (reading.Trace e) = trace_name e
-reading_name (reading.Part e) = part_name e
-reading_name (reading.Line e) = export_name (line_fault e)
-reading_name (reading.Conversion e) = conversion_name e
-reading_name (reading.Report e) = junit_name e
-reading_name reading.OutOfMemory = codes "OutOfMemory"
-
-abbrev pub reading_fields : ReadingError → Fields
-reading_fields (reading.Bundle e) = bundle_fields e
-reading_fields (reading.Trace e) = trace_fields e
-reading_fields (reading.Part e) = part_fields e
-reading_fields (reading.Line e) = export_fields (line_fault e)
-reading_fields (reading.Conversion e) = conversion_fields e
-reading_fields (reading.Report e) = no_fields
-reading_fields reading.OutOfMemory = no_fields
-
-unfoldable pub reading_line : ReadingError → List ℕ
-reading_line e = line (variant (reading_name e) (reading_fields e))
+-- what a command doesn't print of a bundle
+abbrev pub reading_shown : ReadingError → Shown
+reading_shown (reading.Bundle e) = bundle_shown e
+reading_shown (reading.Trace e) = trace_shown e
+reading_shown (reading.Part e) = part_shown e
+reading_shown (reading.Line e) = line_shown e
+reading_shown (reading.Conversion e) = conversion_shown e
+reading_shown (reading.Report e) = junit_shown e
+reading_shown (reading.Slots e) = slots_shown e
+reading_shown reading.OutOfMemory = variant (codes "OutOfMemory") no_fields

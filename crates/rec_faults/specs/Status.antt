@@ -9,12 +9,19 @@ use Rattle.rec_replay.specs.declared.conversion_error.ReplayConversionError.{Rep
 use Rattle.rec_junit.specs.declared.errors.JunitError.TheVariants as reports
 use Rattle.rec_junit.specs.declared.errors.JunitError.{JunitError}
 use Rattle.rec_spans.specs.declared.errors.ChromeTraceError.{ChromeTraceError}
+use Rattle.rec_slots.specs.declared.report.SlotError.TheVariants as slots
+use Rattle.rec_slots.specs.declared.report.SlotError.{SlotError}
+use Rattle.rec_reading.specs.declared.errors.ReadingError.TheVariants as reading
+use Rattle.rec_reading.specs.declared.errors.ReadingError.{ReadingError}
 use Rattle.rec_export.specs.declared.refusal.RecordExportError.TheVariants.{SourceFault, SessionTooLarge, ParseHead, ReadRunLog, ParseEvent, NameCollision, CountOutOfRange, FileTooLarge, MissingTestStart, MissingScriptStart, MissingStressSubRunStart, SpanAlreadyOpen, SlotBusy, TimestampOutOfRange, RowOutOfRange, BundleFault, TraceFault, OutOfMemory}
 use Rattle.rec_export.specs.declared.refusal.RecordExportError.{RecordExportError}
 use Rattle.rec_export.specs.LineFaults.{line_fault}
 use Rattle.rec_export.specs.TraceFaults.{trace_fault}
-use Rattle.rec_faults.specs.declared.reading_error.ReadingError.TheVariants as reading
-use Rattle.rec_faults.specs.declared.reading_error.ReadingError.{ReadingError}
+use Rattle.rec_words.specs.declared.words.WordsError.{WordsError}
+
+-- the status for faulty words
+abbrev pub words_status : WordsError → ℕ
+words_status fault = 2
 
 -- the status for a session that isn't exported
 abbrev pub export_status : RecordExportError → ℕ
@@ -85,6 +92,14 @@ junit_status reports.NotLoadedOutput = 13
 junit_status reports.SuccessAsFailure = 13
 junit_status reports.OutOfMemory = 70
 
+-- the status for events that have no report of their slots; those that are refused have that of a log without a trace
+abbrev pub slots_status : SlotError → ℕ
+slots_status (slots.Refused e) = trace_status e
+slots_status slots.NotOneRun = 14
+slots_status (slots.AttemptOutside event) = 14
+slots_status (slots.StampFell event) = 14
+slots_status slots.OutOfMemory = 70
+
 -- the status for a bundle of which a command prints nothing; a line has that of a session which is refused for it
 abbrev pub reading_status : ReadingError → ℕ
 reading_status (reading.Bundle e) = bundle_status e
@@ -93,4 +108,5 @@ reading_status (reading.Part e) = part_status e
 reading_status (reading.Line e) = export_status (line_fault e)
 reading_status (reading.Conversion e) = conversion_status e
 reading_status (reading.Report e) = junit_status e
+reading_status (reading.Slots e) = slots_status e
 reading_status reading.OutOfMemory = 70

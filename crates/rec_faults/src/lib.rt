@@ -1,17 +1,22 @@
-//! What the program says where it doesn't do what it is asked: the line of each fault, its fields, and the status.
+//! What the program says where it doesn't do what it is asked: the line of each refusal, its fields, and the status.
 #![tactic(auto)]
 
-mod fault_line;
-mod fields;
+mod bundle;
+mod events;
+mod export;
 mod line;
-mod reading_error;
-mod reading_line;
-mod replay_line;
+mod marks;
+mod reading;
+mod refusal;
 mod status;
+mod store;
+mod versions;
+mod words;
 
-pub use fault_line::{FaultLine, write_fault};
-pub use line::{FaultText, Field, FieldValue, Fields};
-pub use reading_error::ReadingError;
+pub use line::Line;
+pub use refusal::{Refusal, refuse, write_fault};
 pub use status::{
-    FAULTY_WORDS, OUT_OF_MEMORY, OUTPUT_FAILED, SUCCESS, export_status, reading_status,
+    ABOVE_READ_LIMIT, BUNDLE_FAILED, FAULTY_LINE, FAULTY_WORDS, NAME_COLLISION, NO_BUNDLE,
+    NO_EVENT, NO_USAGE, OUT_OF_MEMORY, OUT_OF_ORDER, OUT_OF_RANGE, OUTPUT_FAILED, SOURCE_FAILED,
+    SUCCESS, TOO_LONG,
 };

@@ -1,124 +1,69 @@
-//! A fault's line, lent in pieces and written piece by piece, so that no memory is needed for it.
-ghost use Rattle.std.specs.Io.KnownBytes.{Appends};
-ghost use Rattle.std.specs.Prelude.{◌≡◌, [], ◌∷◌, ◌++◌, OnOk, OnErr, decimal};
-ghost use Rattle.rec_container.specs.Causes.{HasCause};
-ghost use Rattle.rec_container.specs.Taking.{TookPart};
+//! A fault's line, written piece by piece, so that no memory is needed for it.
+ghost use Rattle.std.specs.Prelude.{◌≡◌, ◌++◌, ℕ, List, false, decimal};
 ghost use Rattle.rec_format.specs.Incompatibility.{release_text};
 ghost use Rattle.rec_format.specs.Versions.{version_text};
-ghost use Rattle.rec_faults.specs.LinePieces.{fields_bytes, value_bytes};
+ghost use Rattle.rec_faults.specs.WritingFaults.{Writes};
 
 use itoa::Buffer;
-use rec_container::{Sink, SinkFailed, write_all};
+use rec_container::{Sink, write_all};
 use rec_format::Release;
 
-/// Holds the value of a field.
+/// Writes the pieces of a line, up to the first fault of the sink. Nothing is written after it.
+///
+/// A label is what stands before a value: a space, and the name of the field with `=` where it has one.
 #[derive(Clone, Copy)]
-pub enum FieldValue<'a> {
-    /// A text, written as it is.
-    Text(&'a str),
-    /// A number, written in decimal.
-    Number(u64),
-    /// A version of a format: two numbers with a dot between them.
-    Version { major: u32, minor: u32 },
-    /// A release of nextest: three numbers with dots between them.
-    Release(Release),
+pub struct Line {
+    is_failed: bool,
 }
 
-/// Holds a field of a fault's line.
-#[derive(Clone, Copy)]
-pub struct Field<'a> {
-    /// What stands before the value: a space, and the field's name with `=` where it has one.
-    pub label: &'a str,
-    /// The value. Where it has fields itself, it is its name, and they follow as fields of the line.
-    pub value: FieldValue<'a>,
-}
-
-/// Holds the fields of a line, and after them fields of which nothing is written. No line has more than
-/// seven.
-pub type Fields<'a> = [Field<'a>; 7];
-
-/// Holds a fault's line without its LF: the name of the fault, and its fields.
-#[derive(Clone, Copy)]
-pub struct FaultText<'a> {
-    /// The name.
-    pub name: &'a str,
-    /// The fields.
-    pub fields: Fields<'a>,
-}
-
-/// Writes a line with its LF: a name, and fields.
-pub fn write_line<G: Sink>(name: &str, fields: &[Field<'_>], diag: &mut G) -> Result<(), SinkFailed>
-    ensures ok { OnOk result (Appends (G.taken diag.old) (G.taken diag.new) (name.now ++ fields_bytes fields.now (10 ∷ []))) }
-    ensures fault { OnErr result (TookPart (G.taken diag.old) (G.taken diag.new) (name.now ++ fields_bytes fields.now (10 ∷ []))) }
-    ensures cause { HasCause (G.faults diag.old) (G.faults diag.new) result }
-{
-    write_all(diag, name.as_bytes())?;
-    for field in fields {
-        write_field(field, diag)?;
+impl Line {
+    /// Begins a line.
+    pub fn new() -> Line
+        ensures { result.is_failed ≡ false }
+    {
+        Line { is_failed: false }
     }
-    write_all(diag, b"\n")
-}
 
-/// Writes a field.
-fn write_field<G: Sink>(field: &Field<'_>, diag: &mut G) -> Result<(), SinkFailed>
-    ensures ok { OnOk result (Appends (G.taken diag.old) (G.taken diag.new) (field.now.label.now ++ value_bytes field.now.value)) }
-    ensures fault { OnErr result (TookPart (G.taken diag.old) (G.taken diag.new) (field.now.label.now ++ value_bytes field.now.value)) }
-    ensures cause { HasCause (G.faults diag.old) (G.faults diag.new) result }
-{
-    write_all(diag, field.label.as_bytes())?;
-    write_value(field.value, diag)
-}
-
-/// Writes a value.
-fn write_value<G: Sink>(value: FieldValue<'_>, diag: &mut G) -> Result<(), SinkFailed>
-    ensures ok { OnOk result (Appends (G.taken diag.old) (G.taken diag.new) (value_bytes value.entry)) }
-    ensures fault { OnErr result (TookPart (G.taken diag.old) (G.taken diag.new) (value_bytes value.entry)) }
-    ensures cause { HasCause (G.faults diag.old) (G.faults diag.new) result }
-{
-    match value {
-        FieldValue::Text(text) => write_all(diag, text.as_bytes()),
-        FieldValue::Number(number) => write_number(number, diag),
-        FieldValue::Version { major, minor } => write_version(major as u64, minor as u64, diag),
-        FieldValue::Release(release) => write_release(release, diag),
+    /// Writes a name, or what else stands in the line as it is.
+    pub fn name<G: Sink>(self, name: &str, diag: &mut G) -> Line
+        ensures { Writes G.taken G.faults (λ rest. name.now ++ rest) self.is_failed diag.old result.is_failed diag.new }
+    {
+        if self.is_failed {
+            return self;
+        }
+        Line {
+            is_failed: write_all(diag, name.as_bytes()).is_err(),
+        }
     }
-}
 
-/// Writes a number in decimal.
-fn write_number<G: Sink>(number: u64, diag: &mut G) -> Result<(), SinkFailed>
-    ensures ok { OnOk result (Appends (G.taken diag.old) (G.taken diag.new) (decimal number)) }
-    ensures fault { OnErr result (TookPart (G.taken diag.old) (G.taken diag.new) (decimal number)) }
-    ensures cause { HasCause (G.faults diag.old) (G.faults diag.new) result }
-{
-    let mut digits = Buffer::new();
-    write_all(diag, digits.format(number).as_bytes())
-}
+    /// Writes a field with a text.
+    pub fn text<G: Sink>(self, label: &str, text: &str, diag: &mut G) -> Line
+        ensures { Writes G.taken G.faults (λ rest. label.now ++ (text.now ++ rest)) self.is_failed diag.old result.is_failed diag.new }
+    {
+        self.name(label, diag).name(text, diag)
+    }
 
-/// Writes two numbers with a dot between them.
-fn write_version<G: Sink>(major: u64, minor: u64, diag: &mut G) -> Result<(), SinkFailed>
-    ensures ok { OnOk result (Appends (G.taken diag.old) (G.taken diag.new) (version_text major minor)) }
-    ensures fault { OnErr result (TookPart (G.taken diag.old) (G.taken diag.new) (version_text major minor)) }
-    ensures cause { HasCause (G.faults diag.old) (G.faults diag.new) result }
-{
-    write_number(major, diag)?;
-    write_after_dot(minor, diag)
-}
+    /// Writes a field with a number, in decimal.
+    pub fn number<G: Sink>(self, label: &str, number: u64, diag: &mut G) -> Line
+        ensures { Writes G.taken G.faults (λ rest. label.now ++ (decimal number ++ rest)) self.is_failed diag.old result.is_failed diag.new }
+    {
+        let mut digits = Buffer::new();
+        self.name(label, diag).name(digits.format(number), diag)
+    }
 
-/// Writes a dot and a number.
-fn write_after_dot<G: Sink>(number: u64, diag: &mut G) -> Result<(), SinkFailed>
-    ensures ok { OnOk result (Appends (G.taken diag.old) (G.taken diag.new) (46 ∷ decimal number)) }
-    ensures fault { OnErr result (TookPart (G.taken diag.old) (G.taken diag.new) (46 ∷ decimal number)) }
-    ensures cause { HasCause (G.faults diag.old) (G.faults diag.new) result }
-{
-    write_all(diag, b".")?;
-    write_number(number, diag)
-}
+    /// Writes a field with a version: two numbers with a dot between them.
+    pub fn version<G: Sink>(self, label: &str, major: u64, minor: u64, diag: &mut G) -> Line
+        ensures { Writes G.taken G.faults (λ rest. label.now ++ (version_text major minor ++ rest)) self.is_failed diag.old result.is_failed diag.new }
+    {
+        self.number(label, major, diag).number(".", minor, diag)
+    }
 
-/// Writes three numbers with dots between them.
-fn write_release<G: Sink>(release: Release, diag: &mut G) -> Result<(), SinkFailed>
-    ensures ok { OnOk result (Appends (G.taken diag.old) (G.taken diag.new) (release_text release)) }
-    ensures fault { OnErr result (TookPart (G.taken diag.old) (G.taken diag.new) (release_text release)) }
-    ensures cause { HasCause (G.faults diag.old) (G.faults diag.new) result }
-{
-    write_version(release.major, release.minor, diag)?;
-    write_after_dot(release.patch, diag)
+    /// Writes a field with a release: three numbers with dots between them.
+    pub fn release<G: Sink>(self, label: &str, release: Release, diag: &mut G) -> Line
+        ensures { Writes G.taken G.faults (λ rest. label.now ++ (release_text release ++ rest)) self.is_failed diag.old result.is_failed diag.new }
+    {
+        self.number(label, release.major, diag)
+            .number(".", release.minor, diag)
+            .number(".", release.patch, diag)
+    }
 }

@@ -25,14 +25,16 @@ use Rattle.rec_spans.specs.declared.settings.ChromeTraceGroupBy.{ChromeTraceGrou
 use Rattle.rec_spans.specs.Plain.{plain}
 use Rattle.rec_spans.specs.Refusals.{events_refusal}
 use Rattle.rec_trace.specs.Traces.{trace_text}
+use Rattle.rec_reading.proofs.LogTraced.{refusal-whole}
+use Rattle.rec_reading.specs.Listing.{bundle_trace}
+use Rattle.rec_reading.specs.LogTraces.{log_lines, log_refusal, log_trace, plain_log}
 use Rattle.rec_export.proofs.Judging.{after_count, after_head, after_lines, events_after}
 use Rattle.rec_export.specs.Bundle.{AreOf, count_refusal, refusal_after, session_events, size_refusal}
 use Rattle.rec_export.specs.declared.settings.Settings.{Settings}
 use Rattle.rec_export.specs.Session.{event_lines, events_of, lines_refusal, session_lines}
 use Rattle.rec_export.specs.SessionTraces.{run_trace, trace_refusal}
 use Rattle.rec_export.specs.TraceFaults.{trace_fault}
-use Rattle.rec_program.proofs.LogTraced.{refusal-whole}
-use Rattle.rec_program.specs.LogTraces.{RecordedIsDrawn, bundle_trace, log_lines, log_refusal, log_trace, plain_log}
+use Rattle.rec_program.specs.LogTraces.{RecordedIsDrawn}
 
 -- ---- what a record's manifest and log are
 
@@ -123,7 +125,7 @@ module _ (number : List ℕ → ℕ) (settings : Settings) where
   -- with the settings of the recording
   drawn-again : (session bundle trace : List ℕ) (es : List Entry) (manifest : PortableManifest) (manifest_text log : List ℕ) → AreOf number settings session bundle trace → IsContainer bundle es
       → content_of es manifest_name ≡ Some manifest_text → bytes_form manifest_form manifest_text ≡ Some manifest → content_of es log_name ≡ Some log
-      → (log_refusal settings.group_by (log_lines log) ≡ None) × (bundle_trace settings manifest log ≡ trace)
+      → (log_refusal settings.group_by (log_lines log) ≡ None) × (bundle_trace settings.group_by settings.message_format manifest log ≡ trace)
   drawn-again session bundle trace es manifest manifest_text log are spelled manifest_at manifest_is log_at =
       let m = settings.max_output in
       let g = settings.group_by in

@@ -125,7 +125,7 @@ module _ {B T G : Type 0} (taken : B → Option (List ℕ)) (faults : B → ℕ)
       → TakesSample taken number settings session b0 b1 × Appends (out_taken o0) (out_taken o1) (session_counts number settings session)
   sampled zeroed (inl (line, s, inl p)) = (s.0, subst (λ (t : List ℕ). Appends (out_taken o0) (out_taken o1) t) s.1 p.1)
   sampled zeroed (inl (line, s, inr p)) = absurd (let eleven : status ≡ 11 = p.0 in omega (arith, zeroed, eleven))
-  sampled zeroed (inr r) = absurd (let above = export_above r.0 in let same : status ≡ export_status r.0 = r.1 in omega (arith, zeroed, same, above))
+  sampled zeroed (inr r) = absurd (let above = export_above r.0 in let same : status ≡ export_status r.0 = r.3.0 in omega (arith, zeroed, same, above))
 
   module _ (within : length session ≤ settings.session_limit) (valid : session_refusal number settings session ≡ None) (bundle : ¬ (Rose (faults b0) (faults b1))) (out : ¬ (Rose (out_faults o0) (out_faults o1))) where
     only_memory : (e : RecordExportError) → SampleFails taken faults number settings session b0 b1 e → e ≡ OutOfMemory
@@ -138,4 +138,4 @@ module _ {B T G : Type 0} (taken : B → Option (List ℕ)) (faults : B → ℕ)
     pub sampled_or_memory : RecordsSample taken faults out_taken out_faults diag_taken diag_faults number settings session status b0 b1 o0 o1 d0 d1 → (status ≡ 0) ⊎ (status ≡ 70)
     sampled_or_memory (inl (line, s, inl p)) = inl p.0
     sampled_or_memory (inl (line, s, inr p)) = absurd (out p.1)
-    sampled_or_memory (inr r) = inr (r.1 ∙ ap export_status (only_memory r.0 r.2))
+    sampled_or_memory (inr r) = inr (r.3.0 ∙ ap export_status (only_memory r.0 r.1))

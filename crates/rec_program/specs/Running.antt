@@ -5,6 +5,12 @@ use Rattle.std.specs.Prelude.{◌≡◌, ℕ, List, Option, Ok, Err, Result, Vec
 use Rattle.rec_container.specs.Causes.{Rose}
 use Rattle.rec_container.specs.Container.{Entry}
 use Rattle.rec_container.specs.Taking.{TookPart}
+use Rattle.rec_portable.specs.declared.errors.PortableRecordingReadError.{PortableRecordingReadError}
+use Rattle.rec_reading.specs.declared.errors.ReadingError.{ReadingError}
+use Rattle.rec_reading.specs.Errors.{bundle_error}
+use Rattle.rec_reading.specs.Listing.{PrintsInfo, PrintsReplay, PrintsReport, PrintsTrace}
+use Rattle.rec_reading.specs.Reruns.{PrintsRerun}
+use Rattle.rec_reading.specs.Slots.{PrintsSlots}
 use Rattle.rec_sample.specs.Session.{sample_session}
 use Rattle.rec_export.specs.declared.counts.Exported.{Exported}
 use Rattle.rec_export.specs.declared.refusal.RecordExportError.{RecordExportError}
@@ -13,34 +19,41 @@ use Rattle.rec_export.specs.Export.{Exports, Fails}
 use Rattle.rec_words.specs.declared.usage.TheConstants.{USAGE}
 use Rattle.rec_words.specs.declared.words.WordsError.{WordsError}
 use Rattle.rec_words.specs.Usage.{versions_text}
-use Rattle.rec_words.specs.Words.{Asked, recording, tracing, replaying, reporting, informing, sampling, help, version}
-use Rattle.rec_faults.specs.declared.reading_error.ReadingError.{ReadingError}
-use Rattle.rec_faults.specs.FaultLine.{words_line, export_line, sink_line}
-use Rattle.rec_faults.specs.ReadingLine.{reading_line}
-use Rattle.rec_faults.specs.Status.{export_status, reading_status}
+use Rattle.rec_words.specs.Words.{Asked, recording, tracing, replaying, reporting, informing, slotting, rerunning, sampling, help, version}
+use Rattle.rec_faults.specs.FaultLine.{Shown, export_shown, line, sink_shown, words_shown}
+use Rattle.rec_faults.specs.ReadingLine.{reading_shown}
+use Rattle.rec_faults.specs.Status.{export_status, reading_status, words_status}
 use Rattle.rec_faults.specs.WritingFaults.{WritesFault}
-use Rattle.rec_program.specs.ReadingCommands.{Shows, Withholds, info_of, replay_printed, report_printed, trace_of}
+use Rattle.rec_program.specs.ReadingCommands.{Shows, Withholds}
 use Rattle.rec_program.specs.Samples.{SampleFails, Samples}
+
+module _ {E G : Type 0} (shown : E → Shown) (status_of : E → ℕ) (diag_taken : G → Option (List ℕ)) (diag_faults : G → ℕ) where
+  -- the refusal is the status, and is reported
+  abbrev pub Refuses : E → ℕ → G → G → Type 0
+  Refuses e status d0 d1 = (status ≡ status_of e) × WritesFault diag_taken diag_faults d0 d1 (line (shown e))
 
 module _ {T G : Type 0} (out_taken : T → Option (List ℕ)) (out_faults : T → ℕ) (diag_taken : G → Option (List ℕ)) (diag_faults : G → ℕ) where
   -- the text was printed; or the output failed, which was reported
   abbrev pub Prints : List ℕ → ℕ → T → T → G → G → Type 0
   Prints text status o0 o1 d0 d1 =
       ((status ≡ 0) × Appends (out_taken o0) (out_taken o1) text × (d1 ≡ d0))
-      ⊎ ((status ≡ 11) × Rose (out_faults o0) (out_faults o1) × TookPart (out_taken o0) (out_taken o1) text × WritesFault diag_taken diag_faults d0 d1 sink_line)
+      ⊎ ((status ≡ 11) × Rose (out_faults o0) (out_faults o1) × TookPart (out_taken o0) (out_taken o1) text × WritesFault diag_taken diag_faults d0 d1 (line sink_shown))
 
-module _ {T G : Type 0} (out_taken : T → Option (List ℕ)) (out_faults : T → ℕ) (diag_taken : G → Option (List ℕ)) (diag_faults : G → ℕ) where
+module _ {E T G : Type 0} (shown : E → Shown) (status_of : E → ℕ) (out_taken : T → Option (List ℕ)) (out_faults : T → ℕ) (diag_taken : G → Option (List ℕ)) (diag_faults : G → ℕ) where
   -- what was made was printed; or nothing was made, and the cause is the status and is reported
-  abbrev pub ShowsMade : Result (Vec ℕ Global) ReadingError → ℕ → T → T → G → G → Type 0
+  abbrev pub ShowsMade : Result (Vec ℕ Global) E → ℕ → T → T → G → G → Type 0
   ShowsMade (Ok text) status o0 o1 d0 d1 = Prints out_taken out_faults diag_taken diag_faults text.items status o0 o1 d0 d1
-  ShowsMade (Err e) status o0 o1 d0 d1 = (status ≡ reading_status e) × (o1 ≡ o0) × WritesFault diag_taken diag_faults d0 d1 (reading_line e)
+  ShowsMade (Err e) status o0 o1 d0 d1 = (o1 ≡ o0) × Refuses shown status_of diag_taken diag_faults e status d0 d1
 
-module _ {S T G : Type 0} (left : S → Option (List ℕ)) (source_faults : S → ℕ) (out_taken : T → Option (List ℕ)) (out_faults : T → ℕ) (diag_taken : G → Option (List ℕ)) (diag_faults : G → ℕ) where
+module _ {E S T G : Type 0} (shown : E → Shown) (status_of : E → ℕ) (opening : PortableRecordingReadError → E) (left : S → Option (List ℕ)) (source_faults : S → ℕ)
+    (out_taken : T → Option (List ℕ)) (out_faults : T → ℕ) (diag_taken : G → Option (List ℕ)) (diag_faults : G → ℕ) where
   -- the bundle was read, and what the command prints of it was printed; or nothing is printed of it, and the cause is the status and is reported
-  abbrev pub ShowsBundle : (List Entry → Result (List ℕ) ReadingError) → ℕ → ℕ → S → S → T → T → G → G → Type 0
-  ShowsBundle printed limit status s0 s1 o0 o1 d0 d1 =
-      ((text : List ℕ) × Shows left source_faults printed limit s0 s1 text × Prints out_taken out_faults diag_taken diag_faults text status o0 o1 d0 d1)
-      ⊎ ((e : ReadingError) × (status ≡ reading_status e) × Withholds left source_faults printed limit s0 s1 e × (o1 ≡ o0) × WritesFault diag_taken diag_faults d0 d1 (reading_line e))
+  abbrev pub ShowsBundle : (ℕ → List Entry → Result (List ℕ) E → Type 0) → Settings → ℕ → S → S → T → T → G → G → Type 0
+  ShowsBundle prints settings status s0 s1 o0 o1 d0 d1 =
+      ((text : List ℕ) × Shows opening prints settings.read_limit left source_faults settings.session_limit s0 s1 text
+      × Prints out_taken out_faults diag_taken diag_faults text status o0 o1 d0 d1)
+      ⊎ ((e : E) × Withholds opening prints settings.read_limit left source_faults settings.session_limit s0 s1 e × (o1 ≡ o0)
+      × Refuses shown status_of diag_taken diag_faults e status d0 d1)
 
 module _ {S B T G : Type 0} (left : S → Option (List ℕ)) (source_faults : S → ℕ) (taken : B → Option (List ℕ)) (bundle_faults : B → ℕ)
     (out_taken : T → Option (List ℕ)) (out_faults : T → ℕ) (diag_taken : G → Option (List ℕ)) (diag_faults : G → ℕ) (number : List ℕ → ℕ) where
@@ -48,8 +61,8 @@ module _ {S B T G : Type 0} (left : S → Option (List ℕ)) (source_faults : S 
   abbrev pub Records : Settings → ℕ → S → S → B → B → T → T → G → G → Type 0
   Records settings status s0 s1 b0 b1 o0 o1 d0 d1 =
       ((status ≡ 0) × ((exported : Exported) × Exports left source_faults taken bundle_faults out_taken out_faults number settings s0 s1 b0 b1 o0 o1 exported) × (d1 ≡ d0))
-      ⊎ ((e : RecordExportError) × (status ≡ export_status e) × Fails left source_faults taken bundle_faults out_taken out_faults number settings s0 s1 b0 b1 o0 o1 e
-      × WritesFault diag_taken diag_faults d0 d1 (export_line e))
+      ⊎ ((e : RecordExportError) × Fails left source_faults taken bundle_faults out_taken out_faults number settings s0 s1 b0 b1 o0 o1 e
+      × Refuses export_shown export_status diag_taken diag_faults e status d0 d1)
 
 module _ {B T G : Type 0} (taken : B → Option (List ℕ)) (bundle_faults : B → ℕ) (out_taken : T → Option (List ℕ)) (out_faults : T → ℕ)
     (diag_taken : G → Option (List ℕ)) (diag_faults : G → ℕ) (number : List ℕ → ℕ) where
@@ -57,26 +70,34 @@ module _ {B T G : Type 0} (taken : B → Option (List ℕ)) (bundle_faults : B �
   abbrev pub RecordsSample : Settings → List ℕ → ℕ → B → B → T → T → G → G → Type 0
   RecordsSample settings session status b0 b1 o0 o1 d0 d1 =
       ((line : List ℕ) × Samples taken number settings session b0 b1 line × Prints out_taken out_faults diag_taken diag_faults line status o0 o1 d0 d1)
-      ⊎ ((e : RecordExportError) × (status ≡ export_status e) × SampleFails taken bundle_faults number settings session b0 b1 e × (o1 ≡ o0)
-      × WritesFault diag_taken diag_faults d0 d1 (export_line e))
+      ⊎ ((e : RecordExportError) × SampleFails taken bundle_faults number settings session b0 b1 e × (o1 ≡ o0)
+      × Refuses export_shown export_status diag_taken diag_faults e status d0 d1)
 
 module _ {S B T G : Type 0} (left : S → Option (List ℕ)) (source_faults : S → ℕ) (taken : B → Option (List ℕ)) (bundle_faults : B → ℕ)
     (out_taken : T → Option (List ℕ)) (out_faults : T → ℕ) (diag_taken : G → Option (List ℕ)) (diag_faults : G → ℕ) (number : List ℕ → ℕ) where
+  -- the same of a command that reads a bundle, and refuses as such commands do
+  abbrev ShowsReading : (ℕ → List Entry → Result (List ℕ) ReadingError → Type 0) → Settings → ℕ → S → S → T → T → G → G → Type 0
+  ShowsReading = ShowsBundle reading_shown reading_status bundle_error left source_faults out_taken out_faults diag_taken diag_faults
+
   -- what the program does for the command that its words are; faulty words touch nothing, and are reported
   abbrev pub Runs : Result Asked WordsError → ℕ → S → S → B → B → T → T → G → G → Type 0
   Runs (Ok (recording path settings)) status s0 s1 b0 b1 o0 o1 d0 d1 =
       Records left source_faults taken bundle_faults out_taken out_faults diag_taken diag_faults number settings status s0 s1 b0 b1 o0 o1 d0 d1
   Runs (Ok (tracing settings)) status s0 s1 b0 b1 o0 o1 d0 d1 =
-      ShowsBundle left source_faults out_taken out_faults diag_taken diag_faults (trace_of settings) settings.session_limit status s0 s1 o0 o1 d0 d1 × (b1 ≡ b0)
+      ShowsReading (PrintsTrace settings.group_by settings.message_format) settings status s0 s1 o0 o1 d0 d1 × (b1 ≡ b0)
   Runs (Ok (replaying output settings)) status s0 s1 b0 b1 o0 o1 d0 d1 =
-      ShowsBundle left source_faults out_taken out_faults diag_taken diag_faults (replay_printed output settings.read_limit) settings.session_limit status s0 s1 o0 o1 d0 d1 × (b1 ≡ b0)
+      ShowsReading (PrintsReplay output) settings status s0 s1 o0 o1 d0 d1 × (b1 ≡ b0)
   Runs (Ok (reporting settings)) status s0 s1 b0 b1 o0 o1 d0 d1 =
-      ShowsBundle left source_faults out_taken out_faults diag_taken diag_faults (report_printed settings.read_limit) settings.session_limit status s0 s1 o0 o1 d0 d1 × (b1 ≡ b0)
+      ShowsReading PrintsReport settings status s0 s1 o0 o1 d0 d1 × (b1 ≡ b0)
   Runs (Ok (informing settings)) status s0 s1 b0 b1 o0 o1 d0 d1 =
-      ShowsBundle left source_faults out_taken out_faults diag_taken diag_faults (info_of settings.read_limit) settings.session_limit status s0 s1 o0 o1 d0 d1 × (b1 ≡ b0)
+      ShowsReading PrintsInfo settings status s0 s1 o0 o1 d0 d1 × (b1 ≡ b0)
+  Runs (Ok (slotting settings)) status s0 s1 b0 b1 o0 o1 d0 d1 =
+      ShowsReading PrintsSlots settings status s0 s1 o0 o1 d0 d1 × (b1 ≡ b0)
+  Runs (Ok (rerunning settings)) status s0 s1 b0 b1 o0 o1 d0 d1 =
+      ShowsReading PrintsRerun settings status s0 s1 o0 o1 d0 d1 × (b1 ≡ b0)
   Runs (Ok (sampling n path settings)) status s0 s1 b0 b1 o0 o1 d0 d1 =
       RecordsSample taken bundle_faults out_taken out_faults diag_taken diag_faults number settings (sample_session n) status b0 b1 o0 o1 d0 d1 × (s1 ≡ s0)
   Runs (Ok help) status s0 s1 b0 b1 o0 o1 d0 d1 = Prints out_taken out_faults diag_taken diag_faults USAGE.now status o0 o1 d0 d1 × (s1 ≡ s0) × (b1 ≡ b0)
   Runs (Ok version) status s0 s1 b0 b1 o0 o1 d0 d1 = Prints out_taken out_faults diag_taken diag_faults versions_text status o0 o1 d0 d1 × (s1 ≡ s0) × (b1 ≡ b0)
   Runs (Err fault) status s0 s1 b0 b1 o0 o1 d0 d1 =
-      (status ≡ 2) × (s1 ≡ s0) × (b1 ≡ b0) × (o1 ≡ o0) × WritesFault diag_taken diag_faults d0 d1 (words_line fault)
+      (s1 ≡ s0) × (b1 ≡ b0) × (o1 ≡ o0) × Refuses words_shown words_status diag_taken diag_faults fault status d0 d1

@@ -6,15 +6,12 @@
 //! clause of `run_program`, and others can call `record_and_export` with a source, a namer and sinks of their own.
 #![tactic(auto)]
 
-mod log_trace;
 mod program;
 mod reading;
 mod sample;
 
 pub use program::run_program;
 pub use rec_export::{Exported, RecordExportError, Settings, laws, record_and_export};
-pub use rec_faults::{
-    FAULTY_WORDS, FaultLine, FaultText, Field, FieldValue, Fields, OUT_OF_MEMORY, ReadingError,
-    export_status, reading_status, write_fault,
-};
+pub use rec_faults::{FAULTY_WORDS, Line, OUT_OF_MEMORY, Refusal, refuse, write_fault};
+pub use rec_reading::ReadingError;
 pub use rec_words::{Command, WordsError, bundle_path, read_words};

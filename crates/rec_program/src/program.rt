@@ -5,30 +5,33 @@ ghost use Rattle.rec_container.specs.Causes.{Rose};
 ghost use Rattle.rec_container.specs.Container.{Entry, IsContainer};
 ghost use Rattle.rec_container.specs.Within.{Gave};
 ghost use Rattle.rec_format.specs.declared.manifest.PortableManifest.{PortableManifest};
+ghost use Rattle.rec_codec.specs.LineReading.{first_line_fault};
 ghost use Rattle.rec_store.specs.Namer.{sha256_number};
 ghost use Rattle.rec_portable.specs.Judging.{judged};
 ghost use Rattle.rec_portable.specs.OuterEntries.{log_part};
 ghost use Rattle.rec_replay.specs.declared.output_load.LoadOutput.{LoadOutput};
-ghost use Rattle.rec_reading.specs.Listing.{replay_of, report_of};
+ghost use Rattle.rec_slots.specs.declared.report.SlotReport.{SlotReport};
+ghost use Rattle.rec_slots.specs.Refusals.{Reports};
+ghost use Rattle.rec_reading.specs.Listing.{bundle_trace, manifest_line, replay_of, report_of};
+ghost use Rattle.rec_reading.specs.LogTraces.{log_lines, log_refusal, plain_log};
+ghost use Rattle.rec_reading.specs.Reruns.{PrintsSelection, RerunParts, rerun_parts_of};
+ghost use Rattle.rec_reading.specs.Slots.{HasUsage, slot_lines};
 ghost use Rattle.rec_sample.specs.Session.{sample_session};
 ghost use Rattle.rec_export.specs.Bundle.{AreOf, session_refusal};
 ghost use Rattle.rec_export.specs.declared.counts.Exported.{Exported};
 ghost use Rattle.rec_export.specs.declared.settings.Settings.{Settings};
 ghost use Rattle.rec_export.specs.Export.{Exports};
 ghost use Rattle.rec_export.specs.Timelines.{DrawsTimeline};
-ghost use Rattle.rec_words.specs.Words.{command, informing, recording, replaying, reporting, sampling, texts, tracing};
-ghost use Rattle.rec_program.specs.LogTraces.{bundle_trace, log_lines, log_refusal, plain_log};
-ghost use Rattle.rec_program.specs.ReadingCommands.{manifest_line};
+ghost use Rattle.rec_words.specs.Words.{command, informing, recording, replaying, reporting, rerunning, sampling, slotting, texts, tracing};
 ghost use Rattle.rec_program.specs.Running.{Prints, Records, RecordsSample, Runs, ShowsMade};
 ghost use Rattle.rec_program.specs.Samples.{TakesSample, session_counts};
 
-use crate::reading::{read_info, read_replay, read_report, read_trace};
+use crate::reading::read_bundle;
 use crate::sample::record_sample;
 use rec_container::{Sink, Source, write_all};
 use rec_export::{Settings, record_and_export};
-use rec_faults::{
-    FAULTY_WORDS, OUTPUT_FAILED, ReadingError, SUCCESS, export_status, reading_status, write_fault,
-};
+use rec_faults::{Refusal, SUCCESS, refuse};
+use rec_reading::{Info, Replay, Report, Rerun, Slots, Trace};
 use rec_store::Sha256Namer;
 use rec_words::{Command, USAGE, read_words, versions};
 use std::alloc::Global;
@@ -109,7 +112,7 @@ pub fn run_program<S: Source, B: Sink, T: Sink, G: Sink>(
         × (log_part settings.read_limit es ≡ Ok log)
         × (log_refusal settings.group_by (log_lines log) ≡ None)
         × DrawsTimeline manifest.run.nextest_version settings.group_by (plain_log (log_lines log))
-        × Appends (T.taken out.old) (T.taken out.new) (bundle_trace settings manifest log) }
+        × Appends (T.taken out.old) (T.taken out.new) (bundle_trace settings.group_by settings.message_format manifest log) }
 
     // Of a bundle that a recording wrote, `trace` prints the text that the recording printed, where both draw and write it alike.
     ensures redrawn { (settings recorded : Settings) (number : List ℕ → ℕ) (session bytes trace : List ℕ)
@@ -141,6 +144,32 @@ pub fn run_program<S: Source, B: Sink, T: Sink, G: Sink>(
         × IsContainer bytes es
         × (judged settings.read_limit es ≡ Ok manifest)
         × (report_of settings.read_limit es ≡ Ok text)
+        × Appends (T.taken out.old) (T.taken out.new) text }
+
+    // Status 0 of `slots`: the source was read to its end, its bytes are a bundle, each line of its log gives an event, and `out` took the
+    // lines of a report of how each slot of the run in these events was used.
+    ensures slotted { (settings : Settings)
+        → command (texts words.now) ≡ Ok (slotting settings)
+        → result ≡ 0
+        → (bytes : List ℕ) × (es : List Entry) × (manifest : PortableManifest) × (log : List ℕ) × (report : SlotReport)
+        × Gave S.left S.faults settings.session_limit source.old source.new bytes
+        × IsContainer bytes es
+        × (judged settings.read_limit es ≡ Ok manifest)
+        × (log_part settings.read_limit es ≡ Ok log)
+        × (first_line_fault (log_lines log) ≡ None)
+        × Reports (plain_log (log_lines log)) (Ok report)
+        × Appends (T.taken out.old) (T.taken out.new) (slot_lines report) }
+
+    // Status 0 of `rerun`: the source was read to its end, its bytes are a bundle, and `out` took a selection of the tests that are to run
+    // again after the run, in which each recorded test is in one of two sets, and the plan for its list, in which each test runs or is skipped.
+    ensures rerun_selected { (settings : Settings)
+        → command (texts words.now) ≡ Ok (rerunning settings)
+        → result ≡ 0
+        → (bytes : List ℕ) × (es : List Entry) × (run : RerunParts) × (text : List ℕ)
+        × Gave S.left S.faults settings.session_limit source.old source.new bytes
+        × IsContainer bytes es
+        × (rerun_parts_of settings.read_limit es ≡ Ok run)
+        × PrintsSelection run text
         × Appends (T.taken out.old) (T.taken out.new) text }
 
     // Status 0 of `sample`: the bundle's sink took the bundle of the generated session, and `out` the line that counts its events and the
@@ -196,6 +225,31 @@ pub fn run_program<S: Source, B: Sink, T: Sink, G: Sink>(
         → ¬ Rose (T.faults out.old) (T.faults out.new)
         → (result ≡ 0) ⊎ (result ≡ 70) }
 
+    // So is the report of the slots, where each line of the log gives an event, and nothing keeps these events from a report.
+    ensures slotted_complete { (settings : Settings) (bytes : List ℕ) (es : List Entry) (manifest : PortableManifest) (log : List ℕ)
+        → command (texts words.now) ≡ Ok (slotting settings)
+        → S.left source.old ≡ Some bytes
+        → length bytes ≤ settings.session_limit
+        → IsContainer bytes es
+        → judged settings.read_limit es ≡ Ok manifest
+        → log_part settings.read_limit es ≡ Ok log
+        → first_line_fault (log_lines log) ≡ None
+        → HasUsage (plain_log (log_lines log))
+        → ¬ Rose (S.faults source.old) (S.faults source.new)
+        → ¬ Rose (T.faults out.old) (T.faults out.new)
+        → (result ≡ 0) ⊎ (result ≡ 70) }
+
+    // So is the selection of the tests that are to run again, where each part of the run is read.
+    ensures rerun_complete { (settings : Settings) (bytes : List ℕ) (es : List Entry) (run : RerunParts)
+        → command (texts words.now) ≡ Ok (rerunning settings)
+        → S.left source.old ≡ Some bytes
+        → length bytes ≤ settings.session_limit
+        → IsContainer bytes es
+        → rerun_parts_of settings.read_limit es ≡ Ok run
+        → ¬ Rose (S.faults source.old) (S.faults source.new)
+        → ¬ Rose (T.faults out.old) (T.faults out.new)
+        → (result ≡ 0) ⊎ (result ≡ 70) }
+
     // A generated session within the limits is recorded, unless memory runs out or an object fails.
     ensures sampled_complete { (n : ℕ) (path : List ℕ) (settings : Settings)
         → command (texts words.now) ≡ Ok (sampling n path settings)
@@ -228,12 +282,31 @@ fn run<S: Source, B: Sink, T: Sink, G: Sink>(
                 settings,
             },
         ) => record(alloc, &settings, source, bundle, out, diag),
-        Ok(Command::Trace { settings }) => show(read_trace(alloc, &settings, source), out, diag),
-        Ok(Command::Replay { output, settings }) => {
-            show(read_replay(alloc, output, &settings, source), out, diag)
+        Ok(Command::Trace { settings }) => {
+            let printer = Trace {
+                group_by: settings.group_by,
+                message_format: settings.message_format,
+            };
+            show(read_bundle(alloc, &settings, source, &printer), out, diag)
         }
-        Ok(Command::Report { settings }) => show(read_report(alloc, &settings, source), out, diag),
-        Ok(Command::Info { settings }) => show(read_info(alloc, &settings, source), out, diag),
+        Ok(Command::Replay { output, settings }) => {
+            let printer = Replay {
+                load_output: output,
+            };
+            show(read_bundle(alloc, &settings, source, &printer), out, diag)
+        }
+        Ok(Command::Report { settings }) => {
+            show(read_bundle(alloc, &settings, source, &Report), out, diag)
+        }
+        Ok(Command::Info { settings }) => {
+            show(read_bundle(alloc, &settings, source, &Info), out, diag)
+        }
+        Ok(Command::Slots { settings }) => {
+            show(read_bundle(alloc, &settings, source, &Slots), out, diag)
+        }
+        Ok(Command::Rerun { settings }) => {
+            show(read_bundle(alloc, &settings, source, &Rerun), out, diag)
+        }
         Ok(
             Command::Sample {
                 n,
@@ -243,10 +316,7 @@ fn run<S: Source, B: Sink, T: Sink, G: Sink>(
         ) => sample(alloc, n, &settings, bundle, out, diag),
         Ok(Command::Help) => print(USAGE.as_bytes(), out, diag),
         Ok(Command::Version) => print(versions().as_bytes(), out, diag),
-        Err(fault) => {
-            write_fault(&fault, diag);
-            FAULTY_WORDS
-        }
+        Err(fault) => refuse(fault, diag),
     }
 }
 
@@ -264,10 +334,7 @@ fn record<S: Source, B: Sink, T: Sink, G: Sink>(
 {
     match record_and_export(alloc, settings, &Sha256Namer, source, bundle, out) {
         Ok(_) => SUCCESS,
-        Err(error) => {
-            write_fault(&error, diag);
-            export_status(&error)
-        }
+        Err(error) => refuse(error, diag),
     }
 }
 
@@ -286,27 +353,22 @@ fn sample<B: Sink, T: Sink, G: Sink>(
 {
     match record_sample(alloc, tests, settings, bundle) {
         Ok(line) => print(line.as_bytes(), out, diag),
-        Err(error) => {
-            write_fault(&error, diag);
-            export_status(&error)
-        }
+        Err(error) => refuse(error, diag),
     }
 }
 
-/// Prints what was made of a bundle, or reports why nothing was.
-fn show<T: Sink, G: Sink>(made: Result<Vec<u8>, ReadingError>, out: &mut T, diag: &mut G) -> u8
-    ensures { ShowsMade T.taken T.faults G.taken G.faults made result
+/// Prints what was made, or reports why nothing was.
+fn show<E: Refusal + Drop, T: Sink, G: Sink>(
+    made: Result<Vec<u8>, E>,
+    out: &mut T,
+    diag: &mut G,
+) -> u8
+    ensures { ShowsMade E.shown E.status_of T.taken T.faults G.taken G.faults made result
         out.old out.new diag.old diag.new }
 {
     match made {
         Ok(text) => print(&text, out, diag),
-        Err(error) => {
-            write_fault(&error, diag);
-            let status = reading_status(&error);
-            // By a call: in place, each error inside would be a case of the proof.
-            drop(error);
-            status
-        }
+        Err(error) => refuse(error, diag),
     }
 }
 
@@ -317,9 +379,6 @@ fn print<T: Sink, G: Sink>(text: &[u8], out: &mut T, diag: &mut G) -> u8
 {
     match write_all(out, text) {
         Ok(()) => SUCCESS,
-        Err(fault) => {
-            write_fault(&fault, diag);
-            OUTPUT_FAILED
-        }
+        Err(failed) => refuse(failed, diag),
     }
 }

@@ -1,10 +1,10 @@
 //! The export of a session by a caller of its own: other namers, and counts.
 
 use crate::running::line_of;
-use crate::texts::{abc, finished, hello, session_of, test_started};
+use crate::texts::{abc, finished, hello, of_other_test, session_of, test_started};
 use rec_container::{MemorySink, SliceSource};
 use rec_events::Text;
-use rec_program::{RecordExportError, Settings, export_status, record_and_export};
+use rec_program::{RecordExportError, Refusal, Settings, record_and_export};
 use rec_store::{ConstantNamer, OutputNamer, Sha256Namer};
 use std::alloc::{AllocError, Global};
 use std::test::Fail;
@@ -45,17 +45,31 @@ fn room(alloc: Global) -> Result<MemorySink, AllocError> {
     Ok(sink)
 }
 
-/// What comes of two runs of a test with these outputs.
+/// The session of two tests, one after the other, with these outputs.
+fn session_of_two(alloc: Global, first: &str, second: &str) -> Result<String, AllocError> {
+    let ended = finished(alloc, first)?;
+    let other_started = of_other_test(alloc, test_started())?;
+    let second = finished(alloc, second)?;
+    let other_ended = of_other_test(alloc, second.as_str())?;
+    session_of(
+        alloc,
+        &[
+            test_started(),
+            ended.as_str(),
+            other_started.as_str(),
+            other_ended.as_str(),
+        ],
+    )
+}
+
+/// What comes of two tests with these outputs.
 fn exported_outputs<N: OutputNamer>(
     alloc: Global,
     namer: &N,
     first: &str,
     second: &str,
 ) -> Result<String, AllocError> {
-    let first = finished(alloc, first)?;
-    let second = finished(alloc, second)?;
-    let start = test_started();
-    let session = session_of(alloc, &[start, first.as_str(), start, second.as_str()])?;
+    let session = session_of_two(alloc, first, second)?;
     exported(alloc, namer, session.as_str())
 }
 
@@ -67,7 +81,7 @@ fn clash() -> &'static str {
 fn clash_status(alloc: Global) -> Result<u8, AllocError> {
     let file_name = Text::from_str(alloc, "out/0000000000000000-stdout")?;
     let error = RecordExportError::NameCollision { file_name };
-    let status = export_status(&error);
+    let status = error.status();
     drop(error);
     Ok(status)
 }

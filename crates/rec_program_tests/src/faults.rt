@@ -1,7 +1,7 @@
 //! Faults of the source and of the sinks, at each of their calls.
 
-use crate::running::{Faults, SOUND, outcome, run};
-use crate::texts::{head, manifest};
+use crate::running::{Faults, Ran, SOUND, outcome, run};
+use crate::texts::{head, manifest, run_paused, session_of};
 use rec_container::{FailingSource, GrowingSink, SliceSource};
 use rec_store::write_bundle;
 use std::alloc::{AllocError, Global};
@@ -16,10 +16,10 @@ fn bundle(alloc: Global) -> Result<Vec<u8>, AllocError> {
     Ok(sink.into_bytes())
 }
 
-/// What comes of the recording of a head alone in pieces, where a read fails. No read has the number 0.
-fn outcome_of_session(alloc: Global, piece: usize, failed_read: u64) -> Result<String, AllocError> {
+/// What comes of the recording of a head alone in pieces of 100 bytes, where a read fails.
+fn outcome_of_session(alloc: Global, failed_read: u64) -> Result<String, AllocError> {
     let fail_at = [failed_read];
-    let mut source = FailingSource::new(head().as_bytes(), piece, &fail_at);
+    let mut source = FailingSource::new(head().as_bytes(), 100, &fail_at);
     outcome(alloc, &["record", "b"], &mut source)
 }
 
@@ -35,11 +35,9 @@ fn outcome_of_bundle(alloc: Global, command: &str, failed_read: u64) -> Result<S
 fn faults_of_sources(rt: HostRuntime) -> Result<(), Fail> {
     // Each read of a session in pieces of 100 bytes fails in turn, that of its end too.
     for call in 1..=5 {
-        let got = outcome_of_session(rt.alloc(), 100, call)?;
+        let got = outcome_of_session(rt.alloc(), call)?;
         assert!(rt; got.as_str() == "3 SourceFault\n", "{got}");
     }
-    let got = outcome_of_session(rt.alloc(), 1, 0)?;
-    assert!(rt; got.as_str() == "0 bundle out ", "{got}");
     // And so does each read of a bundle.
     for call in 1..=4 {
         for command in ["info", "trace"] {
@@ -58,17 +56,18 @@ fn outcome_of_head(alloc: Global, words: &[&str], faults: Faults) -> Result<Stri
 
 /// How many bytes of a bundle of 1052 bytes each of its writes finds taken, where a write takes at most
 /// 100 bytes: the magic; tag and length of the name, name, length and content of the manifest (462
-/// bytes), of the empty log and of the store (515 bytes); and the end mark.
-const TAKEN: [u64; 22] = [
-    0, 8, 11, 24, 32, 132, 232, 332, 432, 494, 497, 508, 516, 519, 528, 536, 636, 736, 836, 936,
-    1036, 1051,
+/// bytes) and of the empty log; those of the store without its content; then the store's own magic, the
+/// same of its entries (343, 13, 2 and 19 bytes) and its end mark; and the end mark of the bundle.
+const TAKEN: [u64; 37] = [
+    0, 8, 11, 24, 32, 132, 232, 332, 432, 494, 497, 508, 516, 519, 528, 536, 544, 547, 568, 576,
+    676, 776, 876, 919, 922, 941, 949, 962, 965, 989, 997, 999, 1002, 1023, 1031, 1050, 1051,
 ];
 
 #[test]
 fn faults_of_the_bundle_leave_no_trace(rt: HostRuntime) -> Result<(), Fail> {
     let alloc = rt.alloc();
     // Each write of the bundle fails in turn.
-    for call in 0..22 {
+    for call in 0..37 {
         let faults = Faults {
             piece: 100,
             bundle: call as u64 + 1,
@@ -82,10 +81,37 @@ fn faults_of_the_bundle_leave_no_trace(rt: HostRuntime) -> Result<(), Fail> {
     Ok(())
 }
 
+/// The session of a pause, and its bundle and its trace, from a source and into sinks that take pieces.
+fn pause_in_pieces(alloc: Global, piece: usize) -> Result<Ran, AllocError> {
+    let session = session_of(alloc, &[run_paused()])?;
+    let mut source = FailingSource::new(session.as_bytes(), piece, &[]);
+    run(
+        alloc,
+        &["record", "b"],
+        &mut source,
+        Faults { piece, ..SOUND },
+    )
+}
+
+/// What comes of single bytes, and whether the same bytes come of pieces of any length.
+fn outcome_of_single_bytes(alloc: Global) -> Result<String, AllocError> {
+    let single = pause_in_pieces(alloc, 1)?;
+    let whole = pause_in_pieces(alloc, 0)?;
+    let is_same = single.bundle == whole.bundle && single.out == whole.out;
+    let outcome = single.outcome_and_lengths(alloc)?;
+    format!(in alloc; "{outcome}{is_same}")
+}
+
+#[test]
+fn single_bytes_change_nothing(rt: HostRuntime) -> Result<(), Fail> {
+    let got = outcome_of_single_bytes(rt.alloc())?;
+    assert!(rt; got.as_str() == "0 1194 701 true", "{got}");
+    Ok(())
+}
+
 /// The faults of standard output and of `diag`, which changes no status.
-fn other_faults() -> [(&'static [&'static str], Faults, &'static str); 7] {
+fn other_faults() -> [(&'static [&'static str], Faults, &'static str); 6] {
     [
-        (&["record", "b"], Faults { piece: 1, ..SOUND }, "0 1052 83 "),
         (
             &["--help"],
             Faults {

@@ -5,7 +5,7 @@ use rec_codec::LineError;
 use rec_events::Text;
 use rec_junit::JunitError;
 use rec_portable::PortableRecordingReadError;
-use rec_program::{ReadingError, RecordExportError, reading_status};
+use rec_program::{ReadingError, RecordExportError, Refusal};
 use std::alloc::{AllocError, Global};
 use std::test::Fail;
 
@@ -72,7 +72,7 @@ fn reading(alloc: Global, number: u64) -> Result<ReadingError, AllocError> {
 
 /// The status and the line.
 pub(crate) fn shown(alloc: Global, error: &ReadingError) -> Result<String, AllocError> {
-    let status = reading_status(error);
+    let status = error.status();
     let line = line_of(alloc, error)?;
     format!(in alloc; "{status} {line}")
 }

@@ -1,7 +1,7 @@
 //! Runs the program, and shows what it did as texts.
 
 use rec_container::{FailingSink, MemorySink, Source};
-use rec_program::{FaultLine, run_program, write_fault};
+use rec_program::{Refusal, run_program, write_fault};
 use std::alloc::{AllocError, Global};
 use std::str;
 
@@ -135,7 +135,7 @@ pub(crate) fn outcome<S: Source>(
 }
 
 /// The line of a fault.
-pub(crate) fn line_of<F: FaultLine>(alloc: Global, fault: &F) -> Result<String, AllocError> {
+pub(crate) fn line_of<F: Refusal>(alloc: Global, fault: &F) -> Result<String, AllocError> {
     let mut sink = MemorySink::new(alloc);
     sink.reserve(256)?;
     write_fault(fault, &mut sink);

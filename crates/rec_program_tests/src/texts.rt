@@ -20,6 +20,11 @@ pub(crate) fn run_started() -> &'static str {
     r#"{"timestamp":{"secs":1000,"nanos":0,"offset":0},"elapsed":{"secs":0,"nanos":0},"kind":"run-started","run-id":"550e8400-e29b-41d4-a716-446655440000","profile-name":"default","cli-args":[]}"#
 }
 
+/// A pause while nothing runs.
+pub(crate) fn run_paused() -> &'static str {
+    r#"{"timestamp":{"secs":1002,"nanos":0,"offset":0},"elapsed":{"secs":2,"nanos":0},"kind":"run-paused","setup-scripts-running":0,"running":1}"#
+}
+
 pub(crate) fn test_started() -> &'static str {
     r#"{"timestamp":{"secs":1001,"nanos":0,"offset":0},"elapsed":{"secs":1,"nanos":0},"kind":"test-started","test-instance":{"binary-id":"alpha::a","test-name":"t1"},"slot-assignment":{"global-slot":0,"test-group":"@global"},"current-stats":{"initial-run-count":1,"finished-count":0,"setup-scripts-initial-count":0,"setup-scripts-finished-count":0,"setup-scripts-passed":0,"setup-scripts-failed":0,"setup-scripts-exec-failed":0,"setup-scripts-timed-out":0,"passed":0,"passed-slow":0,"passed-timed-out":0,"flaky":0,"failed":0,"failed-slow":0,"failed-timed-out":0,"leaky":0,"leaky-failed":0,"exec-failed":0,"skipped":0},"running":1,"command-line":[]}"#
 }
@@ -48,6 +53,12 @@ pub(crate) fn abc() -> &'static str {
 /// `hello` on standard output.
 pub(crate) fn hello() -> &'static str {
     r#"{"split":{"stdout":"68656c6c6f"}}"#
+}
+
+/// The same line of the test `t2` in place of `t1`.
+pub(crate) fn of_other_test(alloc: Global, line: &str) -> Result<String, AllocError> {
+    let (before, after) = line.split_once("t1").unwrap_or((line, ""));
+    format!(in alloc; "{before}t2{after}")
 }
 
 /// A session of these lines after a head.

@@ -23,8 +23,8 @@ use Rattle.rec_replay.specs.declared.output_load.LoadOutput.{LoadOutput}
 use Rattle.rec_replay.specs.Loading.{description_loaded}
 use Rattle.rec_replay.specs.Replaying.{core_replayed, kind_live, output_live, replayed}
 use Rattle.rec_reading.specs.Converting.{conversion_refusal, converted, kind_lent, lent, unless_refused}
-use Rattle.rec_reading.specs.declared.errors.ListingError.TheVariants.{Conversion}
-use Rattle.rec_reading.specs.declared.errors.ListingError.{ListingError}
+use Rattle.rec_reading.specs.declared.errors.ReadingError.TheVariants.{Conversion}
+use Rattle.rec_reading.specs.declared.errors.ReadingError.{ReadingError}
 use Rattle.rec_reading.specs.Printing.{IsBlind, Prints, before, text_from}
 
 -- ---- a replayed event, lent its tests from elsewhere
@@ -62,10 +62,10 @@ module _ (prints : Prints) (blind : IsBlind prints) (registered : OwnedTestInsta
   abbrev moved : TestEvent → TestEvent
   moved e = lent there e
 
-  abbrev text_here : List TestEvent → List Item → Result (List ℕ) ListingError
+  abbrev text_here : List TestEvent → List Item → Result (List ℕ) ReadingError
   text_here past items = text_from prints (converted registered here load store limit) past items
 
-  abbrev text_there : List TestEvent → List Item → Result (List ℕ) ListingError
+  abbrev text_there : List TestEvent → List Item → Result (List ℕ) ReadingError
   text_there past items = text_from prints (converted registered there load store limit) past items
 
   event-lent : (e : RecordedEvent) → moved (replayed load here store e) ≡ replayed load there store e
@@ -77,7 +77,7 @@ module _ (prints : Prints) (blind : IsBlind prints) (registered : OwnedTestInsta
     abbrev live : TestEvent
     live = replayed load here store e
 
-    after : (r : Result (List ℕ) ListingError) → (r >>= (λ text. before text (text_here (past ++ live ∷ []) items))) ≡ (r >>= (λ text. before text (text_there (map moved past ++ moved live ∷ []) items)))
+    after : (r : Result (List ℕ) ReadingError) → (r >>= (λ text. before text (text_here (past ++ live ∷ []) items))) ≡ (r >>= (λ text. before text (text_there (map moved past ++ moved live ∷ []) items)))
     after (Ok text) = ap (before text) (rest ∙ ap (λ l. text_there l items) (map-append moved past (live ∷ [])))
     after (Err x) = refl
 
@@ -88,7 +88,7 @@ module _ (prints : Prints) (blind : IsBlind prints) (registered : OwnedTestInsta
         ∙ ap (λ r. r >>= (λ text. before text (text_there (map moved past ++ moved live ∷ []) items))) (sym (blind there past live))
         ∙ ap (λ l. prints (map moved past) l >>= (λ text. before text (text_there (map moved past ++ l ∷ []) items))) (event-lent e)
 
-    unless : (o : Option ListingError) → (unless_refused o live >>= (λ l. prints past l >>= (λ text. before text (text_here (past ++ l ∷ []) items))))
+    unless : (o : Option ReadingError) → (unless_refused o live >>= (λ l. prints past l >>= (λ text. before text (text_here (past ++ l ∷ []) items))))
         ≡ (unless_refused o (replayed load there store e) >>= (λ l. prints (map moved past) l >>= (λ text. before text (text_there (map moved past ++ l ∷ []) items))))
     unless None = printed
     unless (Some x) = refl

@@ -16,15 +16,15 @@ use Rattle.rec_portable.specs.Errors.{Reads}
 use Rattle.rec_portable.specs.OuterEntries.{IsStoreRefused, OpensStore, log_part}
 use Rattle.rec_portable.specs.Stores.{StoreReading}
 use Rattle.rec_reading.proofs.Entries.{entries_of_container, entries_of_fault}
-use Rattle.rec_reading.specs.declared.errors.ListingError.TheVariants.{OutOfMemory}
-use Rattle.rec_reading.specs.declared.errors.ListingError.{ListingError}
+use Rattle.rec_reading.specs.declared.errors.ReadingError.TheVariants.{OutOfMemory}
+use Rattle.rec_reading.specs.declared.errors.ReadingError.{ReadingError}
 use Rattle.rec_reading.specs.Errors.{bundle_error, part_error}
 use Rattle.rec_reading.specs.RunParts.{Answers, OpensRun, RunParts, of_bundle, of_store, opts_part, parts_of, tests_part}
 use Rattle.rec_reading.specs.Stores.{archive_read, store_found, store_part}
 
 -- ---- the store
 
-store_refused : (found : Option (List ℕ)) (e : PortableRecordingReadError) → IsStoreRefused found e → (e ≡ bundles.OutOfMemory) ⊎ (store_found found ≡ Err e)
+pub store_refused : (found : Option (List ℕ)) (e : PortableRecordingReadError) → IsStoreRefused found e → (e ≡ bundles.OutOfMemory) ⊎ (store_found found ≡ Err e)
 store_refused None (bundles.MissingFile name) h = inr (ap (λ n. Err (bundles.MissingFile n)) (sym h))
 store_refused (Some bytes) (bundles.MissingFile name) h = absurd h
 store_refused None (bundles.ReadArchive fault) h = absurd h
@@ -39,25 +39,25 @@ store_refused found (bundles.UnsupportedFormatVersion version supported why) h =
 store_refused found (bundles.UnsupportedStoreFormatVersion version supported why) h = absurd h
 store_refused found (bundles.ExtractFile name) h = absurd h
 
-store_opened : (limit : ℕ) (found : Option (List ℕ)) (store : StoreReading) → OpensStore limit found (Ok store) → (store.limit ≡ limit) × (store_found found ≡ Ok store.entries)
+pub store_opened : (limit : ℕ) (found : Option (List ℕ)) (store : StoreReading) → OpensStore limit found (Ok store) → (store.limit ≡ limit) × (store_found found ≡ Ok store.entries)
 store_opened limit None store h = absurd h
 store_opened limit (Some bytes) store h = (h.0, ap archive_read (entries_of_container bytes store.entries h.1))
 
 -- ---- one stage
 
 -- want of memory, or the refusal of the first stage
-abbrev pub Refused : {A : Type 0} → Result A ListingError → ListingError → Type 0
+abbrev pub Refused : {A : Type 0} → Result A ReadingError → ReadingError → Type 0
 Refused stage e = (e ≡ OutOfMemory) ⊎ (stage ≡ Err e)
 
-pub stage-refused : {A B : Type 0} (stage : Result A ListingError) (next : A → Result B ListingError) (e : ListingError) → Refused stage e → Refused (stage >>= next) e
+pub stage-refused : {A B : Type 0} (stage : Result A ReadingError) (next : A → Result B ReadingError) (e : ReadingError) → Refused stage e → Refused (stage >>= next) e
 stage-refused stage next e (inl memory) = inl memory
 stage-refused stage next e (inr refused) = inr (ap (λ r. r >>= next) refused)
 
-pub stage-passed : {A B : Type 0} (stage : Result A ListingError) (next : A → Result B ListingError) (x : A) (e : ListingError) → stage ≡ Ok x → Refused (next x) e → Refused (stage >>= next) e
+pub stage-passed : {A B : Type 0} (stage : Result A ReadingError) (next : A → Result B ReadingError) (x : A) (e : ReadingError) → stage ≡ Ok x → Refused (next x) e → Refused (stage >>= next) e
 stage-passed stage next x e passed (inl memory) = inl memory
 stage-passed stage next x e passed (inr refused) = inr (ap (λ r. r >>= next) passed ∙ refused)
 
-of_bundle-refused : {A : Type 0} (part : Result A PortableRecordingReadError) (e : PortableRecordingReadError) → (e ≡ bundles.OutOfMemory) ⊎ (part ≡ Err e) → Refused (of_bundle part) (bundle_error e)
+pub of_bundle-refused : {A : Type 0} (part : Result A PortableRecordingReadError) (e : PortableRecordingReadError) → (e ≡ bundles.OutOfMemory) ⊎ (part ≡ Err e) → Refused (of_bundle part) (bundle_error e)
 of_bundle-refused part e (inl memory) = inl (ap bundle_error memory)
 of_bundle-refused part e (inr refused) = inr (ap of_bundle refused)
 
@@ -86,16 +86,16 @@ same-store old new keeps = let entries = (keeps.entries old.entries).0 refl in �
 -- ---- all stages
 
 module _ (limit : ℕ) (es : List Entry) where
-  abbrev made : List ℕ → List Entry → RecordOpts → TestListSummary → Result RunParts ListingError
+  abbrev made : List ℕ → List Entry → RecordOpts → TestListSummary → Result RunParts ReadingError
   made log store opts tests = Ok (record { store = store; mode = opts.run_mode; tests = tests; items = log_items (numbered 1 (lines log)) })
 
-  abbrev with_opts : List ℕ → List Entry → RecordOpts → Result RunParts ListingError
+  abbrev with_opts : List ℕ → List Entry → RecordOpts → Result RunParts ReadingError
   with_opts log store opts = tests_part store limit >>= made log store opts
 
-  abbrev with_store : List ℕ → List Entry → Result RunParts ListingError
+  abbrev with_store : List ℕ → List Entry → Result RunParts ReadingError
   with_store log store = opts_part store limit >>= with_opts log store
 
-  abbrev with_log : List ℕ → Result RunParts ListingError
+  abbrev with_log : List ℕ → Result RunParts ReadingError
   with_log log = of_bundle (store_part es) >>= with_store log
 
   pub log-refused : (e : PortableRecordingReadError) → Reads (log_part limit es) (Err e) → OpensRun limit (parts_of limit es) (Err (bundle_error e))
@@ -111,12 +111,12 @@ module _ (limit : ℕ) (es : List Entry) where
       found : (store.limit ≡ limit) × (store_part es ≡ Ok store.entries)
       found = store_opened limit (content_of es store_name) store opened
 
-      after-store : (e : ListingError) → Refused (with_store log store.entries) e → Refused (parts_of limit es) e
+      after-store : (e : ReadingError) → Refused (with_store log store.entries) e → Refused (parts_of limit es) e
       after-store e h =
           stage-passed (of_bundle (log_part limit es)) with_log log e (ap of_bundle read)
           (stage-passed (of_bundle (store_part es)) (with_store log) store.entries e (ap of_bundle found.1) h)
 
-      pub opts-refused : (e : ListingError) → Answers (opts_part store.entries store.limit) (Err e) → OpensRun limit (parts_of limit es) (Err e)
+      pub opts-refused : (e : ReadingError) → Answers (opts_part store.entries store.limit) (Err e) → OpensRun limit (parts_of limit es) (Err e)
       opts-refused e h =
           after-store e (stage-refused (opts_part store.entries limit) (with_opts log store.entries) e (subst (λ (n : ℕ). Refused (opts_part store.entries n) e) found.0 h))
 
@@ -124,7 +124,7 @@ module _ (limit : ℕ) (es : List Entry) where
         opts_is : opts_part store.entries limit ≡ Ok opts
         opts_is = ap (opts_part store.entries) (sym found.0) ∙ opts_read
 
-        pub tests-refused : (after : StoreReading) → after ≡ store → (e : ListingError) → Answers (tests_part after.entries after.limit) (Err e) → OpensRun limit (parts_of limit es) (Err e)
+        pub tests-refused : (after : StoreReading) → after ≡ store → (e : ReadingError) → Answers (tests_part after.entries after.limit) (Err e) → OpensRun limit (parts_of limit es) (Err e)
         tests-refused after same e h =
             after-store e (stage-passed (opts_part store.entries limit) (with_opts log store.entries) opts e opts_is (stage-refused (tests_part store.entries limit) (made log store.entries opts) e
             (subst (λ (n : ℕ). Refused (tests_part store.entries n) e) found.0 (subst (λ (s : StoreReading). Refused (tests_part s.entries s.limit) e) same h))))

@@ -16,7 +16,7 @@ use Rattle.rec_codec.specs.LineItems.{GivesNext}
 use Rattle.rec_codec.specs.LineReading.{before_fault, first_fault, line_items, log_items}
 use Rattle.rec_codec.specs.Lines.{NumberedLine}
 use Rattle.rec_store.specs.Readers.{Keeps}
-use Rattle.rec_reading.specs.declared.errors.ListingError.{ListingError}
+use Rattle.rec_reading.specs.declared.errors.ReadingError.{ReadingError}
 use Rattle.rec_reading.specs.Errors.{line_error}
 use Rattle.rec_reading.specs.Printing.{Adds, AddsEvent, Prints, before, text_from}
 
@@ -99,15 +99,15 @@ module _ (ls start mid left : List NumberedLine) (items : List Item) (events : L
 
 -- ---- texts before others
 
-before-nil : (r : Result (List ℕ) ListingError) → before [] r ≡ r
+before-nil : (r : Result (List ℕ) ReadingError) → before [] r ≡ r
 before-nil (Ok text) = refl
 before-nil (Err e) = refl
 
-before-both : (a b : List ℕ) (r : Result (List ℕ) ListingError) → before a (before b r) ≡ before (a ++ b) r
+before-both : (a b : List ℕ) (r : Result (List ℕ) ReadingError) → before a (before b r) ≡ before (a ++ b) r
 before-both a b (Ok text) = ap Ok (sym (append_assoc a b text))
 before-both a b (Err e) = refl
 
-module _ (prints : Prints) (converted : RecordedEvent → Result TestEvent ListingError) where
+module _ (prints : Prints) (converted : RecordedEvent → Result TestEvent ReadingError) where
   -- ---- one event
 
   -- the text of an event, and then the rest
@@ -118,17 +118,17 @@ module _ (prints : Prints) (converted : RecordedEvent → Result TestEvent Listi
       ∙ ap (λ r. r >>= (λ text. before text (text_from prints converted (past ++ live ∷ []) rest))) shown
 
   -- its refusal
-  event-refused : (past : List TestEvent) (e : RecordedEvent) (rest : List Item) (x : ListingError) → (converted e >>= prints past) ≡ Err x → text_from prints converted past (Ok e ∷ rest) ≡ Err x
+  event-refused : (past : List TestEvent) (e : RecordedEvent) (rest : List Item) (x : ReadingError) → (converted e >>= prints past) ≡ Err x → text_from prints converted past (Ok e ∷ rest) ≡ Err x
   event-refused past e rest x refused = go (converted e) refused
     where
-      after : TestEvent → List ℕ → Result (List ℕ) ListingError
+      after : TestEvent → List ℕ → Result (List ℕ) ReadingError
       after live text = before text (text_from prints converted (past ++ live ∷ []) rest)
 
-      shown : (live : TestEvent) (r : Result (List ℕ) ListingError) → r ≡ Err x → (r >>= (λ text. before text (text_from prints converted (past ++ live ∷ []) rest))) ≡ Err x
+      shown : (live : TestEvent) (r : Result (List ℕ) ReadingError) → r ≡ Err x → (r >>= (λ text. before text (text_from prints converted (past ++ live ∷ []) rest))) ≡ Err x
       shown live (Ok text) h = absurd cc
       shown live (Err y) h = cc
 
-      go : (r : Result TestEvent ListingError) → (r >>= prints past) ≡ Err x → (r >>= (λ l. prints past l >>= (λ text. before text (text_from prints converted (past ++ l ∷ []) rest)))) ≡ Err x
+      go : (r : Result TestEvent ReadingError) → (r >>= prints past) ≡ Err x → (r >>= (λ l. prints past l >>= (λ text. before text (text_from prints converted (past ++ l ∷ []) rest)))) ≡ Err x
       go (Ok live) h = shown live (prints past live) h
       go (Err y) h = cc
 
@@ -200,7 +200,7 @@ module _ (prints : Prints) (converted : RecordedEvent → Result TestEvent Listi
         go faults.OutOfMemory found = inl refl
 
     -- an event that isn't converted or printed
-    pub printed-refused : (all more : List Item) (e : RecordedEvent) (newer newest : List ℕ) (later : List TestEvent → Type 0) (x : ListingError) → all ≡ map Ok (has.events ++ e ∷ []) ++ more
+    pub printed-refused : (all more : List Item) (e : RecordedEvent) (newer newest : List ℕ) (later : List TestEvent → Type 0) (x : ReadingError) → all ≡ map Ok (has.events ++ e ∷ []) ++ more
         → ((past : List TestEvent) → stands past → AddsEvent prints converted later past e new newer (Err x)) → Adds (text_from prints converted [] all) old newest (Err x)
     printed-refused all more e newer newest later x is step = go (step has.past has.standing)
       where
@@ -213,8 +213,8 @@ module _ (prints : Prints) (converted : RecordedEvent → Result TestEvent Listi
 
 -- ---- one event, under a limit that is the same, by a printer that prints the same
 
-pub same-step : (limited : ℕ → RecordedEvent → Result TestEvent ListingError) (p q : Prints) (n m : ℕ) (stands : List TestEvent → Type 0) (past : List TestEvent) (e : RecordedEvent) (old new : List ℕ)
-    (r : Result ⊤ ListingError) → p ≡ q → n ≡ m → AddsEvent p (limited n) stands past e old new r → AddsEvent q (limited m) stands past e old new r
+pub same-step : (limited : ℕ → RecordedEvent → Result TestEvent ReadingError) (p q : Prints) (n m : ℕ) (stands : List TestEvent → Type 0) (past : List TestEvent) (e : RecordedEvent) (old new : List ℕ)
+    (r : Result ⊤ ReadingError) → p ≡ q → n ≡ m → AddsEvent p (limited n) stands past e old new r → AddsEvent q (limited m) stands past e old new r
 same-step limited p q n m stands past e old new r printer limit h =
     subst (λ k. AddsEvent q (limited k) stands past e old new r) limit (subst (λ z. AddsEvent z (limited n) stands past e old new r) printer h)
 

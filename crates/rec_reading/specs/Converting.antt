@@ -16,14 +16,14 @@ use Rattle.rec_replay.specs.declared.conversion_error.ReplayConversionError.{Rep
 use Rattle.rec_replay.specs.declared.output_load.LoadOutput.{LoadOutput}
 use Rattle.rec_replay.specs.Loading.{event_names, first_refusal}
 use Rattle.rec_replay.specs.Replaying.{replayed}
-use Rattle.rec_reading.specs.declared.errors.ListingError.TheVariants.{Conversion}
-use Rattle.rec_reading.specs.declared.errors.ListingError.{ListingError}
+use Rattle.rec_reading.specs.declared.errors.ReadingError.TheVariants.{Conversion}
+use Rattle.rec_reading.specs.declared.errors.ReadingError.{ReadingError}
 use Rattle.rec_reading.specs.RunParts.{RunParts}
 
 -- ---- what becomes of a recorded event
 
 -- this refusal, or else x
-abbrev pub unless_refused : {T : Type 0} → Option ListingError → T → Result T ListingError
+abbrev pub unless_refused : {T : Type 0} → Option ReadingError → T → Result T ReadingError
 unless_refused None x = Ok x
 unless_refused (Some e) x = Err e
 
@@ -32,7 +32,7 @@ module _ (registered : OwnedTestInstanceId → Bool) (list : Bor Tests) (load : 
   abbrev pub conversion_refusal : RecordedEvent → Option ReplayConversionError
   conversion_refusal e = option_or (event_refusal registered e) (option_map RecordRead (first_refusal store limit (event_names load e)))
 
-  abbrev pub converted : RecordedEvent → Result TestEvent ListingError
+  abbrev pub converted : RecordedEvent → Result TestEvent ReadingError
   converted e = unless_refused (option_map Conversion (conversion_refusal e)) (replayed load list store e)
 
 -- a run's tests, as they are lent to its events; where they stand in memory is no part of what is printed
@@ -40,7 +40,7 @@ abbrev pub lent_tests : RunParts → Bor Tests
 lent_tests parts = record { ref_ptr = (0, 0); now = record { mode = parts.mode; summary = parts.tests } }
 
 -- the event of a run's log, where each test of its list is registered
-abbrev pub converted_of : LoadOutput → ℕ → RunParts → RecordedEvent → Result TestEvent ListingError
+abbrev pub converted_of : LoadOutput → ℕ → RunParts → RecordedEvent → Result TestEvent ReadingError
 converted_of load limit parts = converted (is_listed parts.tests) (lent_tests parts) load parts.store limit
 
 -- ---- where tests stand in memory

@@ -1,8 +1,12 @@
 pub mod Converting
 pub mod Errors
 pub mod Listing
+pub mod LogEvents
+pub mod LogTraces
 pub mod PrinterLaws
 pub mod Printing
 pub mod ReportLaws
+pub mod Reruns
 pub mod RunParts
 pub mod Stores
+pub mod Slots

@@ -1,43 +1,100 @@
--- What is printed of a bundle's events.
+-- What is printed of a bundle.
 use Rattle.std.specs.declared.alloc.Global.{Global}
-use Rattle.std.specs.Prelude.{◌≡◌, ◌⊎◌, ℕ, List, [], None, Result, Ok, Err, Vec}
+use Rattle.std.specs.Prelude.{◌≡◌, ◌⊎◌, ℕ, List, [], ◌∷◌, ◌++◌, Option, None, Some, Result, Ok, Err, Vec}
+use Rattle.serde_json.specs.Written.{compact_text}
 use Rattle.rec_container.specs.Container.{Entry}
 use Rattle.rec_container.specs.Reading.{◌>>=◌}
+use Rattle.rec_format.specs.declared.manifest.PortableManifest.{PortableManifest}
 use Rattle.rec_format.specs.declared.run.RecordedRunInfo.{RecordedRunInfo}
+use Rattle.rec_format.specs.RunForms.{manifest_value}
 use Rattle.rec_format.specs.Runs.{info_of}
 use Rattle.rec_portable.specs.Judging.{judged}
+use Rattle.rec_portable.specs.OuterEntries.{log_part}
 use Rattle.rec_replay.specs.declared.header.ReplayHeader.{ReplayHeader}
 use Rattle.rec_replay.specs.declared.output_load.LoadOutput.TheVariants.{Load}
 use Rattle.rec_replay.specs.declared.output_load.LoadOutput.{LoadOutput}
 use Rattle.rec_replay.specs.Lines.{header_line}
+use Rattle.rec_spans.specs.declared.errors.ChromeTraceError.{ChromeTraceError}
+use Rattle.rec_spans.specs.declared.settings.ChromeTraceGroupBy.{ChromeTraceGroupBy}
+use Rattle.rec_trace.specs.declared.settings.ChromeTraceMessageFormat.{ChromeTraceMessageFormat}
 use Rattle.rec_reading.specs.Converting.{converted_of}
-use Rattle.rec_reading.specs.declared.errors.ListingError.TheVariants.{OutOfMemory}
-use Rattle.rec_reading.specs.declared.errors.ListingError.{ListingError}
+use Rattle.rec_reading.specs.declared.errors.ReadingError.TheVariants.{OutOfMemory}
+use Rattle.rec_reading.specs.declared.errors.ReadingError.{ReadingError}
+use Rattle.rec_reading.specs.Errors.{trace_error}
+use Rattle.rec_reading.specs.LogTraces.{log_lines, log_refusal, log_trace}
 use Rattle.rec_reading.specs.Printing.{Prints, before, line_prints, report_prints, text_from}
 use Rattle.rec_reading.specs.RunParts.{RunParts, of_bundle, parts_of}
+
+-- ---- the manifest, and the trace of the log
+
+-- the text of a manifest and LF
+abbrev pub manifest_line : PortableManifest → List ℕ
+manifest_line manifest = compact_text (manifest_value manifest) ++ 10 ∷ []
+
+abbrev pub info_printed : ℕ → List Entry → Result (List ℕ) ReadingError
+info_printed limit es = do
+  manifest ← of_bundle (judged limit es)
+  Ok (manifest_line manifest)
+
+-- the text of a log's trace, unless the log is refused
+abbrev pub trace_unless : List ℕ → Option ChromeTraceError → Result (List ℕ) ReadingError
+trace_unless text None = Ok text
+trace_unless text (Some refusal) = Err (trace_error refusal)
+
+module _ (g : ChromeTraceGroupBy) (format : ChromeTraceMessageFormat) where
+  -- the text of the trace of a bundle with this manifest and this log
+  abbrev pub bundle_trace : PortableManifest → List ℕ → List ℕ
+  bundle_trace manifest log = log_trace g format manifest.run.nextest_version (log_lines log)
+
+  -- the trace of a log, recorded by the version of the runner that the manifest names
+  abbrev pub trace_of_parts : PortableManifest → List ℕ → Result (List ℕ) ReadingError
+  trace_of_parts manifest log = trace_unless (bundle_trace manifest log) (log_refusal g (log_lines log))
+
+  abbrev pub trace_of : ℕ → List Entry → Result (List ℕ) ReadingError
+  trace_of limit es = do
+    manifest ← of_bundle (judged limit es)
+    log ← of_bundle (log_part limit es)
+    trace_of_parts manifest log
+
+-- ---- the events
 
 -- the head of a run's replay; no other runs are known
 abbrev pub header_of : RecordedRunInfo → ReplayHeader
 header_of run = record { run_id = run.run_id; unique_prefix = None; started_at = run.started_at; status = run.status }
 
 -- what a printer prints of a run
-abbrev pub printed : Prints → LoadOutput → ℕ → RunParts → Result (List ℕ) ListingError
+abbrev pub printed : Prints → LoadOutput → ℕ → RunParts → Result (List ℕ) ReadingError
 printed prints load limit parts = text_from prints (converted_of load limit parts) [] parts.items
 
 -- a replay has the line of its head, and then the line of each event
-abbrev pub replay_of : LoadOutput → ℕ → List Entry → Result (List ℕ) ListingError
+abbrev pub replay_of : LoadOutput → ℕ → List Entry → Result (List ℕ) ReadingError
 replay_of load limit es = do
   manifest ← of_bundle (judged limit es)
   parts ← parts_of limit es
   before (header_line (header_of (info_of manifest.run))) (printed line_prints load limit parts)
 
 -- the reports, with all outputs
-abbrev pub report_of : ℕ → List Entry → Result (List ℕ) ListingError
+abbrev pub report_of : ℕ → List Entry → Result (List ℕ) ReadingError
 report_of limit es = do
   parts ← parts_of limit es
   printed (report_prints parts.mode) Load limit parts
 
--- a function answers this text or this refusal, but for want of memory
-abbrev pub Makes : Result (List ℕ) ListingError → Result (Vec ℕ Global) ListingError → Type 0
-Makes expected (Ok text) = expected ≡ Ok text.items
-Makes expected (Err e) = (e ≡ OutOfMemory) ⊎ (expected ≡ Err e)
+-- ---- what a function that prints makes
+
+-- this text or this refusal, as the relation says it; or memory ran out
+abbrev pub Makes : (Result (List ℕ) ReadingError → Type 0) → Result (Vec ℕ Global) ReadingError → Type 0
+Makes prints (Ok text) = prints (Ok text.items)
+Makes prints (Err e) = (e ≡ OutOfMemory) ⊎ prints (Err e)
+
+-- what is printed of entries under a limit is what a function of them gives
+abbrev pub PrintsInfo : ℕ → List Entry → Result (List ℕ) ReadingError → Type 0
+PrintsInfo limit es r = info_printed limit es ≡ r
+
+abbrev pub PrintsTrace : ChromeTraceGroupBy → ChromeTraceMessageFormat → ℕ → List Entry → Result (List ℕ) ReadingError → Type 0
+PrintsTrace g format limit es r = trace_of g format limit es ≡ r
+
+abbrev pub PrintsReplay : LoadOutput → ℕ → List Entry → Result (List ℕ) ReadingError → Type 0
+PrintsReplay load limit es r = replay_of load limit es ≡ r
+
+abbrev pub PrintsReport : ℕ → List Entry → Result (List ℕ) ReadingError → Type 0
+PrintsReport limit es r = report_of limit es ≡ r

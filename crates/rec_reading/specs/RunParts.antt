@@ -15,8 +15,8 @@ use Rattle.rec_store.specs.Entries.{record_opts_path, test_list_path}
 use Rattle.rec_store.specs.Parts.{metadata_part}
 use Rattle.rec_portable.specs.declared.errors.PortableRecordingReadError.{PortableRecordingReadError}
 use Rattle.rec_portable.specs.OuterEntries.{log_part}
-use Rattle.rec_reading.specs.declared.errors.ListingError.TheVariants.{OutOfMemory}
-use Rattle.rec_reading.specs.declared.errors.ListingError.{ListingError}
+use Rattle.rec_reading.specs.declared.errors.ReadingError.TheVariants.{OutOfMemory}
+use Rattle.rec_reading.specs.declared.errors.ReadingError.{ReadingError}
 use Rattle.rec_reading.specs.declared.parts.OpenRun.{OpenRun}
 use Rattle.rec_reading.specs.Errors.{bundle_error, part_error}
 use Rattle.rec_reading.specs.Stores.{store_part}
@@ -29,23 +29,23 @@ pub record RunParts : Type 0 where
   pub items : List (Result RecordedEvent LineError)
 
 -- a part of a bundle, or why it isn't read
-abbrev pub of_bundle : {A : Type 0} → Result A PortableRecordingReadError → Result A ListingError
+abbrev pub of_bundle : {A : Type 0} → Result A PortableRecordingReadError → Result A ReadingError
 of_bundle (Ok x) = Ok x
 of_bundle (Err e) = Err (bundle_error e)
 
 -- the same of a part of its store
-abbrev pub of_store : {A : Type 0} → Result A RecordReadError → Result A ListingError
+abbrev pub of_store : {A : Type 0} → Result A RecordReadError → Result A ReadingError
 of_store (Ok x) = Ok x
 of_store (Err e) = Err (part_error e)
 
-abbrev pub opts_part : List Entry → ℕ → Result RecordOpts ListingError
+abbrev pub opts_part : List Entry → ℕ → Result RecordOpts ReadingError
 opts_part store limit = of_store (metadata_part record_opts_form record_opts_path store limit)
 
-abbrev pub tests_part : List Entry → ℕ → Result TestListSummary ListingError
+abbrev pub tests_part : List Entry → ℕ → Result TestListSummary ReadingError
 tests_part store limit = of_store (metadata_part test_list_form test_list_path store limit)
 
 -- the log comes first, then the store, the record options and the test list
-abbrev pub parts_of : ℕ → List Entry → Result RunParts ListingError
+abbrev pub parts_of : ℕ → List Entry → Result RunParts ReadingError
 parts_of limit es = do
   log ← of_bundle (log_part limit es)
   store ← of_bundle (store_part es)
@@ -56,7 +56,7 @@ parts_of limit es = do
 -- ---- a run that is read
 
 -- a function answers this, but for want of memory
-abbrev pub Answers : {T : Type 0} → Result T ListingError → Result T ListingError → Type 0
+abbrev pub Answers : {T : Type 0} → Result T ReadingError → Result T ReadingError → Type 0
 Answers expected (Ok x) = expected ≡ Ok x
 Answers expected (Err e) = (e ≡ OutOfMemory) ⊎ (expected ≡ Err e)
 
@@ -65,6 +65,6 @@ abbrev pub parts_in : OpenRun → RunParts
 parts_in run = record { store = run.store.entries; mode = run.mode; tests = run.tests; items = log_items (numbered 1 (lines run.log)) }
 
 -- a run with these parts was read under a limit, or they are refused
-abbrev pub OpensRun : ℕ → Result RunParts ListingError → Result OpenRun ListingError → Type 0
+abbrev pub OpensRun : ℕ → Result RunParts ReadingError → Result OpenRun ReadingError → Type 0
 OpensRun limit expected (Ok run) = (run.store.limit ≡ limit) × (expected ≡ Ok (parts_in run))
 OpensRun limit expected (Err e) = (e ≡ OutOfMemory) ⊎ (expected ≡ Err e)

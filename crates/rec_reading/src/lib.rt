@@ -1,15 +1,28 @@
-//! What is printed of the events of a bundle: the lines of its replay, and its reports.
+//! What is printed of a bundle: its manifest, the trace of its log, the lines of its replay, its reports, how
+//! its slots were used, and which tests are to run again.
 #![tactic(auto)]
 
+mod bundle_text;
 mod errors;
+mod events;
+mod info;
+mod log_trace;
 mod parts;
 mod printer;
 mod registration;
 mod replay;
 mod report;
 mod report_printer;
+mod rerun;
 mod run;
+mod slots;
+mod trace;
 
-pub use errors::ListingError;
+pub use bundle_text::{BundleText, Info, Replay, Report, Rerun, Slots, Trace};
+pub use errors::ReadingError;
+pub use info::info_text;
 pub use replay::replay_text;
 pub use report::report_text;
+pub use rerun::rerun_text;
+pub use slots::slots_text;
+pub use trace::trace_text;

@@ -3,7 +3,7 @@ ghost use Rattle.std.specs.Prelude.{◌≡◌, List};
 ghost use Rattle.rec_container.specs.Container.{Entry, IsContainer};
 ghost use Rattle.rec_reading.specs.RunParts.{Answers, OpensRun, opts_part, parts_of, tests_part};
 
-use crate::errors::ListingError;
+use crate::errors::ReadingError;
 use rec_events::{NextestRunMode, RecordOpts, TestListSummary};
 use rec_portable::{PortableRecording, PortableRecordingRunLog, PortableStoreReader};
 use rec_store::StoreReader;
@@ -24,7 +24,7 @@ impl<'a> OpenRun<'a> {
     pub(crate) fn read(
         alloc: Global,
         bundle: &'a PortableRecording,
-    ) -> Result<OpenRun<'a>, ListingError>
+    ) -> Result<OpenRun<'a>, ReadingError>
         ensures { (es : List Entry) → IsContainer bundle.now.bytes es → OpensRun bundle.now.limit (parts_of bundle.now.limit es) result }
     {
         let log = bundle.read_run_log(alloc)?;
@@ -41,7 +41,7 @@ impl<'a> OpenRun<'a> {
 }
 
 /// Reads the record options of a store.
-fn read_opts(alloc: Global, store: &mut PortableStoreReader<'_>) -> Result<RecordOpts, ListingError>
+fn read_opts(alloc: Global, store: &mut PortableStoreReader<'_>) -> Result<RecordOpts, ReadingError>
     ensures opts { Answers (opts_part store.old.entries store.old.limit) result }
     ensures same { store.new ≡ store.old }
 {
@@ -49,10 +49,10 @@ fn read_opts(alloc: Global, store: &mut PortableStoreReader<'_>) -> Result<Recor
 }
 
 /// Reads the test list of a store.
-fn read_tests(
+pub(crate) fn read_tests(
     alloc: Global,
     store: &mut PortableStoreReader<'_>,
-) -> Result<TestListSummary, ListingError>
+) -> Result<TestListSummary, ReadingError>
     ensures tests { Answers (tests_part store.old.entries store.old.limit) result }
     ensures same { store.new ≡ store.old }
 {

@@ -3,7 +3,7 @@ ghost use Rattle.std.specs.Prelude.{◌≡◌, ◌++◌, ◌∷◌, [], List, On
 ghost use Rattle.rec_events.specs.declared.live_events.TestEvent.{TestEvent};
 ghost use Rattle.rec_reading.specs.Printing.{Adds, IsBlind, Prints};
 
-use crate::errors::ListingError;
+use crate::errors::ReadingError;
 use rec_events::TestEvent;
 use std::alloc::Global;
 
@@ -25,7 +25,7 @@ pub(crate) trait EventPrinter {
         alloc: Global,
         event: &TestEvent<'_>,
         text: &mut Vec<u8>,
-    ) -> Result<(), ListingError>
+    ) -> Result<(), ReadingError>
         ensures adds { (past : List TestEvent) → stands self.old past → Adds (prints self.old past event.now) text.old.items text.new.items result }
         ensures stands { (past : List TestEvent) → stands self.old past → OnOk result (stands self.new (past ++ event.now ∷ [])) }
         ensures same { prints self.new ≡ prints self.old };

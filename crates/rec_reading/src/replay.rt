@@ -3,10 +3,10 @@ ghost use Rattle.std.specs.Prelude.{◌≡◌, ◌++◌, List, IfErr, Ok, OnOk};
 ghost use Rattle.rec_container.specs.Container.{Entry, IsContainer};
 ghost use Rattle.rec_format.specs.Runs.{info_of};
 ghost use Rattle.rec_replay.specs.Lines.{header_line, line_text};
-ghost use Rattle.rec_reading.specs.declared.errors.ListingError.TheVariants.{OutOfMemory};
-ghost use Rattle.rec_reading.specs.Listing.{Makes, header_of, replay_of};
+ghost use Rattle.rec_reading.specs.declared.errors.ReadingError.TheVariants.{OutOfMemory};
+ghost use Rattle.rec_reading.specs.Listing.{Makes, PrintsReplay, header_of};
 
-use crate::errors::ListingError;
+use crate::errors::ReadingError;
 use crate::parts::OpenRun;
 use crate::printer::EventPrinter;
 use crate::run::print_run;
@@ -35,8 +35,8 @@ pub fn replay_text(
     alloc: Global,
     bundle: &PortableRecording,
     load_output: LoadOutput,
-) -> Result<Vec<u8>, ListingError>
-    ensures { (es : List Entry) → IsContainer bundle.now.bytes es → Makes (replay_of load_output bundle.now.limit es) result }
+) -> Result<Vec<u8>, ReadingError>
+    ensures { (es : List Entry) → IsContainer bundle.now.bytes es → Makes (PrintsReplay load_output bundle.now.limit es) result }
 {
     let mut text = header_text(alloc, bundle.manifest())?;
     let mut run = OpenRun::read(alloc, bundle)?;
@@ -62,7 +62,7 @@ impl EventPrinter for LinePrinter {
         alloc: Global,
         event: &TestEvent<'_>,
         text: &mut Vec<u8>,
-    ) -> Result<(), ListingError> {
+    ) -> Result<(), ReadingError> {
         let mut line = GrowingSink::new(alloc);
         write_line(alloc, &mut line, event)?;
         text.extend_from_slice(line.bytes())?;
@@ -77,7 +77,7 @@ fn write_line(
     alloc: Global,
     sink: &mut GrowingSink,
     event: &TestEvent<'_>,
-) -> Result<(), ListingError>
+) -> Result<(), ReadingError>
     ensures line { OnOk result (sink.new.bytes ≡ sink.old.bytes ++ line_text event.now) }
     ensures memory { IfErr result (λ e. e ≡ OutOfMemory) }
 {
@@ -85,13 +85,13 @@ fn write_line(
     match reporter.write_event(event) {
         Ok(()) => Ok(()),
         // A sink in memory fails only for want of memory.
-        Err(_) => Err(ListingError::OutOfMemory),
+        Err(_) => Err(ReadingError::OutOfMemory),
     }
 }
 
 /// Writes the line of the head of a replay.
-fn header_text(alloc: Global, manifest: &PortableManifest) -> Result<Vec<u8>, ListingError>
-    ensures { Makes (Ok (header_line (header_of (info_of manifest.now.run)))) result }
+fn header_text(alloc: Global, manifest: &PortableManifest) -> Result<Vec<u8>, ReadingError>
+    ensures { Makes (λ r. Ok (header_line (header_of (info_of manifest.now.run))) ≡ r) result }
 {
     let header = replay_header(manifest);
     let mut sink = GrowingSink::new(alloc);
@@ -117,7 +117,7 @@ fn write_header(
     alloc: Global,
     sink: &mut GrowingSink,
     header: &ReplayHeader,
-) -> Result<(), ListingError>
+) -> Result<(), ReadingError>
     ensures line { OnOk result (sink.new.bytes ≡ sink.old.bytes ++ header_line header.now) }
     ensures memory { IfErr result (λ e. e ≡ OutOfMemory) }
 {
@@ -125,6 +125,6 @@ fn write_header(
     match reporter.write_header(header) {
         Ok(()) => Ok(()),
         // As in `write_line`.
-        Err(_) => Err(ListingError::OutOfMemory),
+        Err(_) => Err(ReadingError::OutOfMemory),
     }
 }

@@ -1,12 +1,12 @@
 //! The reports of a run.
-ghost use Rattle.std.specs.Prelude.{List};
+ghost use Rattle.std.specs.Prelude.{◌≡◌, List};
 ghost use Rattle.rec_container.specs.Container.{Entry, IsContainer};
 ghost use Rattle.rec_replay.specs.declared.output_load.LoadOutput.TheVariants.{Load};
-ghost use Rattle.rec_reading.specs.Listing.{Makes, printed, report_of};
+ghost use Rattle.rec_reading.specs.Listing.{Makes, PrintsReport, printed};
 ghost use Rattle.rec_reading.specs.Printing.{report_prints};
 ghost use Rattle.rec_reading.specs.RunParts.{parts_in};
 
-use crate::errors::ListingError;
+use crate::errors::ReadingError;
 use crate::parts::OpenRun;
 use crate::report_printer::ReportPrinter;
 use crate::run::print_run;
@@ -22,8 +22,8 @@ use std::alloc::Global;
 ///
 /// Those of [`replay_text`](crate::replay_text) with `Load`, and `Report` where a line's event is refused as
 /// it is reported. `OutOfMemory` may come at any time.
-pub fn report_text(alloc: Global, bundle: &PortableRecording) -> Result<Vec<u8>, ListingError>
-    ensures { (es : List Entry) → IsContainer bundle.now.bytes es → Makes (report_of bundle.now.limit es) result }
+pub fn report_text(alloc: Global, bundle: &PortableRecording) -> Result<Vec<u8>, ReadingError>
+    ensures { (es : List Entry) → IsContainer bundle.now.bytes es → Makes (PrintsReport bundle.now.limit es) result }
 {
     let mut run = OpenRun::read(alloc, bundle)?;
     let result = reports_of(alloc, &mut run);
@@ -33,8 +33,8 @@ pub fn report_text(alloc: Global, bundle: &PortableRecording) -> Result<Vec<u8>,
 }
 
 /// Writes the reports of a run that is read.
-fn reports_of(alloc: Global, run: &mut OpenRun<'_>) -> Result<Vec<u8>, ListingError>
-    ensures { Makes (printed (report_prints run.old.mode) Load run.old.store.limit (parts_in run.old)) result }
+fn reports_of(alloc: Global, run: &mut OpenRun<'_>) -> Result<Vec<u8>, ReadingError>
+    ensures { Makes (λ r. printed (report_prints run.old.mode) Load run.old.store.limit (parts_in run.old) ≡ r) result }
 {
     let describer = PlainDescriber;
     let mut printer = ReportPrinter::new(alloc, run.mode, &describer)?;

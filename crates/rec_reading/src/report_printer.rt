@@ -5,7 +5,7 @@ ghost use Rattle.rec_junit.specs.Histories.{StandsFor};
 ghost use Rattle.rec_reading.specs.Printing.{report_line, report_name, report_prints};
 ghost use Rattle.rec_reading.specs.ReportLaws.{report_prints_blind};
 
-use crate::errors::ListingError;
+use crate::errors::ReadingError;
 use crate::printer::EventPrinter;
 use rec_events::{NextestRunMode, TestEvent};
 use rec_junit::{JunitBuilder, JunitReport, PlainDescriber, report_to_value};
@@ -51,7 +51,7 @@ impl<'d> EventPrinter for ReportPrinter<'d> {
         alloc: Global,
         event: &TestEvent<'_>,
         text: &mut Vec<u8>,
-    ) -> Result<(), ListingError> {
+    ) -> Result<(), ReadingError> {
         let Some(report) = self.builder.write_event(event)? else {
             return Ok(());
         };

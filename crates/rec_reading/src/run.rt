@@ -10,7 +10,7 @@ ghost use Rattle.rec_reading.specs.Listing.{printed};
 ghost use Rattle.rec_reading.specs.Printing.{Adds, AddsEvent, text_from};
 ghost use Rattle.rec_reading.specs.RunParts.{Answers, parts_in};
 
-use crate::errors::ListingError;
+use crate::errors::ReadingError;
 use crate::parts::OpenRun;
 use crate::printer::EventPrinter;
 use crate::registration::register_tests;
@@ -32,7 +32,7 @@ pub(crate) fn print_run<P: EventPrinter>(
     load_output: LoadOutput,
     printer: &mut P,
     text: &mut Vec<u8>,
-) -> Result<(), ListingError>
+) -> Result<(), ReadingError>
     requires begun { P.stands printer.now [] }
     ensures { Adds (printed (P.prints printer.old) load_output run.old.store.limit (parts_in run.old)) text.old.items text.new.items result }
 {
@@ -60,7 +60,7 @@ fn print_events<P: EventPrinter>(
     events: LineIter<'_, RecordingSpec>,
     printer: &mut P,
     text: &mut Vec<u8>,
-) -> Result<(), ListingError>
+) -> Result<(), ReadingError>
     requires begun { P.stands printer.now [] }
     // The reader never fails.
     requires never { (x : _) → (⟦<dyn StoreReader as StoreReader>⟧ reader.now.0).failures x ≡ 0 }
@@ -84,7 +84,7 @@ fn print_event<P: EventPrinter>(
     event: TestEventSummary<RecordingSpec>,
     printer: &mut P,
     text: &mut Vec<u8>,
-) -> Result<(), ListingError>
+) -> Result<(), ReadingError>
     requires never { (x : _) → (⟦<dyn StoreReader as StoreReader>⟧ reader.now.0).failures x ≡ 0 }
     ensures prints { (es : List Entry) (past : List TestEvent) → holds reader.old es → P.stands printer.old past → AddsEvent
         (P.prints printer.old) (converted (is_registered context.now.tests) context.now.test_list load_output es (limit reader.old)) (P.stands printer.new)
@@ -106,7 +106,7 @@ fn convert<'cx>(
     reader: &mut dyn StoreReader,
     load_output: LoadOutput,
     event: TestEventSummary<RecordingSpec>,
-) -> Result<TestEvent<'cx>, ListingError>
+) -> Result<TestEvent<'cx>, ReadingError>
     requires never { (x : _) → (⟦<dyn StoreReader as StoreReader>⟧ reader.now.0).failures x ≡ 0 }
     ensures converted { (es : List Entry) → holds reader.old es → Answers
         (converted (is_registered context.now.tests) context.now.test_list load_output es (limit reader.old) event) result }

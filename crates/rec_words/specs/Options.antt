@@ -12,7 +12,7 @@ use Rattle.rec_trace.specs.declared.settings.ChromeTraceMessageFormat.TheVariant
 use Rattle.rec_trace.specs.declared.settings.ChromeTraceMessageFormat.{ChromeTraceMessageFormat}
 use Rattle.rec_export.specs.declared.settings.Settings.{Settings}
 use Rattle.rec_export.specs.Settings.{default_settings}
-use Rattle.rec_words.specs.declared.options.CommandName.TheVariants.{Record, Trace, Replay, Report, Info, Sample}
+use Rattle.rec_words.specs.declared.options.CommandName.TheVariants.{Record, Trace, Replay, Sample}
 use Rattle.rec_words.specs.declared.options.CommandName.{CommandName}
 use Rattle.rec_words.specs.declared.options.OptionName.TheVariants.{GroupBy, MessageFormat, MaxOutput, ReadLimit, SessionLimit, Output}
 use Rattle.rec_words.specs.declared.options.OptionName.{OptionName}
@@ -31,43 +31,38 @@ option_named word =
     else if bytes_eq word (codes "--output") then Some Output
     else None
 
+-- the commands that draw a trace
+abbrev pub draws : CommandName → Bool
+draws Record = true
+draws Trace = true
+draws Sample = true
+draws command = false
+
+-- the commands that record a session
+abbrev pub records : CommandName → Bool
+records Record = true
+records Sample = true
+records command = false
+
+-- the command that replays events
+abbrev pub replays : CommandName → Bool
+replays Replay = true
+replays command = false
+
 -- which commands take an option
 abbrev pub takes : CommandName → OptionName → Bool
-takes Record GroupBy = true
-takes Trace GroupBy = true
-takes Replay GroupBy = false
-takes Report GroupBy = false
-takes Info GroupBy = false
-takes Sample GroupBy = true
-takes Record MessageFormat = true
-takes Trace MessageFormat = true
-takes Replay MessageFormat = false
-takes Report MessageFormat = false
-takes Info MessageFormat = false
-takes Sample MessageFormat = true
-takes Record MaxOutput = true
-takes Trace MaxOutput = false
-takes Replay MaxOutput = false
-takes Report MaxOutput = false
-takes Info MaxOutput = false
-takes Sample MaxOutput = true
-takes Record Output = false
-takes Trace Output = false
-takes Replay Output = true
-takes Report Output = false
-takes Info Output = false
-takes Sample Output = false
+takes command GroupBy = draws command
+takes command MessageFormat = draws command
+takes command MaxOutput = records command
+takes command Output = replays command
 takes command ReadLimit = true
 takes command SessionLimit = true
 
 -- the index of the word at which the options of a command begin: its name and its positional words stand before
 abbrev pub options_at : CommandName → ℕ
 options_at Record = 2
-options_at Trace = 1
-options_at Replay = 1
-options_at Report = 1
-options_at Info = 1
 options_at Sample = 3
+options_at command = 1
 
 -- the number that one or more decimal digits write, where it fits 64 bits
 unfoldable pub number_of : List ℕ → Option ℕ

@@ -6,7 +6,7 @@ use Rattle.std.specs.Str.{bytes_eq}
 use Rattle.rec_container.specs.Reading.{◌>>=◌}
 use Rattle.rec_replay.specs.declared.output_load.LoadOutput.{LoadOutput}
 use Rattle.rec_export.specs.declared.settings.Settings.{Settings}
-use Rattle.rec_words.specs.declared.options.CommandName.TheVariants.{Record, Trace, Replay, Report, Info, Sample}
+use Rattle.rec_words.specs.declared.options.CommandName.TheVariants.{Record, Trace, Replay, Report, Info, Slots, Rerun, Sample}
 use Rattle.rec_words.specs.declared.options.CommandName.{CommandName}
 use Rattle.rec_words.specs.declared.words.Command.TheVariants as commands
 use Rattle.rec_words.specs.declared.words.Command.{Command}
@@ -14,14 +14,16 @@ use Rattle.rec_words.specs.declared.words.WordsError.TheVariants.{NoCommand, Unk
 use Rattle.rec_words.specs.declared.words.WordsError.{WordsError}
 use Rattle.rec_words.specs.Options.{load_of, no_values, options_at, settings_from, settings_of, tests_of, values_from}
 
--- what words ask for: a recording into a bundle at a path; the trace of a bundle, its events, its reports, or what its manifest says; a
--- recording of a generated session of so many tests; or a text about the program
+-- what words ask for: a recording into a bundle at a path; the trace of a bundle, its events, its reports, what its manifest says, how its
+-- slots were used, or which tests to run again; a recording of a generated session of so many tests; or a text about the program
 pub data Asked : Type 0 where
   recording : List ℕ → Settings → Asked
   tracing : Settings → Asked
   replaying : LoadOutput → Settings → Asked
   reporting : Settings → Asked
   informing : Settings → Asked
+  slotting : Settings → Asked
+  rerunning : Settings → Asked
   sampling : ℕ → List ℕ → Settings → Asked
   help : Asked
   version : Asked
@@ -33,6 +35,8 @@ asked (commands.Trace settings) = tracing settings
 asked (commands.Replay output settings) = replaying output settings
 asked (commands.Report settings) = reporting settings
 asked (commands.Info settings) = informing settings
+asked (commands.Slots settings) = slotting settings
+asked (commands.Rerun settings) = rerunning settings
 asked (commands.Sample n bundle settings) = sampling n bundle.now settings
 asked commands.Help = help
 asked commands.Version = version
@@ -49,6 +53,8 @@ command_named word =
     else if bytes_eq word (codes "replay") then Some Replay
     else if bytes_eq word (codes "report") then Some Report
     else if bytes_eq word (codes "info") then Some Info
+    else if bytes_eq word (codes "slots") then Some Slots
+    else if bytes_eq word (codes "rerun") then Some Rerun
     else if bytes_eq word (codes "sample") then Some Sample
     else None
 
@@ -65,6 +71,8 @@ command_after Trace words = settings_from Trace words >>= (λ settings. Ok (trac
 command_after Replay words = values_from Replay no_values (options_at Replay) words >>= (λ values. Ok (replaying (load_of values) (settings_of values)))
 command_after Report words = settings_from Report words >>= (λ settings. Ok (reporting settings))
 command_after Info words = settings_from Info words >>= (λ settings. Ok (informing settings))
+command_after Slots words = settings_from Slots words >>= (λ settings. Ok (slotting settings))
+command_after Rerun words = settings_from Rerun words >>= (λ settings. Ok (rerunning settings))
 command_after Sample [] = Err (MissingPositional 1)
 command_after Sample (number ∷ words) = ok_or (tests_of number) (BadNumber 1) >>= (λ n. sample_after n words)
 
@@ -91,23 +99,15 @@ Reads (Err fault) read = read ≡ Err fault
 
 -- the number of tests that a command asks for is at most 10000
 abbrev pub HasTests : Command → Type 0
-HasTests (commands.Record bundle settings) = ⊤
-HasTests (commands.Trace settings) = ⊤
-HasTests (commands.Replay output settings) = ⊤
-HasTests (commands.Report settings) = ⊤
-HasTests (commands.Info settings) = ⊤
 HasTests (commands.Sample n bundle settings) = n ≤ 10000
-HasTests commands.Help = ⊤
-HasTests commands.Version = ⊤
+HasTests command = ⊤
 
 -- the path of the bundle that a command writes
+abbrev pub bundle_asked : Asked → Option (List ℕ)
+bundle_asked (recording bundle settings) = Some bundle
+bundle_asked (sampling n bundle settings) = Some bundle
+bundle_asked asked = None
+
 abbrev pub bundle_of : Result Asked WordsError → Option (List ℕ)
-bundle_of (Ok (recording bundle settings)) = Some bundle
-bundle_of (Ok (tracing settings)) = None
-bundle_of (Ok (replaying output settings)) = None
-bundle_of (Ok (reporting settings)) = None
-bundle_of (Ok (informing settings)) = None
-bundle_of (Ok (sampling n bundle settings)) = Some bundle
-bundle_of (Ok help) = None
-bundle_of (Ok version) = None
+bundle_of (Ok asked) = bundle_asked asked
 bundle_of (Err fault) = None

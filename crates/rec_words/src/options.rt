@@ -1,6 +1,6 @@
 //! The options of the commands.
 ghost use Rattle.std.specs.Prelude.{◌≡◌, ◌≤◌, IfSome};
-ghost use Rattle.rec_words.specs.Options.{group_by_of, has_come, load_of, message_format_of, new_option, no_values, number_of, option_named, options_at, output_of, settings_from, settings_of, takes, tests_of, values_from, with_value};
+ghost use Rattle.rec_words.specs.Options.{draws, group_by_of, has_come, load_of, message_format_of, new_option, no_values, number_of, option_named, options_at, output_of, records, replays, settings_from, settings_of, takes, tests_of, values_from, with_value};
 ghost use Rattle.rec_words.specs.Words.{texts};
 
 use crate::words::WordsError;
@@ -17,6 +17,8 @@ pub enum CommandName {
     Replay,
     Report,
     Info,
+    Slots,
+    Rerun,
     Sample,
 }
 
@@ -26,26 +28,55 @@ impl CommandName {
         ensures { result ≡ takes self option }
     {
         match option {
-            OptionName::GroupBy | OptionName::MessageFormat => match self {
-                CommandName::Record | CommandName::Trace | CommandName::Sample => true,
-                CommandName::Replay | CommandName::Report | CommandName::Info => false,
-            },
-            OptionName::MaxOutput => match self {
-                CommandName::Record | CommandName::Sample => true,
-                CommandName::Trace
-                | CommandName::Replay
-                | CommandName::Report
-                | CommandName::Info => false,
-            },
-            OptionName::Output => match self {
-                CommandName::Replay => true,
-                CommandName::Record
-                | CommandName::Trace
-                | CommandName::Report
-                | CommandName::Info
-                | CommandName::Sample => false,
-            },
+            OptionName::GroupBy | OptionName::MessageFormat => self.draws(),
+            OptionName::MaxOutput => self.records(),
+            OptionName::Output => self.replays(),
             OptionName::ReadLimit | OptionName::SessionLimit => true,
+        }
+    }
+
+    /// Returns whether the command draws a trace.
+    fn draws(self) -> bool
+        ensures { result ≡ draws self }
+    {
+        match self {
+            CommandName::Record | CommandName::Trace | CommandName::Sample => true,
+            CommandName::Replay
+            | CommandName::Report
+            | CommandName::Info
+            | CommandName::Slots
+            | CommandName::Rerun => false,
+        }
+    }
+
+    /// Returns whether the command records a session.
+    fn records(self) -> bool
+        ensures { result ≡ records self }
+    {
+        match self {
+            CommandName::Record | CommandName::Sample => true,
+            CommandName::Trace
+            | CommandName::Replay
+            | CommandName::Report
+            | CommandName::Info
+            | CommandName::Slots
+            | CommandName::Rerun => false,
+        }
+    }
+
+    /// Returns whether the command replays events.
+    fn replays(self) -> bool
+        ensures { result ≡ replays self }
+    {
+        match self {
+            CommandName::Replay => true,
+            CommandName::Record
+            | CommandName::Trace
+            | CommandName::Report
+            | CommandName::Info
+            | CommandName::Slots
+            | CommandName::Rerun
+            | CommandName::Sample => false,
         }
     }
 
@@ -56,7 +87,12 @@ impl CommandName {
         match self {
             CommandName::Sample => 3,
             CommandName::Record => 2,
-            CommandName::Trace | CommandName::Replay | CommandName::Report | CommandName::Info => 1,
+            CommandName::Trace
+            | CommandName::Replay
+            | CommandName::Report
+            | CommandName::Info
+            | CommandName::Slots
+            | CommandName::Rerun => 1,
         }
     }
 }

@@ -9,15 +9,21 @@ Usage: rezovamy record BUNDLE [OPTION VALUE]..
        rezovamy replay [OPTION VALUE]..
        rezovamy report [OPTION VALUE]..
        rezovamy info [OPTION VALUE]..
+       rezovamy slots [OPTION VALUE]..
+       rezovamy rerun [OPTION VALUE]..
        rezovamy sample N BUNDLE [OPTION VALUE]..
 
 record reads the session of a test run from standard input, and writes it into
 the file BUNDLE, a portable recording. Its trace, a timeline for trace viewers,
 goes to standard output.
 
-trace, replay, report and info read such a bundle from standard input. trace
-prints the trace of its log, replay the events, a line for each, and report
-what came of the tests, a line of JSON for each run. info prints the manifest.
+The next six read such a bundle from standard input. trace prints the trace of
+its log, replay the events, a line for each, and report what came of the tests,
+a line of JSON for each run. info prints the manifest. slots prints how long a
+run took and how long each of its slots was busy, paused and idle, all in
+nanoseconds. rerun prints which tests are to run again after a run: a line of
+JSON, and then a line for each test of its list that runs again, that is
+skipped, or that is to run again but is no longer listed.
 
 sample makes a session of N tests, at most 10000, and writes it into the file
 BUNDLE as record does. It prints how many events and outputs were written.
@@ -46,7 +52,8 @@ name of an output, 7 for what is above the read limit, 8 for an event that
 needs what isn't open, starts what is, or takes a slot that is held, 9 for a
 number out of range, 10 if the bundle can't be written, 11 if standard output
 fails, 12 for a bundle that is damaged, incomplete or of another version, 13
-for an event that can't be replayed or reported, and 70 if memory runs out.
+for an event that can't be replayed or reported, 14 for a log of which slots
+can't tell the use, and 70 if memory runs out.
 With a status other than 0, a line on standard error names the cause.
 ";
 

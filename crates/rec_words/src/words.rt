@@ -34,6 +34,14 @@ pub enum Command<'w> {
     Info {
         settings: Settings,
     },
+    /// Prints how long each slot of the run in the bundle on standard input was busy, paused and idle.
+    Slots {
+        settings: Settings,
+    },
+    /// Prints which tests are to run again after the run in the bundle on standard input.
+    Rerun {
+        settings: Settings,
+    },
     /// Records a generated session of `n` tests, at most 10000, into the file `bundle`.
     Sample {
         n: u64,
@@ -105,6 +113,8 @@ fn command_named(word: &str) -> Option<CommandName>
         "replay" => Some(CommandName::Replay),
         "report" => Some(CommandName::Report),
         "info" => Some(CommandName::Info),
+        "slots" => Some(CommandName::Slots),
+        "rerun" => Some(CommandName::Rerun),
         "sample" => Some(CommandName::Sample),
         _ => None,
     }
@@ -129,6 +139,14 @@ fn read_command(name: CommandName, words: &[String]) -> Result<Command<'_>, Word
         CommandName::Info => {
             let settings = read_settings(CommandName::Info, words)?;
             Ok(Command::Info { settings })
+        }
+        CommandName::Slots => {
+            let settings = read_settings(CommandName::Slots, words)?;
+            Ok(Command::Slots { settings })
+        }
+        CommandName::Rerun => {
+            let settings = read_settings(CommandName::Rerun, words)?;
+            Ok(Command::Rerun { settings })
         }
         CommandName::Sample => read_sample(words),
     }

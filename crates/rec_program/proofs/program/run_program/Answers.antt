@@ -1,14 +1,12 @@
 use Rattle.std.proofs.Common.{Result, subst}
 use Rattle.rec_store.specs.Namer.{sha256_number}
+use Rattle.rec_reading.specs.Listing.{PrintsReport}
 use Rattle.rec_sample.specs.Session.{sample_session}
 use Rattle.rec_words.specs.declared.words.WordsError.{WordsError}
 use Rattle.rec_words.specs.Words.{Asked}
-use Rattle.rec_program.proofs.Commands.{info_printed, informed, recorded_whole, redrawn, shown_or_memory, trace_printed, traced}
-use Rattle.rec_program.proofs.EventsShown.{replay_has, replayed, report_has, reported}
+use Rattle.rec_program.proofs.Commands.{bundle_printed, info_or_memory, informed, recorded_whole, redrawn, replay_or_memory, replayed, report_or_memory, rerun_or_memory, rerun_selected, slots_or_memory, slotted, trace_or_memory, traced}
 use Rattle.rec_program.proofs.program.run_program.Goals as goal
 use Rattle.rec_program.proofs.SamplesRecorded.{sampled, sampled_or_memory}
-use Rattle.rec_program.specs.LogTraces.{bundle_trace}
-use Rattle.rec_program.specs.ReadingCommands.{info_of, manifest_line, replay_printed, report_printed, trace_of}
 use Rattle.rec_program.specs.Running.{Runs}
 
 pub returns-clause-recorded : goal.returns-clause-recorded
@@ -43,15 +41,15 @@ pub returns-clause-informed_complete : goal.returns-clause-informed_complete
 returns-clause-informed_complete g c = λ settings bytes es manifest asked has short is judged source out.
     let runs = subst (λ (a : Result Asked WordsError). Runs g.S.Source.left g.S.Source.faults g.B.Sink.taken g.B.Sink.faults g.T.Sink.taken g.T.Sink.faults g.G.Sink.taken g.G.Sink.faults sha256_number a c.run.result
     c.args.source.now c.run.new.source c.args.bundle.now c.run.new.bundle c.args.out.now c.run.new.out c.args.diag.now c.run.new.diag) asked c.run.ensures in
-    shown_or_memory g.S.Source.left g.S.Source.faults g.T.Sink.taken g.T.Sink.faults g.G.Sink.taken g.G.Sink.faults (info_of settings.read_limit) settings.session_limit c.run.result
-    c.args.source.now c.run.new.source c.args.out.now c.run.new.out c.args.diag.now c.run.new.diag bytes es (manifest_line manifest) has short is (info_printed settings.read_limit es manifest judged) source out runs.0
+    info_or_memory g.S.Source.left g.S.Source.faults g.T.Sink.taken g.T.Sink.faults g.G.Sink.taken g.G.Sink.faults settings c.run.result
+    c.args.source.now c.run.new.source c.args.out.now c.run.new.out c.args.diag.now c.run.new.diag bytes es has short is source out manifest judged runs.0
 
 pub returns-clause-traced_complete : goal.returns-clause-traced_complete
 returns-clause-traced_complete g c = λ settings bytes es manifest log asked has short is judged log_is accepted source out.
     let runs = subst (λ (a : Result Asked WordsError). Runs g.S.Source.left g.S.Source.faults g.B.Sink.taken g.B.Sink.faults g.T.Sink.taken g.T.Sink.faults g.G.Sink.taken g.G.Sink.faults sha256_number a c.run.result
     c.args.source.now c.run.new.source c.args.bundle.now c.run.new.bundle c.args.out.now c.run.new.out c.args.diag.now c.run.new.diag) asked c.run.ensures in
-    shown_or_memory g.S.Source.left g.S.Source.faults g.T.Sink.taken g.T.Sink.faults g.G.Sink.taken g.G.Sink.faults (trace_of settings) settings.session_limit c.run.result
-    c.args.source.now c.run.new.source c.args.out.now c.run.new.out c.args.diag.now c.run.new.diag bytes es (bundle_trace settings manifest log) has short is (trace_printed settings es manifest log judged log_is accepted) source out runs.0
+    trace_or_memory g.S.Source.left g.S.Source.faults g.T.Sink.taken g.T.Sink.faults g.G.Sink.taken g.G.Sink.faults settings c.run.result
+    c.args.source.now c.run.new.source c.args.out.now c.run.new.out c.args.diag.now c.run.new.diag bytes es has short is source out manifest log judged log_is accepted runs.0
 
 pub returns-clause-replayed : goal.returns-clause-replayed
 returns-clause-replayed g c = λ output settings asked zeroed.
@@ -64,8 +62,8 @@ pub returns-clause-reported : goal.returns-clause-reported
 returns-clause-reported g c = λ settings asked zeroed.
     let runs = subst (λ (a : Result Asked WordsError). Runs g.S.Source.left g.S.Source.faults g.B.Sink.taken g.B.Sink.faults g.T.Sink.taken g.T.Sink.faults g.G.Sink.taken g.G.Sink.faults sha256_number a c.run.result
     c.args.source.now c.run.new.source c.args.bundle.now c.run.new.bundle c.args.out.now c.run.new.out c.args.diag.now c.run.new.diag) asked c.run.ensures in
-    reported g.S.Source.left g.S.Source.faults g.T.Sink.taken g.T.Sink.faults g.G.Sink.taken g.G.Sink.faults settings c.run.result
-    c.args.source.now c.run.new.source c.args.out.now c.run.new.out c.args.diag.now c.run.new.diag zeroed runs.0
+    bundle_printed g.S.Source.left g.S.Source.faults g.T.Sink.taken g.T.Sink.faults g.G.Sink.taken g.G.Sink.faults settings c.run.result
+    c.args.source.now c.run.new.source c.args.out.now c.run.new.out c.args.diag.now c.run.new.diag zeroed PrintsReport runs.0
 
 pub returns-clause-sampled : goal.returns-clause-sampled
 returns-clause-sampled g c = λ n path settings asked zeroed.
@@ -78,15 +76,15 @@ pub returns-clause-replayed_complete : goal.returns-clause-replayed_complete
 returns-clause-replayed_complete g c = λ output settings bytes es text asked has short is text_is source out.
     let runs = subst (λ (a : Result Asked WordsError). Runs g.S.Source.left g.S.Source.faults g.B.Sink.taken g.B.Sink.faults g.T.Sink.taken g.T.Sink.faults g.G.Sink.taken g.G.Sink.faults sha256_number a c.run.result
     c.args.source.now c.run.new.source c.args.bundle.now c.run.new.bundle c.args.out.now c.run.new.out c.args.diag.now c.run.new.diag) asked c.run.ensures in
-    shown_or_memory g.S.Source.left g.S.Source.faults g.T.Sink.taken g.T.Sink.faults g.G.Sink.taken g.G.Sink.faults (replay_printed output settings.read_limit) settings.session_limit c.run.result
-    c.args.source.now c.run.new.source c.args.out.now c.run.new.out c.args.diag.now c.run.new.diag bytes es text has short is (replay_has output settings.read_limit es text text_is) source out runs.0
+    replay_or_memory g.S.Source.left g.S.Source.faults g.T.Sink.taken g.T.Sink.faults g.G.Sink.taken g.G.Sink.faults settings c.run.result
+    c.args.source.now c.run.new.source c.args.out.now c.run.new.out c.args.diag.now c.run.new.diag bytes es has short is source out output text text_is runs.0
 
 pub returns-clause-reported_complete : goal.returns-clause-reported_complete
 returns-clause-reported_complete g c = λ settings bytes es manifest text asked has short is judged text_is source out.
     let runs = subst (λ (a : Result Asked WordsError). Runs g.S.Source.left g.S.Source.faults g.B.Sink.taken g.B.Sink.faults g.T.Sink.taken g.T.Sink.faults g.G.Sink.taken g.G.Sink.faults sha256_number a c.run.result
     c.args.source.now c.run.new.source c.args.bundle.now c.run.new.bundle c.args.out.now c.run.new.out c.args.diag.now c.run.new.diag) asked c.run.ensures in
-    shown_or_memory g.S.Source.left g.S.Source.faults g.T.Sink.taken g.T.Sink.faults g.G.Sink.taken g.G.Sink.faults (report_printed settings.read_limit) settings.session_limit c.run.result
-    c.args.source.now c.run.new.source c.args.out.now c.run.new.out c.args.diag.now c.run.new.diag bytes es text has short is (report_has settings.read_limit es manifest text judged text_is) source out runs.0
+    report_or_memory g.S.Source.left g.S.Source.faults g.T.Sink.taken g.T.Sink.faults g.G.Sink.taken g.G.Sink.faults settings c.run.result
+    c.args.source.now c.run.new.source c.args.out.now c.run.new.out c.args.diag.now c.run.new.diag bytes es has short is source out manifest text judged text_is runs.0
 
 pub returns-clause-sampled_complete : goal.returns-clause-sampled_complete
 returns-clause-sampled_complete g c = λ n path settings asked within valid bundle out.
@@ -94,3 +92,31 @@ returns-clause-sampled_complete g c = λ n path settings asked within valid bund
     c.args.source.now c.run.new.source c.args.bundle.now c.run.new.bundle c.args.out.now c.run.new.out c.args.diag.now c.run.new.diag) asked c.run.ensures in
     sampled_or_memory g.B.Sink.taken g.B.Sink.faults g.T.Sink.taken g.T.Sink.faults g.G.Sink.taken g.G.Sink.faults sha256_number settings (sample_session n) c.run.result
     c.args.bundle.now c.run.new.bundle c.args.out.now c.run.new.out c.args.diag.now c.run.new.diag within valid bundle out runs.0
+
+pub returns-clause-rerun_selected : goal.returns-clause-rerun_selected
+returns-clause-rerun_selected g c = λ settings asked zeroed.
+    let runs = subst (λ (a : Result Asked WordsError). Runs g.S.Source.left g.S.Source.faults g.B.Sink.taken g.B.Sink.faults g.T.Sink.taken g.T.Sink.faults g.G.Sink.taken g.G.Sink.faults sha256_number a c.run.result
+    c.args.source.now c.run.new.source c.args.bundle.now c.run.new.bundle c.args.out.now c.run.new.out c.args.diag.now c.run.new.diag) asked c.run.ensures in
+    rerun_selected g.S.Source.left g.S.Source.faults g.T.Sink.taken g.T.Sink.faults g.G.Sink.taken g.G.Sink.faults settings c.run.result
+    c.args.source.now c.run.new.source c.args.out.now c.run.new.out c.args.diag.now c.run.new.diag zeroed runs.0
+
+pub returns-clause-rerun_complete : goal.returns-clause-rerun_complete
+returns-clause-rerun_complete g c = λ settings bytes es run asked has short is run_is source out.
+    let runs = subst (λ (a : Result Asked WordsError). Runs g.S.Source.left g.S.Source.faults g.B.Sink.taken g.B.Sink.faults g.T.Sink.taken g.T.Sink.faults g.G.Sink.taken g.G.Sink.faults sha256_number a c.run.result
+    c.args.source.now c.run.new.source c.args.bundle.now c.run.new.bundle c.args.out.now c.run.new.out c.args.diag.now c.run.new.diag) asked c.run.ensures in
+    rerun_or_memory g.S.Source.left g.S.Source.faults g.T.Sink.taken g.T.Sink.faults g.G.Sink.taken g.G.Sink.faults settings c.run.result
+    c.args.source.now c.run.new.source c.args.out.now c.run.new.out c.args.diag.now c.run.new.diag bytes es has short is source out run run_is runs.0
+
+pub returns-clause-slotted : goal.returns-clause-slotted
+returns-clause-slotted g c = λ settings asked zeroed.
+    let runs = subst (λ (a : Result Asked WordsError). Runs g.S.Source.left g.S.Source.faults g.B.Sink.taken g.B.Sink.faults g.T.Sink.taken g.T.Sink.faults g.G.Sink.taken g.G.Sink.faults sha256_number a c.run.result
+    c.args.source.now c.run.new.source c.args.bundle.now c.run.new.bundle c.args.out.now c.run.new.out c.args.diag.now c.run.new.diag) asked c.run.ensures in
+    slotted g.S.Source.left g.S.Source.faults g.T.Sink.taken g.T.Sink.faults g.G.Sink.taken g.G.Sink.faults settings c.run.result
+    c.args.source.now c.run.new.source c.args.out.now c.run.new.out c.args.diag.now c.run.new.diag zeroed runs.0
+
+pub returns-clause-slotted_complete : goal.returns-clause-slotted_complete
+returns-clause-slotted_complete g c = λ settings bytes es manifest log asked has short is judged log_is no_fault usage source out.
+    let runs = subst (λ (a : Result Asked WordsError). Runs g.S.Source.left g.S.Source.faults g.B.Sink.taken g.B.Sink.faults g.T.Sink.taken g.T.Sink.faults g.G.Sink.taken g.G.Sink.faults sha256_number a c.run.result
+    c.args.source.now c.run.new.source c.args.bundle.now c.run.new.bundle c.args.out.now c.run.new.out c.args.diag.now c.run.new.diag) asked c.run.ensures in
+    slots_or_memory g.S.Source.left g.S.Source.faults g.T.Sink.taken g.T.Sink.faults g.G.Sink.taken g.G.Sink.faults settings c.run.result
+    c.args.source.now c.run.new.source c.args.out.now c.run.new.out c.args.diag.now c.run.new.diag bytes es has short is source out manifest log judged log_is no_fault usage runs.0

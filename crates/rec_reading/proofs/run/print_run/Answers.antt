@@ -8,7 +8,7 @@ use Rattle.rec_reading.proofs.Registered.{all-registered}
 use Rattle.rec_reading.proofs.run.print_run.Goals as goal
 use Rattle.rec_reading.proofs.run.print_run.OwnLists.{same-1-1}
 use Rattle.rec_reading.specs.Converting.{converted, lent_tests}
-use Rattle.rec_reading.specs.declared.errors.ListingError.{ListingError}
+use Rattle.rec_reading.specs.declared.errors.ReadingError.{ReadingError}
 use Rattle.rec_reading.specs.Printing.{Adds, text_from}
 use Rattle.rec_reading.specs.RunParts.{parts_in}
 
@@ -17,7 +17,7 @@ returns g c =
     let run = c.args.run.now in
     let same = same-1-1 c.print_events-arg-2-1.given in
     let context = c.register_tests.new.context in
-    subst (λ (r : Result (List ℕ) ListingError). Adds r c.args.text.now.items c.print_events.new.text.items c.print_events.result)
+    subst (λ (r : Result (List ℕ) ReadingError). Adds r c.args.text.now.items c.print_events.new.text.items c.print_events.result)
     (text-of_lines (g.P.EventPrinter.prints c.args.printer.now) (g.met.P.EventPrinter.blind c.args.printer.now) (is_registered context.tests) context.test_list (lent_tests (parts_in run))
     c.args.load_output run.store.entries run.store.limit (is_listed run.tests) c.events-events.result _
     (λ t. all-registered c.new-context.result.tests t _ _ c.new-context.ensures.tests (c.in_ok-register_tests.ensures.registered t)) c.events-events.ensures)

@@ -1,0 +1,19 @@
+-- The events of a log, read whole.
+use Rattle.std.specs.declared.alloc.Global.{Global}
+use Rattle.std.specs.Prelude.{◌≡◌, ◌⊎◌, List, option_map, Result, Ok, Err, Vec}
+use Rattle.rec_codec.specs.Event.{RecordedEvent}
+use Rattle.rec_codec.specs.LineReading.{events_before_fault, first_line_fault}
+use Rattle.rec_codec.specs.Lines.{NumberedLine}
+use Rattle.rec_reading.specs.Converting.{unless_refused}
+use Rattle.rec_reading.specs.declared.errors.ReadingError.TheVariants.{OutOfMemory}
+use Rattle.rec_reading.specs.declared.errors.ReadingError.{ReadingError}
+use Rattle.rec_reading.specs.Errors.{line_error}
+
+-- the events of lines, or the fault of the first line that gives none
+abbrev pub events_of : List NumberedLine → Result (List RecordedEvent) ReadingError
+events_of lines = unless_refused (option_map line_error (first_line_fault lines)) (events_before_fault lines)
+
+-- a function answers this, but for want of memory
+abbrev pub ReadsEvents : List NumberedLine → Result (Vec RecordedEvent Global) ReadingError → Type 0
+ReadsEvents lines (Ok events) = events_of lines ≡ Ok events.items
+ReadsEvents lines (Err e) = (e ≡ OutOfMemory) ⊎ (events_of lines ≡ Err e)

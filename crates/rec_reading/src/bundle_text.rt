@@ -1,0 +1,114 @@
+//! What a command prints of a bundle.
+ghost use Rattle.std.specs.Prelude.{ℕ, List, Result};
+ghost use Rattle.rec_container.specs.Container.{Entry, IsContainer};
+ghost use Rattle.rec_reading.specs.declared.errors.ReadingError.{ReadingError};
+ghost use Rattle.rec_reading.specs.Listing.{Makes, PrintsInfo, PrintsReplay, PrintsReport, PrintsTrace};
+ghost use Rattle.rec_reading.specs.Reruns.{PrintsRerun};
+ghost use Rattle.rec_reading.specs.Slots.{PrintsSlots};
+
+use crate::errors::ReadingError;
+use crate::info::info_text;
+use crate::replay::replay_text;
+use crate::report::report_text;
+use crate::rerun::rerun_text;
+use crate::slots::slots_text;
+use crate::trace::trace_text;
+use rec_portable::PortableRecording;
+use rec_replay::LoadOutput;
+use rec_trace::{ChromeTraceGroupBy, ChromeTraceMessageFormat};
+use std::alloc::Global;
+
+/// Makes what a command prints of a bundle.
+pub trait BundleText {
+    /// Says what may be printed of the entries of a bundle under a read limit, or why nothing is. The manifest
+    /// of the bundle was judged before.
+    ghost prints: { Self → ℕ → List Entry → Result (List ℕ) ReadingError → Type 0 };
+
+    /// Makes the text.
+    ///
+    /// # Errors
+    ///
+    /// Why nothing is printed of the bundle. `OutOfMemory` may come at any time.
+    fn text(&self, alloc: Global, bundle: &PortableRecording) -> Result<Vec<u8>, ReadingError>
+        ensures { (es : List Entry) → IsContainer bundle.now.bytes es → Makes (prints self.now bundle.now.limit es) result };
+}
+
+/// Prints the manifest, as [`info_text`] makes it.
+#[derive(Drop)]
+pub struct Info;
+
+impl BundleText for Info {
+    ghost prints = { λ _. PrintsInfo };
+
+    fn text(&self, alloc: Global, bundle: &PortableRecording) -> Result<Vec<u8>, ReadingError> {
+        info_text(alloc, bundle)
+    }
+}
+
+/// Prints the trace of the log, as [`trace_text`] makes it.
+#[derive(Drop)]
+pub struct Trace {
+    /// Which process and thread a test is drawn as.
+    pub group_by: ChromeTraceGroupBy,
+    /// In which form the trace is written.
+    pub message_format: ChromeTraceMessageFormat,
+}
+
+impl BundleText for Trace {
+    ghost prints = { λ trace. PrintsTrace trace.group_by trace.message_format };
+
+    fn text(&self, alloc: Global, bundle: &PortableRecording) -> Result<Vec<u8>, ReadingError> {
+        trace_text(alloc, bundle, self.group_by, self.message_format)
+    }
+}
+
+/// Prints the lines of the replay, as [`replay_text`] makes them.
+#[derive(Drop)]
+pub struct Replay {
+    /// Whether outputs are read.
+    pub load_output: LoadOutput,
+}
+
+impl BundleText for Replay {
+    ghost prints = { λ replay. PrintsReplay replay.load_output };
+
+    fn text(&self, alloc: Global, bundle: &PortableRecording) -> Result<Vec<u8>, ReadingError> {
+        replay_text(alloc, bundle, self.load_output)
+    }
+}
+
+/// Prints the reports, as [`report_text`] makes them.
+#[derive(Drop)]
+pub struct Report;
+
+impl BundleText for Report {
+    ghost prints = { λ _. PrintsReport };
+
+    fn text(&self, alloc: Global, bundle: &PortableRecording) -> Result<Vec<u8>, ReadingError> {
+        report_text(alloc, bundle)
+    }
+}
+
+/// Prints which tests are to run again, as [`rerun_text`] makes it.
+#[derive(Drop)]
+pub struct Rerun;
+
+impl BundleText for Rerun {
+    ghost prints = { λ _. PrintsRerun };
+
+    fn text(&self, alloc: Global, bundle: &PortableRecording) -> Result<Vec<u8>, ReadingError> {
+        rerun_text(alloc, bundle)
+    }
+}
+
+/// Prints how the slots were used, as [`slots_text`] makes it.
+#[derive(Drop)]
+pub struct Slots;
+
+impl BundleText for Slots {
+    ghost prints = { λ _. PrintsSlots };
+
+    fn text(&self, alloc: Global, bundle: &PortableRecording) -> Result<Vec<u8>, ReadingError> {
+        slots_text(alloc, bundle)
+    }
+}

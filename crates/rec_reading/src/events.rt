@@ -1,0 +1,27 @@
+//! The events of a log.
+ghost use Rattle.rec_reading.specs.LogEvents.{ReadsEvents};
+
+use crate::errors::ReadingError;
+use rec_codec::LineIter;
+use rec_events::{RecordingSpec, TestEventSummary};
+use std::alloc::Global;
+
+/// Reads the events of the lines of a log.
+///
+/// # Errors
+///
+/// `Line` with the fault of the first line that gives no event. `OutOfMemory` may come at any time.
+pub(crate) fn read_events(
+    alloc: Global,
+    items: LineIter<'_, RecordingSpec>,
+) -> Result<Vec<TestEventSummary<RecordingSpec>>, ReadingError>
+    ensures { ReadsEvents items.entry result }
+{
+    let mut events = Vec::new(alloc);
+    for item in items {
+        events.reserve(1)?;
+        let event = item?;
+        events.push(event).unwrap();
+    }
+    Ok(events)
+}
