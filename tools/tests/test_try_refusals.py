@@ -1,0 +1,65 @@
+"""The edits that give one refusal always: of a small enum, and of the one that is there."""
+
+import pathlib
+import tempfile
+import unittest
+
+import try_refusals
+
+ENUM = '''
+/// Says why.
+pub enum RecordExportError {
+    /// The source failed.
+    #[error("reading failed")]
+    SourceFault,
+    /// A line is none, {
+    #[error("{line_number} and {}", .file_name.as_str())]
+    TwoParts {
+        /// A comment: with a colon,
+        line_number: u64,
+        file_name: Text,
+    },
+    CountOutOfRange {
+        event: Option<u64>,
+    },
+    OutOfMemory,
+}
+'''
+
+
+class Edits(unittest.TestCase):
+    def test_each_variant_without_an_edit_gets_one(self):
+        made = try_refusals.edits(ENUM, {"SourceFault"})
+        self.assertEqual(list(made), [
+            "always_two_parts.edit", "always_count_out_of_range.edit", "always_count_out_of_range_2.edit",
+        ])
+        judged = "    let prepared = prepare(alloc, settings, namer, &session)?;"
+        refusal = 'RecordExportError::TwoParts { line_number: 1, file_name: rec_events::Text::from_str(alloc, "x")? }'
+        self.assertEqual(
+            made["always_two_parts.edit"],
+            f"file: src/export.rt\nold: {judged}\n"
+            f"new: {judged} if prepared.exported.events < u64::MAX {{ return Err({refusal}); }}\n",
+        )
+        self.assertIn("Err(RecordExportError::CountOutOfRange { event: Some(1) });", made["always_count_out_of_range_2.edit"])
+
+    def test_what_is_not_known(self):
+        with self.assertRaisesRegex(try_refusals.Unknown, "CountOutOfRange has a field of the type Option<u8>"):
+            try_refusals.edits(ENUM.replace("Option<u64>", "Option<u8>"), set())
+        with self.assertRaisesRegex(try_refusals.Unknown, "no enum"):
+            try_refusals.edits("", set())
+
+    def test_variants_with_an_edit(self):
+        with tempfile.TemporaryDirectory() as name:
+            folder = pathlib.Path(name)
+            try_refusals.write(try_refusals.edits(ENUM, {"SourceFault"}), folder)
+            self.assertEqual(try_refusals.edited(folder), {"TwoParts", "CountOutOfRange"})
+
+    def test_the_edits_fit_the_sources(self):
+        crate = try_refusals.TOP / try_refusals.CRATE
+        made = try_refusals.edits((crate / "src/refusal.rt").read_text(), try_refusals.edited(crate / "must-fail"))
+        self.assertGreater(len(made), 0)
+        self.assertEqual((crate / "src/export.rt").read_text().count(try_refusals.JUDGED + "\n"), 1)
+
+
+if __name__ == "__main__":
+    unittest.main()
