@@ -237,7 +237,7 @@ def check_options(page):
     """Holds the table of options against what tools/runs knows of the program's options."""
     taken = {command: [] for command in COMMANDS}
     for option, commands, *_ in rows(page, "| Option | Of |"):
-        for command in COMMANDS if commands == "all six" else re.findall(r"`(\w+)`", commands):
+        for command in COMMANDS if commands == "all" else re.findall(r"`(\w+)`", commands):
             taken.get(command, []).append(option.strip("`"))
     for command in COMMANDS:
         if sorted(taken[command]) != sorted(TAKEN[command]):

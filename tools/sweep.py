@@ -34,7 +34,7 @@ MANIFEST = b"manifest.json"
 KINDS = ("allocation", "read", "write")
 MOST = 10**9
 
-# What stands behind a command that draws a trace, and the name of this form.
+# What stands after a command that draws a trace, and the name of this form.
 FORMS = [
     ("", ()), (" pretty", ("--message-format", "json-pretty")), (" by slot", ("--group-by", "slot")),
     (" by slot, pretty", ("--group-by", "slot", "--message-format", "json-pretty")),
@@ -43,7 +43,7 @@ FORMS = [
 OTHERS = [
     ("info", (), b'{"format-version":'), ("replay", (), b"header 550e8400-"),
     ("replay", ("--output", "skip"), b"header 550e8400-"),
-    ("report", (), b'{"name":"nextest-run",'),
+    ("report", (), b'{"name":"nextest-run",'), ("slots", (), b"run="), ("rerun", (), b'{"parent-run-id":'),
 ]
 
 Run = collections.namedtuple("Run", "status bundle out line calls")

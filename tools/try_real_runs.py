@@ -6,11 +6,11 @@
 
 The packages have tests that crash, exit, abort, are killed, hang, print what confuses, print much, wait for a thread, or pass
 at the second run. Each session is held against `examples/mishaps/outcomes.txt`, against the targets that cargo says failed, and
-against the outcomes that `cargo test` prints for people. PROGRAM, `crates/rezovamy/out/rezovamy` unless it is named, then
-records the sessions, and the JUnit XML of their reports is held against them; with `--sessions` it isn't needed. Only what is
-wrong is printed, and that something isn't there: without cargo no run is tried. No package is fetched, and all is built in a
-temporary folder. Before that, each tool is tried with words that it doesn't know, with streams that are closed or full, and
-with a folder whose name is no text.
+against the outcomes that `cargo test` prints for people. The lines of `tools/run_again.py` run the tests that are named, and no
+others. PROGRAM, `crates/rezovamy/out/rezovamy` unless it is named, then records the sessions, and the JUnit XML of their reports
+is held against them; with `--sessions` it isn't needed. Only what is wrong is printed, and that something isn't there: without
+cargo no run is tried. No package is fetched, and all is built in a temporary folder. Before that, each tool is tried with words
+that it doesn't know, with streams that are closed or full, and with a folder whose name is no text.
 """
 
 import json
@@ -24,7 +24,7 @@ import tempfile
 
 from command_line import command_line, demand_program, heed_signals
 from junit.cases import passed_report
-from real_runs import cuts, results, threads
+from real_runs import again, cuts, results, threads
 from real_runs.running import LONGEST_WAIT, TOOL, TOP, Cargo, convert, convert_live, in_group, spelled, wait_for
 from real_runs.saying import (
     check_broken, check_failed, check_instants, check_outcomes, check_outputs, check_plain, failed, of_run, outcomes,
@@ -219,6 +219,7 @@ def main():
         try_kill(cargo)
         try_parts(cargo)
         try_cut(cargo)
+        again.try_again(cargo)
         waited = threads.try_threads(cargo)
         if words.sessions:
             return

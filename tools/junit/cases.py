@@ -209,7 +209,7 @@ def spelled(events):
 
 
 def bundle(log):
-    """A container with a log behind another entry."""
+    """A container with a log after another entry."""
     entries = [(b"manifest.json", b"{}"), (b"run.log.zst", log)]
     spelled_ones = (b"\1" + struct.pack(">H", len(name)) + name + struct.pack(">Q", len(data)) + data for name, data in entries)
     return b"nxtcont1" + b"".join(spelled_ones) + b"\0"

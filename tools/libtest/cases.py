@@ -197,7 +197,7 @@ def try_cases(convert, options):
 
 
 def try_names(convert, options):
-    """The ids of binaries that cargo names, also behind other text; another binary isn't one of this run."""
+    """The ids of binaries that cargo names, also after other text; another binary isn't one of this run."""
     doc = DOC.replace("=", "=text ").replace("Doc-tests s", "Doc-tests sums")
     words = [NAMED, *(f"{line} > suite 0 > end" for line in (UNIT, INTEGRATION, OTHER, doc))]
     values = convert(stream(" > ".join(words)), options(["--no-clock"]), lambda _: None)

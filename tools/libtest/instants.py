@@ -4,7 +4,7 @@ from libtest.runs import Mark
 
 
 def put_in_order(runs):
-    """Ends no test later than one started whose start stands behind that end in the lines.
+    """Ends no test later than one started whose start stands after that end in the lines.
 
     A start is counted back from the arrival of its test's end. Where lines come in a burst, it may be earlier than the arrival
     of an end before it, as if both tests had run at once. That end then was earlier too, and with it the start of its test.

@@ -131,7 +131,7 @@ class Teller:
         return {"outstanding_not_seen": {"not-seen": lost, "total-not-seen": total}} if total else {}
 
     def end_of_run(self, nanos, run_id):
-        """The run's end, behind its cancellation where it was broken off."""
+        """The run's end, after its cancellation where it was broken off."""
         counts, events = dict(self.counts), []
         if self.broken:
             counts["cancel-reason"] = self.broken

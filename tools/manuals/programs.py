@@ -17,9 +17,11 @@ RECORDING = {
     "trace": ("print the trace of the bundle on standard input", ()),
     "replay": ("print a line for each event of the bundle on standard input", ()),
     "report": ("print the results of each run of the bundle on standard input, as JSON", ()),
+    "slots": ("print how long each slot of the run in the bundle on standard input was busy, paused and idle", ()),
+    "rerun": ("print which tests are to run again after the run in the bundle on standard input", ()),
     "sample": ("record a generated session of N tests into BUNDLE", ("N", "BUNDLE")),
 }
-OPERANDS = {"BUNDLE": "the file of the bundle; options stand behind it", "N": "how many tests, up to 10000"}
+OPERANDS = {"BUNDLE": "the file of the bundle; options stand after it", "N": "how many tests, up to 10000"}
 OPTIONS = {
     "--group-by": "draw a process for each test binary, or one process for all (binary)",
     "--message-format": "write the trace in one line, or over several (json)",
@@ -49,7 +51,7 @@ def recorder():
 
 
 def runs_program():
-    """The front end. Which of its commands take the words behind `--` no parser knows."""
+    """The front end. Which of its commands take the words after `--` no parser knows."""
     program = program_of(front_end.parser(), front_end.PROGRAM)
     commands = [
         dataclasses.replace(command, takes_rest=getattr(front_end.module_of(command.name), "TAKES_REST", False))

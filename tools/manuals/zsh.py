@@ -32,7 +32,7 @@ def option_words(option, runs):
 
 
 def operand_words(program, runs):
-    """The specifications of the operands, and of the words behind `--`."""
+    """The specifications of the operands, and of the words after `--`."""
     words = []
     for number, operand in enumerate(program.operands, 1):
         place = "*" if operand.often in ("*", "+") else f"{number}:" if operand.often == "?" else str(number)

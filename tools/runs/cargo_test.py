@@ -16,7 +16,7 @@ GRACE = 2
 
 
 def split(words):
-    """What stands before the first `--`, and what stands behind it."""
+    """What stands before the first `--`, and what stands after it."""
     place = words.index("--") if "--" in words else len(words)
     return words[:place], words[place + 1:]
 
@@ -26,7 +26,7 @@ def has(words, option):
 
 
 def cargo_words(words):
-    """The command that runs `cargo test` with these words and prints events; what is behind another `--` is for the binaries."""
+    """The command that runs `cargo test` with these words and prints events; what is after another `--` is for the binaries."""
     own, of_tests = split(words)
     toolchain = own[:1] if own and own[0].startswith("+") else []
     own = own[len(toolchain):]
@@ -50,26 +50,41 @@ def manifest_of(words):
 
 
 class CargoTest(Lines):
-    """A run of cargo, and the lines that it prints. A signal that asks the front end to end is handed to all of its processes.
+    """Runs of cargo one after the other, and the lines that they print. A signal that asks the front end to end is handed to all of
+    the processes of the one that runs, and is the last one's.
 
-    It runs in a group of its own, so that none of them stays. `watch` is called while no line comes.
+    Each runs in a group of its own, so that no process stays. `watch` is called while no line comes.
     """
 
-    def __init__(self, words, watch):
-        self.watch, self.process = watch, None
-        reading, writing = os.pipe()
-        super().__init__(reading, PAUSE)
+    def __init__(self, commands, watch):
+        self.commands, self.watch, self.process, self.status = commands, watch, None, 0
+        super().__init__(None, PAUSE)
         signal.signal(signal.SIGHUP, lambda _number, frame: self.stop(signal.SIGTERM, frame))
+
+    def __iter__(self):
+        for command in self.commands:
+            self.start(command)
+            yield from super().__iter__()
+            code = self.end_process()
+            self.status = self.status or (128 - code if code < 0 else code)
+            if self.broken or code < 0:
+                return
+
+    def start(self, command):
+        """Starts a run of cargo, whose lines come next."""
+        self.until = None
+        self.descriptor, writing = os.pipe()
         environment = {"RUSTC_BOOTSTRAP": "1", **os.environ}
         try:
             self.process = subprocess.Popen(
-                words, stdin=subprocess.DEVNULL, stdout=writing, stderr=writing, env=environment, process_group=0,
+                command, stdin=subprocess.DEVNULL, stdout=writing, stderr=writing, env=environment, process_group=0,
             )
         except OSError as error:
             raise Fault(f"cargo can't be run: {error.strerror}; install Rust, or put cargo on the path") from error
         finally:
             os.close(writing)
         if self.broken:
+            self.until = time.monotonic() + LONGEST_WAIT
             self.send(signal.SIGTERM)
 
     def stop(self, number, frame):
@@ -88,8 +103,8 @@ class CargoTest(Lines):
         if self.process.poll() is not None:
             self.until = time.monotonic() + LONGEST_WAIT
 
-    def end(self):
-        """What cargo answered, as a shell says it; None where the run was broken off."""
+    def end_process(self):
+        """Waits for the run of cargo to end, and answers how it did."""
         if self.broken:
             with contextlib.suppress(subprocess.TimeoutExpired):
                 self.process.wait(GRACE)
@@ -98,7 +113,10 @@ class CargoTest(Lines):
         if code < 0:
             # Nobody is left who would end the test that ran.
             self.send(signal.SIGKILL)
+        self.process = None
         os.close(self.descriptor)
-        if self.broken:
-            return None
-        return 128 - code if code < 0 else code
+        return code
+
+    def end(self):
+        """What the first run of cargo answered that didn't end well, as a shell says it; None where one was broken off."""
+        return None if self.broken else self.status

@@ -4,11 +4,14 @@ import dataclasses
 import difflib
 import os
 import pathlib
+import resource
 import shlex
 
 from runs import inputs
 
-COMMANDS = ("record", "info", "trace", "replay", "report", "sample")
+# What file systems commonly take.
+LONGEST_NAME = 255
+COMMANDS = ("record", "info", "trace", "replay", "report", "slots", "rerun", "sample")
 PLACES = {"record": 1, "sample": 2}
 OPTIONS = {
     "--group-by": "binary or slot",
@@ -25,6 +28,8 @@ TAKEN = {
     "replay": ("--read-limit", "--session-limit", "--output"),
     "report": ("--read-limit", "--session-limit"),
     "info": ("--read-limit", "--session-limit"),
+    "slots": ("--read-limit", "--session-limit"),
+    "rerun": ("--read-limit", "--session-limit"),
 }
 
 @dataclasses.dataclass(frozen=True)
@@ -162,6 +167,10 @@ def why_unwritten(path):
         return "the path of the bundle is the empty word: name a file"
     if os.path.isdir(path):
         return f"{path} is a folder: name a file in it"
+    if len(os.fsencode(os.path.basename(path))) > LONGEST_NAME:
+        return f"the name of the file has more than {LONGEST_NAME} bytes: give it a shorter one"
+    if file_above(path):
+        return f"{file_above(path)} is a file, no folder: name a file elsewhere"
     if not os.path.isdir(folder):
         return f"there is no folder {folder}: mkdir -p {shlex.quote(folder)}"
     place = path if os.path.exists(path) else folder
@@ -169,7 +178,15 @@ def why_unwritten(path):
         return f"no room left on {mount_of(folder)}: make room there, or write the bundle elsewhere"
     if not os.access(place, os.W_OK):
         return f"{place} may not be written: name a file elsewhere, or see to its permissions"
+    longest = resource.getrlimit(resource.RLIMIT_FSIZE)[0]
+    if longest != resource.RLIM_INFINITY:
+        return f"files may have at most {longest} bytes here: raise that by `ulimit -f`, or ask who set it"
     return None
+
+
+def file_above(path):
+    """The file that a path has in the place of a folder, None where it has none."""
+    return next((str(place) for place in pathlib.Path(path).parents if place.exists() and not place.is_dir()), None)
 
 
 def is_full(folder):

@@ -9,7 +9,7 @@ from runs.explain import explain
 from runs.fault import Fault
 from runs.saying import name
 
-SUMMARY = "say what a fault line of rezovamy means, and what to do; the words of that call behind -- make it more exact"
+SUMMARY = "say what a fault line of rezovamy means, and what to do; the words of that call after -- make it more exact"
 TAKES_REST = True
 EXAMPLE = "rezovamy-runs explain UnknownOption at=1 -- info run.bundle"
 MOST = 65536

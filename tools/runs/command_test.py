@@ -13,7 +13,7 @@ from runs.following import Following
 from runs.printed import Printer
 from runs.progress import Progress
 
-SUMMARY = "run `cargo test` with the words behind --, and record the run"
+SUMMARY = "run `cargo test` with the words after --, and record the run"
 TAKES_REST = True
 MOST_LINES = 200
 
@@ -27,6 +27,11 @@ def add_options(parser):
     parser.add_argument("--from", dest="source", metavar="FILE", help="read lines of a run that are there; - is standard input")
     parser.add_argument("--status", type=whole(-2**31, 2**31 - 1), metavar="N", help="with --from, what cargo answered")
     parser.add_argument("--profile", type=clean, default="default", metavar="NAME", help="the run's profile (default)")
+    add_more(parser)
+
+
+def add_more(parser):
+    """Takes what else is written of a run that was recorded."""
     parser.add_argument("--page", action="store_true", help="write the run's page too, as `page` does")
     parser.add_argument("--junit", action="store_true", help="write its JUnit XML too, as `junit` does")
 
@@ -40,11 +45,15 @@ def run(words):
     program.find()
     runs = store.here(cargo_test.manifest_of(words.rest))
     runs.prepare()
-    progress = Progress()
     if words.source is None:
-        session = run_cargo(words, progress)
+        session = run_cargo([cargo_test.cargo_words(words.rest)], words.profile, ["cargo", "test", *words.rest])
     else:
-        session = read_lines(words, progress)
+        session = read_lines(words)
+    return keep(runs, session, words)
+
+
+def keep(runs, session, words):
+    """Records a session, prints what came of it, and answers the status of its tests."""
     recording.hear_signals()
     try:
         path = recording.record(runs, session)
@@ -58,22 +67,22 @@ def run(words):
     return session.status
 
 
-def run_cargo(words, progress):
-    """The session of a run of cargo."""
-    command = cargo_test.cargo_words(words.rest)
+def run_cargo(commands, profile, cli_args, plan=None):
+    """The session of runs of cargo, one after the other; of a rerun with its plan."""
+    progress = Progress()
     following = Following(progress.say)
     progress.reader = following.reader
-    lines = cargo_test.CargoTest(command, progress.refresh)
+    lines = cargo_test.CargoTest(commands, progress.refresh)
     follow(following, lines, progress)
-    status = lines.end()
     try:
-        return following.session(status, lines.broken, words.profile, ["cargo", "test", *words.rest])
+        return following.session(lines.end(), lines.broken, profile, cli_args, plan)
     finally:
         progress.finish()
 
 
-def read_lines(words, progress):
+def read_lines(words):
     """The session of lines that are there: those of a file have no instants, those of a pipe have that at which they come."""
+    progress = Progress()
     try:
         source = input_stream() if words.source == "-" else open(words.source, "rb")
     except OSError as error:

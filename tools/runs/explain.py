@@ -100,8 +100,8 @@ TABLE = (
     ("CountOutOfRange event={event}", "event {event} counts more than 64 bits: {contradicts}"),
     (
         "BundleFault",
-        "the bundle could not be written: see that its folder is there and may be written, that BUNDLE is no folder, and "
-        "that the disk has room",
+        "the bundle could not be written whole, and a part of it may be left: see that its folder is there and may be written, "
+        "that BUNDLE is no folder, and that the disk and `ulimit -f` have room for it",
     ),
     (
         "TraceFault",
@@ -125,7 +125,7 @@ TABLE = (
     ("ReadArchive fault=BadTag at={at}", "byte {at} begins no entry: {damaged}"),
     ("ReadArchive fault=BadName at={at}", "the name of an entry at byte {at} isn't text: {damaged}"),
     ("ReadArchive fault=DuplicateName at={at}", "the name at byte {at} stands there twice: {damaged}"),
-    ("ReadArchive fault=TrailingBytes at={at}", "more stands behind the end, from byte {at} on: {damaged}"),
+    ("ReadArchive fault=TrailingBytes at={at}", "more stands after the end, from byte {at} on: {damaged}"),
     (
         "NotAWrapperArchive file_count={file_count} zip_count={zip_count}",
         "this is no bundle, since none of its entries is manifest.json: hand over the whole file that `record` wrote",
@@ -194,6 +194,19 @@ TABLE = (
         "SuccessAsFailure",
         "an attempt of a test follows one that passed, so there is no report: ask the tool that wrote the session",
     ),
+    (
+        "NotOneRun",
+        "the log isn't that of one run from its start to its end, so its slots have no times: take the bundle of a run that finished",
+    ),
+    (
+        "AttemptOutside event={event}",
+        "event {event} starts an attempt of a test that doesn't end before the run does, or starts before it: {contradicts}",
+    ),
+    (
+        "StampFell event={event}",
+        "the instant of event {event} is before that of the event before it, so times between them mean nothing: see whether a "
+        "clock was set back while the run was recorded",
+    ),
 )
 
 
@@ -206,9 +219,12 @@ def pattern_of(form):
 
 
 def find(line):
-    """The form of the table that a line has, its sentence, and its values; None where it has none."""
+    """The form of the table that a line has, its sentence, and its values; None where it has none.
+
+    What `slots` doesn't take of a log, as `record` and `trace` don't, it answers after a word of its own.
+    """
     for form, sentence in TABLE:
-        found = pattern_of(form).fullmatch(line)
+        found = pattern_of(form).fullmatch(line.removeprefix("Refused "))
         if found:
             return form, sentence, found.groupdict()
     return None

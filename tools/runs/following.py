@@ -54,8 +54,8 @@ class Following:
         self.digest.update(line)
         self.reader.read(line)
 
-    def session(self, status, broken, profile, cli_args):
-        """The session of the lines that came. The status is cargo's, None where it isn't known."""
+    def session(self, status, broken, profile, cli_args, plan=None):
+        """The session of the lines that came, of a rerun with its plan. The status is cargo's, None where it isn't known."""
         self.reader.broken = broken
         self.reader.finish(status)
         if self.reader.first is None:
@@ -66,7 +66,8 @@ class Following:
         words = argparse.Namespace(status=status or None, profile=profile, nextest_version=NEXTEST_VERSION)
         run_id = str(uuid.uuid5(uuid.NAMESPACE_OID, self.digest.hexdigest()) if self.is_kept else uuid.uuid4())
         head, started, *events = telling.session(self.reader, words, run_id)
-        head, started = {**head, "cli-args": cli_args}, {**started, "cli-args": cli_args}
+        head = {**head, "cli-args": cli_args, **(members_of_rerun(plan, head) if plan else {})}
+        started = {**started, "cli-args": cli_args}
         data = "".join(text(value) + "\n" for value in (head, started, *events)).encode()
         return Session(run_id, data, self.status_of(head["status"], status))
 
@@ -74,3 +75,9 @@ class Following:
         """The status of the tests; where the end of a run of `nextest` wasn't told, that of what was seen."""
         seen = 100 if any(run.has_failed() for run in self.reader.runs) else 1
         return ended.get("exit-code", status or seen)
+
+
+def members_of_rerun(plan, head):
+    """What the head of a rerun has besides: which run it reruns with what came of it, and that run's tests in the test list."""
+    suites = plan.listed(head["test-list"]["suites"])
+    return {"parent-run-id": plan.info["parent-run-id"], "rerun-info": plan.info, "test-list": {"suites": suites}}

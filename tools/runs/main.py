@@ -1,7 +1,7 @@
 """The words of the front end: which command they ask for, and what becomes of a fault.
 
 A command is a module of this package with SUMMARY, a line for `--help`; `add_options(parser)`; and `run(words)`, which answers
-the status. Where it has TAKES_REST, what stands behind a word `--` is handed over as `words.rest`.
+the status. Where it has TAKES_REST, what stands after a word `--` is handed over as `words.rest`.
 """
 
 import argparse
@@ -17,6 +17,7 @@ ABOUT = "Records the test runs of a Rust workspace, and shows what was recorded.
 # The commands, in the order of `--help`, and the modules that do them.
 COMMANDS = {
     "test": "command_test",
+    "again": "command_again",
     "list": "command_list",
     "show": "command_show",
     "page": "page",

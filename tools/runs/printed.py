@@ -119,6 +119,6 @@ def title_of(test):
 
 
 def ended(test):
-    """Where a test stands among the others: by its end, and without one behind them."""
+    """Where a test stands among the others: by its end, and without one after them."""
     end = test.attempts[-1].ended if test.attempts else 0.0
     return float("inf") if end is None else end

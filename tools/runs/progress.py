@@ -21,7 +21,7 @@ class Progress:
         self.drawn_at = clock()
 
     def say(self, line):
-        """Prints a line, behind which the line of progress comes again."""
+        """Prints a line, after which the line of progress comes again."""
         self.write(saying.harmless(line) + "\n")
 
     def write(self, text):

@@ -53,10 +53,10 @@ class FaultLines(unittest.TestCase):
         self.assertEqual(faults, ["CLI.md: no line UnknownCommand at={at}, of which tools/runs/explain.py has a sentence"])
 
     def test_an_option_that_is_missing(self):
-        options = "| `--read-limit` | all six | m |\n| `--session-limit` | `info` | m |\n"
+        options = "| `--read-limit` | all | m |\n| `--session-limit` | `info` | m |\n"
         self.page.write_text(f"| Option | Of | Meaning |\n|---|---|---|\n{options}")
         check_pages.check_options(self.page)
-        self.assertEqual(len(check_pages.faults), 5)
+        self.assertEqual(len(check_pages.faults), len(check_pages.COMMANDS) - 1)
         self.assertIn(
             "CLI.md: report takes ['--read-limit'], and in tools/runs/causes.py ['--read-limit', '--session-limit']",
             check_pages.faults,

@@ -12,7 +12,7 @@ JOBS = re.findall(r"^```yaml\n(.*?)^```$", PAGE.read_text(), re.M | re.S)
 
 
 def scripts(job):
-    """The scripts of a job: blocks behind `|`, and single lines behind `run:` or `- `."""
+    """The scripts of a job: blocks after `|`, and single lines after `run:` or `- `."""
     rows, found = job.splitlines(), []
     for number, row in enumerate(rows):
         block = re.fullmatch(r"( *)(?:- )?(?:run: )?\|", row)

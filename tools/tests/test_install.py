@@ -22,7 +22,7 @@ def called(words, **more):
 
 
 class Refusals(unittest.TestCase):
-    """Each fault is one line, and nothing is left behind."""
+    """Each fault is one line, and no file is left."""
 
     def test_words(self):
         for script in ("install.sh", "package.sh"):

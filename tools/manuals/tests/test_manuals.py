@@ -95,7 +95,7 @@ class Installed(unittest.TestCase):
             self.assertEqual(sorted(os.listdir(self.folder / "share" / folder)), sorted(form.format(name) for name in names))
 
     def test_commands_options_and_values(self):
-        self.assertEqual(self.complete("rezovamy", "re"), ["record", "replay", "report"])
+        self.assertEqual(self.complete("rezovamy", "re"), ["record", "replay", "report", "rerun"])
         self.assertEqual(self.complete("rezovamy", "replay", "--output", ""), ["load", "skip"])
         self.assertEqual(self.complete("rezovamy", "record", "b", "--max-output", ""), [])
         self.assertEqual(self.complete("rezovamy-runs", "expl"), ["explain"])

@@ -140,7 +140,16 @@ class Places(unittest.TestCase):
                 said("BundleFault", "sample", "1", f"{folder}/a b/c"),
                 f"there is no folder {folder}/a b: mkdir -p '{folder}/a b'",
             )
-            self.assertTrue(said("BundleFault", "record", f"{folder}/c").startswith("the bundle could not be written: "))
+            self.assertTrue(said("BundleFault", "record", f"{folder}/c").startswith("the bundle could not be written whole, "))
+            with open(f"{folder}/file", "w", encoding="ascii"):
+                self.assertEqual(
+                    said("BundleFault", "record", f"{folder}/file/d/c"),
+                    f"{folder}/file is a file, no folder: name a file elsewhere",
+                )
+            self.assertEqual(
+                said("BundleFault", "record", f"{folder}/{'é' * 128}"),
+                "the name of the file has more than 255 bytes: give it a shorter one",
+            )
         self.assertEqual(said("BundleFault", "record", ""), "the path of the bundle is the empty word: name a file")
 
     def test_no_room_left(self):

@@ -11,6 +11,7 @@ import tempfile
 import time
 import unittest
 
+from runs.tests.test_again import has_rerun
 from runs.tests.test_commands import TOOLS, has_program
 
 SOURCE = """
@@ -52,6 +53,13 @@ class RealRuns(unittest.TestCase):
         self.assertEqual(self.run_it("test", "--", "--lib", "--", "passes").returncode, 0)
         compared = json.loads(self.run_it("compare", json.loads(self.run_it("list", "--json").stdout)[1]["id"], "--json").stdout)
         self.assertEqual([test["test"] for test in compared["gone"]], ["fails", "hangs"])
+
+    @unittest.skipUnless(has_rerun(), "the built program has no `rerun`: what needs it is left out")
+    def test_what_failed_runs_again(self):
+        self.assertEqual(self.run_it("test").returncode, 101)
+        done = self.run_it("again")
+        self.assertEqual(done.returncode, 101, done.stderr)
+        self.assertRegex(done.stdout, "1 test in .*: 0 passed, 1 failed, 1 skipped\n")
 
     def test_a_run_that_is_broken_off_leaves_no_process(self):
         one = subprocess.Popen(

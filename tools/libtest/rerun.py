@@ -1,0 +1,137 @@
+"""What the program's command `rerun` prints, and the words of cargo that run exactly the named tests again."""
+
+import dataclasses
+import json
+import os
+import re
+
+LINE = re.compile(r"(run|skip|gone) ([^ ]*) (.*)")
+# A binary by the names that cargo.target_of gives; no word of it can be taken for an option.
+BINARY = re.compile(r"(?P<package>\w[\w-]*)(?:::(?:(?P<kind>bin|example|bench|doc)/)?(?P<name>\w[\w.-]*))?")
+# A command line above some megabytes isn't started; the names of more tests than this go into another one.
+MOST_BYTES = 500_000
+
+
+class NoPlan(Exception):
+    """Why a text is none that `rerun` prints."""
+
+
+@dataclasses.dataclass
+class Plan:
+    """What is to be run again after a run: the information for the head of the next run, and the names of tests by binary.
+
+    The tests of the run's list are those of `run` and of `skip`; those of `gone` have not passed, and the list lacks them.
+    """
+
+    info: dict
+    run: dict = dataclasses.field(default_factory=dict)
+    skip: dict = dataclasses.field(default_factory=dict)
+    gone: dict = dataclasses.field(default_factory=dict)
+
+    def listed(self, suites):
+        """The test list of the run together with these tests, by binary."""
+        names = {}
+        for part in (self.run, self.skip, suites):
+            for binary, tests in part.items():
+                names.setdefault(binary, {}).update(dict.fromkeys(tests))
+        return {binary: list(tests) for binary, tests in names.items()}
+
+
+def read(text):
+    """The plan that a text of `rerun` is."""
+    first, *lines = text.removesuffix("\n").split("\n")
+    try:
+        info = json.loads(first)
+    except (ValueError, RecursionError):
+        info = None
+    if not isinstance(info, dict) or "parent-run-id" not in info:
+        raise NoPlan("line 1 has no rerun information")
+    plan = Plan(info)
+    for number, line in enumerate(lines, 2):
+        found = LINE.fullmatch(line)
+        if found is None:
+            raise NoPlan(f"line {number} names no test")
+        getattr(plan, found[1]).setdefault(found[2], []).append(found[3])
+    return plan
+
+
+@dataclasses.dataclass
+class Selection:
+    """One run of cargo: the words that name a test binary, and those that name its tests; without the second all of it runs."""
+
+    target: list
+    tests: list
+
+    def words(self, given):
+        """The words of `cargo test`, where others are given; after a word `--` are those for the binaries."""
+        place = given.index("--") if "--" in given else len(given)
+        after = [*given[place + 1:], *self.tests]
+        return [*given[:place], *self.target, *(["--", *after] if after else [])]
+
+
+def target_of(binary):
+    """The words by which cargo runs a binary alone; None where it has none, as for a build."""
+    found = BINARY.fullmatch(binary)
+    if found is None:
+        return None
+    kind, name = found["kind"], found["name"]
+    if kind == "doc":
+        words = ["--doc"]
+    else:
+        words = [f"--{kind or 'test'}", name] if name else ["--lib"]
+    return ["-p", found["package"], *words]
+
+
+def runs_whole(binary, names, skipped):
+    """Whether all of a binary runs: cargo can't be given the names of doctests, and a target without libtest has none."""
+    own = binary.rpartition("::")[2].rpartition("/")[2]
+    return "::doc/" in binary or names == [own] and not skipped
+
+
+def parts_of(names):
+    """The names in parts, of which each fits a command line."""
+    parts, size = [[]], 0
+    for name in names:
+        size += len(os.fsencode(name)) + 1
+        if size > MOST_BYTES and parts[-1]:
+            parts.append([])
+            size = len(os.fsencode(name)) + 1
+        parts[-1].append(name)
+    return parts
+
+
+def exact(names):
+    """The words that have libtest run the tests of these names alone."""
+    ends_options = ["--"] if any(name.startswith("-") for name in names) else []
+    return ["--exact", *ends_options, *names]
+
+
+def selections(plan):
+    """The runs of cargo that run the tests of a plan again, in the order of the binaries."""
+    found = []
+    for binary, names in plan.run.items():
+        target = target_of(binary)
+        if target and runs_whole(binary, names, plan.skip.get(binary)):
+            found.append(Selection(target, []))
+        elif target:
+            found += [Selection(target, exact(part)) for part in parts_of(names)]
+    return found
+
+
+def is_nameless(plan):
+    """Whether there is a test to run again of what cargo can't be asked for."""
+    return any(target_of(binary) is None for binary in plan.run)
+
+
+def remarks(plan):
+    """What the runs of cargo don't do as they should, a line each."""
+    found = []
+    for binary, names in plan.run.items():
+        if target_of(binary) is None:
+            found.append(f"{binary} {names[0]}: cargo has no word for it alone; run all tests again")
+        elif "::doc/" in binary and plan.skip.get(binary):
+            found.append(f"{binary}: cargo can't be given the names of doctests, so that all of them run")
+    for binary, names in plan.gone.items():
+        others = f", and {len(names) - 1} more of it" if len(names) > 1 else ""
+        found.append(f"{binary} {names[0]}{others}: the run's test list lacks it, so that it isn't run")
+    return found

@@ -1,0 +1,60 @@
+"""Runs the tests of a recorded run again which haven't passed, and records that run too."""
+
+from command_line import say
+from libtest import rerun
+from runs import bundle, cargo_test, command_test, program, saying, store
+from runs.fault import Fault
+
+SUMMARY = "run again what hasn't passed in a run, with the words after --, and record that"
+TAKES_REST = True
+
+
+def add_options(parser):
+    """Takes a run, and what else is written."""
+    parser.usage = "rezovamy-runs again [--page] [--junit] [RUN] [-- WORDS OF CARGO TEST]"
+    store.add_run(parser)
+    command_test.add_more(parser)
+
+
+def run(words):
+    """Runs the tests again, records them, and answers their status; 0 where all have passed."""
+    runs = store.here(cargo_test.manifest_of(words.rest))
+    path = runs.find(words.run)
+    plan, before = plan_of(path), bundle.read_summary(path)
+    commands = [cargo_test.cargo_words(chosen.words(words.rest)) for chosen in rerun.selections(plan)]
+    nameless = never_started(path)
+    for remark in [*rerun.remarks(plan), *nameless]:
+        say(f"rezovamy-runs: {saying.name(remark)}")
+    if not commands:
+        return nothing_to_run(plan, before, bool(nameless))
+    runs.prepare()
+    cli_args = ["rezovamy-runs", "again", before.id, *(["--", *words.rest] if words.rest else [])]
+    return command_test.keep(runs, command_test.run_cargo(commands, before.profile, cli_args, plan), words)
+
+
+def plan_of(path):
+    """What is to be run again of the run in a bundle, as the program says it."""
+    with open(path, "rb") as opened:
+        text = program.run(["rerun", *program.limits(path.stat().st_size)], stdin=opened)
+    try:
+        return rerun.read(text.decode())
+    except rerun.NoPlan as fault:
+        raise Fault(f"a test of {path} has a name that can't be told: {fault}; run all again with `rezovamy-runs test`") from fault
+
+
+def never_started(path):
+    """What is said of tests that were announced and never started; the run has no name of them."""
+    last = bundle.read(path, lambda opened: opened.first_and_last()[1]) or {}
+    unseen = last.get("outstanding-not-seen") or {}
+    count = unseen.get("total-not-seen", 0) - len(unseen.get("not-seen", []))
+    if count <= 0:
+        return []
+    return [f"{saying.count(count, 'test')} of the run never started, and nothing names them: `rezovamy-runs test` runs all"]
+
+
+def nothing_to_run(plan, before, is_doubtful):
+    """Says that all tests have passed, and answers the status; a fault where that isn't so."""
+    if plan.run or plan.gone or is_doubtful:
+        raise Fault("nothing of this can be run again alone: run all again with `rezovamy-runs test`")
+    say(f"rezovamy-runs: all tests of run {before.id} have passed, so nothing is run again")
+    return 0

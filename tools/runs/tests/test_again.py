@@ -1,0 +1,180 @@
+"""Tests that are run again: with a program and a cargo made for it, which print what is typed here, and with the built program."""
+
+import json
+import os
+import signal
+import subprocess
+import sys
+import time
+import unittest
+
+from runs import program
+from runs.tests import made
+from runs.tests.test_commands import LINES, TOOLS, Case, has_program
+
+INFO = {
+    "parent-run-id": made.ID, "root-info": {"build-scope": {"build-kind": "cargo", "scope": {}}, "run-id": made.ID},
+    "test-suites": [{"binary_id": "alpha", "outstanding": ["t1"], "passing": ["t0"]}],
+}
+# It answers `rerun` with the text of a file, and `record` with the bundle of the session, which it keeps.
+PROGRAM = f"""#!{sys.executable}
+import pathlib, sys
+sys.path.insert(0, {str(TOOLS)!r})
+from runs.tests import made
+folder = pathlib.Path(__file__).parent
+if sys.argv[1] == "rerun":
+    print((folder / "rerun").read_text(), end="")
+elif sys.argv[1] == "record":
+    session = sys.stdin.read()
+    (folder / "session").write_text(session)
+    pathlib.Path(sys.argv[2]).write_bytes(made.bundle_of(session))
+"""
+# It keeps its words, and runs the tests after `--exact`: those whose names begin with `bad` fail, and one hangs.
+CARGO = f"""#!{sys.executable}
+import json, pathlib, sys, time
+folder = pathlib.Path(__file__).parent
+with open(folder / "asked", "a") as asked:
+    asked.write(json.dumps(sys.argv[1:]) + "\\n")
+names = sys.argv[sys.argv.index("--exact") + 1:]
+kind = sys.argv[sys.argv.index("-p") + 2]
+target = {{"kind": [kind.lstrip("-")], "name": sys.argv[sys.argv.index(kind) + 1] if kind != "--lib" else "alpha"}}
+say = lambda value: print(json.dumps(value) if isinstance(value, dict) else value, flush=True)
+file = f"target/debug/deps/{{target['name']}}-0123456789abcdef"
+say({{
+    "reason": "compiler-artifact", "package_id": "path+file:///alpha#0.1.0", "target": target, "profile": {{"test": True}},
+    "executable": "/" + file,
+}})
+say(f"     Running x.rs ({{file}})")
+say({{"type": "suite", "event": "started", "test_count": len(names)}})
+for name in names:
+    say({{"type": "test", "event": "started", "name": name}})
+    if name == "hangs":
+        time.sleep(600)
+    say({{"type": "test", "event": "failed" if name.startswith("bad") else "ok", "name": name, "exec_time": 0.5}})
+say({{"type": "suite", "event": "ok"}})
+sys.exit(101 if any(name.startswith("bad") for name in names) else 0)
+"""
+
+
+class Again(Case):
+    def setUp(self):
+        super().setUp()
+        self.add(made.ID, 0, "pass", made.exit_code())
+        for name, text in (("rezovamy", PROGRAM), ("cargo", CARGO)):
+            (self.folder / name).write_text(text)
+            (self.folder / name).chmod(0o755)
+        self.environment["REZOVAMY"] = str(self.folder / "rezovamy")
+        self.environment["PATH"] = f"{self.folder}:{self.environment['PATH']}"
+
+    def plan(self, *lines):
+        """Lets the program answer `rerun` so."""
+        (self.folder / "rerun").write_text("".join(f"{line}\n" for line in (json.dumps(INFO), *lines)))
+
+    def asked(self):
+        """What stands after the words of each run of cargo that the front end sets."""
+        path = self.folder / "asked"
+        lines = path.read_text().splitlines() if path.exists() else []
+        return [[word for word in json.loads(line) if not word.startswith("--report")][4:] for line in lines]
+
+    def fault(self, status, *words):
+        done = self.run_it(*words)
+        self.assertEqual((done.returncode, done.stdout), (status, ""))
+        return done.stderr.splitlines()
+
+    def test_what_has_not_passed_is_run_and_recorded_as_a_rerun(self):
+        self.plan("run alpha t1", "skip alpha t0")
+        done = self.run_it("again")
+        self.assertEqual((done.returncode, done.stderr), (0, ""))
+        self.assertIn("1 test in ", done.stdout)
+        events = ["--", "-Z", "unstable-options", "--format", "json", "--show-output"]
+        self.assertEqual(self.asked(), [["-p", "alpha", "--lib", *events, "--exact", "t1"]])
+        head, started, *_ = [json.loads(line) for line in (self.folder / "session").read_text().splitlines()]
+        self.assertEqual((head["parent-run-id"], head["rerun-info"]), (made.ID, INFO))
+        self.assertEqual(head["test-list"], {"suites": {"alpha": ["t1", "t0"]}})
+        self.assertEqual((head["cli-args"], started["profile-name"]), (["rezovamy-runs", "again", made.ID], "default"))
+        first, _ = json.loads(self.out("list", "--json"))
+        self.assertEqual((first["id"], first["passed"], first["failed"]), (head["run-id"], 1, 0))
+
+    def test_each_binary_is_run_with_the_words_that_are_given(self):
+        self.plan("run alpha t1", "run alpha::it bad", "run alpha::it t2", "skip alpha t0")
+        done = self.run_it("again", made.ID[:9], "--", "--release", "--", "--nocapture")
+        self.assertEqual(done.returncode, 101)
+        self.assertIn("FAIL [0.500s] alpha::it bad", done.stdout)
+        self.assertIn("3 tests in ", done.stdout)
+        events = ["--", "-Z", "unstable-options", "--format", "json", "--show-output", "--nocapture", "--exact"]
+        self.assertEqual(self.asked(), [
+            ["--release", "-p", "alpha", "--lib", *events, "t1"],
+            ["--release", "-p", "alpha", "--test", "it", *events, "bad", "t2"],
+        ])
+
+    def test_where_all_have_passed_nothing_is_run(self):
+        self.plan("skip alpha t0", "skip alpha t1")
+        self.assertEqual(self.fault(0, "again"), [f"rezovamy-runs: all tests of run {made.ID} have passed, so nothing is run again"])
+        self.assertEqual((self.asked(), len(os.listdir(self.runs))), ([], 1))
+
+    def test_what_cargo_has_no_word_for(self):
+        self.plan("run (cargo) (build)")
+        self.assertEqual(self.fault(1, "again"), [
+            "rezovamy-runs: (cargo) (build): cargo has no word for it alone; run all tests again",
+            "rezovamy-runs: nothing of this can be run again alone: run all again with `rezovamy-runs test`",
+        ])
+        self.plan("run (cargo) (run)", "run alpha t1", "gone beta t9")
+        done = self.run_it("again")
+        self.assertEqual((done.returncode, len(done.stderr.splitlines())), (0, 2))
+        self.assertIn("beta t9: the run's test list lacks it, so that it isn't run\n", done.stderr)
+
+    def test_tests_that_never_started_are_counted(self):
+        data = made.bundle(
+            made.run_started(), made.run_finished(1, 1, outstanding_not_seen={"not-seen": [], "total-not-seen": 2}),
+            ended=made.completed(0, 0),
+        )
+        (self.runs / f"{made.ID}.bundle").write_bytes(data)
+        self.plan()
+        said = "rezovamy-runs: 2 tests of the run never started, and nothing names them: `rezovamy-runs test` runs all"
+        self.assertEqual(self.fault(1, "again")[0], said)
+
+    def test_a_plan_that_is_none(self):
+        self.plan("run alpha t\x0bu", "t2")
+        line, = self.fault(1, "again")
+        self.assertIn("line 3 names no test", line)
+
+    def test_a_run_that_is_broken_off_runs_no_other_binary(self):
+        self.plan("run alpha t1", "run alpha hangs", "run alpha::it t2")
+        one = subprocess.Popen(
+            [sys.executable, TOOLS / "rezovamy-runs", "again"], cwd=self.folder, env=self.environment, text=True,
+            stdout=subprocess.PIPE, stderr=subprocess.PIPE,
+            preexec_fn=lambda: signal.signal(signal.SIGINT, signal.default_int_handler),
+        )
+        until = time.monotonic() + 60
+        while not self.asked() and one.poll() is None and time.monotonic() < until:
+            time.sleep(0.02)
+        time.sleep(0.3)
+        one.send_signal(signal.SIGINT)
+        said, _ = one.communicate(timeout=60)
+        self.assertEqual((one.returncode, len(self.asked())), (130, 1))
+        self.assertIn("1 passed, 1 never ended; the run was broken off", said)
+        self.assertEqual(json.loads(self.out("list", "--json"))[0]["status"], "cancelled")
+
+
+def has_rerun():
+    """Whether the built program is there, and has the command."""
+    return has_program() and b"rezovamy rerun" in program.run(["--help"])
+
+
+@unittest.skipUnless(has_rerun(), "the program isn't built, or has no `rerun`: what needs it is left out")
+class Planned(Case):
+    def test_what_the_program_names(self):
+        self.assertEqual(self.run_it("test", "--from", str(LINES)).returncode, 101)
+        with open(next(self.runs.iterdir()), "rb") as bundle:
+            info, *lines = program.run(["rerun"], stdin=bundle).decode().splitlines()
+        self.assertEqual(
+            [suite["outstanding"] for suite in json.loads(info)["test-suites"] if suite["outstanding"]],
+            [["answers_an_error", "expects_a_product"]],
+        )
+        self.assertEqual([line for line in lines if line.startswith("run ")], [
+            "run sums tests::adds_very_many", "run sums::wrong answers_an_error", "run sums::wrong expects_a_product",
+        ])
+
+
+if __name__ == "__main__":
+    unittest.main()
