@@ -2,6 +2,7 @@
 use crate::fields::{put_field, required_field};
 use crate::{Form, FromValueError};
 use rec_events::{ErrorSummary, OutputErrorSlice};
+use rec_json::Node;
 use serde_json::{Map, Value};
 use std::alloc::{AllocError, Global};
 
@@ -32,8 +33,8 @@ impl Form for ErrorSummary {
     }
 
     #[tactic(auto, unfolding(crate::specs::ErrorTexts::error_summary_form))]
-    fn from_value(alloc: Global, value: &Value) -> Result<ErrorSummary, FromValueError> {
-        let Value::Object(object) = value else {
+    fn from_node(alloc: Global, node: &Node<'_>) -> Result<ErrorSummary, FromValueError> {
+        let Node::Object(object) = node else {
             return Err(FromValueError::NotAValue);
         };
         Ok(ErrorSummary {
@@ -70,8 +71,8 @@ impl Form for OutputErrorSlice {
     }
 
     #[tactic(auto, unfolding(crate::specs::ErrorTexts::error_slice_form))]
-    fn from_value(alloc: Global, value: &Value) -> Result<OutputErrorSlice, FromValueError> {
-        let Value::Object(object) = value else {
+    fn from_node(alloc: Global, node: &Node<'_>) -> Result<OutputErrorSlice, FromValueError> {
+        let Node::Object(object) = node else {
             return Err(FromValueError::NotAValue);
         };
         Ok(OutputErrorSlice {

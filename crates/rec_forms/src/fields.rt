@@ -1,16 +1,17 @@
 //! The members of an object, written and read one at a time.
 ghost use Rattle.std.specs.Prelude.{◌≡◌, OnOk, Some, option_map, IfSome, IfOk};
 ghost use Rattle.serde_json.specs.Data.{string};
-ghost use Rattle.serde_json.specs.Find.{get_member};
-ghost use Rattle.serde_json.specs.View.{view, members_view};
+ghost use Rattle.serde_json.specs.View.{view, members_view as value_members};
+ghost use Rattle.rec_json.specs.Nodes.{members_view};
 ghost use Rattle.rec_forms.specs.Gives.{Gives};
-ghost use Rattle.rec_forms.specs.Shape.{with_member, required, maybe, defaulted, only_of, tagged as with_tag};
+ghost use Rattle.rec_forms.specs.Shape.{with_member, required, maybe, defaulted, tagged as with_tag};
 
 use crate::{Form, FromValueError};
+use rec_json::{Node, member};
 use serde_json::{Map, Value};
 use std::alloc::{AllocError, Global};
 
-/// Holds the members of a JSON object.
+/// Holds the members of a JSON object that is written.
 pub type Object = Map<String, Value>;
 
 /// Writes a field: puts the value of `item` at `key`.
@@ -24,8 +25,8 @@ pub fn put_field<T: Form>(
     key: &str,
     item: &T,
 ) -> Result<(), AllocError>
-    ensures written { OnOk result (members_view object.new.entries
-        ≡ with_member key.now (Some (T.value_of item.now)) (members_view object.old.entries)) }
+    ensures written { OnOk result (value_members object.new.entries
+        ≡ with_member key.now (Some (T.value_of item.now)) (value_members object.old.entries)) }
     ensures known { OnOk result (T.well_formed item.now) }
 {
     let value = item.to_value(alloc)?;
@@ -43,8 +44,8 @@ pub fn put_optional<T: Form>(
     key: &str,
     item: &Option<T>,
 ) -> Result<(), AllocError>
-    ensures written { OnOk result (members_view object.new.entries
-        ≡ with_member key.now (option_map T.value_of item.now) (members_view object.old.entries)) }
+    ensures written { OnOk result (value_members object.new.entries
+        ≡ with_member key.now (option_map T.value_of item.now) (value_members object.old.entries)) }
     ensures known { OnOk result (IfSome item.now T.well_formed) }
 {
     match item {
@@ -59,8 +60,8 @@ pub fn put_optional<T: Form>(
 ///
 /// `AllocError` if memory runs out; then `object` may lack the field.
 pub fn put_text(alloc: Global, object: &mut Object, key: &str, text: &str) -> Result<(), AllocError>
-    ensures { OnOk result (members_view object.new.entries
-        ≡ with_member key.now (Some (string text.now)) (members_view object.old.entries)) }
+    ensures { OnOk result (value_members object.new.entries
+        ≡ with_member key.now (Some (string text.now)) (value_members object.old.entries)) }
 {
     let value = Value::try_from_str(alloc, text)?;
     serde_json::put(object, alloc, key, value)
@@ -72,15 +73,15 @@ pub fn put_text(alloc: Global, object: &mut Object, key: &str, text: &str) -> Re
 ///
 /// - `NotAValue` if no member has this key, or its value stands for no item.
 /// - `OutOfMemory` if memory runs out.
-pub fn required_field<T: Form>(
+pub fn required_field<'a, T: Form>(
     alloc: Global,
-    object: &Object,
+    object: &[(&'a str, Node<'a>)],
     key: &str,
 ) -> Result<T, FromValueError>
-    ensures { Gives result (required T.form_of key.now (members_view object.now.entries)) }
+    ensures { Gives result (required T.form_of key.now (members_view object.now)) }
 {
     match member(object, key) {
-        Some(value) => T::from_value(alloc, value),
+        Some(node) => T::from_node(alloc, node),
         None => Err(FromValueError::NotAValue),
     }
 }
@@ -91,25 +92,18 @@ pub fn required_field<T: Form>(
 ///
 /// - `NotAValue` if there is a value other than `null`, and it stands for no item.
 /// - `OutOfMemory` if memory runs out.
-pub fn optional_field<T: Form>(
+pub fn optional_field<'a, T: Form>(
     alloc: Global,
-    object: &Object,
+    object: &[(&'a str, Node<'a>)],
     key: &str,
 ) -> Result<Option<T>, FromValueError>
-    ensures { Gives result (maybe T.form_of key.now (members_view object.now.entries)) }
+    ensures { Gives result (maybe T.form_of key.now (members_view object.now)) }
 {
     match member(object, key) {
         None => Ok(None),
-        Some(Value::Null) => Ok(None),
-        Some(value) => Ok(Some(T::from_value(alloc, value)?)),
+        Some(Node::Null) => Ok(None),
+        Some(node) => Ok(Some(T::from_node(alloc, node)?)),
     }
-}
-
-/// Returns the value at a key. It only forwards to `Map::get`, so that a clause can name the members.
-pub fn member<'v>(object: &'v Object, key: &str) -> Option<&'v Value>
-    ensures { option_map (λ v. view v.now) result ≡ get_member key.now (members_view object.now.entries) }
-{
-    object.get(key)
 }
 
 /// Reads a field that is `missing` where its member is missing. A member that is `null` is not missing.
@@ -118,29 +112,18 @@ pub fn member<'v>(object: &'v Object, key: &str) -> Option<&'v Value>
 ///
 /// - `NotAValue` if there is a value, and it stands for no item.
 /// - `OutOfMemory` if memory runs out.
-pub fn defaulted_field<T: Form + Drop>(
+pub fn defaulted_field<'a, T: Form + Drop>(
     alloc: Global,
-    object: &Object,
+    object: &[(&'a str, Node<'a>)],
     key: &str,
     missing: T,
 ) -> Result<T, FromValueError>
-    ensures { Gives result (defaulted missing T.form_of key.now (members_view object.now.entries)) }
+    ensures { Gives result (defaulted missing T.form_of key.now (members_view object.now)) }
 {
     match member(object, key) {
         None => Ok(missing),
-        Some(value) => T::from_value(alloc, value),
+        Some(node) => T::from_node(alloc, node),
     }
-}
-
-/// Returns the member of an object that has exactly one.
-pub fn only_member(object: &Object) -> Option<(&str, &Value)>
-    ensures { option_map (λ m. (m.0.now, view m.1.now)) result ≡ only_of (members_view object.now.entries) }
-{
-    if object.len() != 1 {
-        return None;
-    }
-    let (key, value) = object.first_key_value()?;
-    Some((key.as_str(), value))
 }
 
 /// Makes the object with `content` at `tag`, as a variant with fields is written.

@@ -2,11 +2,13 @@
 ghost use Rattle.std.specs.Prelude.{◌≡◌, ℕ, Option, Some, IfOk};
 ghost use Rattle.serde_json.specs.Data.{Data};
 ghost use Rattle.serde_json.specs.View.{view};
+ghost use Rattle.rec_json.specs.Nodes.{view as node_view};
 ghost use Rattle.rec_forms.specs.Gives.{Gives};
 ghost use Rattle.rec_forms.specs.GivesWellFormed.{GivesWellFormed};
 ghost use Rattle.rec_forms.specs.Writable.{IsWritable};
 
 use crate::FromValueError;
+use rec_json::Node;
 use serde_json::Value;
 use std::alloc::{AllocError, Global};
 
@@ -34,14 +36,28 @@ pub trait Form: Sized {
         ensures written { IfOk result (λ v. view v ≡ value_of self.now) }
         ensures known { IfOk result (λ _. well_formed self.now) };
 
-    /// Reads the item for which `value` stands.
+    /// Reads the item for which `node` stands.
+    ///
+    /// # Errors
+    ///
+    /// - `NotAValue` exactly where `node` stands for no item.
+    /// - `OutOfMemory` if memory runs out.
+    fn from_node(alloc: Global, node: &Node<'_>) -> Result<Self, FromValueError>
+        ensures read_node { Gives result (form_of (node_view node.now)) };
+
+    /// Reads the item for which `value` stands, a value that is there already. A text is read as a node,
+    /// without a value in between.
     ///
     /// # Errors
     ///
     /// - `NotAValue` exactly where `value` stands for no item.
     /// - `OutOfMemory` if memory runs out.
     fn from_value(alloc: Global, value: &Value) -> Result<Self, FromValueError>
-        ensures read { Gives result (form_of (view value.now)) };
+        ensures read { Gives result (form_of (view value.now)) }
+    {
+        let node = Node::of_value(alloc, value)?;
+        Self::from_node(alloc, &node)
+    }
 
     // What was written is read back.
     ghost reads_back: { (x : Self) → well_formed x → form_of (value_of x) ≡ Some x };

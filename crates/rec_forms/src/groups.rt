@@ -1,6 +1,7 @@
 //! Test groups.
 use crate::{Form, FromValueError};
 use rec_events::TestGroup;
+use rec_json::Node;
 use serde_json::Value;
 use std::alloc::{AllocError, Global};
 
@@ -30,8 +31,8 @@ impl Form for TestGroup {
     }
 
     #[tactic(auto, unfolding(crate::specs::Groups::test_group_form))]
-    fn from_value(alloc: Global, value: &Value) -> Result<TestGroup, FromValueError> {
-        let Some(name) = value.as_str() else {
+    fn from_node(alloc: Global, node: &Node<'_>) -> Result<TestGroup, FromValueError> {
+        let Some(name) = node.as_str() else {
             return Err(FromValueError::NotAValue);
         };
         let name = String::from_str(alloc, name)?;

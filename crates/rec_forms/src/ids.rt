@@ -4,6 +4,7 @@ ghost use Rattle.uuid.specs.Text.{parsed};
 
 use crate::{Form, FromValueError, Held};
 use rec_events::{ReportUuid, RustBinaryId, ScriptId, TestCaseName, Text, Version, VersionError};
+use rec_json::Node;
 use serde_json::Value;
 use std::alloc::{AllocError, Global};
 use uuid::Uuid;
@@ -33,8 +34,8 @@ impl Form for RustBinaryId {
         Value::try_from_str(alloc, self.as_str())
     }
 
-    fn from_value(alloc: Global, value: &Value) -> Result<RustBinaryId, FromValueError> {
-        let text = Text::from_value(alloc, value)?;
+    fn from_node(alloc: Global, node: &Node<'_>) -> Result<RustBinaryId, FromValueError> {
+        let text = Text::from_node(alloc, node)?;
         Ok(RustBinaryId::new(text.into_string()))
     }
 }
@@ -64,8 +65,8 @@ impl Form for TestCaseName {
         Value::try_from_str(alloc, self.as_str())
     }
 
-    fn from_value(alloc: Global, value: &Value) -> Result<TestCaseName, FromValueError> {
-        let text = Text::from_value(alloc, value)?;
+    fn from_node(alloc: Global, node: &Node<'_>) -> Result<TestCaseName, FromValueError> {
+        let text = Text::from_node(alloc, node)?;
         Ok(TestCaseName::new(text.into_string()))
     }
 }
@@ -95,8 +96,8 @@ impl Form for ScriptId {
         Value::try_from_str(alloc, self.as_str())
     }
 
-    fn from_value(alloc: Global, value: &Value) -> Result<ScriptId, FromValueError> {
-        let text = Text::from_value(alloc, value)?;
+    fn from_node(alloc: Global, node: &Node<'_>) -> Result<ScriptId, FromValueError> {
+        let text = Text::from_node(alloc, node)?;
         Ok(ScriptId::new(text.into_string()))
     }
 }
@@ -138,8 +139,8 @@ impl Form for ReportUuid {
     }
 
     #[tactic(auto, unfolding(crate::specs::Ids::uuid_form))]
-    fn from_value(_alloc: Global, value: &Value) -> Result<ReportUuid, FromValueError> {
-        match value.as_str().and_then(read_uuid) {
+    fn from_node(_alloc: Global, node: &Node<'_>) -> Result<ReportUuid, FromValueError> {
+        match node.as_str().and_then(read_uuid) {
             Some(uuid) => Ok(ReportUuid::new(uuid)),
             None => Err(FromValueError::NotAValue),
         }
@@ -180,8 +181,8 @@ impl Form for Version {
     }
 
     #[tactic(auto, unfolding(crate::specs::Ids::version_form))]
-    fn from_value(alloc: Global, value: &Value) -> Result<Version, FromValueError> {
-        let text = value.as_str().ok_or(FromValueError::NotAValue)?;
+    fn from_node(alloc: Global, node: &Node<'_>) -> Result<Version, FromValueError> {
+        let text = node.as_str().ok_or(FromValueError::NotAValue)?;
         match Version::parse(alloc, text) {
             Ok(version) => Ok(version),
             Err(VersionError::OutOfMemory) => Err(FromValueError::OutOfMemory),

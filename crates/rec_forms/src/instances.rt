@@ -2,6 +2,7 @@
 use crate::fields::{optional_field, put_field, put_optional, required_field};
 use crate::{Form, FromValueError};
 use rec_events::{OwnedTestInstanceId, RetryData, StressIndexSummary, TestSlotAssignment};
+use rec_json::Node;
 use serde_json::{Map, Value};
 use std::alloc::{AllocError, Global};
 
@@ -32,8 +33,8 @@ impl Form for OwnedTestInstanceId {
     }
 
     #[tactic(auto, unfolding(crate::specs::Instances::test_instance_form))]
-    fn from_value(alloc: Global, value: &Value) -> Result<OwnedTestInstanceId, FromValueError> {
-        let Value::Object(object) = value else {
+    fn from_node(alloc: Global, node: &Node<'_>) -> Result<OwnedTestInstanceId, FromValueError> {
+        let Node::Object(object) = node else {
             return Err(FromValueError::NotAValue);
         };
         Ok(OwnedTestInstanceId {
@@ -71,8 +72,8 @@ impl Form for TestSlotAssignment {
     }
 
     #[tactic(auto, unfolding(crate::specs::Instances::slot_assignment_form))]
-    fn from_value(alloc: Global, value: &Value) -> Result<TestSlotAssignment, FromValueError> {
-        let Value::Object(object) = value else {
+    fn from_node(alloc: Global, node: &Node<'_>) -> Result<TestSlotAssignment, FromValueError> {
+        let Node::Object(object) = node else {
             return Err(FromValueError::NotAValue);
         };
         Ok(TestSlotAssignment {
@@ -110,8 +111,8 @@ impl Form for RetryData {
     }
 
     #[tactic(auto, unfolding(crate::specs::Instances::retry_data_form))]
-    fn from_value(alloc: Global, value: &Value) -> Result<RetryData, FromValueError> {
-        let Value::Object(object) = value else {
+    fn from_node(alloc: Global, node: &Node<'_>) -> Result<RetryData, FromValueError> {
+        let Node::Object(object) = node else {
             return Err(FromValueError::NotAValue);
         };
         Ok(RetryData {
@@ -148,8 +149,8 @@ impl Form for StressIndexSummary {
     }
 
     #[tactic(auto, unfolding(crate::specs::Instances::stress_index_form))]
-    fn from_value(alloc: Global, value: &Value) -> Result<StressIndexSummary, FromValueError> {
-        let Value::Object(object) = value else {
+    fn from_node(alloc: Global, node: &Node<'_>) -> Result<StressIndexSummary, FromValueError> {
+        let Node::Object(object) = node else {
             return Err(FromValueError::NotAValue);
         };
         Ok(StressIndexSummary {

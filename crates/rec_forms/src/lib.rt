@@ -30,12 +30,12 @@ mod times;
 
 pub use errors::FromValueError;
 pub use fields::{
-    Object, defaulted_field, member, only_member, optional_field, put_field, put_optional,
-    put_text, required_field, tagged,
+    Object, defaulted_field, optional_field, put_field, put_optional, put_text, required_field,
+    tagged,
 };
 pub use form::Form;
 pub use held::{Held, held_optional};
 pub use laws::{
     read_items_are_well_formed, well_formed_items_read_back, writable_values_read_back,
 };
-pub use text_form::{parse_value, read_text, write_text};
+pub use text_form::{parse_node, read_text, write_text};

@@ -5,6 +5,7 @@ ghost use Rattle.rec_forms.specs.Lists.{list_value, list_form};
 
 use crate::{Form, FromValueError, Held};
 use rec_events::Items;
+use rec_json::Node;
 use serde_json::Value;
 use std::alloc::{AllocError, Global};
 
@@ -36,13 +37,13 @@ impl<T: Form + Drop> Form for Items<T> {
         Ok(Value::from(values))
     }
 
-    fn from_value(alloc: Global, value: &Value) -> Result<Items<T>, FromValueError> {
-        let Value::Array(values) = value else {
+    fn from_node(alloc: Global, node: &Node<'_>) -> Result<Items<T>, FromValueError> {
+        let Node::Array(nodes) = node else {
             return Err(FromValueError::NotAValue);
         };
         let mut items = Vec::new(alloc);
-        for value in values {
-            let item = T::from_value(alloc, value)?;
+        for node in nodes {
+            let item = T::from_node(alloc, node)?;
             items.push(item)?;
         }
         Ok(Items::new(items))

@@ -4,6 +4,7 @@ ghost use Rattle.std.specs.Prelude.{◌≡◌, suc};
 use crate::fields::put_field;
 use crate::{Form, FromValueError, Held};
 use rec_events::{Text, TextMap};
+use rec_json::{Node, sorted};
 use serde_json::{Map, Value};
 use std::alloc::{AllocError, Global};
 
@@ -36,14 +37,15 @@ impl<V: Form + Drop> Form for TextMap<V> {
         Ok(Value::from(object))
     }
 
-    fn from_value(alloc: Global, value: &Value) -> Result<TextMap<V>, FromValueError> {
-        let Value::Object(object) = value else {
+    fn from_node(alloc: Global, node: &Node<'_>) -> Result<TextMap<V>, FromValueError> {
+        let Node::Object(object) = node else {
             return Err(FromValueError::NotAValue);
         };
+        let members = sorted(alloc, object)?;
         let mut map = TextMap::empty(alloc);
-        for (key, value) in object {
-            let item = V::from_value(alloc, value)?;
-            map.insert(Text::from_str(alloc, key.as_str())?, item)?;
+        for (key, node) in &members {
+            let item = V::from_node(alloc, node)?;
+            map.insert(Text::from_str(alloc, key)?, item)?;
         }
         Ok(map)
     }

@@ -4,6 +4,7 @@ ghost use Rattle.std.specs.Prelude.{◌≡◌, ◌^◌, ◌<◌, ℕ, FitsSigned
 
 use crate::{Form, FromValueError, Held};
 use rec_events::NonZeroCount;
+use rec_json::Node;
 use serde_json::Value;
 use std::alloc::{AllocError, Global};
 
@@ -31,8 +32,8 @@ impl Form for u32 {
         Ok(Value::from(*self))
     }
 
-    fn from_value(_alloc: Global, value: &Value) -> Result<u32, FromValueError> {
-        match value.as_u64() {
+    fn from_node(_alloc: Global, node: &Node<'_>) -> Result<u32, FromValueError> {
+        match node.as_u64() {
             Some(n) if n < 1 << 32 => Ok(n as u32),
             _ => Err(FromValueError::NotAValue),
         }
@@ -69,8 +70,8 @@ impl Form for u64 {
         Ok(Value::from(*self))
     }
 
-    fn from_value(_alloc: Global, value: &Value) -> Result<u64, FromValueError> {
-        match value.as_u64() {
+    fn from_node(_alloc: Global, node: &Node<'_>) -> Result<u64, FromValueError> {
+        match node.as_u64() {
             Some(n) => Ok(n),
             None => Err(FromValueError::NotAValue),
         }
@@ -107,8 +108,8 @@ impl Form for usize {
         Ok(Value::from(*self))
     }
 
-    fn from_value(_alloc: Global, value: &Value) -> Result<usize, FromValueError> {
-        match value.as_u64() {
+    fn from_node(_alloc: Global, node: &Node<'_>) -> Result<usize, FromValueError> {
+        match node.as_u64() {
             Some(n) => Ok(n as usize),
             None => Err(FromValueError::NotAValue),
         }
@@ -145,8 +146,8 @@ impl Form for i64 {
         Ok(Value::from(*self))
     }
 
-    fn from_value(_alloc: Global, value: &Value) -> Result<i64, FromValueError> {
-        match value.as_i64() {
+    fn from_node(_alloc: Global, node: &Node<'_>) -> Result<i64, FromValueError> {
+        match node.as_i64() {
             Some(n) => Ok(n),
             None => Err(FromValueError::NotAValue),
         }
@@ -183,8 +184,8 @@ impl Form for i32 {
         Ok(Value::from(*self))
     }
 
-    fn from_value(_alloc: Global, value: &Value) -> Result<i32, FromValueError> {
-        match value.as_i64() {
+    fn from_node(_alloc: Global, node: &Node<'_>) -> Result<i32, FromValueError> {
+        match node.as_i64() {
             Some(n) if -0x8000_0000 <= n && n <= 0x7fff_ffff => Ok(n as i32),
             _ => Err(FromValueError::NotAValue),
         }
@@ -222,8 +223,8 @@ impl Form for bool {
         Ok(Value::from(*self))
     }
 
-    fn from_value(_alloc: Global, value: &Value) -> Result<bool, FromValueError> {
-        match value.as_bool() {
+    fn from_node(_alloc: Global, node: &Node<'_>) -> Result<bool, FromValueError> {
+        match node.as_bool() {
             Some(b) => Ok(b),
             None => Err(FromValueError::NotAValue),
         }
@@ -254,8 +255,8 @@ impl Form for NonZeroCount {
         self.get().to_value(alloc)
     }
 
-    fn from_value(alloc: Global, value: &Value) -> Result<NonZeroCount, FromValueError> {
-        let count = u32::from_value(alloc, value)?;
+    fn from_node(alloc: Global, node: &Node<'_>) -> Result<NonZeroCount, FromValueError> {
+        let count = u32::from_node(alloc, node)?;
         NonZeroCount::new(count).ok_or(FromValueError::NotAValue)
     }
 }

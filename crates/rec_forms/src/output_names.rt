@@ -1,6 +1,7 @@
 //! Kinds of outputs, and the names of their files.
 use crate::{Form, FromValueError};
 use rec_events::{OutputFileName, OutputKind};
+use rec_json::Node;
 use serde_json::Value;
 use std::alloc::{AllocError, Global};
 
@@ -33,8 +34,8 @@ impl Form for OutputKind {
     }
 
     #[tactic(auto, unfolding(crate::specs::OutputNames::output_kind_form))]
-    fn from_value(_alloc: Global, value: &Value) -> Result<OutputKind, FromValueError> {
-        match value.as_str() {
+    fn from_node(_alloc: Global, node: &Node<'_>) -> Result<OutputKind, FromValueError> {
+        match node.as_str() {
             Some("stdout") => Ok(OutputKind::Stdout),
             Some("stderr") => Ok(OutputKind::Stderr),
             Some("combined") => Ok(OutputKind::Combined),
@@ -66,8 +67,8 @@ impl Form for OutputFileName {
     }
 
     #[tactic(auto, unfolding(crate::specs::OutputNames::file_name_form))]
-    fn from_value(_alloc: Global, value: &Value) -> Result<OutputFileName, FromValueError> {
-        let Some(text) = value.as_str() else {
+    fn from_node(_alloc: Global, node: &Node<'_>) -> Result<OutputFileName, FromValueError> {
+        let Some(text) = node.as_str() else {
             return Err(FromValueError::NotAValue);
         };
         OutputFileName::parse(text).ok_or(FromValueError::NotAValue)

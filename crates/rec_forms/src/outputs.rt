@@ -1,13 +1,14 @@
 //! Outputs: the bytes of one, and those in a store.
 ghost use Rattle.std.specs.Prelude.{◌≡◌};
-ghost use Rattle.serde_json.specs.View.{view};
+ghost use Rattle.rec_json.specs.Nodes.{view};
 ghost use Rattle.rec_forms.specs.Gives.{Gives};
 ghost use Rattle.rec_forms.specs.Outputs.{truncated_form, split_form};
 
-use crate::fields::{only_member, optional_field, put_field, put_optional, required_field, tagged};
+use crate::fields::{optional_field, put_field, put_optional, required_field, tagged};
 use crate::{Form, FromValueError};
 use hex::FromHexError;
 use rec_events::{ChildSingleOutput, OutputFileName, ZipStoreOutput, ZipStoreOutputDescription};
+use rec_json::{Node, only_member};
 use serde_json::{Map, Value};
 use std::alloc::{AllocError, Global};
 
@@ -35,8 +36,8 @@ impl Form for ChildSingleOutput {
     }
 
     #[tactic(auto, unfolding(crate::specs::Outputs::output_bytes_form))]
-    fn from_value(alloc: Global, value: &Value) -> Result<ChildSingleOutput, FromValueError> {
-        let Some(text) = value.as_str() else {
+    fn from_node(alloc: Global, node: &Node<'_>) -> Result<ChildSingleOutput, FromValueError> {
+        let Some(text) = node.as_str() else {
             return Err(FromValueError::NotAValue);
         };
         match hex::decode(alloc, text.as_bytes()) {
@@ -49,10 +50,10 @@ impl Form for ChildSingleOutput {
 
 /// Reads an output that was cut.
 #[tactic(auto, unfolding(crate::specs::Outputs::truncated_form))]
-fn truncated_from(alloc: Global, value: &Value) -> Result<ZipStoreOutput, FromValueError>
-    ensures { Gives result (truncated_form (view value.now)) }
+fn truncated_from(alloc: Global, node: &Node<'_>) -> Result<ZipStoreOutput, FromValueError>
+    ensures { Gives result (truncated_form (view node.now)) }
 {
-    let Value::Object(fields) = value else {
+    let Node::Object(fields) = node else {
         return Err(FromValueError::NotAValue);
     };
     Ok(ZipStoreOutput::Truncated {
@@ -63,10 +64,10 @@ fn truncated_from(alloc: Global, value: &Value) -> Result<ZipStoreOutput, FromVa
 
 /// Reads the outputs of a process whose streams were captured apart.
 #[tactic(auto, unfolding(crate::specs::Outputs::split_form))]
-fn split_from(alloc: Global, value: &Value) -> Result<ZipStoreOutputDescription, FromValueError>
-    ensures { Gives result (split_form (view value.now)) }
+fn split_from(alloc: Global, node: &Node<'_>) -> Result<ZipStoreOutputDescription, FromValueError>
+    ensures { Gives result (split_form (view node.now)) }
 {
-    let Value::Object(fields) = value else {
+    let Node::Object(fields) = node else {
         return Err(FromValueError::NotAValue);
     };
     Ok(ZipStoreOutputDescription::Split {
@@ -111,17 +112,17 @@ impl Form for ZipStoreOutput {
     }
 
     #[tactic(auto, unfolding(crate::specs::Outputs::stored_output_form))]
-    fn from_value(alloc: Global, value: &Value) -> Result<ZipStoreOutput, FromValueError> {
-        match value {
-            Value::String(name) => match name.as_str() {
+    fn from_node(alloc: Global, node: &Node<'_>) -> Result<ZipStoreOutput, FromValueError> {
+        match node {
+            Node::String(name) => match *name {
                 "empty" => Ok(ZipStoreOutput::Empty),
                 _ => Err(FromValueError::NotAValue),
             },
-            Value::Object(object) => match only_member(object) {
-                Some(("full", value)) => Ok(ZipStoreOutput::Full {
-                    file_name: OutputFileName::from_value(alloc, value)?,
+            Node::Object(object) => match only_member(object) {
+                Some(("full", node)) => Ok(ZipStoreOutput::Full {
+                    file_name: OutputFileName::from_node(alloc, node)?,
                 }),
-                Some(("truncated", value)) => truncated_from(alloc, value),
+                Some(("truncated", node)) => truncated_from(alloc, node),
                 _ => Err(FromValueError::NotAValue),
             },
             _ => Err(FromValueError::NotAValue),
@@ -163,17 +164,17 @@ impl Form for ZipStoreOutputDescription {
     }
 
     #[tactic(auto, unfolding(crate::specs::Outputs::stored_outputs_form))]
-    fn from_value(
+    fn from_node(
         alloc: Global,
-        value: &Value,
+        node: &Node<'_>,
     ) -> Result<ZipStoreOutputDescription, FromValueError> {
-        let Value::Object(object) = value else {
+        let Node::Object(object) = node else {
             return Err(FromValueError::NotAValue);
         };
         match only_member(object) {
-            Some(("split", value)) => split_from(alloc, value),
-            Some(("combined", value)) => Ok(ZipStoreOutputDescription::Combined {
-                output: ZipStoreOutput::from_value(alloc, value)?,
+            Some(("split", node)) => split_from(alloc, node),
+            Some(("combined", node)) => Ok(ZipStoreOutputDescription::Combined {
+                output: ZipStoreOutput::from_node(alloc, node)?,
             }),
             _ => Err(FromValueError::NotAValue),
         }

@@ -2,6 +2,7 @@
 use crate::fields::{put_field, required_field};
 use crate::{Form, FromValueError};
 use rec_events::{NextestRunMode, RecordOpts, TestListSummary};
+use rec_json::Node;
 use serde_json::{Map, Value};
 use std::alloc::{AllocError, Global};
 
@@ -33,8 +34,8 @@ impl Form for NextestRunMode {
     }
 
     #[tactic(auto, unfolding(crate::specs::Recording::run_mode_form))]
-    fn from_value(_alloc: Global, value: &Value) -> Result<NextestRunMode, FromValueError> {
-        match value.as_str() {
+    fn from_node(_alloc: Global, node: &Node<'_>) -> Result<NextestRunMode, FromValueError> {
+        match node.as_str() {
             Some("test") => Ok(NextestRunMode::Test),
             Some("benchmark") => Ok(NextestRunMode::Benchmark),
             _ => Err(FromValueError::NotAValue),
@@ -69,8 +70,8 @@ impl Form for RecordOpts {
     }
 
     #[tactic(auto, unfolding(crate::specs::Recording::record_opts_form))]
-    fn from_value(alloc: Global, value: &Value) -> Result<RecordOpts, FromValueError> {
-        let Value::Object(object) = value else {
+    fn from_node(alloc: Global, node: &Node<'_>) -> Result<RecordOpts, FromValueError> {
+        let Node::Object(object) = node else {
             return Err(FromValueError::NotAValue);
         };
         Ok(RecordOpts {
@@ -105,8 +106,8 @@ impl Form for TestListSummary {
     }
 
     #[tactic(auto, unfolding(crate::specs::Recording::test_list_form))]
-    fn from_value(alloc: Global, value: &Value) -> Result<TestListSummary, FromValueError> {
-        let Value::Object(object) = value else {
+    fn from_node(alloc: Global, node: &Node<'_>) -> Result<TestListSummary, FromValueError> {
+        let Node::Object(object) = node else {
             return Err(FromValueError::NotAValue);
         };
         Ok(TestListSummary {

@@ -1,6 +1,7 @@
 //! How the outcome of a test is shown and reported.
 use crate::{Form, FromValueError};
 use rec_events::{CancelReason, JunitFlakyFailStatus, TestOutputDisplay};
+use rec_json::Node;
 use serde_json::Value;
 use std::alloc::{AllocError, Global};
 
@@ -34,8 +35,8 @@ impl Form for TestOutputDisplay {
     }
 
     #[tactic(auto, unfolding(crate::specs::Reporting::output_display_form))]
-    fn from_value(_alloc: Global, value: &Value) -> Result<TestOutputDisplay, FromValueError> {
-        match value.as_str() {
+    fn from_node(_alloc: Global, node: &Node<'_>) -> Result<TestOutputDisplay, FromValueError> {
+        match node.as_str() {
             Some("immediate") => Ok(TestOutputDisplay::Immediate),
             Some("final") => Ok(TestOutputDisplay::Final),
             Some("immediate-final") => Ok(TestOutputDisplay::ImmediateFinal),
@@ -73,8 +74,8 @@ impl Form for JunitFlakyFailStatus {
     }
 
     #[tactic(auto, unfolding(crate::specs::Reporting::flaky_fail_status_form))]
-    fn from_value(_alloc: Global, value: &Value) -> Result<JunitFlakyFailStatus, FromValueError> {
-        match value.as_str() {
+    fn from_node(_alloc: Global, node: &Node<'_>) -> Result<JunitFlakyFailStatus, FromValueError> {
+        match node.as_str() {
             Some("failure") => Ok(JunitFlakyFailStatus::Failure),
             Some("success") => Ok(JunitFlakyFailStatus::Success),
             _ => Err(FromValueError::NotAValue),
@@ -116,8 +117,8 @@ impl Form for CancelReason {
     }
 
     #[tactic(auto, unfolding(crate::specs::Reporting::cancel_reason_form))]
-    fn from_value(_alloc: Global, value: &Value) -> Result<CancelReason, FromValueError> {
-        match value.as_str() {
+    fn from_node(_alloc: Global, node: &Node<'_>) -> Result<CancelReason, FromValueError> {
+        match node.as_str() {
             Some("setup-script-failure") => Ok(CancelReason::SetupScriptFailure),
             Some("test-failure") => Ok(CancelReason::TestFailure),
             Some("report-error") => Ok(CancelReason::ReportError),

@@ -1,15 +1,16 @@
 //! How a test, a script or an attempt ended.
 ghost use Rattle.std.specs.Prelude.{◌≡◌};
-ghost use Rattle.serde_json.specs.View.{view};
+ghost use Rattle.rec_json.specs.Nodes.{view};
 ghost use Rattle.rec_forms.specs.Gives.{Gives};
 ghost use Rattle.rec_forms.specs.Results.{abort_form, fail_form};
 
-use crate::fields::{only_member, optional_field, put_field, put_optional, required_field, tagged};
+use crate::fields::{optional_field, put_field, put_optional, required_field, tagged};
 use crate::{Form, FromValueError};
 use rec_events::{
     ExecutionResultDescription, FailureDescription, FlakyResult, LeakTimeoutResult,
     SlowTimeoutResult,
 };
+use rec_json::{Node, only_member};
 use serde_json::{Map, Value};
 use std::alloc::{AllocError, Global};
 
@@ -41,8 +42,8 @@ impl Form for FlakyResult {
     }
 
     #[tactic(auto, unfolding(crate::specs::Results::flaky_result_form))]
-    fn from_value(_alloc: Global, value: &Value) -> Result<FlakyResult, FromValueError> {
-        match value.as_str() {
+    fn from_node(_alloc: Global, node: &Node<'_>) -> Result<FlakyResult, FromValueError> {
+        match node.as_str() {
             Some("pass") => Ok(FlakyResult::Pass),
             Some("fail") => Ok(FlakyResult::Fail),
             _ => Err(FromValueError::NotAValue),
@@ -78,8 +79,8 @@ impl Form for LeakTimeoutResult {
     }
 
     #[tactic(auto, unfolding(crate::specs::Results::leak_result_form))]
-    fn from_value(_alloc: Global, value: &Value) -> Result<LeakTimeoutResult, FromValueError> {
-        match value.as_str() {
+    fn from_node(_alloc: Global, node: &Node<'_>) -> Result<LeakTimeoutResult, FromValueError> {
+        match node.as_str() {
             Some("pass") => Ok(LeakTimeoutResult::Pass),
             Some("fail") => Ok(LeakTimeoutResult::Fail),
             _ => Err(FromValueError::NotAValue),
@@ -115,8 +116,8 @@ impl Form for SlowTimeoutResult {
     }
 
     #[tactic(auto, unfolding(crate::specs::Results::slow_result_form))]
-    fn from_value(_alloc: Global, value: &Value) -> Result<SlowTimeoutResult, FromValueError> {
-        match value.as_str() {
+    fn from_node(_alloc: Global, node: &Node<'_>) -> Result<SlowTimeoutResult, FromValueError> {
+        match node.as_str() {
             Some("pass") => Ok(SlowTimeoutResult::Pass),
             Some("fail") => Ok(SlowTimeoutResult::Fail),
             _ => Err(FromValueError::NotAValue),
@@ -158,15 +159,15 @@ impl Form for FailureDescription {
     }
 
     #[tactic(auto, unfolding(crate::specs::Results::failure_form))]
-    fn from_value(alloc: Global, value: &Value) -> Result<FailureDescription, FromValueError> {
-        let Value::Object(object) = value else {
+    fn from_node(alloc: Global, node: &Node<'_>) -> Result<FailureDescription, FromValueError> {
+        let Node::Object(object) = node else {
             return Err(FromValueError::NotAValue);
         };
         match only_member(object) {
-            Some(("exit-code", value)) => Ok(FailureDescription::ExitCode {
-                code: i32::from_value(alloc, value)?,
+            Some(("exit-code", node)) => Ok(FailureDescription::ExitCode {
+                code: i32::from_node(alloc, node)?,
             }),
-            Some(("abort", value)) => abort_from(alloc, value),
+            Some(("abort", node)) => abort_from(alloc, node),
             _ => Err(FromValueError::NotAValue),
         }
     }
@@ -174,10 +175,10 @@ impl Form for FailureDescription {
 
 /// Reads the fields of an abort.
 #[tactic(auto, unfolding(crate::specs::Results::abort_form))]
-fn abort_from(alloc: Global, value: &Value) -> Result<FailureDescription, FromValueError>
-    ensures { Gives result (abort_form (view value.now)) }
+fn abort_from(alloc: Global, node: &Node<'_>) -> Result<FailureDescription, FromValueError>
+    ensures { Gives result (abort_form (view node.now)) }
 {
-    let Value::Object(fields) = value else {
+    let Node::Object(fields) = node else {
         return Err(FromValueError::NotAValue);
     };
     Ok(FailureDescription::Abort {
@@ -225,23 +226,23 @@ impl Form for ExecutionResultDescription {
     }
 
     #[tactic(auto, unfolding(crate::specs::Results::execution_result_form))]
-    fn from_value(
+    fn from_node(
         alloc: Global,
-        value: &Value,
+        node: &Node<'_>,
     ) -> Result<ExecutionResultDescription, FromValueError> {
-        match value {
-            Value::String(name) => match name.as_str() {
+        match node {
+            Node::String(name) => match *name {
                 "pass" => Ok(ExecutionResultDescription::Pass),
                 "exec-fail" => Ok(ExecutionResultDescription::ExecFail),
                 _ => Err(FromValueError::NotAValue),
             },
-            Value::Object(object) => match only_member(object) {
-                Some(("leak", value)) => Ok(ExecutionResultDescription::Leak {
-                    result: LeakTimeoutResult::from_value(alloc, value)?,
+            Node::Object(object) => match only_member(object) {
+                Some(("leak", node)) => Ok(ExecutionResultDescription::Leak {
+                    result: LeakTimeoutResult::from_node(alloc, node)?,
                 }),
-                Some(("fail", value)) => fail_from(alloc, value),
-                Some(("timeout", value)) => Ok(ExecutionResultDescription::Timeout {
-                    result: SlowTimeoutResult::from_value(alloc, value)?,
+                Some(("fail", node)) => fail_from(alloc, node),
+                Some(("timeout", node)) => Ok(ExecutionResultDescription::Timeout {
+                    result: SlowTimeoutResult::from_node(alloc, node)?,
                 }),
                 _ => Err(FromValueError::NotAValue),
             },
@@ -252,10 +253,10 @@ impl Form for ExecutionResultDescription {
 
 /// Reads the fields of a failure.
 #[tactic(auto, unfolding(crate::specs::Results::fail_form))]
-fn fail_from(alloc: Global, value: &Value) -> Result<ExecutionResultDescription, FromValueError>
-    ensures { Gives result (fail_form (view value.now)) }
+fn fail_from(alloc: Global, node: &Node<'_>) -> Result<ExecutionResultDescription, FromValueError>
+    ensures { Gives result (fail_form (view node.now)) }
 {
-    let Value::Object(fields) = value else {
+    let Node::Object(fields) = node else {
         return Err(FromValueError::NotAValue);
     };
     Ok(ExecutionResultDescription::Fail {

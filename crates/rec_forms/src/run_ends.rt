@@ -1,10 +1,11 @@
 //! How a run ended.
-use crate::fields::{only_member, put_field, required_field, tagged};
+use crate::fields::{put_field, required_field, tagged};
 use crate::{Form, FromValueError};
 use rec_events::{
     FinalRunStats, RunFinishedStats, RunStats, StressFinalRunStats, StressRunStats,
     TestsNotSeenSummary,
 };
+use rec_json::{Node, only_member};
 use serde_json::{Map, Value};
 use std::alloc::{AllocError, Global};
 
@@ -38,8 +39,8 @@ impl Form for FinalRunStats {
     }
 
     #[tactic(auto, unfolding(crate::specs::RunEnds::final_stats_form))]
-    fn from_value(_alloc: Global, value: &Value) -> Result<FinalRunStats, FromValueError> {
-        match value.as_str() {
+    fn from_node(_alloc: Global, node: &Node<'_>) -> Result<FinalRunStats, FromValueError> {
+        match node.as_str() {
             Some("success") => Ok(FinalRunStats::Success),
             Some("no-tests-run") => Ok(FinalRunStats::NoTestsRun),
             Some("failed") => Ok(FinalRunStats::Failed),
@@ -79,8 +80,8 @@ impl Form for StressFinalRunStats {
     }
 
     #[tactic(auto, unfolding(crate::specs::RunEnds::stress_final_stats_form))]
-    fn from_value(_alloc: Global, value: &Value) -> Result<StressFinalRunStats, FromValueError> {
-        match value.as_str() {
+    fn from_node(_alloc: Global, node: &Node<'_>) -> Result<StressFinalRunStats, FromValueError> {
+        match node.as_str() {
             Some("success") => Ok(StressFinalRunStats::Success),
             Some("no-tests-run") => Ok(StressFinalRunStats::NoTestsRun),
             Some("failed") => Ok(StressFinalRunStats::Failed),
@@ -124,8 +125,8 @@ impl Form for StressRunStats {
     }
 
     #[tactic(auto, unfolding(crate::specs::RunEnds::stress_run_stats_form))]
-    fn from_value(alloc: Global, value: &Value) -> Result<StressRunStats, FromValueError> {
-        let Value::Object(object) = value else {
+    fn from_node(alloc: Global, node: &Node<'_>) -> Result<StressRunStats, FromValueError> {
+        let Node::Object(object) = node else {
             return Err(FromValueError::NotAValue);
         };
         Ok(StressRunStats {
@@ -163,16 +164,16 @@ impl Form for RunFinishedStats {
     }
 
     #[tactic(auto, unfolding(crate::specs::RunEnds::run_finished_stats_form))]
-    fn from_value(alloc: Global, value: &Value) -> Result<RunFinishedStats, FromValueError> {
-        let Value::Object(object) = value else {
+    fn from_node(alloc: Global, node: &Node<'_>) -> Result<RunFinishedStats, FromValueError> {
+        let Node::Object(object) = node else {
             return Err(FromValueError::NotAValue);
         };
         match only_member(object) {
-            Some(("single", value)) => Ok(RunFinishedStats::Single(RunStats::from_value(
-                alloc, value,
+            Some(("single", node)) => Ok(RunFinishedStats::Single(RunStats::from_node(
+                alloc, node,
             )?)),
-            Some(("stress", value)) => Ok(RunFinishedStats::Stress(StressRunStats::from_value(
-                alloc, value,
+            Some(("stress", node)) => Ok(RunFinishedStats::Stress(StressRunStats::from_node(
+                alloc, node,
             )?)),
             _ => Err(FromValueError::NotAValue),
         }
@@ -206,8 +207,8 @@ impl Form for TestsNotSeenSummary {
     }
 
     #[tactic(auto, unfolding(crate::specs::RunEnds::tests_not_seen_form))]
-    fn from_value(alloc: Global, value: &Value) -> Result<TestsNotSeenSummary, FromValueError> {
-        let Value::Object(object) = value else {
+    fn from_node(alloc: Global, node: &Node<'_>) -> Result<TestsNotSeenSummary, FromValueError> {
+        let Node::Object(object) = node else {
             return Err(FromValueError::NotAValue);
         };
         Ok(TestsNotSeenSummary {

@@ -4,6 +4,7 @@ use crate::{Form, FromValueError};
 use rec_events::{
     BuildScope, FeatureSelection, Items, NamedTargets, PackageSelection, TargetSelection,
 };
+use rec_json::Node;
 use serde_json::{Map, Value};
 use std::alloc::{AllocError, Global};
 
@@ -34,8 +35,8 @@ impl Form for NamedTargets {
     }
 
     #[tactic(auto, unfolding(crate::specs::Selections::named_targets_form))]
-    fn from_value(alloc: Global, value: &Value) -> Result<NamedTargets, FromValueError> {
-        let Value::Object(object) = value else {
+    fn from_node(alloc: Global, node: &Node<'_>) -> Result<NamedTargets, FromValueError> {
+        let Node::Object(object) = node else {
             return Err(FromValueError::NotAValue);
         };
         Ok(NamedTargets {
@@ -73,8 +74,8 @@ impl Form for PackageSelection {
     }
 
     #[tactic(auto, unfolding(crate::specs::Selections::package_selection_form))]
-    fn from_value(alloc: Global, value: &Value) -> Result<PackageSelection, FromValueError> {
-        let Value::Object(object) = value else {
+    fn from_node(alloc: Global, node: &Node<'_>) -> Result<PackageSelection, FromValueError> {
+        let Node::Object(object) = node else {
             return Err(FromValueError::NotAValue);
         };
         Ok(PackageSelection {
@@ -116,8 +117,8 @@ impl Form for TargetSelection {
     }
 
     #[tactic(auto, unfolding(crate::specs::Selections::target_selection_form))]
-    fn from_value(alloc: Global, value: &Value) -> Result<TargetSelection, FromValueError> {
-        let Value::Object(object) = value else {
+    fn from_node(alloc: Global, node: &Node<'_>) -> Result<TargetSelection, FromValueError> {
+        let Node::Object(object) = node else {
             return Err(FromValueError::NotAValue);
         };
         Ok(TargetSelection {
@@ -164,8 +165,8 @@ impl Form for FeatureSelection {
     }
 
     #[tactic(auto, unfolding(crate::specs::Selections::feature_selection_form))]
-    fn from_value(alloc: Global, value: &Value) -> Result<FeatureSelection, FromValueError> {
-        let Value::Object(object) = value else {
+    fn from_node(alloc: Global, node: &Node<'_>) -> Result<FeatureSelection, FromValueError> {
+        let Node::Object(object) = node else {
             return Err(FromValueError::NotAValue);
         };
         Ok(FeatureSelection {
@@ -204,8 +205,8 @@ impl Form for BuildScope {
     }
 
     #[tactic(auto, unfolding(crate::specs::Selections::build_scope_form))]
-    fn from_value(alloc: Global, value: &Value) -> Result<BuildScope, FromValueError> {
-        let Value::Object(object) = value else {
+    fn from_node(alloc: Global, node: &Node<'_>) -> Result<BuildScope, FromValueError> {
+        let Node::Object(object) = node else {
             return Err(FromValueError::NotAValue);
         };
         Ok(BuildScope {

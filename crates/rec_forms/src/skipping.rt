@@ -1,6 +1,7 @@
 //! Why tests are skipped, and which of these a report names.
 use crate::{Form, FromValueError};
 use rec_events::{MismatchReason, ReportSkipPolicy};
+use rec_json::Node;
 use serde_json::Value;
 use std::alloc::{AllocError, Global};
 
@@ -37,8 +38,8 @@ impl Form for MismatchReason {
     }
 
     #[tactic(auto, unfolding(crate::specs::Skipping::mismatch_reason_form))]
-    fn from_value(_alloc: Global, value: &Value) -> Result<MismatchReason, FromValueError> {
-        match value.as_str() {
+    fn from_node(_alloc: Global, node: &Node<'_>) -> Result<MismatchReason, FromValueError> {
+        match node.as_str() {
             Some("not-benchmark") => Ok(MismatchReason::NotBenchmark),
             Some("ignored") => Ok(MismatchReason::Ignored),
             Some("string") => Ok(MismatchReason::String),
@@ -80,8 +81,8 @@ impl Form for ReportSkipPolicy {
     }
 
     #[tactic(auto, unfolding(crate::specs::Skipping::skip_policy_form))]
-    fn from_value(_alloc: Global, value: &Value) -> Result<ReportSkipPolicy, FromValueError> {
-        match value.as_str() {
+    fn from_node(_alloc: Global, node: &Node<'_>) -> Result<ReportSkipPolicy, FromValueError> {
+        match node.as_str() {
             Some("none") => Ok(ReportSkipPolicy::None),
             Some("ignored") => Ok(ReportSkipPolicy::Ignored),
             Some("all") => Ok(ReportSkipPolicy::All),

@@ -1,12 +1,14 @@
 //! The counts of a run, in three parts.
 ghost use Rattle.std.specs.Prelude.{◌≡◌, OnOk};
-ghost use Rattle.serde_json.specs.View.{members_view};
+ghost use Rattle.serde_json.specs.View.{members_view as value_members};
+ghost use Rattle.rec_json.specs.Nodes.{members_view};
 ghost use Rattle.rec_forms.specs.Gives.{Gives};
 ghost use Rattle.rec_forms.specs.Shape.{with_members};
 
 use crate::fields::{Object, optional_field, put_field, put_optional, required_field};
 use crate::{Form, FromValueError};
 use rec_events::RunStats;
+use rec_json::Node;
 use serde_json::{Map, Value};
 use std::alloc::{AllocError, Global};
 
@@ -26,8 +28,8 @@ impl Setup {
 
     /// Writes this part of `stats`.
     fn put(alloc: Global, object: &mut Object, stats: &RunStats) -> Result<(), AllocError>
-        ensures written { OnOk result (members_view object.new.entries
-            ≡ with_members (members_view object.old.entries) (setup_fields stats.now)) }
+        ensures written { OnOk result (value_members object.new.entries
+            ≡ with_members (value_members object.old.entries) (setup_fields stats.now)) }
         ensures known { OnOk result (AreSetup stats.now) }
     {
         put_field(
@@ -71,8 +73,8 @@ impl Setup {
 
     /// Reads this part.
     #[tactic(auto, unfolding(crate::specs::Stats::setup_form))]
-    fn read(alloc: Global, object: &Object) -> Result<Setup, FromValueError>
-        ensures { Gives result (setup_form (members_view object.now.entries)) }
+    fn read<'a>(alloc: Global, object: &[(&'a str, Node<'a>)]) -> Result<Setup, FromValueError>
+        ensures { Gives result (setup_form (members_view object.now)) }
     {
         Ok(Setup {
             setup_scripts_initial_count: required_field(
@@ -109,8 +111,8 @@ impl Passes {
 
     /// Writes this part of `stats`.
     fn put(alloc: Global, object: &mut Object, stats: &RunStats) -> Result<(), AllocError>
-        ensures written { OnOk result (members_view object.new.entries
-            ≡ with_members (members_view object.old.entries) (passes_fields stats.now)) }
+        ensures written { OnOk result (value_members object.new.entries
+            ≡ with_members (value_members object.old.entries) (passes_fields stats.now)) }
         ensures known { OnOk result (ArePasses stats.now) }
     {
         put_field(alloc, object, "initial-run-count", &stats.initial_run_count)?;
@@ -124,8 +126,8 @@ impl Passes {
 
     /// Reads this part.
     #[tactic(auto, unfolding(crate::specs::Stats::passes_form))]
-    fn read(alloc: Global, object: &Object) -> Result<Passes, FromValueError>
-        ensures { Gives result (passes_form (members_view object.now.entries)) }
+    fn read<'a>(alloc: Global, object: &[(&'a str, Node<'a>)]) -> Result<Passes, FromValueError>
+        ensures { Gives result (passes_form (members_view object.now)) }
     {
         Ok(Passes {
             initial_run_count: required_field(alloc, object, "initial-run-count")?,
@@ -155,8 +157,8 @@ impl Failures {
 
     /// Writes this part of `stats`.
     fn put(alloc: Global, object: &mut Object, stats: &RunStats) -> Result<(), AllocError>
-        ensures written { OnOk result (members_view object.new.entries
-            ≡ with_members (members_view object.old.entries) (failures_fields stats.now)) }
+        ensures written { OnOk result (value_members object.new.entries
+            ≡ with_members (value_members object.old.entries) (failures_fields stats.now)) }
         ensures known { OnOk result (AreFailures stats.now) }
     {
         put_field(alloc, object, "failed", &stats.failed)?;
@@ -171,8 +173,8 @@ impl Failures {
 
     /// Reads this part.
     #[tactic(auto, unfolding(crate::specs::Stats::failures_form))]
-    fn read(alloc: Global, object: &Object) -> Result<Failures, FromValueError>
-        ensures { Gives result (failures_form (members_view object.now.entries)) }
+    fn read<'a>(alloc: Global, object: &[(&'a str, Node<'a>)]) -> Result<Failures, FromValueError>
+        ensures { Gives result (failures_form (members_view object.now)) }
     {
         Ok(Failures {
             failed: required_field(alloc, object, "failed")?,
@@ -215,8 +217,8 @@ impl Form for RunStats {
     }
 
     #[tactic(auto, unfolding(crate::specs::Stats::run_stats_form))]
-    fn from_value(alloc: Global, value: &Value) -> Result<RunStats, FromValueError> {
-        let Value::Object(object) = value else {
+    fn from_node(alloc: Global, node: &Node<'_>) -> Result<RunStats, FromValueError> {
+        let Node::Object(object) = node else {
             return Err(FromValueError::NotAValue);
         };
         let setup = Setup::read(alloc, object)?;

@@ -1,12 +1,13 @@
 //! What ends a stress run, and how far it got.
 ghost use Rattle.std.specs.Prelude.{◌≡◌};
-ghost use Rattle.serde_json.specs.View.{view};
+ghost use Rattle.rec_json.specs.Nodes.{view};
 ghost use Rattle.rec_forms.specs.Gives.{Gives};
 ghost use Rattle.rec_forms.specs.Stress.{count_progress_form, time_progress_form};
 
-use crate::fields::{only_member, optional_field, put_field, put_optional, required_field, tagged};
+use crate::fields::{optional_field, put_field, put_optional, required_field, tagged};
 use crate::{Form, FromValueError};
 use rec_events::{Duration, StressConditionSummary, StressProgress};
+use rec_json::{Node, only_member};
 use serde_json::{Map, Value};
 use std::alloc::{AllocError, Global};
 
@@ -41,17 +42,17 @@ impl Form for StressConditionSummary {
     }
 
     #[tactic(auto, unfolding(crate::specs::Stress::stress_condition_form))]
-    fn from_value(alloc: Global, value: &Value) -> Result<StressConditionSummary, FromValueError> {
-        let Value::Object(object) = value else {
+    fn from_node(alloc: Global, node: &Node<'_>) -> Result<StressConditionSummary, FromValueError> {
+        let Node::Object(object) = node else {
             return Err(FromValueError::NotAValue);
         };
         match only_member(object) {
-            Some(("count", Value::Null)) => Ok(StressConditionSummary::Count { count: None }),
-            Some(("count", value)) => Ok(StressConditionSummary::Count {
-                count: Some(u32::from_value(alloc, value)?),
+            Some(("count", Node::Null)) => Ok(StressConditionSummary::Count { count: None }),
+            Some(("count", node)) => Ok(StressConditionSummary::Count {
+                count: Some(u32::from_node(alloc, node)?),
             }),
-            Some(("duration", value)) => Ok(StressConditionSummary::Duration {
-                duration: Duration::from_value(alloc, value)?,
+            Some(("duration", node)) => Ok(StressConditionSummary::Duration {
+                duration: Duration::from_node(alloc, node)?,
             }),
             _ => Err(FromValueError::NotAValue),
         }
@@ -105,13 +106,13 @@ impl Form for StressProgress {
     }
 
     #[tactic(auto, unfolding(crate::specs::Stress::stress_progress_form))]
-    fn from_value(alloc: Global, value: &Value) -> Result<StressProgress, FromValueError> {
-        let Value::Object(object) = value else {
+    fn from_node(alloc: Global, node: &Node<'_>) -> Result<StressProgress, FromValueError> {
+        let Node::Object(object) = node else {
             return Err(FromValueError::NotAValue);
         };
         match only_member(object) {
-            Some(("count", value)) => count_from(alloc, value),
-            Some(("time", value)) => time_from(alloc, value),
+            Some(("count", node)) => count_from(alloc, node),
+            Some(("time", node)) => time_from(alloc, node),
             _ => Err(FromValueError::NotAValue),
         }
     }
@@ -119,10 +120,10 @@ impl Form for StressProgress {
 
 /// Reads how far a stress run of some number of sub-runs has come.
 #[tactic(auto, unfolding(crate::specs::Stress::count_progress_form))]
-fn count_from(alloc: Global, value: &Value) -> Result<StressProgress, FromValueError>
-    ensures { Gives result (count_progress_form (view value.now)) }
+fn count_from(alloc: Global, node: &Node<'_>) -> Result<StressProgress, FromValueError>
+    ensures { Gives result (count_progress_form (view node.now)) }
 {
-    let Value::Object(fields) = value else {
+    let Node::Object(fields) = node else {
         return Err(FromValueError::NotAValue);
     };
     Ok(StressProgress::Count {
@@ -134,10 +135,10 @@ fn count_from(alloc: Global, value: &Value) -> Result<StressProgress, FromValueE
 
 /// Reads how far a stress run of some length has come.
 #[tactic(auto, unfolding(crate::specs::Stress::time_progress_form))]
-fn time_from(alloc: Global, value: &Value) -> Result<StressProgress, FromValueError>
-    ensures { Gives result (time_progress_form (view value.now)) }
+fn time_from(alloc: Global, node: &Node<'_>) -> Result<StressProgress, FromValueError>
+    ensures { Gives result (time_progress_form (view node.now)) }
 {
-    let Value::Object(fields) = value else {
+    let Node::Object(fields) = node else {
         return Err(FromValueError::NotAValue);
     };
     Ok(StressProgress::Time {

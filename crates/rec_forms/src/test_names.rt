@@ -1,6 +1,7 @@
 //! Sets of test names.
 use crate::{Form, FromValueError};
 use rec_events::{Items, TestCaseName, TestNames};
+use rec_json::Node;
 use serde_json::Value;
 use std::alloc::{AllocError, Global};
 
@@ -31,8 +32,8 @@ impl Form for TestNames {
     }
 
     #[tactic(auto, unfolding(crate::specs::Names::names_form))]
-    fn from_value(alloc: Global, value: &Value) -> Result<TestNames, FromValueError> {
-        let names: Items<TestCaseName> = Items::from_value(alloc, value)?;
+    fn from_node(alloc: Global, node: &Node<'_>) -> Result<TestNames, FromValueError> {
+        let names: Items<TestCaseName> = Items::from_node(alloc, node)?;
         let mut set = TestNames::empty(alloc);
         for name in names.into_vec() {
             set.insert(name)?;

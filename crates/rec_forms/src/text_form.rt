@@ -2,13 +2,13 @@
 ghost use Rattle.std.specs.Prelude.{◌≡◌, ◌≤◌, Some, IfOk, IsTrue};
 ghost use Rattle.std.specs.Str.{is_utf8};
 ghost use Rattle.serde_json.specs.Read.{max_depth, read};
-ghost use Rattle.serde_json.specs.View.{view};
 ghost use Rattle.serde_json.specs.Written.{compact_text};
+ghost use Rattle.rec_json.specs.Nodes.{view};
 ghost use Rattle.rec_forms.specs.Gives.{Gives, GivesBy};
-ghost use Rattle.rec_forms.specs.TextForm.{value_in, text_form, bytes_form};
+ghost use Rattle.rec_forms.specs.TextForm.{text_form, bytes_form};
 
 use crate::{Form, FromValueError};
-use serde_json::Value;
+use rec_json::{Node, ReadError, Scratch};
 use std::alloc::{AllocError, Global};
 
 /// Reads an item from its JSON text.
@@ -32,38 +32,32 @@ pub fn read_text<T: Form>(alloc: Global, bytes: &[u8]) -> Result<T, FromValueErr
     ensures read { Gives result (bytes_form T.form_of bytes.now) }
     ensures known { IfOk result T.well_formed }
 {
-    let value = read_value(alloc, bytes)?;
-    T::from_value(alloc, &value)
+    let Ok(text) = std::str::from_utf8(bytes) else {
+        return Err(FromValueError::NotAValue);
+    };
+    let mut scratch = Scratch::new(alloc);
+    let node = parse_node(alloc, text, &mut scratch)?;
+    T::from_node(alloc, &node)
 }
 
-/// Reads the value that bytes are.
-fn read_value(alloc: Global, bytes: &[u8]) -> Result<Value, FromValueError>
-    ensures { GivesBy view result (value_in bytes.now) }
-{
-    match std::str::from_utf8(bytes) {
-        Ok(text) => parse_value(alloc, text),
-        Err(_) => Err(FromValueError::NotAValue),
-    }
-}
-
-/// Reads the value of a JSON text.
+/// Reads the value of a JSON text as a node, which borrows its texts. `scratch` is where texts with escapes
+/// are put; it can be lent to one read after another.
 ///
 /// # Errors
 ///
 /// - `NotAValue` exactly where `text` is not the text of a JSON value.
 /// - `OutOfMemory` if memory runs out.
-pub fn parse_value(alloc: Global, text: &str) -> Result<Value, FromValueError>
+pub fn parse_node<'a>(
+    alloc: Global,
+    text: &'a str,
+    scratch: &'a mut Scratch,
+) -> Result<Node<'a>, FromValueError>
     ensures { GivesBy view result (read text.now) }
 {
-    match Value::from_str(alloc, text) {
-        Ok(value) => Ok(value),
-        Err(error) => {
-            if error.is_memory() {
-                Err(FromValueError::OutOfMemory)
-            } else {
-                Err(FromValueError::NotAValue)
-            }
-        }
+    match Node::parse(alloc, text, scratch) {
+        Ok(node) => Ok(node),
+        Err(ReadError::Invalid) => Err(FromValueError::NotAValue),
+        Err(ReadError::OutOfMemory) => Err(FromValueError::OutOfMemory),
     }
 }
 

@@ -4,6 +4,7 @@ ghost use Rattle.rec_forms.specs.Shape.{text_of};
 
 use crate::{Form, FromValueError, Held};
 use rec_events::Text;
+use rec_json::Node;
 use serde_json::Value;
 use std::alloc::{AllocError, Global};
 
@@ -30,8 +31,8 @@ impl Form for Text {
         Value::try_from_str(alloc, self.as_str())
     }
 
-    fn from_value(alloc: Global, value: &Value) -> Result<Text, FromValueError> {
-        match value.as_str() {
+    fn from_node(alloc: Global, node: &Node<'_>) -> Result<Text, FromValueError> {
+        match node.as_str() {
             Some(text) => Ok(Text::from_str(alloc, text)?),
             None => Err(FromValueError::NotAValue),
         }

@@ -2,6 +2,7 @@
 use crate::fields::{put_field, required_field};
 use crate::{Form, FromValueError, Held};
 use rec_events::{Duration, Stamp};
+use rec_json::Node;
 use serde_json::{Map, Value};
 use std::alloc::{AllocError, Global};
 
@@ -33,8 +34,8 @@ impl Form for Stamp {
     }
 
     #[tactic(auto, unfolding(crate::specs::Times::stamp_form))]
-    fn from_value(alloc: Global, value: &Value) -> Result<Stamp, FromValueError> {
-        let Value::Object(object) = value else {
+    fn from_node(alloc: Global, node: &Node<'_>) -> Result<Stamp, FromValueError> {
+        let Node::Object(object) = node else {
             return Err(FromValueError::NotAValue);
         };
         let secs = required_field(alloc, object, "secs")?;
@@ -79,8 +80,8 @@ impl Form for Duration {
     }
 
     #[tactic(auto, unfolding(crate::specs::Times::duration_form))]
-    fn from_value(alloc: Global, value: &Value) -> Result<Duration, FromValueError> {
-        let Value::Object(object) = value else {
+    fn from_node(alloc: Global, node: &Node<'_>) -> Result<Duration, FromValueError> {
+        let Node::Object(object) = node else {
             return Err(FromValueError::NotAValue);
         };
         let secs = required_field(alloc, object, "secs")?;

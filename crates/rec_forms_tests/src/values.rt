@@ -1,10 +1,11 @@
 //! Counts, lists and members of objects, as JSON.
 
-use rec_events::{Items, NonZeroCount};
+use rec_events::{Items, NonZeroCount, TextMap};
 use rec_forms::{
-    Form, FromValueError, only_member, optional_field, put_field, put_optional, read_text, tagged,
+    Form, FromValueError, optional_field, parse_node, put_field, put_optional, read_text, tagged,
     write_text,
 };
+use rec_json::{Node, Scratch};
 use serde_json::{Map, Value};
 use std::alloc::Global;
 use std::process::Abort;
@@ -55,18 +56,58 @@ fn lists(rt: HostRuntime) -> Result<(), Fail> {
     )
 }
 
-#[test]
-fn members(rt: HostRuntime) -> Result<(), Fail> {
-    let alloc = rt.alloc();
-    let value = Value::from_str(alloc, "{\"a\":null,\"b\":1,\"d\":-1}")?;
-    let object = value.as_object().ok_or("no object")?;
-    assert_eq!(rt; optional_field::<u32>(alloc, object, "a")?, None);
-    assert_eq!(rt; optional_field::<u32>(alloc, object, "b")?, Some(1));
-    assert_eq!(rt; optional_field::<u32>(alloc, object, "c")?, None);
-    let refused = optional_field::<u32>(alloc, object, "d");
-    assert_eq!(rt; refused, Err(FromValueError::NotAValue));
-    assert!(rt; only_member(object).is_none());
+// What the fields of an object are read as, where they may be missing.
+fn optional_at(alloc: Global, node: &Node<'_>, key: &str) -> Result<Option<u32>, FromValueError> {
+    let Node::Object(object) = node else {
+        return Err(FromValueError::NotAValue);
+    };
+    optional_field(alloc, object, key)
+}
 
+#[test]
+fn optional_fields(rt: HostRuntime) -> Result<(), Fail> {
+    let alloc = rt.alloc();
+    let mut scratch = Scratch::new(alloc);
+    let text = r#"{"a":7,"b":1,"d":-1,"a":null}"#;
+    let node = parse_node(alloc, text, &mut scratch)?;
+    assert_eq!(rt; optional_at(alloc, &node, "a")?, None);
+    assert_eq!(rt; optional_at(alloc, &node, "b")?, Some(1));
+    assert_eq!(rt; optional_at(alloc, &node, "c")?, None);
+    let refused = optional_at(alloc, &node, "d");
+    assert_eq!(rt; refused, Err(FromValueError::NotAValue));
+    Ok(())
+}
+
+// Of equal keys the last counts, also where an earlier one has a value that would be refused.
+#[test]
+fn maps(rt: HostRuntime) -> Result<(), Fail> {
+    check::<TextMap<u32>>(
+        &rt,
+        rt.alloc(),
+        &[
+            ("{}", "{}"),
+            (r#"{"b":1,"a":2}"#, r#"{"a":2,"b":1}"#),
+            (r#"{"a":null,"b":1,"a":3}"#, r#"{"a":3,"b":1}"#),
+            (r#"{"a":3,"b":1,"a":null}"#, "refused"),
+            ("[]", "refused"),
+        ],
+    )
+}
+
+// A value that is there already is read as its text is.
+#[test]
+fn values(rt: HostRuntime) -> Result<(), Fail> {
+    let alloc = rt.alloc();
+    let value = Value::from_str(alloc, r#"{"b":[1,2],"a":[]}"#)?;
+    let map: TextMap<Items<u32>> = Form::from_value(alloc, &value)?;
+    let written = String::from_utf8(write_text(alloc, &map)?)?;
+    assert!(rt; written.as_str() == r#"{"a":[],"b":[1,2]}"#);
+    Ok(())
+}
+
+#[test]
+fn tagged_fields(rt: HostRuntime) -> Result<(), Fail> {
+    let alloc = rt.alloc();
     let mut fields = Map::new(alloc);
     put_field(alloc, &mut fields, "b", &true)?;
     put_optional(alloc, &mut fields, "a", &Some(7u32))?;
@@ -74,7 +115,5 @@ fn members(rt: HostRuntime) -> Result<(), Fail> {
     let variant = tagged(alloc, "fail", Value::from(fields))?;
     let text = variant.to_string(alloc)?;
     assert!(rt; text.as_str() == "{\"fail\":{\"a\":7,\"b\":true}}");
-    let (tag, _) = only_member(variant.as_object().ok_or("no object")?).ok_or("no member")?;
-    assert!(rt; tag == "fail");
     Ok(())
 }

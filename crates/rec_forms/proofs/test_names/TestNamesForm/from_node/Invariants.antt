@@ -1,6 +1,6 @@
 use Rattle.std.proofs.Common.{◌≡◌, []}
 use Rattle.std.specs.Vec.Iter.{into_iter_items}
-use Rattle.rec_forms.proofs.test_names.TestNamesForm.from_value.Given as goal
+use Rattle.rec_forms.proofs.test_names.TestNamesForm.from_node.Given as goal
 use Rattle.rec_forms.specs.Names.{merged}
 
 -- what is left completes the set

@@ -4,9 +4,9 @@ use Rattle.std.proofs.lemmas.Str.{is_utf8-from_IsUtf8, IsUtf8-string_bytes}
 use Rattle.std.specs.Str.{bytes_eq, is_utf8}
 use Rattle.serde_json.specs.Data.{Data}
 use Rattle.serde_json.specs.Find.{as_str}
-use Rattle.serde_json.specs.View.{view}
+use Rattle.rec_json.specs.Nodes.{view}
 use Rattle.rec_events.specs.declared.groups.TestGroup.TheVariants.{Global, Custom}
-use Rattle.rec_forms.proofs.groups.TestGroupForm.from_value.Goals as goal
+use Rattle.rec_forms.proofs.groups.TestGroupForm.from_node.Goals as goal
 use Rattle.rec_forms.specs.Groups.{test_group_form}
 
 custom : (b : Bool) (s : List ℕ) → (b ≡ true → s ≡ codes "@global") → s ≢ codes "@global" → (if b then Global else Custom s) ≡ Custom s
@@ -32,11 +32,11 @@ returns-in-Some-custom c =
     let is = sym c.in-Some.ensures ∙ ap Some (sym c.in_ok-name.ensures.ok) in
     let text = is_utf8-from_IsUtf8 name (IsUtf8-string_bytes c.in_ok-name.name) in
     let group = c.in-Some-custom.ensures in
-    record { read = read_custom (view c.args.value.now) name is text (group.some.0 refl) ∙ ap Some (sym group.value) }
+    record { read_node = read_custom (view c.args.node.now) name is text (group.some.0 refl) ∙ ap Some (sym group.value) }
 
 pub returns-in-None : goal.returns-in-None
 returns-in-None c =
     let name = string_bytes c.in_ok-name.name in
     let is = sym c.in-Some.ensures ∙ ap Some (sym c.in_ok-name.ensures.ok) in
     let text = is_utf8-from_IsUtf8 name (IsUtf8-string_bytes c.in_ok-name.name) in
-    record { read = read_global (view c.args.value.now) name is text (λ other. cc (c.in-None.ensures.some.1 other)) }
+    record { read_node = read_global (view c.args.node.now) name is text (λ other. cc (c.in-None.ensures.some.1 other)) }

@@ -1,0 +1,10 @@
+use Rattle.std.proofs.Common.{◌≡◌, ◌++◌, drop, option_map}
+use Rattle.rec_json.specs.Nodes.{items_view}
+use Rattle.rec_forms.proofs.lists.ItemsForm.from_node.Given as goal
+use Rattle.rec_forms.specs.Lists.{each}
+
+-- what is left completes the list
+abbrev pub invariant-loop-node : goal.invariant-loop-value
+invariant-loop-node g l =
+    each g.T.Form.form_of (items_view l.node-items)
+    ≡ option_map (λ xs. l.items.items ++ xs) (each g.T.Form.form_of (items_view (drop l.node-index l.node-items)))
