@@ -1,12 +1,9 @@
 -- Lists, and the values of their items.
-use Rattle.std.specs.Prelude.{List, [], ◌∷◌, map, length, Option, Some, option_map, option_and_then, nat_lt}
-use Rattle.serde_json.specs.Data.{Data, array, Items, no_items, item}
+use Rattle.std.specs.Prelude.{List, [], ◌∷◌, length, Option, Some, option_map, option_and_then, nat_lt}
+use Rattle.serde_json.specs.Data.{Data, Items, no_items, item}
 use Rattle.serde_json.specs.Find.{as_array}
-use Rattle.serde_json.specs.View.{items_of}
+pub use Rattle.rec_json.specs.Fields.{list_value}
 use Rattle.rec_forms.specs.Shape.{only}
-
-abbrev pub list_value : {T : Type 0} → (T → Data) → List T → Data
-list_value value xs = array (items_of (map value xs))
 
 abbrev pub each : {T : Type 0} → (Data → Option T) → Items → Option (List T)
 each form no_items = Some []

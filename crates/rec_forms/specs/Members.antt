@@ -4,13 +4,8 @@ use Rattle.std.proofs.lemmas.Slice.Eq.{bytes_eq-Decides}
 use Rattle.serde_json.proofs.Views.{get_member-put, get_member-put_other}
 use Rattle.serde_json.specs.Data.{Data, Members, no_members}
 use Rattle.serde_json.specs.Find.{get_member}
+use Rattle.rec_json.specs.Fields.{later}
 use Rattle.rec_forms.specs.Shape.{Field, with_member, with_members, members_of}
-
--- the later one of two, where it is there
-abbrev pub later : Option Data → Option Data → Option Data
-later None new = new
-later (Some d) None = Some d
-later (Some d) (Some e) = Some e
 
 -- the last of the fields at this key
 abbrev pub sought : Option Data → List ℕ → List Field → Option Data

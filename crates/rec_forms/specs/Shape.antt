@@ -1,8 +1,11 @@
 -- The parts of which each type's `value` and `form` are made.
 use Rattle.std.specs.Prelude.{ℕ, ℤ, pos, negsuc, Bool, List, [], ◌∷◌, Option, Some, None, option_map, option_and_then, nat_lt, if◌then◌else◌}
 use Rattle.std.specs.Str.{is_utf8, bytes_eq}
-use Rattle.serde_json.specs.Data.{Data, null, boolean, number, string, array, object, unsigned, Members, no_members, member, put}
-use Rattle.serde_json.specs.Find.{as_number, as_str, as_u64, as_i64, of_integer, get_member}
+use Rattle.serde_json.specs.Data.{Data, null, boolean, number, string, array, object, Members}
+use Rattle.serde_json.specs.Find.{as_number, as_str, as_u64, as_i64, get_member}
+pub use Rattle.rec_json.specs.Fields.{natural, integer, tagged, only_of}
+pub use Rattle.rec_json.specs.Fields.{Field, field, optional, with_member, with_members, struct}
+unfoldable pub use Rattle.rec_json.specs.Fields.{members_of}
 
 infixl 10 ◌>>=◌
 abbrev pub ◌>>=◌ : {A B : Type 0} → Option A → (A → Option B) → Option B
@@ -15,14 +18,8 @@ only b x = if b then Some x else None
 
 -- ---- numbers, truth values and texts
 
-abbrev pub natural : ℕ → Data
-natural n = number (unsigned n)
-
 abbrev pub natural_below : ℕ → Data → Option ℕ
 natural_below limit d = option_and_then (λ n. only (nat_lt n limit) n) (option_and_then as_u64 (as_number d))
-
-abbrev pub integer : ℤ → Data
-integer z = number (of_integer z)
 
 -- from -limit to limit - 1
 abbrev pub fits : ℕ → ℤ → Bool
@@ -34,33 +31,6 @@ integer_within limit d = option_and_then (λ z. only (fits limit z) z) (option_a
 
 abbrev pub text_of : Data → Option (List ℕ)
 text_of d = option_and_then (λ s. only (is_utf8 s) s) (as_str d)
-
--- ---- the members of an object
-
-abbrev pub Field : Type 0
-Field = List ℕ × Option Data
-
--- a member, and one that may be left out
-abbrev pub field : List ℕ → Data → Field
-field key d = (key, Some d)
-
-abbrev pub optional : {T : Type 0} → List ℕ → (T → Data) → Option T → Field
-optional key value o = (key, option_map value o)
-
-abbrev pub with_member : List ℕ → Option Data → Members → Members
-with_member key None ms = ms
-with_member key (Some d) ms = put key d ms
-
-abbrev pub with_members : Members → List Field → Members
-with_members ms [] = ms
-with_members ms (f ∷ fs) = with_members (with_member f.0 f.1 ms) fs
-
-unfoldable pub members_of : List Field → Members
-members_of fs = with_members no_members fs
-
--- the object of these members
-abbrev pub struct : List Field → Data
-struct fs = object (members_of fs)
 
 -- ---- reading members
 
@@ -97,15 +67,6 @@ named [] s = None
 named (t ∷ ts) s = if bytes_eq s t.0 then Some t.1 else named ts s
 
 -- ---- variants
-
--- an object with exactly one member
-abbrev pub only_of : Members → Option (List ℕ × Data)
-only_of no_members = None
-only_of (member k d no_members) = Some (k, d)
-only_of (member k d (member l e ms)) = None
-
-abbrev pub tagged : List ℕ → Data → Data
-tagged k d = object (member k d no_members)
 
 -- what a tag has beside it
 abbrev pub cased : {T : Type 0} → List (List ℕ × (Data → Option T)) → Members → Option T
