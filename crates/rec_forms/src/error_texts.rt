@@ -34,7 +34,7 @@ impl Form for ErrorSummary {
 
     #[tactic(auto, unfolding(crate::specs::ErrorTexts::error_summary_form))]
     fn from_node(alloc: Global, node: &Node<'_>) -> Result<ErrorSummary, FromValueError> {
-        let Node::Object(object) = node else {
+        let Some(object) = node.as_object() else {
             return Err(FromValueError::NotAValue);
         };
         Ok(ErrorSummary {
@@ -72,7 +72,7 @@ impl Form for OutputErrorSlice {
 
     #[tactic(auto, unfolding(crate::specs::ErrorTexts::error_slice_form))]
     fn from_node(alloc: Global, node: &Node<'_>) -> Result<OutputErrorSlice, FromValueError> {
-        let Node::Object(object) = node else {
+        let Some(object) = node.as_object() else {
             return Err(FromValueError::NotAValue);
         };
         Ok(OutputErrorSlice {

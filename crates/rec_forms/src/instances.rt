@@ -34,7 +34,7 @@ impl Form for OwnedTestInstanceId {
 
     #[tactic(auto, unfolding(crate::specs::Instances::test_instance_form))]
     fn from_node(alloc: Global, node: &Node<'_>) -> Result<OwnedTestInstanceId, FromValueError> {
-        let Node::Object(object) = node else {
+        let Some(object) = node.as_object() else {
             return Err(FromValueError::NotAValue);
         };
         Ok(OwnedTestInstanceId {
@@ -73,7 +73,7 @@ impl Form for TestSlotAssignment {
 
     #[tactic(auto, unfolding(crate::specs::Instances::slot_assignment_form))]
     fn from_node(alloc: Global, node: &Node<'_>) -> Result<TestSlotAssignment, FromValueError> {
-        let Node::Object(object) = node else {
+        let Some(object) = node.as_object() else {
             return Err(FromValueError::NotAValue);
         };
         Ok(TestSlotAssignment {
@@ -112,7 +112,7 @@ impl Form for RetryData {
 
     #[tactic(auto, unfolding(crate::specs::Instances::retry_data_form))]
     fn from_node(alloc: Global, node: &Node<'_>) -> Result<RetryData, FromValueError> {
-        let Node::Object(object) = node else {
+        let Some(object) = node.as_object() else {
             return Err(FromValueError::NotAValue);
         };
         Ok(RetryData {
@@ -150,7 +150,7 @@ impl Form for StressIndexSummary {
 
     #[tactic(auto, unfolding(crate::specs::Instances::stress_index_form))]
     fn from_node(alloc: Global, node: &Node<'_>) -> Result<StressIndexSummary, FromValueError> {
-        let Node::Object(object) = node else {
+        let Some(object) = node.as_object() else {
             return Err(FromValueError::NotAValue);
         };
         Ok(StressIndexSummary {

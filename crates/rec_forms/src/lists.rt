@@ -38,7 +38,7 @@ impl<T: Form + Drop> Form for Items<T> {
     }
 
     fn from_node(alloc: Global, node: &Node<'_>) -> Result<Items<T>, FromValueError> {
-        let Node::Array(nodes) = node else {
+        let Some(nodes) = node.as_array() else {
             return Err(FromValueError::NotAValue);
         };
         let mut items = Vec::new(alloc);

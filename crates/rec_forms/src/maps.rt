@@ -38,7 +38,7 @@ impl<V: Form + Drop> Form for TextMap<V> {
     }
 
     fn from_node(alloc: Global, node: &Node<'_>) -> Result<TextMap<V>, FromValueError> {
-        let Node::Object(object) = node else {
+        let Some(object) = node.as_object() else {
             return Err(FromValueError::NotAValue);
         };
         let members = sorted(alloc, object)?;

@@ -53,7 +53,7 @@ impl Form for ChildSingleOutput {
 fn truncated_from(alloc: Global, node: &Node<'_>) -> Result<ZipStoreOutput, FromValueError>
     ensures { Gives result (truncated_form (view node.now)) }
 {
-    let Node::Object(fields) = node else {
+    let Some(fields) = node.as_object() else {
         return Err(FromValueError::NotAValue);
     };
     Ok(ZipStoreOutput::Truncated {
@@ -67,7 +67,7 @@ fn truncated_from(alloc: Global, node: &Node<'_>) -> Result<ZipStoreOutput, From
 fn split_from(alloc: Global, node: &Node<'_>) -> Result<ZipStoreOutputDescription, FromValueError>
     ensures { Gives result (split_form (view node.now)) }
 {
-    let Node::Object(fields) = node else {
+    let Some(fields) = node.as_object() else {
         return Err(FromValueError::NotAValue);
     };
     Ok(ZipStoreOutputDescription::Split {

@@ -71,7 +71,7 @@ impl Form for RecordOpts {
 
     #[tactic(auto, unfolding(crate::specs::Recording::record_opts_form))]
     fn from_node(alloc: Global, node: &Node<'_>) -> Result<RecordOpts, FromValueError> {
-        let Node::Object(object) = node else {
+        let Some(object) = node.as_object() else {
             return Err(FromValueError::NotAValue);
         };
         Ok(RecordOpts {
@@ -107,7 +107,7 @@ impl Form for TestListSummary {
 
     #[tactic(auto, unfolding(crate::specs::Recording::test_list_form))]
     fn from_node(alloc: Global, node: &Node<'_>) -> Result<TestListSummary, FromValueError> {
-        let Node::Object(object) = node else {
+        let Some(object) = node.as_object() else {
             return Err(FromValueError::NotAValue);
         };
         Ok(TestListSummary {

@@ -178,7 +178,7 @@ impl Form for FailureDescription {
 fn abort_from(alloc: Global, node: &Node<'_>) -> Result<FailureDescription, FromValueError>
     ensures { Gives result (abort_form (view node.now)) }
 {
-    let Node::Object(fields) = node else {
+    let Some(fields) = node.as_object() else {
         return Err(FromValueError::NotAValue);
     };
     Ok(FailureDescription::Abort {
@@ -256,7 +256,7 @@ impl Form for ExecutionResultDescription {
 fn fail_from(alloc: Global, node: &Node<'_>) -> Result<ExecutionResultDescription, FromValueError>
     ensures { Gives result (fail_form (view node.now)) }
 {
-    let Node::Object(fields) = node else {
+    let Some(fields) = node.as_object() else {
         return Err(FromValueError::NotAValue);
     };
     Ok(ExecutionResultDescription::Fail {

@@ -126,7 +126,7 @@ impl Form for StressRunStats {
 
     #[tactic(auto, unfolding(crate::specs::RunEnds::stress_run_stats_form))]
     fn from_node(alloc: Global, node: &Node<'_>) -> Result<StressRunStats, FromValueError> {
-        let Node::Object(object) = node else {
+        let Some(object) = node.as_object() else {
             return Err(FromValueError::NotAValue);
         };
         Ok(StressRunStats {
@@ -208,7 +208,7 @@ impl Form for TestsNotSeenSummary {
 
     #[tactic(auto, unfolding(crate::specs::RunEnds::tests_not_seen_form))]
     fn from_node(alloc: Global, node: &Node<'_>) -> Result<TestsNotSeenSummary, FromValueError> {
-        let Node::Object(object) = node else {
+        let Some(object) = node.as_object() else {
             return Err(FromValueError::NotAValue);
         };
         Ok(TestsNotSeenSummary {

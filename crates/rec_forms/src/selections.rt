@@ -36,7 +36,7 @@ impl Form for NamedTargets {
 
     #[tactic(auto, unfolding(crate::specs::Selections::named_targets_form))]
     fn from_node(alloc: Global, node: &Node<'_>) -> Result<NamedTargets, FromValueError> {
-        let Node::Object(object) = node else {
+        let Some(object) = node.as_object() else {
             return Err(FromValueError::NotAValue);
         };
         Ok(NamedTargets {
@@ -75,7 +75,7 @@ impl Form for PackageSelection {
 
     #[tactic(auto, unfolding(crate::specs::Selections::package_selection_form))]
     fn from_node(alloc: Global, node: &Node<'_>) -> Result<PackageSelection, FromValueError> {
-        let Node::Object(object) = node else {
+        let Some(object) = node.as_object() else {
             return Err(FromValueError::NotAValue);
         };
         Ok(PackageSelection {
@@ -118,7 +118,7 @@ impl Form for TargetSelection {
 
     #[tactic(auto, unfolding(crate::specs::Selections::target_selection_form))]
     fn from_node(alloc: Global, node: &Node<'_>) -> Result<TargetSelection, FromValueError> {
-        let Node::Object(object) = node else {
+        let Some(object) = node.as_object() else {
             return Err(FromValueError::NotAValue);
         };
         Ok(TargetSelection {
@@ -166,7 +166,7 @@ impl Form for FeatureSelection {
 
     #[tactic(auto, unfolding(crate::specs::Selections::feature_selection_form))]
     fn from_node(alloc: Global, node: &Node<'_>) -> Result<FeatureSelection, FromValueError> {
-        let Node::Object(object) = node else {
+        let Some(object) = node.as_object() else {
             return Err(FromValueError::NotAValue);
         };
         Ok(FeatureSelection {
@@ -206,7 +206,7 @@ impl Form for BuildScope {
 
     #[tactic(auto, unfolding(crate::specs::Selections::build_scope_form))]
     fn from_node(alloc: Global, node: &Node<'_>) -> Result<BuildScope, FromValueError> {
-        let Node::Object(object) = node else {
+        let Some(object) = node.as_object() else {
             return Err(FromValueError::NotAValue);
         };
         Ok(BuildScope {

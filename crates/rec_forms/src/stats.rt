@@ -218,7 +218,7 @@ impl Form for RunStats {
 
     #[tactic(auto, unfolding(crate::specs::Stats::run_stats_form))]
     fn from_node(alloc: Global, node: &Node<'_>) -> Result<RunStats, FromValueError> {
-        let Node::Object(object) = node else {
+        let Some(object) = node.as_object() else {
             return Err(FromValueError::NotAValue);
         };
         let setup = Setup::read(alloc, object)?;

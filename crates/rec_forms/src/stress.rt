@@ -123,7 +123,7 @@ impl Form for StressProgress {
 fn count_from(alloc: Global, node: &Node<'_>) -> Result<StressProgress, FromValueError>
     ensures { Gives result (count_progress_form (view node.now)) }
 {
-    let Node::Object(fields) = node else {
+    let Some(fields) = node.as_object() else {
         return Err(FromValueError::NotAValue);
     };
     Ok(StressProgress::Count {
@@ -138,7 +138,7 @@ fn count_from(alloc: Global, node: &Node<'_>) -> Result<StressProgress, FromValu
 fn time_from(alloc: Global, node: &Node<'_>) -> Result<StressProgress, FromValueError>
     ensures { Gives result (time_progress_form (view node.now)) }
 {
-    let Node::Object(fields) = node else {
+    let Some(fields) = node.as_object() else {
         return Err(FromValueError::NotAValue);
     };
     Ok(StressProgress::Time {

@@ -35,7 +35,7 @@ impl Form for Stamp {
 
     #[tactic(auto, unfolding(crate::specs::Times::stamp_form))]
     fn from_node(alloc: Global, node: &Node<'_>) -> Result<Stamp, FromValueError> {
-        let Node::Object(object) = node else {
+        let Some(object) = node.as_object() else {
             return Err(FromValueError::NotAValue);
         };
         let secs = required_field(alloc, object, "secs")?;
@@ -81,7 +81,7 @@ impl Form for Duration {
 
     #[tactic(auto, unfolding(crate::specs::Times::duration_form))]
     fn from_node(alloc: Global, node: &Node<'_>) -> Result<Duration, FromValueError> {
-        let Node::Object(object) = node else {
+        let Some(object) = node.as_object() else {
             return Err(FromValueError::NotAValue);
         };
         let secs = required_field(alloc, object, "secs")?;

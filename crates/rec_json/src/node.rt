@@ -1,7 +1,7 @@
 //! A JSON value that borrows its texts.
 ghost use Rattle.std.specs.Prelude.{◌≡◌, option_and_then, option_map};
-ghost use Rattle.serde_json.specs.Find.{as_bool, as_i64, as_number, as_str, as_u64};
-ghost use Rattle.rec_json.specs.Nodes.{view};
+ghost use Rattle.serde_json.specs.Find.{as_array, as_bool, as_i64, as_number, as_object, as_str, as_u64};
+ghost use Rattle.rec_json.specs.Nodes.{items_view, members_view, view};
 
 use serde_json::Number;
 
@@ -63,6 +63,26 @@ impl<'a> Node<'a> {
     {
         match self {
             Node::String(text) => Some(*text),
+            _ => None,
+        }
+    }
+
+    /// Returns the items, if it is a list.
+    pub fn as_array(&self) -> Option<&[Node<'a>]>
+        ensures { option_map (λ o. items_view o.now) result ≡ as_array (view self.now) }
+    {
+        match self {
+            Node::Array(items) => Some(items.as_slice()),
+            _ => None,
+        }
+    }
+
+    /// Returns the members, if it is an object.
+    pub fn as_object(&self) -> Option<&[(&'a str, Node<'a>)]>
+        ensures { option_map (λ o. members_view o.now) result ≡ as_object (view self.now) }
+    {
+        match self {
+            Node::Object(members) => Some(members.as_slice()),
             _ => None,
         }
     }

@@ -4,7 +4,7 @@ use Rattle.rec_forms.proofs.lists.ItemsForm.from_node.Given as goal
 use Rattle.rec_forms.specs.Lists.{each}
 
 -- what is left completes the list
-abbrev pub invariant-loop-node : goal.invariant-loop-value
+abbrev pub invariant-loop-node : goal.invariant-loop-node
 invariant-loop-node g l =
     each g.T.Form.form_of (items_view l.node-items)
     ≡ option_map (λ xs. l.items.items ++ xs) (each g.T.Form.form_of (items_view (drop l.node-index l.node-items)))

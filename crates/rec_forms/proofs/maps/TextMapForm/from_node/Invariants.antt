@@ -1,8 +1,8 @@
 use Rattle.std.proofs.Common.{◌≡◌, []}
-use Rattle.serde_json.specs.View.{members_view}
+use Rattle.rec_json.specs.Nodes.{sorted_view}
 use Rattle.rec_forms.proofs.maps.TextMapForm.from_node.Given as goal
 use Rattle.rec_forms.specs.Maps.{pairs_form}
 
 -- what is left completes the map
 abbrev pub invariant-loop-key : goal.invariant-loop-key
-invariant-loop-key g l = pairs_form g.V.Form.form_of l.map (members_view l.key-iterator) ≡ pairs_form g.V.Form.form_of [] (members_view l.initial.key-iterator)
+invariant-loop-key g l = pairs_form g.V.Form.form_of l.map (sorted_view l.key-iterator) ≡ pairs_form g.V.Form.form_of [] (sorted_view l.initial.key-iterator)
