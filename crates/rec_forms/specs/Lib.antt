@@ -44,5 +44,6 @@ pub mod TextForm
 pub mod TextLaws
 pub mod TimeLaws
 pub mod Times
+pub mod VariantLaws
 pub mod WellFormedLaws
 pub mod Writable

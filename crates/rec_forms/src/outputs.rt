@@ -111,20 +111,22 @@ impl Form for ZipStoreOutput {
         }
     }
 
-    #[tactic(auto, unfolding(crate::specs::Outputs::stored_output_form))]
+    #[tactic(auto, unfolding(crate::specs::Outputs::stored_output_form), using(crate::specs::VariantLaws::variant_named_or_cased))]
     fn from_node(alloc: Global, node: &Node<'_>) -> Result<ZipStoreOutput, FromValueError> {
-        match node {
-            Node::String(name) => match *name {
+        if let Some(name) = node.as_str() {
+            return match name {
                 "empty" => Ok(ZipStoreOutput::Empty),
                 _ => Err(FromValueError::NotAValue),
-            },
-            Node::Object(object) => match only_member(object) {
-                Some(("full", node)) => Ok(ZipStoreOutput::Full {
-                    file_name: OutputFileName::from_node(alloc, node)?,
-                }),
-                Some(("truncated", node)) => truncated_from(alloc, node),
-                _ => Err(FromValueError::NotAValue),
-            },
+            };
+        }
+        let Some(object) = node.as_object() else {
+            return Err(FromValueError::NotAValue);
+        };
+        match only_member(object) {
+            Some(("full", node)) => Ok(ZipStoreOutput::Full {
+                file_name: OutputFileName::from_node(alloc, node)?,
+            }),
+            Some(("truncated", node)) => truncated_from(alloc, node),
             _ => Err(FromValueError::NotAValue),
         }
     }
@@ -163,12 +165,12 @@ impl Form for ZipStoreOutputDescription {
         }
     }
 
-    #[tactic(auto, unfolding(crate::specs::Outputs::stored_outputs_form))]
+    #[tactic(auto, unfolding(crate::specs::Outputs::stored_outputs_form), using(crate::specs::VariantLaws::variant_cased))]
     fn from_node(
         alloc: Global,
         node: &Node<'_>,
     ) -> Result<ZipStoreOutputDescription, FromValueError> {
-        let Node::Object(object) = node else {
+        let Some(object) = node.as_object() else {
             return Err(FromValueError::NotAValue);
         };
         match only_member(object) {

@@ -158,9 +158,9 @@ impl Form for FailureDescription {
         }
     }
 
-    #[tactic(auto, unfolding(crate::specs::Results::failure_form))]
+    #[tactic(auto, unfolding(crate::specs::Results::failure_form), using(crate::specs::VariantLaws::variant_cased))]
     fn from_node(alloc: Global, node: &Node<'_>) -> Result<FailureDescription, FromValueError> {
-        let Node::Object(object) = node else {
+        let Some(object) = node.as_object() else {
             return Err(FromValueError::NotAValue);
         };
         match only_member(object) {
@@ -225,27 +225,29 @@ impl Form for ExecutionResultDescription {
         }
     }
 
-    #[tactic(auto, unfolding(crate::specs::Results::execution_result_form))]
+    #[tactic(auto, unfolding(crate::specs::Results::execution_result_form), using(crate::specs::VariantLaws::variant_named_or_cased))]
     fn from_node(
         alloc: Global,
         node: &Node<'_>,
     ) -> Result<ExecutionResultDescription, FromValueError> {
-        match node {
-            Node::String(name) => match *name {
+        if let Some(name) = node.as_str() {
+            return match name {
                 "pass" => Ok(ExecutionResultDescription::Pass),
                 "exec-fail" => Ok(ExecutionResultDescription::ExecFail),
                 _ => Err(FromValueError::NotAValue),
-            },
-            Node::Object(object) => match only_member(object) {
-                Some(("leak", node)) => Ok(ExecutionResultDescription::Leak {
-                    result: LeakTimeoutResult::from_node(alloc, node)?,
-                }),
-                Some(("fail", node)) => fail_from(alloc, node),
-                Some(("timeout", node)) => Ok(ExecutionResultDescription::Timeout {
-                    result: SlowTimeoutResult::from_node(alloc, node)?,
-                }),
-                _ => Err(FromValueError::NotAValue),
-            },
+            };
+        }
+        let Some(object) = node.as_object() else {
+            return Err(FromValueError::NotAValue);
+        };
+        match only_member(object) {
+            Some(("leak", node)) => Ok(ExecutionResultDescription::Leak {
+                result: LeakTimeoutResult::from_node(alloc, node)?,
+            }),
+            Some(("fail", node)) => fail_from(alloc, node),
+            Some(("timeout", node)) => Ok(ExecutionResultDescription::Timeout {
+                result: SlowTimeoutResult::from_node(alloc, node)?,
+            }),
             _ => Err(FromValueError::NotAValue),
         }
     }

@@ -163,9 +163,9 @@ impl Form for RunFinishedStats {
         }
     }
 
-    #[tactic(auto, unfolding(crate::specs::RunEnds::run_finished_stats_form))]
+    #[tactic(auto, unfolding(crate::specs::RunEnds::run_finished_stats_form), using(crate::specs::VariantLaws::variant_cased))]
     fn from_node(alloc: Global, node: &Node<'_>) -> Result<RunFinishedStats, FromValueError> {
-        let Node::Object(object) = node else {
+        let Some(object) = node.as_object() else {
             return Err(FromValueError::NotAValue);
         };
         match only_member(object) {

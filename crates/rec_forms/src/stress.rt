@@ -41,9 +41,9 @@ impl Form for StressConditionSummary {
         }
     }
 
-    #[tactic(auto, unfolding(crate::specs::Stress::stress_condition_form))]
+    #[tactic(auto, unfolding(crate::specs::Stress::stress_condition_form), using(crate::specs::VariantLaws::variant_cased))]
     fn from_node(alloc: Global, node: &Node<'_>) -> Result<StressConditionSummary, FromValueError> {
-        let Node::Object(object) = node else {
+        let Some(object) = node.as_object() else {
             return Err(FromValueError::NotAValue);
         };
         match only_member(object) {
@@ -105,9 +105,9 @@ impl Form for StressProgress {
         }
     }
 
-    #[tactic(auto, unfolding(crate::specs::Stress::stress_progress_form))]
+    #[tactic(auto, unfolding(crate::specs::Stress::stress_progress_form), using(crate::specs::VariantLaws::variant_cased))]
     fn from_node(alloc: Global, node: &Node<'_>) -> Result<StressProgress, FromValueError> {
-        let Node::Object(object) = node else {
+        let Some(object) = node.as_object() else {
             return Err(FromValueError::NotAValue);
         };
         match only_member(object) {
