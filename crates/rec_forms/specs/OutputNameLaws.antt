@@ -14,7 +14,7 @@ use Rattle.rec_events.specs.Names.{IsText}
 use Rattle.rec_events.specs.OutputNameLaws.{file_name_back as name_back}
 use Rattle.rec_events.specs.OutputNames.{kind_of, kind_suffix, file_name_text, number_if_written, number_of, with_number, file_name_of}
 use Rattle.rec_forms.specs.GivesWellFormed.{Holds, GivesWellFormed}
-use Rattle.rec_forms.specs.OutputNames.{output_kind_name, output_kind_value, output_kind_form, file_name_value, file_name_form, IsFileName}
+use Rattle.rec_forms.specs.OutputNames.{output_kind_value, output_kind_form, file_name_value, file_name_form, IsFileName}
 use Rattle.rec_forms.specs.TextLaws.{IsText-are_ascii, IsText-append, IsText-encode_lower}
 use Rattle.rec_forms.specs.WellFormedLaws.{anything, and_then_holds, only_holds}
 use Rattle.rec_forms.specs.Writable.{IsWritable, string_writable, word_writable}

@@ -6,7 +6,7 @@ use Rattle.rec_events.specs.declared.reporting.JunitFlakyFailStatus.TheVariants.
 use Rattle.rec_events.specs.declared.reporting.JunitFlakyFailStatus.{JunitFlakyFailStatus}
 use Rattle.rec_events.specs.declared.reporting.TestOutputDisplay.TheVariants.{Immediate, Final, ImmediateFinal, Never}
 use Rattle.rec_events.specs.declared.reporting.TestOutputDisplay.{TestOutputDisplay}
-use Rattle.rec_forms.specs.Reporting.{output_display_name, output_display_value, output_display_form, flaky_fail_status_name, flaky_fail_status_value, flaky_fail_status_form, cancel_reason_name, cancel_reason_value, cancel_reason_form}
+use Rattle.rec_forms.specs.Reporting.{output_display_value, output_display_form, flaky_fail_status_value, flaky_fail_status_form, cancel_reason_value, cancel_reason_form}
 use Rattle.rec_forms.specs.Writable.{IsWritable, word_writable}
 
 pub output_display_back : (x : TestOutputDisplay) → output_display_form (output_display_value x) ≡ Some x

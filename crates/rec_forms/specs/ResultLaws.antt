@@ -19,7 +19,7 @@ use Rattle.rec_forms.specs.ListLaws.{maybe_back}
 use Rattle.rec_forms.specs.Members.{get_member-members_of}
 use Rattle.rec_forms.specs.NumberLaws.{i32_back, text_back, i32_writable, i32_well_formed, text_well_formed}
 use Rattle.rec_forms.specs.Numbers.{i32_form}
-use Rattle.rec_forms.specs.Results.{flaky_result_name, flaky_result_value, flaky_result_form, leak_result_name, leak_result_value, leak_result_form, slow_result_name, slow_result_value, slow_result_form, failure_value, failure_form, abort_form, IsFailure, execution_result_value, execution_result_form, fail_form, IsExecutionResult, exit_code_form, leak_form, timeout_form}
+use Rattle.rec_forms.specs.Results.{flaky_result_value, flaky_result_form, leak_result_value, leak_result_form, slow_result_value, slow_result_form, failure_value, failure_form, abort_form, IsFailure, execution_result_value, execution_result_form, fail_form, IsExecutionResult, exit_code_form, leak_form, timeout_form}
 use Rattle.rec_forms.specs.Shape.{text_of}
 use Rattle.rec_forms.specs.WellFormedLaws.{anything, any_well_formed, map_holds, object_then, required_then, maybe_then, variant_well_formed}
 use Rattle.rec_forms.specs.Writable.{IsWritable, struct_writable, tagged_writable, optional_writable, string_writable, word_writable, boolean_writable, weaker}

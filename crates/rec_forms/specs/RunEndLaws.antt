@@ -17,7 +17,7 @@ use Rattle.rec_forms.specs.Lists.{list_form}
 use Rattle.rec_forms.specs.Members.{get_member-members_of}
 use Rattle.rec_forms.specs.NumberLaws.{u32_back, u64_back, u32_writable, u32_well_formed, u64_well_formed}
 use Rattle.rec_forms.specs.Numbers.{u32_form, u64_form}
-use Rattle.rec_forms.specs.RunEnds.{stress_final_stats_name, stress_final_stats_value, stress_final_stats_form, final_stats_name, final_stats_value, final_stats_form, stress_run_stats_value, stress_run_stats_form, IsStressRunStats, run_finished_stats_value, run_finished_stats_form, IsRunFinishedStats, tests_not_seen_value, tests_not_seen_form, IsTestsNotSeen, single_stats_form, stress_stats_form}
+use Rattle.rec_forms.specs.RunEnds.{stress_final_stats_value, stress_final_stats_form, final_stats_value, final_stats_form, stress_run_stats_value, stress_run_stats_form, IsStressRunStats, run_finished_stats_value, run_finished_stats_form, IsRunFinishedStats, tests_not_seen_value, tests_not_seen_form, IsTestsNotSeen, single_stats_form, stress_stats_form}
 use Rattle.rec_forms.specs.Stats.{run_stats_form}
 use Rattle.rec_forms.specs.StatsLaws.{run_stats_back, run_stats_writable, run_stats_well_formed}
 use Rattle.rec_forms.specs.WellFormedLaws.{any_well_formed, map_holds, object_then, required_then, list_well_formed, variant_well_formed}

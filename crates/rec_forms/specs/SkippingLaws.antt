@@ -4,7 +4,7 @@ use Rattle.rec_events.specs.declared.skipping.MismatchReason.TheVariants as reas
 use Rattle.rec_events.specs.declared.skipping.MismatchReason.{MismatchReason}
 use Rattle.rec_events.specs.declared.skipping.ReportSkipPolicy.TheVariants as policy
 use Rattle.rec_events.specs.declared.skipping.ReportSkipPolicy.{ReportSkipPolicy}
-use Rattle.rec_forms.specs.Skipping.{mismatch_reason_name, mismatch_reason_value, mismatch_reason_form, skip_policy_name, skip_policy_value, skip_policy_form}
+use Rattle.rec_forms.specs.Skipping.{mismatch_reason_value, mismatch_reason_form, skip_policy_value, skip_policy_form}
 use Rattle.rec_forms.specs.Writable.{IsWritable, word_writable}
 
 pub mismatch_reason_back : (x : MismatchReason) → mismatch_reason_form (mismatch_reason_value x) ≡ Some x
