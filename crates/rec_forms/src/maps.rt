@@ -1,5 +1,8 @@
 //! Maps from texts.
-ghost use Rattle.std.specs.Prelude.{◌≡◌, suc};
+ghost use Rattle.std.specs.Prelude.{◌≡◌, suc, []};
+ghost use Rattle.rec_json.specs.Nodes.{sorted_view};
+ghost use Rattle.rec_forms.specs.Gives.{Gives};
+ghost use Rattle.rec_forms.specs.Maps.{pairs_form};
 
 use crate::fields::put_field;
 use crate::{Form, FromValueError, Held};
@@ -7,6 +10,7 @@ use rec_events::{Text, TextMap};
 use rec_json::{Node, sorted};
 use serde_json::{Map, Value};
 use std::alloc::{AllocError, Global};
+use std::collections::BTreeMap;
 
 impl<V: Form + Drop> Form for TextMap<V> {
     ghost use Rattle.std.specs.Prelude.{suc};
@@ -42,13 +46,23 @@ impl<V: Form + Drop> Form for TextMap<V> {
             return Err(FromValueError::NotAValue);
         };
         let members = sorted(alloc, object)?;
-        let mut map = TextMap::empty(alloc);
-        for (key, node) in &members {
-            let item = V::from_node(alloc, node)?;
-            map.insert(Text::from_str(alloc, key)?, item)?;
-        }
-        Ok(map)
+        map_from(alloc, &members)
     }
+}
+
+/// Reads the map of these members, which stand in the order of their keys.
+fn map_from<'n, 'a, V: Form + Drop>(
+    alloc: Global,
+    members: &BTreeMap<&'a str, &'n Node<'a>>,
+) -> Result<TextMap<V>, FromValueError>
+    ensures { Gives result (pairs_form V.form_of [] (sorted_view members.now.entries)) }
+{
+    let mut map = TextMap::empty(alloc);
+    for (key, node) in members {
+        let item = V::from_node(alloc, node)?;
+        map.insert(Text::from_str(alloc, key)?, item)?;
+    }
+    Ok(map)
 }
 
 impl<V: Held + Drop> Held for TextMap<V> {

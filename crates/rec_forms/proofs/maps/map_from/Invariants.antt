@@ -1,6 +1,6 @@
 use Rattle.std.proofs.Common.{◌≡◌, []}
 use Rattle.rec_json.specs.Nodes.{sorted_view}
-use Rattle.rec_forms.proofs.maps.TextMapForm.from_node.Given as goal
+use Rattle.rec_forms.proofs.maps.map_from.Given as goal
 use Rattle.rec_forms.specs.Maps.{pairs_form}
 
 -- what is left completes the map
