@@ -8,6 +8,7 @@ pub mod Keys
 pub mod Maps
 pub mod Notings
 pub mod Once
+pub mod OpenedEvents
 pub mod OpenScripts
 pub mod OpenTests
 pub mod Orders

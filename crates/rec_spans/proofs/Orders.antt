@@ -14,6 +14,7 @@ use Rattle.rec_spans.specs.contracts.spans.PlaceOrd.TheImpl as derived
 use Rattle.rec_spans.specs.declared.spans.Place.TheVariants.{Run, SubRun, Slot, Script}
 use Rattle.rec_spans.specs.declared.spans.Place.{Place}
 use Rattle.rec_spans.specs.declared.spans.Span.{Span}
+use Rattle.rec_spans.specs.Opened.{without_binary}
 use Rattle.rec_spans.specs.Past.{number_of}
 use Rattle.rec_spans.specs.Places.{place_cmp}
 use Rattle.rec_spans.specs.Tied.{at, slot_of}
@@ -78,3 +79,7 @@ span-ordered m h = subst (λ f. IsStrictlySortedBy f (keys_of m.entries)) places
 -- what a map has at a binary is its number
 pub binary-get : (m : BTreeMap (List ℕ) ℕ) (b : List ℕ) → get_by (binaries.cmp-value.it b) m ≡ number_of b m.entries
 binary-get m b = ap (λ f. lookup f m.entries) (λ i c. is_eq-slice_cmp b c i)
+
+-- what is left of a map without a binary
+pub binary-remove : (b : List ℕ) (es es' : List (List ℕ × ℕ)) → es' ≡ remove_entry (is_at (binaries.cmp-value.it b)) es → es' ≡ without_binary b es
+binary-remove b es es' h = h ∙ ap (λ f. remove_entry f es) (λ i c. is_eq-slice_cmp b c i)

@@ -13,6 +13,7 @@ pub mod Noted
 pub mod Seen
 pub mod Starts
 pub mod Judged
+pub mod Opened
 pub mod Timeline
 pub mod Times
 pub mod Groupings

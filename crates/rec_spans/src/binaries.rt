@@ -1,5 +1,6 @@
 //! The binaries that have started an attempt of a test, each with its number.
-ghost use Rattle.std.specs.Prelude.{◌≡◌, [], length, OnOk, OnErr};
+ghost use Rattle.std.specs.Prelude.{◌≡◌, [], length, IfOk, OnOk, OnErr};
+ghost use Rattle.rec_spans.specs.Opened.{is_new, without_binary};
 ghost use Rattle.rec_spans.specs.Past.{number_of, with_binary};
 
 use rec_events::{RustBinaryId, TryClone};
@@ -45,20 +46,29 @@ impl Binaries {
         self.numbers.get(id).copied()
     }
 
-    /// Adds a binary, which gets the number of those that are there, if it isn't there itself.
+    /// Adds a binary, which gets the number of those that are there, if it isn't there itself. Returns whether it was
+    /// added.
     ///
     /// # Errors
     ///
     /// Fails only where memory ran out. Nothing is added then.
-    pub fn add(&mut self, alloc: Global, id: &RustBinaryId) -> Result<(), AllocError>
+    pub fn add(&mut self, alloc: Global, id: &RustBinaryId) -> Result<bool, AllocError>
         ensures ok { OnOk result (self.new ≡ with_binary id.now self.old) }
+        ensures added { IfOk result (λ added. added ≡ is_new id.now self.old) }
         ensures err { OnErr result (self.new ≡ self.old) }
     {
         if self.number(id).is_some() {
-            return Ok(());
+            return Ok(false);
         }
         let number = self.numbers.len();
         self.numbers.insert(id.try_clone(alloc)?, number)?;
-        Ok(())
+        Ok(true)
+    }
+
+    /// Removes a binary, if it is there.
+    pub fn remove(&mut self, id: &RustBinaryId)
+        ensures { self.new ≡ without_binary id.now self.old }
+    {
+        self.numbers.remove(id);
     }
 }

@@ -1,13 +1,14 @@
-//! Takes an event into what is kept, after it was judged.
+//! Takes an event into what is kept, after it was judged: first what takes memory, which can be taken back, then the rest.
 ghost use Rattle.std.specs.Prelude.{◌≡◌, ◌<◌, ◌≤◌, ℕ, ℤ, List, suc, [], None, Some, IfOk, OnOk, OnErr};
 ghost use Rattle.rec_spans.specs.declared.settings.ChromeTraceGroupBy.{ChromeTraceGroupBy};
 ghost use Rattle.rec_spans.specs.declared.spans.Place.TheVariants as places;
 ghost use Rattle.rec_spans.specs.declared.spans.Span.{Span};
 ghost use Rattle.rec_spans.specs.declared.spans.SpanKey.TheVariants as keys;
-ghost use Rattle.rec_spans.specs.History.{next_state};
+ghost use Rattle.rec_spans.specs.History.{TraceState, next_state};
 ghost use Rattle.rec_spans.specs.Judged.{IsJudged};
 ghost use Rattle.rec_spans.specs.Kinds.{act_input, change_of, trace_input};
-ghost use Rattle.rec_spans.specs.Past.{binaries_after, flow_after, in_place, of_key, open_after, pause_after, put_in, scripts_after, with_binary};
+ghost use Rattle.rec_spans.specs.Opened.{IsOpened, adds_binary, binaries_taken_back, is_new, no_binary, spans_closed, spans_opened, spans_taken_back, state_opened, state_passed};
+ghost use Rattle.rec_spans.specs.Past.{binaries_after, flow_after, in_place, of_key, pause_after, put_in, scripts_after, with_binary};
 ghost use Rattle.rec_spans.specs.Plain.{plain};
 ghost use Rattle.rec_spans.specs.Refusals.{act_refusal, open_refusal, scripts_refusal, slot_refusal};
 ghost use Rattle.rec_spans.specs.Seen.{seen};
@@ -17,6 +18,7 @@ use crate::acts::{Act, act_of};
 use crate::binaries::Binaries;
 use crate::judged::JudgedEvent;
 use crate::open_spans::OpenSpans;
+use crate::opened::OpenedEvent;
 use crate::settings::ChromeTraceGroupBy;
 use crate::span_tracker::SpanTracker;
 use crate::spans::Span;
@@ -64,74 +66,127 @@ impl SpanTracker {
         ensures ok { OnOk result (self.new ≡ next_state (trace_input group_by self.old.binaries (plain event.now)) self.old) }
         ensures err { OnErr result (self.new ≡ self.old) }
     {
-        self.take(
-            alloc,
-            group_by,
-            judged.number,
-            act_of(&event.kind),
-            judged.started,
-        )
+        let opened = self.open_started(alloc, group_by, event, judged)?;
+        self.advance(event, opened);
+        Ok(())
     }
 
-    /// Takes an event, which starts this span, if it starts one. Where memory is short, nothing changes.
-    fn take(
+    /// Opens the span that an event starts which was judged with this grouping, and no event since, and adds its
+    /// binary. The event is committed once the tracker has advanced by it, and until then it can be taken back.
+    /// This takes all the memory that a commit takes.
+    ///
+    /// # Errors
+    ///
+    /// Fails only where memory ran out. The tracker then stays as it was.
+    pub fn open_started<S: OutputSpec>(
+        &mut self,
+        alloc: Global,
+        group_by: ChromeTraceGroupBy,
+        event: &TestEventSummary<S>,
+        judged: JudgedEvent,
+    ) -> Result<OpenedEvent, AllocError>
+        requires { IsJudged self.old (trace_input group_by self.old.binaries (plain event.now)) judged }
+        ensures ok { OnOk result (self.new ≡ state_opened (trace_input group_by self.old.binaries (plain event.now)) self.old) }
+        ensures opened { IfOk result (IsOpened self.old (trace_input group_by self.old.binaries (plain event.now))) }
+        ensures err { OnErr result (self.new ≡ self.old) }
+    {
+        let act = act_of(&event.kind);
+        let has_new_binary = self.open(alloc, group_by, judged.number, act, judged.started)?;
+        Ok(OpenedEvent {
+            number: judged.number,
+            running_scripts: judged.running_scripts,
+            has_new_binary,
+        })
+    }
+
+    /// Opens this span, which an act starts, if it starts one. Returns whether a binary was added.
+    fn open(
         &mut self,
         alloc: Global,
         group_by: ChromeTraceGroupBy,
         number: u64,
         act: Act<'_>,
         span: Option<Span>,
-    ) -> Result<(), AllocError>
-        requires number { number ≡ suc self.old.number }
+    ) -> Result<bool, AllocError>
         requires judged { act_refusal number self.old (seen act) (change_of group_by self.old.binaries (seen act)) ≡ None }
         requires span { span ≡ started (change_of group_by self.old.binaries (seen act)) }
-        ensures ok { (t : ℤ) → OnOk result (self.new ≡ next_state (act_input group_by self.old.binaries t (seen act.entry)) self.old) }
+        ensures ok { (t : ℤ) → OnOk result (self.new ≡ state_opened (act_input group_by self.old.binaries t (seen act.entry)) self.old) }
+        ensures added { IfOk result (λ added. added ≡ adds_binary (change_of group_by self.old.binaries (seen act.entry)) self.old.binaries) }
         ensures err { OnErr result (self.new ≡ self.old) }
     {
-        change_spans(
+        open_span(
             alloc,
             group_by,
             act,
             span,
             &mut self.open_spans,
             &mut self.binaries,
-        )?;
+        )
+    }
+
+    /// Takes the rest of an event that was opened, and nothing since: the tracker has moved on by it. This takes no
+    /// memory.
+    pub fn advance<S: OutputSpec>(&mut self, event: &TestEventSummary<S>, opened: OpenedEvent)
+        requires { opened.number ≡ suc self.old.number }
+        ensures { (g : ChromeTraceGroupBy) (state : TraceState) → IsOpened state (trace_input g state.binaries (plain event.now)) opened
+            → self.old ≡ state_opened (trace_input g state.binaries (plain event.now)) state
+            → self.new ≡ next_state (trace_input g state.binaries (plain event.now)) state }
+    {
+        self.pass(act_of(&event.kind), opened.number, opened.running_scripts);
+    }
+
+    /// Takes the rest of an act, with which so many setup scripts run.
+    fn pass(&mut self, act: Act<'_>, number: u64, scripts: usize)
+        requires { number ≡ suc self.old.number }
+        ensures { (g : ChromeTraceGroupBy) (known : List (List ℕ × ℕ)) → self.new ≡ state_passed (seen act.entry) (change_of g known (seen act.entry)) number scripts self.old }
+    {
+        close_stopped(act, &mut self.open_spans);
         self.number = number;
         self.in_pause = pause_after(act, self.in_pause);
-        self.scripts = scripts_after(number, act, self.scripts);
+        self.scripts = scripts;
         self.next_flow = flow_after(number, act, self.next_flow);
-        Ok(())
+    }
+
+    /// Takes an event back that was opened, and nothing since: the tracker is as it was before. This takes no
+    /// memory.
+    pub fn take_back<S: OutputSpec>(&mut self, event: &TestEventSummary<S>, opened: OpenedEvent)
+        ensures { (g : ChromeTraceGroupBy) (state : TraceState) → IsOpened state (trace_input g state.binaries (plain event.now)) opened
+            → self.old ≡ state_opened (trace_input g state.binaries (plain event.now)) state → self.new ≡ state }
+    {
+        let act = act_of(&event.kind);
+        close_started(act, &mut self.open_spans);
+        if opened.has_new_binary {
+            remove_binary(act, &mut self.binaries);
+        }
     }
 }
 
-/// Opens this span, which the event starts, or closes what it ends, and adds the binary of an attempt. Where
-/// memory is short, nothing changes.
-fn change_spans(
+/// Opens this span, which the event starts, if it starts one, and adds the binary of an attempt. Returns whether
+/// that was new. Where memory is short, nothing changes.
+fn open_span(
     alloc: Global,
     group_by: ChromeTraceGroupBy,
     act: Act<'_>,
     span: Option<Span>,
     open_spans: &mut OpenSpans,
     binaries: &mut Binaries,
-) -> Result<(), AllocError>
+) -> Result<bool, AllocError>
     requires open { open_refusal 0 open_spans.old (change_of group_by binaries.old (seen act)) ≡ None }
     requires slot { slot_refusal 0 open_spans.old (change_of group_by binaries.old (seen act)) ≡ None }
     requires span { span ≡ started (change_of group_by binaries.old (seen act)) }
-    ensures spans { OnOk result (open_spans.new ≡ open_after (change_of group_by binaries.old (seen act.entry)) open_spans.old) }
+    ensures spans { OnOk result (open_spans.new ≡ spans_opened (change_of group_by binaries.old (seen act.entry)) open_spans.old) }
     ensures binaries { OnOk result (binaries.new ≡ binaries_after (change_of group_by binaries.old (seen act.entry)) binaries.old) }
+    ensures added { IfOk result (λ added. added ≡ adds_binary (change_of group_by binaries.old (seen act.entry)) binaries.old) }
     ensures err_spans { OnErr result (open_spans.new ≡ open_spans.old) }
     ensures err_binaries { OnErr result (binaries.new ≡ binaries.old) }
 {
     match span {
         Some(span) => open_started(alloc, group_by, act, span, open_spans, binaries),
-        None => {
-            close_stopped(group_by, act, open_spans, binaries);
-            Ok(())
-        }
+        None => Ok(false),
     }
 }
 
-/// Opens this span, which the event starts, and adds the binary of an attempt.
+/// Opens this span, which the event starts, and adds the binary of an attempt. Returns whether that was new.
 fn open_started(
     alloc: Global,
     group_by: ChromeTraceGroupBy,
@@ -139,12 +194,13 @@ fn open_started(
     span: Span,
     open_spans: &mut OpenSpans,
     binaries: &mut Binaries,
-) -> Result<(), AllocError>
+) -> Result<bool, AllocError>
     requires open { open_refusal 0 open_spans.old (change_of group_by binaries.old (seen act)) ≡ None }
     requires slot { slot_refusal 0 open_spans.old (change_of group_by binaries.old (seen act)) ≡ None }
     requires span { Some span ≡ started (change_of group_by binaries.old (seen act)) }
-    ensures spans { OnOk result (open_spans.new ≡ open_after (change_of group_by binaries.old (seen act.entry)) open_spans.old) }
+    ensures spans { OnOk result (open_spans.new ≡ spans_opened (change_of group_by binaries.old (seen act.entry)) open_spans.old) }
     ensures binaries { OnOk result (binaries.new ≡ binaries_after (change_of group_by binaries.old (seen act.entry)) binaries.old) }
+    ensures added { IfOk result (λ added. added ≡ adds_binary (change_of group_by binaries.old (seen act.entry)) binaries.old) }
     ensures err_spans { OnErr result (open_spans.new ≡ open_spans.old) }
     ensures err_binaries { OnErr result (binaries.new ≡ binaries.old) }
 {
@@ -152,23 +208,29 @@ fn open_started(
         Act::AttemptStarts { test, slot } => {
             open_attempt(alloc, test, slot, span, open_spans, binaries)
         }
-        Act::RunStarts => open_spans.open(span),
-        Act::SubRunStarts => open_spans.open(span),
-        Act::ScriptStarts { index, id } => open_spans.open_script(alloc, index, id, span),
+        Act::RunStarts => open_other(open_spans.open(span)),
+        Act::SubRunStarts => open_other(open_spans.open(span)),
+        Act::ScriptStarts { index, id } => {
+            open_other(open_spans.open_script(alloc, index, id, span))
+        }
         // no other event starts a span
         _ => unreachable!(),
     }
 }
 
+/// Answers for a span of no binary.
+fn open_other(opened: Result<(), AllocError>) -> Result<bool, AllocError>
+    ensures { result ≡ no_binary opened }
+{
+    match opened {
+        Ok(()) => Ok(false),
+        Err(AllocError) => Err(AllocError),
+    }
+}
+
 /// Closes the span that the event ends, if it ends one that is open.
-fn close_stopped(
-    group_by: ChromeTraceGroupBy,
-    act: Act<'_>,
-    open_spans: &mut OpenSpans,
-    binaries: &Binaries,
-)
-    requires { started (change_of group_by binaries.now (seen act)) ≡ None }
-    ensures { open_spans.new ≡ open_after (change_of group_by binaries.now (seen act.entry)) open_spans.old }
+fn close_stopped(act: Act<'_>, open_spans: &mut OpenSpans)
+    ensures { (g : ChromeTraceGroupBy) (known : List (List ℕ × ℕ)) → open_spans.new ≡ spans_closed (change_of g known (seen act.entry)) open_spans.old }
 {
     match act {
         Act::RunEnds => open_spans.close_run(),
@@ -184,7 +246,31 @@ fn close_stopped(
     }
 }
 
-/// Opens the span of an attempt of a test on a slot, and adds the test's binary.
+/// Closes the span again that the event started, if it started one.
+fn close_started(act: Act<'_>, open_spans: &mut OpenSpans)
+    ensures { (g : ChromeTraceGroupBy) (known : List (List ℕ × ℕ)) → open_spans.new ≡ spans_taken_back (change_of g known (seen act.entry)) open_spans.old }
+{
+    match act {
+        Act::RunStarts => open_spans.close_run(),
+        Act::SubRunStarts => open_spans.close_sub_run(),
+        Act::ScriptStarts { index, .. } => open_spans.close_script(index),
+        Act::AttemptStarts { test, .. } => {
+            open_spans.close_test(test);
+        }
+        _ => (),
+    }
+}
+
+/// Removes the binary again of the attempt that the event started, if it started one.
+fn remove_binary(act: Act<'_>, binaries: &mut Binaries)
+    ensures { (g : ChromeTraceGroupBy) (known : List (List ℕ × ℕ)) → binaries.new ≡ binaries_taken_back (change_of g known (seen act.entry)) binaries.old }
+{
+    if let Act::AttemptStarts { test, .. } = act {
+        binaries.remove(&test.binary_id);
+    }
+}
+
+/// Opens the span of an attempt of a test on a slot, and adds the test's binary. Returns whether that was new.
 fn open_attempt(
     alloc: Global,
     test: &OwnedTestInstanceId,
@@ -192,19 +278,20 @@ fn open_attempt(
     span: Span,
     open_spans: &mut OpenSpans,
     binaries: &mut Binaries,
-) -> Result<(), AllocError>
+) -> Result<bool, AllocError>
     requires key { span.key ≡ keys.Test test.now }
     requires place { span.place ≡ places.Slot slot }
     requires key_free { of_key span.key open_spans.old ≡ [] }
     requires place_free { in_place span.place open_spans.old ≡ [] }
     ensures spans { OnOk result (open_spans.new ≡ put_in span open_spans.old) }
     ensures binaries { OnOk result (binaries.new ≡ with_binary test.now.binary_id binaries.old) }
+    ensures added { IfOk result (λ added. added ≡ is_new test.now.binary_id binaries.old) }
     ensures err_spans { OnErr result (open_spans.new ≡ open_spans.old) }
     ensures err_binaries { OnErr result (binaries.new ≡ binaries.old) }
 {
     open_spans.open_test(alloc, test, slot, span)?;
     match binaries.add(alloc, &test.binary_id) {
-        Ok(()) => Ok(()),
+        Ok(added) => Ok(added),
         Err(AllocError) => {
             open_spans.close_test(test);
             Err(AllocError)
