@@ -3,10 +3,10 @@ use Rattle.std.proofs.lemmas.Str.{is_utf8-from_IsUtf8, IsUtf8-from_is_utf8}
 use Rattle.std.specs.Str.{is_utf8}
 use Rattle.serde_json.specs.Data.{Data}
 use Rattle.serde_json.specs.Read.{read}
+use Rattle.rec_json.specs.Nodes.{view}
 use Rattle.rec_forms.proofs.text_form.read_text.Goals as goal
 use Rattle.rec_forms.specs.Gives.{Gives}
 use Rattle.rec_forms.specs.TextForm.{bytes_form}
-use Rattle.rec_json.specs.Nodes.{view}
 
 none_unless : {T : Type 0} (b : Bool) (o : Option T) → (b ≡ true → ⊥) → (if b then o else None) ≡ None
 none_unless true o h = absurd (h refl)
