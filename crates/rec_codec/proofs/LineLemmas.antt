@@ -1,13 +1,14 @@
 -- The first line of a text, and lines as texts.
-use Rattle.std.proofs.Common.{◌≡◌, ℕ, ◌+◌, ◌-◌, ◌<◌, ◌≤◌, ◌==◌, List, [], ◌∷◌, ◌++◌, length, take, drop, get_or, Some, None, Bool, true, false, nat_lt, if◌then◌else◌, ap, subst, ◌∙◌, refl, arith}
+use Rattle.std.proofs.Common.{◌≡◌, ℕ, ◌+◌, ◌-◌, ◌<◌, ◌≤◌, ◌==◌, List, [], ◌∷◌, ◌++◌, length, take, drop, get_or, Option, Some, None, Bool, true, false, nat_lt, if◌then◌else◌, ap, subst, ◌∙◌, refl, arith}
 use Rattle.std.proofs.lemmas.Bool.Decides.{nat_tests}
 use Rattle.std.proofs.lemmas.Grind.{common_steps}
 use Rattle.std.proofs.lemmas.List.Elements.{All-head, All-tail}
-use Rattle.std.proofs.lemmas.List.Sums.{fails_before_first, passes_at_first, split_at_first}
+use Rattle.std.proofs.lemmas.List.Sums.{fails_before_first, passes_at_first, position_or_len_is, split_at_first}
 use Rattle.std.proofs.lemmas.List.{take_all}
 use Rattle.std.proofs.lemmas.Str.{is_utf8-from_IsUtf8, IsUtf8-from_is_utf8}
 use Rattle.std.specs.List.{position, position_or_len, before_first, after_first, onto_first, All}
 use Rattle.std.specs.Str.{is_utf8, trim, IsUtf8}
+use Rattle.memchr.specs.Find.{IsFirstByte, is_byte}
 use Rattle.rec_codec.specs.Lines.{lines, text_of}
 
 -- a line that is UTF-8 is a text
@@ -61,6 +62,19 @@ whole_piece bytes l = subst IsPiece (take_all (position_or_len is_newline bytes)
 lines_none : (bytes : List ℕ) → length bytes ≤ position_or_len is_newline bytes → 0 < length bytes → lines bytes ≡ bytes ∷ []
 lines_none [] l n = absurd (omega arith)
 lines_none (b ∷ bytes) l n = lines_only b bytes (whole_piece (b ∷ bytes) l)
+
+fails : (b : Bool) → ¬ (b ≡ true) → b ≡ false
+fails true h = absurd (h refl)
+fails false h = refl
+
+-- what a search for newlines finds is the place of the first one
+pub first_newline : (bytes : List ℕ) (r : Option ℕ) → IsFirstByte (is_byte 10) bytes r → r ≡ position is_newline bytes
+first_newline bytes None h =
+    let at : position_or_len is_newline bytes ≡ length bytes = position_or_len_is is_newline bytes (length bytes) 0 (omega arith) (λ k l. fails _ (h k (omega arith) l)) (λ l. absurd (omega (arith, l))) in
+    rw at (grind (arith, nat_tests))
+first_newline bytes (Some k) h =
+    let at : position_or_len is_newline bytes ≡ k = position_or_len_is is_newline bytes k 0 (omega (arith, h.0.high)) (λ j l. fails _ (h.0.before j (omega arith) l)) (λ l. h.1) in
+    rw at (let inside = h.0.high in grind (arith, nat_tests))
 
 found_at : (t : Bool) (n i : ℕ) → (if t then Some n else None) ≡ Some i → (t ≡ true) × (n ≡ i)
 found_at true n i h = (refl, cc)

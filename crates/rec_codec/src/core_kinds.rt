@@ -1,6 +1,7 @@
 //! The kinds of events that hold no outputs.
 ghost use Rattle.std.specs.Prelude.{◌≡◌, OnOk, [], ◌∷◌, ◌++◌};
-ghost use Rattle.serde_json.specs.View.{members_view};
+ghost use Rattle.serde_json.specs.View.{members_view as value_members};
+ghost use Rattle.rec_json.specs.Nodes.{members_view};
 ghost use Rattle.rec_forms.specs.Gives.{Gives};
 ghost use Rattle.rec_forms.specs.Shape.{with_members};
 ghost use Rattle.rec_codec.specs.CoreKindForms.{script_kinds, test_kinds, core_kinds, kind_in};
@@ -22,13 +23,14 @@ use crate::test_kinds::{
 };
 use rec_events::CoreEventKind;
 use rec_forms::{FromValueError, Object, put_text};
+use rec_json::Node;
 use serde_json::Value;
 use std::alloc::{AllocError, Global};
 
 /// Writes the name of a kind.
 pub fn put_kind_name(alloc: Global, object: &mut Object, name: &str) -> Result<(), AllocError>
-    ensures { OnOk result (members_view object.new.entries
-        ≡ with_members (members_view object.old.entries) (kind_field name.now ∷ [])) }
+    ensures { OnOk result (value_members object.new.entries
+        ≡ with_members (value_members object.old.entries) (kind_field name.now ∷ [])) }
 {
     put_text(alloc, object, "kind", name)
 }
@@ -56,8 +58,8 @@ fn core_name(kind: &CoreEventKind) -> &'static str
 
 /// Writes a kind and its members.
 pub fn put_core(alloc: Global, object: &mut Object, kind: &CoreEventKind) -> Result<(), AllocError>
-    ensures written { OnOk result (members_view object.new.entries
-        ≡ with_members (members_view object.old.entries) (core_fields kind.now)) }
+    ensures written { OnOk result (value_members object.new.entries
+        ≡ with_members (value_members object.old.entries) (core_fields kind.now)) }
     ensures known { OnOk result (IsCore kind.now) }
 {
     put_kind_name(alloc, object, core_name(kind))?;
@@ -91,12 +93,12 @@ pub fn put_core(alloc: Global, object: &mut Object, kind: &CoreEventKind) -> Res
 /// Reads the members of the kind of this name. Each group of kinds has a function of its own, and
 /// the next one takes the names that it doesn't know.
 #[tactic(auto, unfolding(crate::specs::CoreKindForms::kind_in))]
-pub fn core_from(
+pub fn core_from<'a>(
     alloc: Global,
-    object: &Object,
+    object: &[(&'a str, Node<'a>)],
     name: &str,
 ) -> Result<CoreEventKind, FromValueError>
-    ensures { Gives result (kind_in core_kinds name.now (members_view object.now.entries)) }
+    ensures { Gives result (kind_in core_kinds name.now (members_view object.now)) }
 {
     match name {
         "run-started" => run_started_from(alloc, object),
@@ -112,12 +114,12 @@ pub fn core_from(
 
 /// The kinds of setup scripts, and after them those of tests.
 #[tactic(auto, unfolding(crate::specs::CoreKindForms::kind_in))]
-fn script_or_test_from(
+fn script_or_test_from<'a>(
     alloc: Global,
-    object: &Object,
+    object: &[(&'a str, Node<'a>)],
     name: &str,
 ) -> Result<CoreEventKind, FromValueError>
-    ensures { Gives result (kind_in (script_kinds ++ test_kinds) name.now (members_view object.now.entries)) }
+    ensures { Gives result (kind_in (script_kinds ++ test_kinds) name.now (members_view object.now)) }
 {
     match name {
         "setup-script-started" => setup_script_started_from(alloc, object),
@@ -128,8 +130,12 @@ fn script_or_test_from(
 
 /// The kinds of tests.
 #[tactic(auto, unfolding(crate::specs::CoreKindForms::kind_in))]
-fn test_from(alloc: Global, object: &Object, name: &str) -> Result<CoreEventKind, FromValueError>
-    ensures { Gives result (kind_in test_kinds name.now (members_view object.now.entries)) }
+fn test_from<'a>(
+    alloc: Global,
+    object: &[(&'a str, Node<'a>)],
+    name: &str,
+) -> Result<CoreEventKind, FromValueError>
+    ensures { Gives result (kind_in test_kinds name.now (members_view object.now)) }
 {
     match name {
         "test-started" => test_started_from(alloc, object),

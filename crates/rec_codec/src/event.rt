@@ -1,8 +1,10 @@
 //! Events as JSON values.
-ghost use Rattle.std.specs.Prelude.{◌≡◌, OnOk, IfOk, Some, true};
-ghost use Rattle.serde_json.specs.View.{view, members_view};
+ghost use Rattle.std.specs.Prelude.{◌≡◌, OnOk, IfOk, Some, codes, option_map, true};
+ghost use Rattle.serde_json.specs.Find.{as_str};
+ghost use Rattle.serde_json.specs.View.{view, members_view as value_members};
+ghost use Rattle.rec_json.specs.Nodes.{members_view, view as node_view};
 ghost use Rattle.rec_forms.specs.Gives.{Gives};
-ghost use Rattle.rec_forms.specs.Shape.{with_members};
+ghost use Rattle.rec_forms.specs.Shape.{required, with_members};
 ghost use Rattle.rec_codec.specs.EventForms.{kind_fields, kind_named, kind_form, kind_loaded, IsKind, event_value, event_form, IsEvent};
 ghost use Rattle.rec_codec.specs.Writes.{Writes, PutsLoaded};
 
@@ -12,7 +14,8 @@ use crate::output_kinds::{
 };
 use crate::{OutputForm, ToValueError};
 use rec_events::{TestEventKindSummary, TestEventSummary};
-use rec_forms::{FromValueError, Object, member, put_field, required_field};
+use rec_forms::{FromValueError, Object, put_field, required_field};
+use rec_json::{Node, member};
 use serde_json::{Map, Value};
 use std::alloc::Global;
 
@@ -22,8 +25,8 @@ fn put_kind<S: OutputForm>(
     object: &mut Object,
     kind: &TestEventKindSummary<S>,
 ) -> Result<(), ToValueError>
-    ensures written { OnOk result (members_view object.new.entries
-        ≡ with_members (members_view object.old.entries) (kind_fields S.output_value kind.now)) }
+    ensures written { OnOk result (value_members object.new.entries
+        ≡ with_members (value_members object.old.entries) (kind_fields S.output_value kind.now)) }
     ensures loaded { PutsLoaded result (kind_loaded S.loaded kind.now) }
     ensures known { OnOk result (IsKind S.output_well_formed kind.now) }
 {
@@ -71,12 +74,12 @@ pub fn event_to_value<S: OutputForm>(
 
 /// Reads the members of the kind of this name.
 #[tactic(auto, unfolding(crate::specs::EventForms::kind_named))]
-fn kind_named<S: OutputForm>(
+fn kind_named<'a, S: OutputForm>(
     alloc: Global,
-    object: &Object,
+    object: &[(&'a str, Node<'a>)],
     name: &str,
 ) -> Result<TestEventKindSummary<S>, FromValueError>
-    ensures { Gives result (kind_named S.output_form name.now (members_view object.now.entries)) }
+    ensures { Gives result (kind_named S.output_form name.now (members_view object.now)) }
 {
     match name {
         "setup-script-finished" => Ok(TestEventKindSummary::Output(script_finished_from(
@@ -90,21 +93,29 @@ fn kind_named<S: OutputForm>(
     }
 }
 
+/// Returns the name of the kind that an object has.
+fn kind_name<'a>(object: &[(&'a str, Node<'a>)]) -> Option<&'a str>
+    ensures { option_map (λ name. name.now) result ≡ required as_str (codes "kind") (members_view object.now) }
+{
+    member(object, "kind")?.as_str()
+}
+
 /// Reads a kind by its name.
 #[tactic(auto, unfolding(crate::specs::EventForms::kind_form))]
-fn kind_from<S: OutputForm>(
+fn kind_from<'a, S: OutputForm>(
     alloc: Global,
-    object: &Object,
+    object: &[(&'a str, Node<'a>)],
 ) -> Result<TestEventKindSummary<S>, FromValueError>
-    ensures { Gives result (kind_form S.output_form (members_view object.now.entries)) }
+    ensures { Gives result (kind_form S.output_form (members_view object.now)) }
 {
-    match member(object, "kind") {
-        Some(Value::String(name)) => kind_named(alloc, object, name.as_str()),
-        _ => Err(FromValueError::NotAValue),
+    match kind_name(object) {
+        Some(name) => kind_named(alloc, object, name),
+        None => Err(FromValueError::NotAValue),
     }
 }
 
-/// Reads the event for which `value` stands.
+/// Reads the event for which `value` stands, a value that is there already. A text is read as a node,
+/// without a value in between.
 ///
 /// # Errors
 ///
@@ -117,19 +128,36 @@ pub fn event_from_value<S: OutputForm>(
     ensures read { Gives result (event_form S.output_form (view value.now)) }
     ensures known { IfOk result (IsEvent S.output_well_formed) }
 {
-    // in a call of its own, so that `known` can rest on `read`
-    event_from(alloc, value)
+    let node = Node::of_value(alloc, value)?;
+    event_from_node(alloc, &node)
 }
 
-/// Reads an event, in a call of its own, so that `known` of `event_from_value` can rest on its clause.
+/// Reads the event for which `node` stands.
+///
+/// # Errors
+///
+/// `NotAValue` comes exactly where the node stands for no event, and `OutOfMemory` where there was
+/// not enough memory.
+pub fn event_from_node<S: OutputForm>(
+    alloc: Global,
+    node: &Node<'_>,
+) -> Result<TestEventSummary<S>, FromValueError>
+    ensures read { Gives result (event_form S.output_form (node_view node.now)) }
+    ensures known { IfOk result (IsEvent S.output_well_formed) }
+{
+    // in a call of its own, so that `known` can rest on `read`
+    event_from(alloc, node)
+}
+
+/// Reads an event, in a call of its own, so that `known` of `event_from_node` can rest on its clause.
 #[tactic(auto, unfolding(crate::specs::EventForms::event_form))]
 fn event_from<S: OutputForm>(
     alloc: Global,
-    value: &Value,
+    node: &Node<'_>,
 ) -> Result<TestEventSummary<S>, FromValueError>
-    ensures { Gives result (event_form S.output_form (view value.now)) }
+    ensures { Gives result (event_form S.output_form (node_view node.now)) }
 {
-    let Value::Object(object) = value else {
+    let Some(object) = node.as_object() else {
         return Err(FromValueError::NotAValue);
     };
     Ok(TestEventSummary {

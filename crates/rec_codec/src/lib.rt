@@ -21,10 +21,10 @@ mod status;
 mod test_kinds;
 
 pub use errors::ToValueError;
-pub use event::{event_from_value, event_to_value};
+pub use event::{event_from_node, event_from_value, event_to_value};
 pub use line_events::{LineError, read_line};
 pub use line_iter::LineIter;
-pub use lines::{Line, Lines};
+pub use lines::{Line, Lines, line_end};
 pub use loaded::has_all_outputs;
 pub use loaded_form::LoadedForm;
 pub use log_lines::log_line;

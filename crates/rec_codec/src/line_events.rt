@@ -6,9 +6,10 @@ ghost use Rattle.rec_codec.specs.EventForms.{event_form};
 ghost use Rattle.rec_codec.specs.LineEvents.{Answers, AnswersEvent};
 ghost use Rattle.rec_codec.specs.Lines.{text_of};
 
-use crate::{Line, OutputForm, event_from_value};
+use crate::{Line, OutputForm, event_from_node};
 use rec_events::TestEventSummary;
-use rec_forms::{FromValueError, parse_value};
+use rec_forms::{FromValueError, parse_node};
+use rec_json::Scratch;
 use std::alloc::Global;
 use thiserror::Error;
 
@@ -36,14 +37,16 @@ pub enum LineError {
 fn event_from_text<S: OutputForm>(
     alloc: Global,
     text: &str,
+    scratch: &mut Scratch,
 ) -> Result<TestEventSummary<S>, FromValueError>
     ensures { Gives result (text_form (event_form S.output_form) text.now) }
 {
-    let value = parse_value(alloc, text)?;
-    event_from_value(alloc, &value)
+    let node = parse_node(alloc, text, scratch)?;
+    event_from_node(alloc, &node)
 }
 
-/// Reads the event of a line. `None` comes exactly where the line is blank.
+/// Reads the event of a line. `None` comes exactly where the line is blank. `scratch` is memory for
+/// texts with escapes; make it once, and lend it to the read of one line after another.
 ///
 /// # Errors
 ///
@@ -53,6 +56,7 @@ fn event_from_text<S: OutputForm>(
 pub fn read_line<S: OutputForm>(
     alloc: Global,
     line: Line<'_>,
+    scratch: &mut Scratch,
 ) -> Option<Result<TestEventSummary<S>, LineError>>
     ensures { Answers (event_form S.output_form) result line.entry.number (text_of line.entry.bytes.now) }
 {
@@ -64,7 +68,7 @@ pub fn read_line<S: OutputForm>(
     if text.is_empty() {
         return None;
     }
-    Some(event_of_line(alloc, text, line.number))
+    Some(event_of_line(alloc, text, line.number, scratch))
 }
 
 /// Reads the event of a text that isn't blank. Where there is none, the fault has the line's number.
@@ -72,10 +76,11 @@ fn event_of_line<S: OutputForm>(
     alloc: Global,
     text: &str,
     line_number: u64,
+    scratch: &mut Scratch,
 ) -> Result<TestEventSummary<S>, LineError>
     ensures { AnswersEvent (event_form S.output_form) result line_number (Some text.now) }
 {
-    match event_from_text(alloc, text) {
+    match event_from_text(alloc, text, scratch) {
         Ok(event) => Ok(event),
         Err(FromValueError::NotAValue) => Err(LineError::ParseEvent { line_number }),
         Err(FromValueError::OutOfMemory) => Err(LineError::OutOfMemory),

@@ -5,6 +5,7 @@ ghost use Rattle.rec_codec.specs.Lines.{lines, numbered};
 
 use crate::{LineError, Lines, OutputForm, read_line};
 use rec_events::TestEventSummary;
+use rec_json::Scratch;
 use std::alloc::Global;
 use std::marker::{Model, PhantomData};
 
@@ -28,6 +29,8 @@ use std::marker::{Model, PhantomData};
 pub struct LineIter<'a, S: OutputForm> {
     alloc: Global,
     lines: Lines<'a>,
+    // for the read of each line
+    scratch: Scratch,
     spec: PhantomData<S>,
 }
 
@@ -50,6 +53,7 @@ impl<'a, S: OutputForm> LineIter<'a, S> {
         LineIter {
             alloc,
             lines: Lines::new(text, first_line),
+            scratch: Scratch::new(alloc),
             spec: PhantomData,
         }
     }
@@ -77,7 +81,7 @@ impl<'a, S: OutputForm> Iterator for LineIter<'a, S> {
 
     fn next(&mut self) -> Option<Result<TestEventSummary<S>, LineError>> {
         while let Some(line) = self.lines.next() {
-            if let Some(item) = read_line(self.alloc, line) {
+            if let Some(item) = read_line(self.alloc, line, &mut self.scratch) {
                 self.end_where_out_of_memory(&item);
                 return Some(item);
             }

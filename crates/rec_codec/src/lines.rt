@@ -3,6 +3,7 @@ ghost use Rattle.std.specs.Option.{option_map};
 ghost use Rattle.std.specs.Prelude.{◌≡◌, ◌==◌, ◌+◌, ◌≤◌, ◌<◌, ◌^◌, ◌∷◌, length, position};
 ghost use Rattle.rec_codec.specs.Lines.{lines, numbered, text_of};
 
+use memchr::memchr;
 use std::marker::Model;
 use std::str;
 
@@ -62,11 +63,11 @@ impl<'a> Lines<'a> {
     }
 }
 
-/// Returns where the first line ends, if it ends at LF.
-fn line_end(bytes: &[u8]) -> Option<usize>
+/// Returns how many bytes the first line has, if it ends at LF.
+pub fn line_end(bytes: &[u8]) -> Option<usize>
     ensures { result ≡ position (λ b. b == 10) bytes.now }
 {
-    bytes.iter().position(|b| *b == b'\n')
+    memchr(b'\n', bytes)
 }
 
 /// Splits what isn't empty into its first line and what stands after it.

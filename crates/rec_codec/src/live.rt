@@ -1,21 +1,22 @@
 //! Outputs as they are captured.
 ghost use Rattle.std.specs.Prelude.{◌≡◌};
-ghost use Rattle.serde_json.specs.View.{view};
+ghost use Rattle.rec_json.specs.Nodes.{view};
 ghost use Rattle.rec_forms.specs.Gives.{Gives};
 ghost use Rattle.rec_codec.specs.Live.{live_split_form};
 
 use crate::{OutputForm, ToValueError};
 use rec_events::{ChildOutputDescription, ChildSingleOutput, LiveSpec};
-use rec_forms::{Form, FromValueError, only_member, optional_field, put_optional, tagged};
+use rec_forms::{Form, FromValueError, optional_field, put_optional, tagged};
+use rec_json::{Node, only_member};
 use serde_json::{Map, Value};
 use std::alloc::Global;
 
 /// The outputs of a process whose streams were captured apart.
 #[tactic(auto, unfolding(crate::specs::Live::live_split_form))]
-fn split_from(alloc: Global, value: &Value) -> Result<ChildOutputDescription, FromValueError>
-    ensures { Gives result (live_split_form (view value.now)) }
+fn split_from(alloc: Global, node: &Node<'_>) -> Result<ChildOutputDescription, FromValueError>
+    ensures { Gives result (live_split_form (view node.now)) }
 {
-    let Value::Object(fields) = value else {
+    let Some(fields) = node.as_object() else {
         return Err(FromValueError::NotAValue);
     };
     Ok(ChildOutputDescription::Split {
@@ -63,18 +64,18 @@ impl OutputForm for LiveSpec {
         }
     }
 
-    #[tactic(auto, unfolding(crate::specs::Live::live_form))]
-    fn output_from_value(
+    #[tactic(auto, unfolding(crate::specs::Live::live_form), using(rec_forms::specs::VariantLaws::variant_cased))]
+    fn output_from_node(
         alloc: Global,
-        value: &Value,
+        node: &Node<'_>,
     ) -> Result<ChildOutputDescription, FromValueError> {
-        let Value::Object(object) = value else {
+        let Some(object) = node.as_object() else {
             return Err(FromValueError::NotAValue);
         };
         match only_member(object) {
-            Some(("split", value)) => split_from(alloc, value),
-            Some(("combined", value)) => Ok(ChildOutputDescription::Combined {
-                output: ChildSingleOutput::from_value(alloc, value)?,
+            Some(("split", node)) => split_from(alloc, node),
+            Some(("combined", node)) => Ok(ChildOutputDescription::Combined {
+                output: ChildSingleOutput::from_node(alloc, node)?,
             }),
             _ => Err(FromValueError::NotAValue),
         }

@@ -2,7 +2,8 @@
 ghost use Rattle.std.specs.List.{AllByRecursion};
 ghost use Rattle.std.specs.Prelude.{◌≡◌, ℕ, Bool, Option, Some, OnOk, map};
 ghost use Rattle.serde_json.specs.Data.{Data};
-ghost use Rattle.serde_json.specs.View.{view, members_view};
+ghost use Rattle.serde_json.specs.View.{members_view as value_members};
+ghost use Rattle.rec_json.specs.Nodes.{members_view, view};
 ghost use Rattle.rec_forms.specs.Gives.{Gives};
 ghost use Rattle.rec_forms.specs.GivesWellFormed.{GivesWellFormed};
 ghost use Rattle.rec_forms.specs.Lists.{list_value, list_form, some_form};
@@ -12,7 +13,8 @@ ghost use Rattle.rec_codec.specs.Writes.{Writes, PutsLoaded, every};
 
 use crate::ToValueError;
 use rec_events::{Items, NonEmpty};
-use rec_forms::{FromValueError, Object, member};
+use rec_forms::{FromValueError, Object};
+use rec_json::{Node, member};
 use serde_json::Value;
 use std::alloc::Global;
 
@@ -43,14 +45,14 @@ pub trait LoadedForm: Sized {
         ensures written { Writes result (value_of self.now) (loaded self.now) }
         ensures known { OnOk result (well_formed self.now) };
 
-    /// Reads the item for which `value` stands.
+    /// Reads the item for which `node` stands.
     ///
     /// # Errors
     ///
-    /// `NotAValue` comes exactly where the value stands for no item, and `OutOfMemory` where there
+    /// `NotAValue` comes exactly where the node stands for no item, and `OutOfMemory` where there
     /// was not enough memory.
-    fn from_value(alloc: Global, value: &Value) -> Result<Self, FromValueError>
-        ensures read { Gives result (form_of (view value.now)) };
+    fn from_node(alloc: Global, node: &Node<'_>) -> Result<Self, FromValueError>
+        ensures read { Gives result (form_of (view node.now)) };
 
     // What was written is read back.
     ghost reads_back: { (x : Self) → well_formed x → form_of (value_of x) ≡ Some x };
@@ -70,8 +72,8 @@ pub fn put_loaded<T: LoadedForm>(
     key: &str,
     item: &T,
 ) -> Result<(), ToValueError>
-    ensures written { OnOk result (members_view object.new.entries
-        ≡ with_member key.now (Some (T.value_of item.now)) (members_view object.old.entries)) }
+    ensures written { OnOk result (value_members object.new.entries
+        ≡ with_member key.now (Some (T.value_of item.now)) (value_members object.old.entries)) }
     ensures loaded { PutsLoaded result (T.loaded item.now) }
     ensures known { OnOk result (T.well_formed item.now) }
 {
@@ -81,15 +83,15 @@ pub fn put_loaded<T: LoadedForm>(
 }
 
 /// Reads a field that holds outputs and has to be there.
-pub fn required_loaded<T: LoadedForm>(
+pub fn required_loaded<'a, T: LoadedForm>(
     alloc: Global,
-    object: &Object,
+    object: &[(&'a str, Node<'a>)],
     key: &str,
 ) -> Result<T, FromValueError>
-    ensures { Gives result (required T.form_of key.now (members_view object.now.entries)) }
+    ensures { Gives result (required T.form_of key.now (members_view object.now)) }
 {
     match member(object, key) {
-        Some(value) => T::from_value(alloc, value),
+        Some(node) => T::from_node(alloc, node),
         None => Err(FromValueError::NotAValue),
     }
 }
@@ -108,34 +110,34 @@ pub fn each_to_value<T: LoadedForm>(alloc: Global, items: &[T]) -> Result<Value,
 }
 
 /// Reads the items of an array.
-pub fn each_from_value<T: LoadedForm + Drop>(
+pub fn each_from_node<T: LoadedForm + Drop>(
     alloc: Global,
-    value: &Value,
+    node: &Node<'_>,
 ) -> Result<Items<T>, FromValueError>
-    ensures { Gives result (list_form T.form_of (view value.now)) }
+    ensures { Gives result (list_form T.form_of (view node.now)) }
 {
-    let Value::Array(values) = value else {
+    let Some(nodes) = node.as_array() else {
         return Err(FromValueError::NotAValue);
     };
     let mut items = Vec::new(alloc);
-    for value in values {
-        let item = T::from_value(alloc, value)?;
+    for node in nodes {
+        let item = T::from_node(alloc, node)?;
         items.push(item)?;
     }
     Ok(Items::new(items))
 }
 
 /// Reads a field that has to be there and holds a list that isn't empty.
-pub fn some_from_value<T: LoadedForm + Drop>(
+pub fn required_some<'a, T: LoadedForm + Drop>(
     alloc: Global,
-    object: &Object,
+    object: &[(&'a str, Node<'a>)],
     key: &str,
 ) -> Result<NonEmpty<T>, FromValueError>
-    ensures { Gives result (required (some_form T.form_of) key.now (members_view object.now.entries)) }
+    ensures { Gives result (required (some_form T.form_of) key.now (members_view object.now)) }
 {
     match member(object, key) {
-        Some(value) => {
-            let items = each_from_value(alloc, value)?;
+        Some(node) => {
+            let items = each_from_node(alloc, node)?;
             NonEmpty::from_items(items).ok_or(FromValueError::NotAValue)
         }
         None => Err(FromValueError::NotAValue),

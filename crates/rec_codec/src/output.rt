@@ -2,6 +2,7 @@
 ghost use Rattle.std.specs.Prelude.{◌≡◌, ℕ, Bool, Option, Some, OnOk};
 ghost use Rattle.serde_json.specs.Data.{Data};
 ghost use Rattle.serde_json.specs.View.{view};
+ghost use Rattle.rec_json.specs.Nodes.{view as node_view};
 ghost use Rattle.rec_forms.specs.Gives.{Gives};
 ghost use Rattle.rec_forms.specs.GivesWellFormed.{GivesWellFormed};
 ghost use Rattle.rec_forms.specs.Writable.{IsWritable};
@@ -10,6 +11,7 @@ ghost use Rattle.rec_codec.specs.Writes.{Writes};
 use crate::ToValueError;
 use rec_events::{OutputSpec, RecordingSpec, ZipStoreOutputDescription};
 use rec_forms::{Form, FromValueError};
+use rec_json::Node;
 use serde_json::Value;
 use std::alloc::Global;
 
@@ -40,14 +42,28 @@ pub trait OutputForm: OutputSpec {
         ensures written { Writes result (output_value output.now) (loaded output.now) }
         ensures known { OnOk result (output_well_formed output.now) };
 
-    /// Reads the output for which `value` stands.
+    /// Reads the output for which `node` stands.
+    ///
+    /// # Errors
+    ///
+    /// `NotAValue` comes exactly where the node stands for no output, and `OutOfMemory` where there
+    /// was not enough memory.
+    fn output_from_node(alloc: Global, node: &Node<'_>) -> Result<Self::ChildOutput, FromValueError>
+        ensures read_node { Gives result (output_form (node_view node.now)) };
+
+    /// Reads the output for which `value` stands, a value that is there already. A text is read as a
+    /// node, without a value in between.
     ///
     /// # Errors
     ///
     /// `NotAValue` comes exactly where the value stands for no output, and `OutOfMemory` where there
     /// was not enough memory.
     fn output_from_value(alloc: Global, value: &Value) -> Result<Self::ChildOutput, FromValueError>
-        ensures read { Gives result (output_form (view value.now)) };
+        ensures read { Gives result (output_form (view value.now)) }
+    {
+        let node = Node::of_value(alloc, value)?;
+        Self::output_from_node(alloc, &node)
+    }
 
     // What was written is read back.
     ghost output_reads_back: { (o : Self.ChildOutput) → output_well_formed o → output_form (output_value o) ≡ Some o };
@@ -88,10 +104,10 @@ impl OutputForm for RecordingSpec {
         Ok(output.to_value(alloc)?)
     }
 
-    fn output_from_value(
+    fn output_from_node(
         alloc: Global,
-        value: &Value,
+        node: &Node<'_>,
     ) -> Result<ZipStoreOutputDescription, FromValueError> {
-        ZipStoreOutputDescription::from_value(alloc, value)
+        ZipStoreOutputDescription::from_node(alloc, node)
     }
 }

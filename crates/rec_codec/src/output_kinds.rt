@@ -1,6 +1,7 @@
 //! The kinds of events that hold outputs.
 ghost use Rattle.std.specs.Prelude.{◌≡◌, OnOk, true, codes};
-ghost use Rattle.serde_json.specs.View.{members_view};
+ghost use Rattle.serde_json.specs.View.{members_view as value_members};
+ghost use Rattle.rec_json.specs.Nodes.{members_view};
 ghost use Rattle.rec_forms.specs.Gives.{Gives};
 ghost use Rattle.rec_forms.specs.Shape.{with_members};
 ghost use Rattle.rec_codec.specs.OutputKinds.{output_name, reporting_fields, reporting_form, output_members, output_fields, output_loaded, IsOutput, script_finished_form, attempt_failed_form, test_finished_form};
@@ -12,6 +13,7 @@ use crate::script_kinds::{Command, Place, put_command, put_place};
 use crate::{OutputForm, ToValueError};
 use rec_events::{JunitFlakyFailStatus, OutputEventKind, TestOutputDisplay};
 use rec_forms::{FromValueError, Object, optional_field, put_field, put_optional, required_field};
+use rec_json::Node;
 use std::alloc::{AllocError, Global};
 
 /// How a finished test is reported.
@@ -26,8 +28,8 @@ struct Reporting {
 
 impl Reporting {
     fn put(&self, alloc: Global, object: &mut Object) -> Result<(), AllocError>
-        ensures { OnOk result (members_view object.new.entries
-            ≡ with_members (members_view object.old.entries) (reporting_fields self.now)) }
+        ensures { OnOk result (value_members object.new.entries
+            ≡ with_members (value_members object.old.entries) (reporting_fields self.now)) }
     {
         put_field(alloc, object, "success-output", &self.success_output)?;
         put_field(alloc, object, "failure-output", &self.failure_output)?;
@@ -52,8 +54,8 @@ impl Reporting {
     }
 
     #[tactic(auto, unfolding(crate::specs::OutputKinds::reporting_form))]
-    fn read(alloc: Global, object: &Object) -> Result<Reporting, FromValueError>
-        ensures { Gives result (reporting_form (members_view object.now.entries)) }
+    fn read<'a>(alloc: Global, object: &[(&'a str, Node<'a>)]) -> Result<Reporting, FromValueError>
+        ensures { Gives result (reporting_form (members_view object.now)) }
     {
         Ok(Reporting {
             success_output: required_field(alloc, object, "success-output")?,
@@ -91,8 +93,8 @@ fn put_script_finished<S: OutputForm>(
     kind: &OutputEventKind<S>,
 ) -> Result<(), ToValueError>
     requires named { output_name kind.now ≡ codes "setup-script-finished" }
-    ensures written { OnOk result (members_view object.new.entries
-        ≡ with_members (members_view object.old.entries) (output_members S.output_value kind.now)) }
+    ensures written { OnOk result (value_members object.new.entries
+        ≡ with_members (value_members object.old.entries) (output_members S.output_value kind.now)) }
     ensures loaded { PutsLoaded result (output_loaded S.loaded kind.now) }
     ensures known { OnOk result (IsOutput S.output_well_formed kind.now) }
 {
@@ -123,8 +125,8 @@ fn put_attempt_failed<S: OutputForm>(
     kind: &OutputEventKind<S>,
 ) -> Result<(), ToValueError>
     requires named { output_name kind.now ≡ codes "test-attempt-failed-will-retry" }
-    ensures written { OnOk result (members_view object.new.entries
-        ≡ with_members (members_view object.old.entries) (output_members S.output_value kind.now)) }
+    ensures written { OnOk result (value_members object.new.entries
+        ≡ with_members (value_members object.old.entries) (output_members S.output_value kind.now)) }
     ensures loaded { PutsLoaded result (output_loaded S.loaded kind.now) }
     ensures known { OnOk result (IsOutput S.output_well_formed kind.now) }
 {
@@ -160,8 +162,8 @@ fn put_test_finished<S: OutputForm>(
     kind: &OutputEventKind<S>,
 ) -> Result<(), ToValueError>
     requires named { output_name kind.now ≡ codes "test-finished" }
-    ensures written { OnOk result (members_view object.new.entries
-        ≡ with_members (members_view object.old.entries) (output_members S.output_value kind.now)) }
+    ensures written { OnOk result (value_members object.new.entries
+        ≡ with_members (value_members object.old.entries) (output_members S.output_value kind.now)) }
     ensures loaded { PutsLoaded result (output_loaded S.loaded kind.now) }
     ensures known { OnOk result (IsOutput S.output_well_formed kind.now) }
 {
@@ -202,8 +204,8 @@ pub fn put_output<S: OutputForm>(
     object: &mut Object,
     kind: &OutputEventKind<S>,
 ) -> Result<(), ToValueError>
-    ensures written { OnOk result (members_view object.new.entries
-        ≡ with_members (members_view object.old.entries) (output_fields S.output_value kind.now)) }
+    ensures written { OnOk result (value_members object.new.entries
+        ≡ with_members (value_members object.old.entries) (output_fields S.output_value kind.now)) }
     ensures loaded { PutsLoaded result (output_loaded S.loaded kind.now) }
     ensures known { OnOk result (IsOutput S.output_well_formed kind.now) }
 {
@@ -219,11 +221,11 @@ pub fn put_output<S: OutputForm>(
 
 /// Reads the members of a setup script's end.
 #[tactic(auto, unfolding(crate::specs::OutputKinds::script_finished_form))]
-pub fn script_finished_from<S: OutputForm>(
+pub fn script_finished_from<'a, S: OutputForm>(
     alloc: Global,
-    object: &Object,
+    object: &[(&'a str, Node<'a>)],
 ) -> Result<OutputEventKind<S>, FromValueError>
-    ensures { Gives result (script_finished_form S.output_form (members_view object.now.entries)) }
+    ensures { Gives result (script_finished_form S.output_form (members_view object.now)) }
 {
     let place = Place::read(alloc, object)?;
     let no_capture = required_field(alloc, object, "no-capture")?;
@@ -250,11 +252,11 @@ pub fn script_finished_from<S: OutputForm>(
 
 /// Reads the members of a failed attempt.
 #[tactic(auto, unfolding(crate::specs::OutputKinds::attempt_failed_form))]
-pub fn attempt_failed_from<S: OutputForm>(
+pub fn attempt_failed_from<'a, S: OutputForm>(
     alloc: Global,
-    object: &Object,
+    object: &[(&'a str, Node<'a>)],
 ) -> Result<OutputEventKind<S>, FromValueError>
-    ensures { Gives result (attempt_failed_form S.output_form (members_view object.now.entries)) }
+    ensures { Gives result (attempt_failed_form S.output_form (members_view object.now)) }
 {
     let stress_index = optional_field(alloc, object, "stress-index")?;
     let delay_before_next_attempt = required_field(alloc, object, "delay-before-next-attempt")?;
@@ -280,11 +282,11 @@ pub fn attempt_failed_from<S: OutputForm>(
 
 /// Reads the members of a finished test.
 #[tactic(auto, unfolding(crate::specs::OutputKinds::test_finished_form))]
-pub fn test_finished_from<S: OutputForm>(
+pub fn test_finished_from<'a, S: OutputForm>(
     alloc: Global,
-    object: &Object,
+    object: &[(&'a str, Node<'a>)],
 ) -> Result<OutputEventKind<S>, FromValueError>
-    ensures { Gives result (test_finished_form S.output_form (members_view object.now.entries)) }
+    ensures { Gives result (test_finished_form S.output_form (members_view object.now)) }
 {
     let reporting = Reporting::read(alloc, object)?;
     let stress_index = optional_field(alloc, object, "stress-index")?;

@@ -1,6 +1,7 @@
 //! The kinds of events of a whole run.
 ghost use Rattle.std.specs.Prelude.{◌≡◌, OnOk, codes};
-ghost use Rattle.serde_json.specs.View.{members_view};
+ghost use Rattle.serde_json.specs.View.{members_view as value_members};
+ghost use Rattle.rec_json.specs.Nodes.{members_view};
 ghost use Rattle.rec_forms.specs.Gives.{Gives};
 ghost use Rattle.rec_forms.specs.Shape.{with_members};
 ghost use Rattle.rec_codec.specs.CoreKindForms.{run_started_form, stress_sub_run_started_form, run_begin_cancel_form, run_paused_form, run_continued_form, stress_sub_run_finished_form, run_finished_form};
@@ -8,6 +9,7 @@ ghost use Rattle.rec_codec.specs.CoreKinds.{core_name, core_members, running_fie
 
 use rec_events::CoreEventKind;
 use rec_forms::{FromValueError, Object, optional_field, put_field, put_optional, required_field};
+use rec_json::Node;
 use std::alloc::{AllocError, Global};
 
 /// Writes the members of a run's start.
@@ -17,8 +19,8 @@ pub fn put_run_started(
     kind: &CoreEventKind,
 ) -> Result<(), AllocError>
     requires named { core_name kind.now ≡ codes "run-started" }
-    ensures written { OnOk result (members_view object.new.entries
-        ≡ with_members (members_view object.old.entries) (core_members kind.now)) }
+    ensures written { OnOk result (value_members object.new.entries
+        ≡ with_members (value_members object.old.entries) (core_members kind.now)) }
     ensures known { OnOk result (IsCore kind.now) }
 {
     let CoreEventKind::RunStarted {
@@ -39,8 +41,11 @@ pub fn put_run_started(
 
 /// Reads the members of a run's start.
 #[tactic(auto, unfolding(crate::specs::CoreKindForms::run_started_form))]
-pub fn run_started_from(alloc: Global, object: &Object) -> Result<CoreEventKind, FromValueError>
-    ensures { Gives result (run_started_form (members_view object.now.entries)) }
+pub fn run_started_from<'a>(
+    alloc: Global,
+    object: &[(&'a str, Node<'a>)],
+) -> Result<CoreEventKind, FromValueError>
+    ensures { Gives result (run_started_form (members_view object.now)) }
 {
     Ok(CoreEventKind::RunStarted {
         run_id: required_field(alloc, object, "run-id")?,
@@ -57,8 +62,8 @@ pub fn put_stress_sub_run_started(
     kind: &CoreEventKind,
 ) -> Result<(), AllocError>
     requires named { core_name kind.now ≡ codes "stress-sub-run-started" }
-    ensures written { OnOk result (members_view object.new.entries
-        ≡ with_members (members_view object.old.entries) (core_members kind.now)) }
+    ensures written { OnOk result (value_members object.new.entries
+        ≡ with_members (value_members object.old.entries) (core_members kind.now)) }
     ensures known { OnOk result (IsCore kind.now) }
 {
     let CoreEventKind::StressSubRunStarted { progress } = kind else {
@@ -70,11 +75,11 @@ pub fn put_stress_sub_run_started(
 
 /// Reads the members of the start of one of a stress run's runs.
 #[tactic(auto, unfolding(crate::specs::CoreKindForms::stress_sub_run_started_form))]
-pub fn stress_sub_run_started_from(
+pub fn stress_sub_run_started_from<'a>(
     alloc: Global,
-    object: &Object,
+    object: &[(&'a str, Node<'a>)],
 ) -> Result<CoreEventKind, FromValueError>
-    ensures { Gives result (stress_sub_run_started_form (members_view object.now.entries)) }
+    ensures { Gives result (stress_sub_run_started_form (members_view object.now)) }
 {
     Ok(CoreEventKind::StressSubRunStarted {
         progress: required_field(alloc, object, "progress")?,
@@ -88,8 +93,8 @@ pub fn put_running(
     setup_scripts_running: usize,
     running: usize,
 ) -> Result<(), AllocError>
-    ensures { OnOk result (members_view object.new.entries
-        ≡ with_members (members_view object.old.entries) (running_fields setup_scripts_running running)) }
+    ensures { OnOk result (value_members object.new.entries
+        ≡ with_members (value_members object.old.entries) (running_fields setup_scripts_running running)) }
 {
     put_field(
         alloc,
@@ -107,8 +112,8 @@ pub fn put_run_begin_cancel(
     kind: &CoreEventKind,
 ) -> Result<(), AllocError>
     requires named { core_name kind.now ≡ codes "run-begin-cancel" }
-    ensures written { OnOk result (members_view object.new.entries
-        ≡ with_members (members_view object.old.entries) (core_members kind.now)) }
+    ensures written { OnOk result (value_members object.new.entries
+        ≡ with_members (value_members object.old.entries) (core_members kind.now)) }
     ensures known { OnOk result (IsCore kind.now) }
 {
     let CoreEventKind::RunBeginCancel {
@@ -126,11 +131,11 @@ pub fn put_run_begin_cancel(
 
 /// Reads the members of a cancel.
 #[tactic(auto, unfolding(crate::specs::CoreKindForms::run_begin_cancel_form))]
-pub fn run_begin_cancel_from(
+pub fn run_begin_cancel_from<'a>(
     alloc: Global,
-    object: &Object,
+    object: &[(&'a str, Node<'a>)],
 ) -> Result<CoreEventKind, FromValueError>
-    ensures { Gives result (run_begin_cancel_form (members_view object.now.entries)) }
+    ensures { Gives result (run_begin_cancel_form (members_view object.now)) }
 {
     Ok(CoreEventKind::RunBeginCancel {
         setup_scripts_running: required_field(alloc, object, "setup-scripts-running")?,
@@ -141,8 +146,11 @@ pub fn run_begin_cancel_from(
 
 /// Reads the members of a pause.
 #[tactic(auto, unfolding(crate::specs::CoreKindForms::run_paused_form))]
-pub fn run_paused_from(alloc: Global, object: &Object) -> Result<CoreEventKind, FromValueError>
-    ensures { Gives result (run_paused_form (members_view object.now.entries)) }
+pub fn run_paused_from<'a>(
+    alloc: Global,
+    object: &[(&'a str, Node<'a>)],
+) -> Result<CoreEventKind, FromValueError>
+    ensures { Gives result (run_paused_form (members_view object.now)) }
 {
     Ok(CoreEventKind::RunPaused {
         setup_scripts_running: required_field(alloc, object, "setup-scripts-running")?,
@@ -152,8 +160,11 @@ pub fn run_paused_from(alloc: Global, object: &Object) -> Result<CoreEventKind, 
 
 /// Reads the members of a continuation.
 #[tactic(auto, unfolding(crate::specs::CoreKindForms::run_continued_form))]
-pub fn run_continued_from(alloc: Global, object: &Object) -> Result<CoreEventKind, FromValueError>
-    ensures { Gives result (run_continued_form (members_view object.now.entries)) }
+pub fn run_continued_from<'a>(
+    alloc: Global,
+    object: &[(&'a str, Node<'a>)],
+) -> Result<CoreEventKind, FromValueError>
+    ensures { Gives result (run_continued_form (members_view object.now)) }
 {
     Ok(CoreEventKind::RunContinued {
         setup_scripts_running: required_field(alloc, object, "setup-scripts-running")?,
@@ -168,8 +179,8 @@ pub fn put_stress_sub_run_finished(
     kind: &CoreEventKind,
 ) -> Result<(), AllocError>
     requires named { core_name kind.now ≡ codes "stress-sub-run-finished" }
-    ensures written { OnOk result (members_view object.new.entries
-        ≡ with_members (members_view object.old.entries) (core_members kind.now)) }
+    ensures written { OnOk result (value_members object.new.entries
+        ≡ with_members (value_members object.old.entries) (core_members kind.now)) }
     ensures known { OnOk result (IsCore kind.now) }
 {
     let CoreEventKind::StressSubRunFinished {
@@ -188,11 +199,11 @@ pub fn put_stress_sub_run_finished(
 
 /// Reads the members of the end of one of a stress run's runs.
 #[tactic(auto, unfolding(crate::specs::CoreKindForms::stress_sub_run_finished_form))]
-pub fn stress_sub_run_finished_from(
+pub fn stress_sub_run_finished_from<'a>(
     alloc: Global,
-    object: &Object,
+    object: &[(&'a str, Node<'a>)],
 ) -> Result<CoreEventKind, FromValueError>
-    ensures { Gives result (stress_sub_run_finished_form (members_view object.now.entries)) }
+    ensures { Gives result (stress_sub_run_finished_form (members_view object.now)) }
 {
     Ok(CoreEventKind::StressSubRunFinished {
         progress: required_field(alloc, object, "progress")?,
@@ -208,8 +219,8 @@ pub fn put_run_finished(
     kind: &CoreEventKind,
 ) -> Result<(), AllocError>
     requires named { core_name kind.now ≡ codes "run-finished" }
-    ensures written { OnOk result (members_view object.new.entries
-        ≡ with_members (members_view object.old.entries) (core_members kind.now)) }
+    ensures written { OnOk result (value_members object.new.entries
+        ≡ with_members (value_members object.old.entries) (core_members kind.now)) }
     ensures known { OnOk result (IsCore kind.now) }
 {
     let CoreEventKind::RunFinished {
@@ -232,8 +243,11 @@ pub fn put_run_finished(
 
 /// Reads the members of a run's end.
 #[tactic(auto, unfolding(crate::specs::CoreKindForms::run_finished_form))]
-pub fn run_finished_from(alloc: Global, object: &Object) -> Result<CoreEventKind, FromValueError>
-    ensures { Gives result (run_finished_form (members_view object.now.entries)) }
+pub fn run_finished_from<'a>(
+    alloc: Global,
+    object: &[(&'a str, Node<'a>)],
+) -> Result<CoreEventKind, FromValueError>
+    ensures { Gives result (run_finished_form (members_view object.now)) }
 {
     Ok(CoreEventKind::RunFinished {
         run_id: required_field(alloc, object, "run-id")?,

@@ -1,6 +1,7 @@
 //! The kinds of events of setup scripts that hold no outputs.
 ghost use Rattle.std.specs.Prelude.{◌≡◌, ◌<◌, ◌^◌, OnOk, IfSome, codes};
-ghost use Rattle.serde_json.specs.View.{members_view};
+ghost use Rattle.serde_json.specs.View.{members_view as value_members};
+ghost use Rattle.rec_json.specs.Nodes.{members_view};
 ghost use Rattle.rec_events.specs.Names.{IsText, AreTexts};
 ghost use Rattle.rec_forms.specs.Gives.{Gives};
 ghost use Rattle.rec_forms.specs.Instances.{IsStressIndex};
@@ -10,6 +11,7 @@ ghost use Rattle.rec_codec.specs.CoreKinds.{core_name, place_fields, command_fie
 
 use rec_events::{CoreEventKind, Items, ScriptId, StressIndexSummary, Text};
 use rec_forms::{FromValueError, Object, optional_field, put_field, put_optional, required_field};
+use rec_json::Node;
 use std::alloc::{AllocError, Global};
 
 /// Writes which setup script it is, as its start and its end have it.
@@ -20,8 +22,8 @@ pub fn put_place(
     index: usize,
     total: usize,
 ) -> Result<(), AllocError>
-    ensures written { OnOk result (members_view object.new.entries
-        ≡ with_members (members_view object.old.entries) (place_fields stress_index.now index total)) }
+    ensures written { OnOk result (value_members object.new.entries
+        ≡ with_members (value_members object.old.entries) (place_fields stress_index.now index total)) }
     ensures known { OnOk result (IfSome stress_index.now IsStressIndex × (index < 2 ^ 64) × (total < 2 ^ 64)) }
 {
     put_optional(alloc, object, "stress-index", stress_index)?;
@@ -38,8 +40,8 @@ pub fn put_command(
     program: &Text,
     args: &Items<Text>,
 ) -> Result<(), AllocError>
-    ensures written { OnOk result (members_view object.new.entries
-        ≡ with_members (members_view object.old.entries) (command_fields script_id.now program.now args.now)) }
+    ensures written { OnOk result (value_members object.new.entries
+        ≡ with_members (value_members object.old.entries) (command_fields script_id.now program.now args.now)) }
     ensures known { OnOk result (IsText script_id.now × IsText program.now × AreTexts args.now) }
 {
     put_field(alloc, object, "script-id", script_id)?;
@@ -58,8 +60,8 @@ pub struct Place {
 
 impl Place {
     #[tactic(auto, unfolding(crate::specs::CoreKindForms::place_form))]
-    pub fn read(alloc: Global, object: &Object) -> Result<Place, FromValueError>
-        ensures { Gives result (place_form (members_view object.now.entries)) }
+    pub fn read<'a>(alloc: Global, object: &[(&'a str, Node<'a>)]) -> Result<Place, FromValueError>
+        ensures { Gives result (place_form (members_view object.now)) }
     {
         Ok(Place {
             stress_index: optional_field(alloc, object, "stress-index")?,
@@ -79,8 +81,11 @@ pub struct Command {
 
 impl Command {
     #[tactic(auto, unfolding(crate::specs::CoreKindForms::command_form))]
-    pub fn read(alloc: Global, object: &Object) -> Result<Command, FromValueError>
-        ensures { Gives result (command_form (members_view object.now.entries)) }
+    pub fn read<'a>(
+        alloc: Global,
+        object: &[(&'a str, Node<'a>)],
+    ) -> Result<Command, FromValueError>
+        ensures { Gives result (command_form (members_view object.now)) }
     {
         Ok(Command {
             script_id: required_field(alloc, object, "script-id")?,
@@ -97,8 +102,8 @@ pub fn put_setup_script_started(
     kind: &CoreEventKind,
 ) -> Result<(), AllocError>
     requires named { core_name kind.now ≡ codes "setup-script-started" }
-    ensures written { OnOk result (members_view object.new.entries
-        ≡ with_members (members_view object.old.entries) (core_members kind.now)) }
+    ensures written { OnOk result (value_members object.new.entries
+        ≡ with_members (value_members object.old.entries) (core_members kind.now)) }
     ensures known { OnOk result (IsCore kind.now) }
 {
     let CoreEventKind::SetupScriptStarted {
@@ -121,11 +126,11 @@ pub fn put_setup_script_started(
 
 /// Reads the members of a setup script's start.
 #[tactic(auto, unfolding(crate::specs::CoreKindForms::setup_script_started_form))]
-pub fn setup_script_started_from(
+pub fn setup_script_started_from<'a>(
     alloc: Global,
-    object: &Object,
+    object: &[(&'a str, Node<'a>)],
 ) -> Result<CoreEventKind, FromValueError>
-    ensures { Gives result (setup_script_started_form (members_view object.now.entries)) }
+    ensures { Gives result (setup_script_started_form (members_view object.now)) }
 {
     let place = Place::read(alloc, object)?;
     let no_capture = required_field(alloc, object, "no-capture")?;
@@ -148,8 +153,8 @@ pub fn put_setup_script_slow(
     kind: &CoreEventKind,
 ) -> Result<(), AllocError>
     requires named { core_name kind.now ≡ codes "setup-script-slow" }
-    ensures written { OnOk result (members_view object.new.entries
-        ≡ with_members (members_view object.old.entries) (core_members kind.now)) }
+    ensures written { OnOk result (value_members object.new.entries
+        ≡ with_members (value_members object.old.entries) (core_members kind.now)) }
     ensures known { OnOk result (IsCore kind.now) }
 {
     let CoreEventKind::SetupScriptSlow {
@@ -172,11 +177,11 @@ pub fn put_setup_script_slow(
 
 /// Reads the members of a slow setup script.
 #[tactic(auto, unfolding(crate::specs::CoreKindForms::setup_script_slow_form))]
-pub fn setup_script_slow_from(
+pub fn setup_script_slow_from<'a>(
     alloc: Global,
-    object: &Object,
+    object: &[(&'a str, Node<'a>)],
 ) -> Result<CoreEventKind, FromValueError>
-    ensures { Gives result (setup_script_slow_form (members_view object.now.entries)) }
+    ensures { Gives result (setup_script_slow_form (members_view object.now)) }
 {
     let stress_index = optional_field(alloc, object, "stress-index")?;
     let elapsed = required_field(alloc, object, "slow-elapsed")?;

@@ -1,11 +1,10 @@
 //! The runs of setup scripts, with their outputs.
-ghost use Rattle.std.specs.Prelude.{◌≡◌};
-ghost use Rattle.serde_json.specs.View.{view};
 
 use crate::loaded_form::{LoadedForm, put_loaded, required_loaded};
 use crate::{OutputForm, ToValueError};
 use rec_events::SetupScriptExecuteStatus;
 use rec_forms::{FromValueError, optional_field, put_field, put_optional, required_field};
+use rec_json::Node;
 use serde_json::{Map, Value};
 use std::alloc::Global;
 
@@ -44,11 +43,11 @@ impl<S: OutputForm> LoadedForm for SetupScriptExecuteStatus<S> {
     }
 
     #[tactic(auto, unfolding(crate::specs::ScriptStatus::script_status_form))]
-    fn from_value(
+    fn from_node(
         alloc: Global,
-        value: &Value,
+        node: &Node<'_>,
     ) -> Result<SetupScriptExecuteStatus<S>, FromValueError> {
-        let Value::Object(object) = value else {
+        let Some(object) = node.as_object() else {
             return Err(FromValueError::NotAValue);
         };
         let start_time = required_field(alloc, object, "start-time")?;

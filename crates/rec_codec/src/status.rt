@@ -1,22 +1,23 @@
 //! The attempts of a test, with their outputs.
 ghost use Rattle.std.specs.Prelude.{◌≡◌, OnOk};
-ghost use Rattle.serde_json.specs.View.{view, members_view};
+ghost use Rattle.serde_json.specs.View.{members_view as value_members};
+ghost use Rattle.rec_json.specs.Nodes.{members_view, view};
 ghost use Rattle.rec_events.specs.declared.outputs.ChildExecutionOutputDescription.TheVariants.{Output};
 ghost use Rattle.rec_forms.specs.Gives.{Gives};
 ghost use Rattle.rec_forms.specs.Shape.{with_members, required};
 ghost use Rattle.rec_codec.specs.Status.{description_value, IsDescription, output_case_form, course_fields, course_form, IsCourse, attempts_form};
 ghost use Rattle.rec_codec.specs.Writes.{Writes};
 
-use crate::loaded_form::{LoadedForm, each_to_value, put_loaded, required_loaded, some_from_value};
+use crate::loaded_form::{LoadedForm, each_to_value, put_loaded, required_loaded, required_some};
 use crate::{OutputForm, ToValueError};
 use rec_events::{
     ChildExecutionOutputDescription, Duration, ExecuteStatus, ExecutionResultDescription,
     ExecutionStatuses, Items, NonEmpty, Stamp, Text,
 };
 use rec_forms::{
-    Form, FromValueError, Object, member, only_member, optional_field, put_field, put_optional,
-    required_field, tagged,
+    Form, FromValueError, Object, optional_field, put_field, put_optional, required_field, tagged,
 };
+use rec_json::{Node, member, only_member};
 use serde_json::{Map, Value};
 use std::alloc::{AllocError, Global};
 
@@ -40,15 +41,15 @@ fn output_value<S: OutputForm>(
 }
 
 /// Reads an output that has to be there.
-fn required_output<S: OutputForm>(
+fn required_output<'a, S: OutputForm>(
     alloc: Global,
-    object: &Object,
+    object: &[(&'a str, Node<'a>)],
     key: &str,
 ) -> Result<S::ChildOutput, FromValueError>
-    ensures { Gives result (required S.output_form key.now (members_view object.now.entries)) }
+    ensures { Gives result (required S.output_form key.now (members_view object.now)) }
 {
     match member(object, key) {
-        Some(value) => S::output_from_value(alloc, value),
+        Some(node) => S::output_from_node(alloc, node),
         None => Err(FromValueError::NotAValue),
     }
 }
@@ -57,11 +58,11 @@ fn required_output<S: OutputForm>(
 #[tactic(auto, unfolding(crate::specs::Status::output_case_form))]
 fn output_from<S: OutputForm>(
     alloc: Global,
-    value: &Value,
+    node: &Node<'_>,
 ) -> Result<ChildExecutionOutputDescription<S>, FromValueError>
-    ensures { Gives result (output_case_form S.output_form (view value.now)) }
+    ensures { Gives result (output_case_form S.output_form (view node.now)) }
 {
-    let Value::Object(fields) = value else {
+    let Some(fields) = node.as_object() else {
         return Err(FromValueError::NotAValue);
     };
     Ok(ChildExecutionOutputDescription::Output {
@@ -106,18 +107,18 @@ impl<S: OutputForm> LoadedForm for ChildExecutionOutputDescription<S> {
         }
     }
 
-    #[tactic(auto, unfolding(crate::specs::Status::description_form))]
-    fn from_value(
+    #[tactic(auto, unfolding(crate::specs::Status::description_form), using(rec_forms::specs::VariantLaws::variant_cased))]
+    fn from_node(
         alloc: Global,
-        value: &Value,
+        node: &Node<'_>,
     ) -> Result<ChildExecutionOutputDescription<S>, FromValueError> {
-        let Value::Object(object) = value else {
+        let Some(object) = node.as_object() else {
             return Err(FromValueError::NotAValue);
         };
         match only_member(object) {
-            Some(("output", value)) => output_from(alloc, value),
-            Some(("start-error", value)) => Ok(ChildExecutionOutputDescription::StartError {
-                message: Text::from_value(alloc, value)?,
+            Some(("output", node)) => output_from(alloc, node),
+            Some(("start-error", node)) => Ok(ChildExecutionOutputDescription::StartError {
+                message: Text::from_node(alloc, node)?,
             }),
             _ => Err(FromValueError::NotAValue),
         }
@@ -136,8 +137,8 @@ struct Course {
 
 impl Course {
     fn put(&self, alloc: Global, object: &mut Object) -> Result<(), AllocError>
-        ensures written { OnOk result (members_view object.new.entries
-            ≡ with_members (members_view object.old.entries) (course_fields self.now)) }
+        ensures written { OnOk result (value_members object.new.entries
+            ≡ with_members (value_members object.old.entries) (course_fields self.now)) }
         ensures known { OnOk result (IsCourse self.now) }
     {
         put_field(alloc, object, "start-time", &self.start_time)?;
@@ -154,8 +155,8 @@ impl Course {
     }
 
     #[tactic(auto, unfolding(crate::specs::Status::course_form))]
-    fn read(alloc: Global, object: &Object) -> Result<Course, FromValueError>
-        ensures { Gives result (course_form (members_view object.now.entries)) }
+    fn read<'a>(alloc: Global, object: &[(&'a str, Node<'a>)]) -> Result<Course, FromValueError>
+        ensures { Gives result (course_form (members_view object.now)) }
     {
         Ok(Course {
             start_time: required_field(alloc, object, "start-time")?,
@@ -213,8 +214,8 @@ impl<S: OutputForm> LoadedForm for ExecuteStatus<S> {
     }
 
     #[tactic(auto, unfolding(crate::specs::Status::status_form))]
-    fn from_value(alloc: Global, value: &Value) -> Result<ExecuteStatus<S>, FromValueError> {
-        let Value::Object(object) = value else {
+    fn from_node(alloc: Global, node: &Node<'_>) -> Result<ExecuteStatus<S>, FromValueError> {
+        let Some(object) = node.as_object() else {
             return Err(FromValueError::NotAValue);
         };
         let course = Course::read(alloc, object)?;
@@ -247,14 +248,14 @@ impl<S: OutputForm> LoadedForm for ExecuteStatus<S> {
 
 /// Reads the attempts, of which there is at least one.
 #[tactic(auto, unfolding(crate::specs::Status::attempts_form))]
-fn attempts_from<S: OutputForm>(
+fn attempts_from<'a, S: OutputForm>(
     alloc: Global,
-    object: &Object,
+    object: &[(&'a str, Node<'a>)],
     key: &str,
 ) -> Result<NonEmpty<ExecuteStatus<S>>, FromValueError>
-    ensures { Gives result (required (attempts_form S.output_form) key.now (members_view object.now.entries)) }
+    ensures { Gives result (required (attempts_form S.output_form) key.now (members_view object.now)) }
 {
-    some_from_value(alloc, object, key)
+    required_some(alloc, object, key)
 }
 
 impl<S: OutputForm> LoadedForm for ExecutionStatuses<S> {
@@ -288,8 +289,8 @@ impl<S: OutputForm> LoadedForm for ExecutionStatuses<S> {
     }
 
     #[tactic(auto, unfolding(crate::specs::Status::statuses_form))]
-    fn from_value(alloc: Global, value: &Value) -> Result<ExecutionStatuses<S>, FromValueError> {
-        let Value::Object(object) = value else {
+    fn from_node(alloc: Global, node: &Node<'_>) -> Result<ExecutionStatuses<S>, FromValueError> {
+        let Some(object) = node.as_object() else {
             return Err(FromValueError::NotAValue);
         };
         let flaky_result = required_field(alloc, object, "flaky-result")?;

@@ -1,6 +1,7 @@
 //! The kinds of events of tests that hold no outputs.
 ghost use Rattle.std.specs.Prelude.{◌≡◌, OnOk, codes};
-ghost use Rattle.serde_json.specs.View.{members_view};
+ghost use Rattle.serde_json.specs.View.{members_view as value_members};
+ghost use Rattle.rec_json.specs.Nodes.{members_view};
 ghost use Rattle.rec_forms.specs.Gives.{Gives};
 ghost use Rattle.rec_forms.specs.Shape.{with_members};
 ghost use Rattle.rec_codec.specs.CoreKindForms.{test_started_form, test_slow_form, test_retry_started_form, test_skipped_form};
@@ -8,6 +9,7 @@ ghost use Rattle.rec_codec.specs.CoreKinds.{core_name, core_members, IsCore};
 
 use rec_events::CoreEventKind;
 use rec_forms::{FromValueError, Object, optional_field, put_field, put_optional, required_field};
+use rec_json::Node;
 use std::alloc::{AllocError, Global};
 
 /// Writes the members of a test's start.
@@ -17,8 +19,8 @@ pub fn put_test_started(
     kind: &CoreEventKind,
 ) -> Result<(), AllocError>
     requires named { core_name kind.now ≡ codes "test-started" }
-    ensures written { OnOk result (members_view object.new.entries
-        ≡ with_members (members_view object.old.entries) (core_members kind.now)) }
+    ensures written { OnOk result (value_members object.new.entries
+        ≡ with_members (value_members object.old.entries) (core_members kind.now)) }
     ensures known { OnOk result (IsCore kind.now) }
 {
     let CoreEventKind::TestStarted {
@@ -43,8 +45,11 @@ pub fn put_test_started(
 
 /// Reads the members of a test's start.
 #[tactic(auto, unfolding(crate::specs::CoreKindForms::test_started_form))]
-pub fn test_started_from(alloc: Global, object: &Object) -> Result<CoreEventKind, FromValueError>
-    ensures { Gives result (test_started_form (members_view object.now.entries)) }
+pub fn test_started_from<'a>(
+    alloc: Global,
+    object: &[(&'a str, Node<'a>)],
+) -> Result<CoreEventKind, FromValueError>
+    ensures { Gives result (test_started_form (members_view object.now)) }
 {
     Ok(CoreEventKind::TestStarted {
         stress_index: optional_field(alloc, object, "stress-index")?,
@@ -63,8 +68,8 @@ pub fn put_test_slow(
     kind: &CoreEventKind,
 ) -> Result<(), AllocError>
     requires named { core_name kind.now ≡ codes "test-slow" }
-    ensures written { OnOk result (members_view object.new.entries
-        ≡ with_members (members_view object.old.entries) (core_members kind.now)) }
+    ensures written { OnOk result (value_members object.new.entries
+        ≡ with_members (value_members object.old.entries) (core_members kind.now)) }
     ensures known { OnOk result (IsCore kind.now) }
 {
     let CoreEventKind::TestSlow {
@@ -87,8 +92,11 @@ pub fn put_test_slow(
 
 /// Reads the members of a slow test.
 #[tactic(auto, unfolding(crate::specs::CoreKindForms::test_slow_form))]
-pub fn test_slow_from(alloc: Global, object: &Object) -> Result<CoreEventKind, FromValueError>
-    ensures { Gives result (test_slow_form (members_view object.now.entries)) }
+pub fn test_slow_from<'a>(
+    alloc: Global,
+    object: &[(&'a str, Node<'a>)],
+) -> Result<CoreEventKind, FromValueError>
+    ensures { Gives result (test_slow_form (members_view object.now)) }
 {
     Ok(CoreEventKind::TestSlow {
         stress_index: optional_field(alloc, object, "stress-index")?,
@@ -106,8 +114,8 @@ pub fn put_test_retry_started(
     kind: &CoreEventKind,
 ) -> Result<(), AllocError>
     requires named { core_name kind.now ≡ codes "test-retry-started" }
-    ensures written { OnOk result (members_view object.new.entries
-        ≡ with_members (members_view object.old.entries) (core_members kind.now)) }
+    ensures written { OnOk result (value_members object.new.entries
+        ≡ with_members (value_members object.old.entries) (core_members kind.now)) }
     ensures known { OnOk result (IsCore kind.now) }
 {
     let CoreEventKind::TestRetryStarted {
@@ -132,11 +140,11 @@ pub fn put_test_retry_started(
 
 /// Reads the members of the start of a further attempt.
 #[tactic(auto, unfolding(crate::specs::CoreKindForms::test_retry_started_form))]
-pub fn test_retry_started_from(
+pub fn test_retry_started_from<'a>(
     alloc: Global,
-    object: &Object,
+    object: &[(&'a str, Node<'a>)],
 ) -> Result<CoreEventKind, FromValueError>
-    ensures { Gives result (test_retry_started_form (members_view object.now.entries)) }
+    ensures { Gives result (test_retry_started_form (members_view object.now)) }
 {
     Ok(CoreEventKind::TestRetryStarted {
         stress_index: optional_field(alloc, object, "stress-index")?,
@@ -155,8 +163,8 @@ pub fn put_test_skipped(
     kind: &CoreEventKind,
 ) -> Result<(), AllocError>
     requires named { core_name kind.now ≡ codes "test-skipped" }
-    ensures written { OnOk result (members_view object.new.entries
-        ≡ with_members (members_view object.old.entries) (core_members kind.now)) }
+    ensures written { OnOk result (value_members object.new.entries
+        ≡ with_members (value_members object.old.entries) (core_members kind.now)) }
     ensures known { OnOk result (IsCore kind.now) }
 {
     let CoreEventKind::TestSkipped {
@@ -177,8 +185,11 @@ pub fn put_test_skipped(
 
 /// Reads the members of a skipped test.
 #[tactic(auto, unfolding(crate::specs::CoreKindForms::test_skipped_form))]
-pub fn test_skipped_from(alloc: Global, object: &Object) -> Result<CoreEventKind, FromValueError>
-    ensures { Gives result (test_skipped_form (members_view object.now.entries)) }
+pub fn test_skipped_from<'a>(
+    alloc: Global,
+    object: &[(&'a str, Node<'a>)],
+) -> Result<CoreEventKind, FromValueError>
+    ensures { Gives result (test_skipped_form (members_view object.now)) }
 {
     Ok(CoreEventKind::TestSkipped {
         stress_index: optional_field(alloc, object, "stress-index")?,

@@ -11,6 +11,7 @@ use crate::log::{LogPlace, next_event};
 use rec_codec::LineError;
 use rec_container::{Disk, DiskError};
 use rec_events::{RecordingSpec, TestEventSummary, Text};
+use rec_json::Scratch;
 use rec_store::RecordReadError;
 use std::alloc::Global;
 use std::marker::Model;
@@ -28,6 +29,8 @@ pub struct RecordEventIter<'r, D: Disk> {
     len: u64,
     log: Option<Vec<u8>>,
     place: LogPlace,
+    // for the read of each line
+    scratch: Scratch,
 }
 
 impl<'r, D: Disk> Model for RecordEventIter<'r, D> {
@@ -58,6 +61,7 @@ impl<'r, D: Disk> RecordEventIter<'r, D> {
             len,
             log: None,
             place: LogPlace { at: 0, number: 1 },
+            scratch: Scratch::new(alloc),
         }
     }
 }
@@ -82,6 +86,7 @@ impl<'r, D: Disk> Iterator for RecordEventIter<'r, D> {
             self.len,
             &mut self.log,
             &mut self.place,
+            &mut self.scratch,
         )
     }
 }
@@ -94,6 +99,7 @@ fn next_item<D: Disk>(
     len: u64,
     log: &mut Option<Vec<u8>>,
     place: &mut LogPlace,
+    scratch: &mut Scratch,
 ) -> Option<Result<TestEventSummary<RecordingSpec>, RecordReadError>>
     requires { IsPlaced (option_map (λ v. v.items) log.old) place.old }
     ensures placed { IsPlaced (option_map (λ v. v.items) log.new) place.new }
@@ -103,12 +109,12 @@ fn next_item<D: Disk>(
     ensures fewer { OnSome result (most_of len (left_of (option_map (λ v. v.items) log.new) place.new) < most_of len (left_of (option_map (λ v. v.items) log.old) place.old)) }
 {
     if let Some(bytes) = log {
-        return item_at(alloc, bytes, place);
+        return item_at(alloc, bytes, place, scratch);
     }
     *place = LogPlace { at: 0, number: 1 };
     match read_log(alloc, disk, path, len) {
         Ok(bytes) => {
-            let item = item_at(alloc, &bytes, place);
+            let item = item_at(alloc, &bytes, place, scratch);
             *log = Some(bytes);
             item
         }
@@ -156,12 +162,13 @@ fn item_at(
     alloc: Global,
     log: &[u8],
     place: &mut LogPlace,
+    scratch: &mut Scratch,
 ) -> Option<Result<TestEventSummary<RecordingSpec>, RecordReadError>>
     requires { IsPlace log.now place.old }
     ensures place { IsPlace log.now place.new }
     ensures gives { GivesLifted (event_form stored_outputs_form) (left_at log.now place.old) result (left_at log.now place.new) }
 {
-    match next_event(alloc, log, place) {
+    match next_event(alloc, log, place, scratch) {
         Some(Ok(event)) => Some(Ok(event)),
         Some(Err(error)) => Some(Err(line_error(error))),
         None => None,

@@ -7,6 +7,7 @@ ghost use Rattle.rec_directory.specs.Logs.{IsPlace, left_at};
 
 use rec_codec::{Line, LineError, Lines, OutputForm, read_line};
 use rec_events::TestEventSummary;
+use rec_json::Scratch;
 use std::alloc::Global;
 
 /// Says where the lines begin that are left of a log, and the number of the first of them.
@@ -16,11 +17,12 @@ pub(crate) struct LogPlace {
     pub(crate) number: u64,
 }
 
-/// Returns the next item of a log.
+/// Returns the next item of a log. `scratch` is memory for the read of each line.
 pub(crate) fn next_event<S: OutputForm>(
     alloc: Global,
     log: &[u8],
     place: &mut LogPlace,
+    scratch: &mut Scratch,
 ) -> Option<Result<TestEventSummary<S>, LineError>>
     requires { IsPlace log.now place.old }
     ensures place { IsPlace log.now place.new }
@@ -28,7 +30,7 @@ pub(crate) fn next_event<S: OutputForm>(
 {
     while let Some((line, after)) = line_at(log, *place) {
         *place = after;
-        if let Some(item) = read_line(alloc, line) {
+        if let Some(item) = read_line(alloc, line, scratch) {
             keep_after(log, place, &item);
             return Some(item);
         }

@@ -30,6 +30,7 @@ use rec_codec::{Line, Lines, read_line};
 use rec_container::{ContainerWriter, GrowingSink, Sink};
 use rec_events::{LiveSpec, TestEventSummary, TryClone};
 use rec_format::{RecordedSizes, SessionHead};
+use rec_json::Scratch;
 use rec_store::{OutputNamer, RunRecorder, RunStoreError, write_metadata};
 use std::alloc::{AllocError, Global};
 
@@ -159,8 +160,9 @@ fn record_lines<N: OutputNamer>(
     ensures traced { (format : ChromeTraceMessageFormat) (g : ChromeTraceGroupBy) (version : Parts) (before : List PlainEvent)
         → IsTraceOf format g version before trace.old → OnOk result (IsTraceOf format g version (before ++ map plain (events_of lines.entry)) trace.new) }
 {
+    let mut scratch = Scratch::new(alloc);
     for line in lines {
-        record_line(alloc, line, recorder, trace)?;
+        record_line(alloc, line, &mut scratch, recorder, trace)?;
     }
     Ok(())
 }
@@ -169,6 +171,7 @@ fn record_lines<N: OutputNamer>(
 fn record_line<N: OutputNamer>(
     alloc: Global,
     line: Line<'_>,
+    scratch: &mut Scratch,
     recorder: &mut MemoryRecorder<'_, N>,
     trace: &mut SessionTrace,
 ) -> Result<(), RecordExportError>
@@ -180,7 +183,7 @@ fn record_line<N: OutputNamer>(
     ensures traced { (format : ChromeTraceMessageFormat) (g : ChromeTraceGroupBy) (version : Parts) (before : List PlainEvent)
         → IsTraceOf format g version before trace.old → OnOk result (IsTraceOf format g version (before ++ map plain (option_to_list (event_at (line_view line.entry)))) trace.new) }
 {
-    match read_line(alloc, line) {
+    match read_line(alloc, line, scratch) {
         None => Ok(()),
         Some(event) => record_event(alloc, event?, recorder, trace),
     }

@@ -6,6 +6,7 @@ ghost use Rattle.rec_salvage.specs.Gathering.{AddsEvent, AddsLine, AddsPaths, Ha
 
 use crate::log_lines::{LogLine, read_log_line, split_whole_line};
 use rec_container::Container;
+use rec_json::Scratch;
 use std::alloc::{AllocError, Global};
 use std::collections::BTreeSet;
 
@@ -33,6 +34,7 @@ impl Gathered {
         alloc: Global,
         front: &Container<'_>,
         log: &'a [u8],
+        scratch: &mut Scratch,
     ) -> Result<Option<&'a [u8]>, AllocError>
         requires { self.old.events + length log.now < 2 ^ 64 }
         ensures { IfOk result (TakesFirst front.now.entries log.now self.old self.new) }
@@ -40,7 +42,7 @@ impl Gathered {
         let Some((line, after)) = split_whole_line(log) else {
             return Ok(None);
         };
-        if self.add_line(alloc, front, line)? {
+        if self.add_line(alloc, front, line, scratch)? {
             Ok(Some(after))
         } else {
             Ok(None)
@@ -53,11 +55,12 @@ impl Gathered {
         alloc: Global,
         front: &Container<'_>,
         line: &[u8],
+        scratch: &mut Scratch,
     ) -> Result<bool, AllocError>
         requires { self.old.events + 1 < 2 ^ 64 }
         ensures { IfOk result (AddsLine front.now.entries line.now self.old self.new) }
     {
-        match read_log_line(alloc, line)? {
+        match read_log_line(alloc, line, scratch)? {
             LogLine::Unsound => Ok(false),
             LogLine::Blank => Ok(true),
             LogLine::Event(paths) => self.add_event(front, paths),
@@ -106,8 +109,9 @@ pub(crate) fn take_lines(
     ensures { IfOk result (TakesSound front.now.entries log.now) }
 {
     let mut gathered = Gathered::new(alloc);
+    let mut scratch = Scratch::new(alloc);
     let mut rest = log;
-    while let Some(after) = gathered.take_line(alloc, front, rest)? {
+    while let Some(after) = gathered.take_line(alloc, front, rest, &mut scratch)? {
         rest = after;
     }
     Ok((log.len() - rest.len(), gathered))

@@ -1,13 +1,14 @@
 //! The lines of a log that was stopped.
-ghost use Rattle.std.specs.Prelude.{◌≡◌, ◌==◌, [], Ok, Err, IfOk, MatchOption, map, position, string_bytes};
+ghost use Rattle.std.specs.Prelude.{◌≡◌, [], Ok, Err, IfOk, MatchOption, map, string_bytes};
 ghost use Rattle.rec_codec.specs.Event.{line_event};
 ghost use Rattle.rec_codec.specs.Lines.{text_of};
 ghost use Rattle.rec_store.specs.OutputPaths as stores;
 ghost use Rattle.rec_salvage.specs.Gathering.{IsRead, IsReadItem};
 ghost use Rattle.rec_salvage.specs.WholeLines.{Splits, whole_lines};
 
-use rec_codec::{Line, LineError, read_line};
+use rec_codec::{Line, LineError, line_end, read_line};
 use rec_events::{OutputFileName, RecordingSpec, TestEventSummary};
+use rec_json::Scratch;
 use rec_store::{named_outputs, output_path};
 use std::alloc::{AllocError, Global};
 
@@ -32,15 +33,12 @@ pub(crate) fn split_whole_line(bytes: &[u8]) -> Option<(&[u8], &[u8])>
     }
 }
 
-/// Returns where the first line ends, if it ends at LF.
-fn line_end(bytes: &[u8]) -> Option<usize>
-    ensures { result ≡ position (λ b. b == 10) bytes.now }
-{
-    bytes.iter().position(|b| *b == b'\n')
-}
-
-/// Reads a line of a log.
-pub(crate) fn read_log_line(alloc: Global, line: &[u8]) -> Result<LogLine, AllocError>
+/// Reads a line of a log. `scratch` is memory for the read of one line after another.
+pub(crate) fn read_log_line(
+    alloc: Global,
+    line: &[u8],
+    scratch: &mut Scratch,
+) -> Result<LogLine, AllocError>
     ensures { IfOk result (IsRead (line_event (text_of line.now))) }
 {
     // The number is that of a fault, and no fault is shown.
@@ -48,7 +46,7 @@ pub(crate) fn read_log_line(alloc: Global, line: &[u8]) -> Result<LogLine, Alloc
         number: 1,
         bytes: line,
     };
-    match read_line::<RecordingSpec>(alloc, line) {
+    match read_line::<RecordingSpec>(alloc, line, scratch) {
         Some(item) => line_of_item(alloc, item),
         None => Ok(LogLine::Blank),
     }

@@ -1,6 +1,7 @@
 //! The head of a session, in three parts.
 ghost use Rattle.std.specs.Prelude.{◌≡◌, OnOk};
-ghost use Rattle.serde_json.specs.View.{members_view};
+ghost use Rattle.serde_json.specs.View.{members_view as value_members};
+ghost use Rattle.rec_json.specs.Nodes.{members_view};
 ghost use Rattle.rec_forms.specs.Gives.{Gives};
 ghost use Rattle.rec_forms.specs.Shape.{with_members};
 
@@ -10,6 +11,7 @@ use rec_events::{RecordOpts, TestListSummary, Text};
 use rec_forms::{
     Form, FromValueError, Object, optional_field, put_field, put_optional, required_field,
 };
+use rec_json::Node;
 use serde_json::{Map, Value};
 use std::alloc::{AllocError, Global};
 
@@ -28,7 +30,7 @@ impl Contents {
     ghost use Rattle.rec_format.specs.HeadForms.{contents_fields, contents_form, AreContents, head_contents};
 
     fn put(alloc: Global, object: &mut Object, head: &SessionHead) -> Result<(), AllocError>
-        ensures written { OnOk result (members_view object.new.entries ≡ with_members (members_view object.old.entries) (contents_fields (head_contents head.now))) }
+        ensures written { OnOk result (value_members object.new.entries ≡ with_members (value_members object.old.entries) (contents_fields (head_contents head.now))) }
         ensures known { OnOk result (AreContents (head_contents head.now)) }
     {
         put_field(alloc, object, "status", &head.status)?;
@@ -40,8 +42,8 @@ impl Contents {
     }
 
     #[tactic(auto, unfolding(crate::specs::HeadForms::contents_form))]
-    fn read(alloc: Global, object: &Object) -> Result<Contents, FromValueError>
-        ensures { Gives result (contents_form (members_view object.now.entries)) }
+    fn read<'a>(alloc: Global, object: &[(&'a str, Node<'a>)]) -> Result<Contents, FromValueError>
+        ensures { Gives result (contents_form (members_view object.now)) }
     {
         Ok(Contents {
             status: required_field(alloc, object, "status")?,
@@ -96,8 +98,8 @@ impl Form for SessionHead {
     }
 
     #[tactic(auto, unfolding(crate::specs::HeadForms::head_form))]
-    fn from_value(alloc: Global, value: &Value) -> Result<SessionHead, FromValueError> {
-        let Value::Object(object) = value else {
+    fn from_node(alloc: Global, node: &Node<'_>) -> Result<SessionHead, FromValueError> {
+        let Some(object) = node.as_object() else {
             return Err(FromValueError::NotAValue);
         };
         let identity = Identity::read(alloc, object)?;

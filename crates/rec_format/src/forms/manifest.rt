@@ -1,6 +1,7 @@
 //! The manifest of a bundle.
 use crate::PortableManifest;
 use rec_forms::{Form, FromValueError, Held, put_field, required_field};
+use rec_json::Node;
 use serde_json::{Map, Value};
 use std::alloc::{AllocError, Global};
 
@@ -31,8 +32,8 @@ impl Form for PortableManifest {
     }
 
     #[tactic(auto, unfolding(crate::specs::RunForms::manifest_form))]
-    fn from_value(alloc: Global, value: &Value) -> Result<PortableManifest, FromValueError> {
-        let Value::Object(object) = value else {
+    fn from_node(alloc: Global, node: &Node<'_>) -> Result<PortableManifest, FromValueError> {
+        let Some(object) = node.as_object() else {
             return Err(FromValueError::NotAValue);
         };
         Ok(PortableManifest {

@@ -1,6 +1,7 @@
 //! The fields that a head and a run's metadata share, in two parts.
 ghost use Rattle.std.specs.Prelude.{◌≡◌, OnOk};
-ghost use Rattle.serde_json.specs.View.{members_view};
+ghost use Rattle.serde_json.specs.View.{members_view as value_members};
+ghost use Rattle.rec_json.specs.Nodes.{members_view};
 ghost use Rattle.rec_forms.specs.Gives.{Gives};
 ghost use Rattle.rec_forms.specs.Shape.{with_members};
 
@@ -9,6 +10,7 @@ use rec_forms::{
     FromValueError, Object, defaulted_field, optional_field, put_field, put_optional,
     required_field,
 };
+use rec_json::Node;
 use std::alloc::{AllocError, Global};
 
 /// Which run it is, and when it ran.
@@ -33,7 +35,7 @@ impl Identity {
         last_written_at: &Stamp,
         duration: &Option<Duration>,
     ) -> Result<(), AllocError>
-        ensures written { OnOk result (members_view object.new.entries ≡ with_members (members_view object.old.entries)
+        ensures written { OnOk result (value_members object.new.entries ≡ with_members (value_members object.old.entries)
             (identity_fields (record { run_id = run_id.now; nextest_version = nextest_version.now; started_at = started_at.now; last_written_at = last_written_at.now; duration = duration.now }))) }
         ensures known { OnOk result
             (IsIdentity (record { run_id = run_id.now; nextest_version = nextest_version.now; started_at = started_at.now; last_written_at = last_written_at.now; duration = duration.now })) }
@@ -46,8 +48,11 @@ impl Identity {
     }
 
     #[tactic(auto, unfolding(crate::specs::PartForms::identity_form))]
-    pub(crate) fn read(alloc: Global, object: &Object) -> Result<Identity, FromValueError>
-        ensures { Gives result (identity_form (members_view object.now.entries)) }
+    pub(crate) fn read<'a>(
+        alloc: Global,
+        object: &[(&'a str, Node<'a>)],
+    ) -> Result<Identity, FromValueError>
+        ensures { Gives result (identity_form (members_view object.now)) }
     {
         Ok(Identity {
             run_id: required_field(alloc, object, "run-id")?,
@@ -77,7 +82,7 @@ impl Invocation {
         env_vars: &TextMap<Text>,
         parent_run_id: &Option<ReportUuid>,
     ) -> Result<(), AllocError>
-        ensures written { OnOk result (members_view object.new.entries ≡ with_members (members_view object.old.entries)
+        ensures written { OnOk result (value_members object.new.entries ≡ with_members (value_members object.old.entries)
             (invocation_fields (record { cli_args = cli_args.now; env_vars = env_vars.now; parent_run_id = parent_run_id.now }))) }
         ensures known { OnOk result (IsInvocation (record { cli_args = cli_args.now; env_vars = env_vars.now; parent_run_id = parent_run_id.now })) }
     {
@@ -87,8 +92,11 @@ impl Invocation {
     }
 
     #[tactic(auto, unfolding(crate::specs::PartForms::invocation_form))]
-    pub(crate) fn read(alloc: Global, object: &Object) -> Result<Invocation, FromValueError>
-        ensures { Gives result (invocation_form (members_view object.now.entries)) }
+    pub(crate) fn read<'a>(
+        alloc: Global,
+        object: &[(&'a str, Node<'a>)],
+    ) -> Result<Invocation, FromValueError>
+        ensures { Gives result (invocation_form (members_view object.now)) }
     {
         Ok(Invocation {
             cli_args: defaulted_field(alloc, object, "cli-args", Items::empty(alloc))?,

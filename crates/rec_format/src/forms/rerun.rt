@@ -1,6 +1,7 @@
 //! What a rerun is a rerun of.
 use crate::{RerunInfo, RerunRootInfo};
 use rec_forms::{Form, FromValueError, put_field, required_field};
+use rec_json::Node;
 use serde_json::{Map, Value};
 use std::alloc::{AllocError, Global};
 
@@ -31,8 +32,8 @@ impl Form for RerunRootInfo {
     }
 
     #[tactic(auto, unfolding(crate::specs::RerunForms::rerun_root_form))]
-    fn from_value(alloc: Global, value: &Value) -> Result<RerunRootInfo, FromValueError> {
-        let Value::Object(object) = value else {
+    fn from_node(alloc: Global, node: &Node<'_>) -> Result<RerunRootInfo, FromValueError> {
+        let Some(object) = node.as_object() else {
             return Err(FromValueError::NotAValue);
         };
         Ok(RerunRootInfo {
@@ -70,8 +71,8 @@ impl Form for RerunInfo {
     }
 
     #[tactic(auto, unfolding(crate::specs::RerunForms::rerun_info_form))]
-    fn from_value(alloc: Global, value: &Value) -> Result<RerunInfo, FromValueError> {
-        let Value::Object(object) = value else {
+    fn from_node(alloc: Global, node: &Node<'_>) -> Result<RerunInfo, FromValueError> {
+        let Some(object) = node.as_object() else {
             return Err(FromValueError::NotAValue);
         };
         Ok(RerunInfo {

@@ -4,6 +4,7 @@ use crate::{RecordedRun, RecordedRunInfo, StoreFormatMinorVersion};
 use rec_forms::{
     Form, FromValueError, Held, defaulted_field, held_optional, put_field, required_field,
 };
+use rec_json::Node;
 use serde_json::{Map, Value};
 use std::alloc::{AllocError, Global};
 
@@ -62,8 +63,8 @@ impl Form for RecordedRun {
     }
 
     #[tactic(auto, unfolding(crate::specs::RunForms::run_form))]
-    fn from_value(alloc: Global, value: &Value) -> Result<RecordedRun, FromValueError> {
-        let Value::Object(object) = value else {
+    fn from_node(alloc: Global, node: &Node<'_>) -> Result<RecordedRun, FromValueError> {
+        let Some(object) = node.as_object() else {
             return Err(FromValueError::NotAValue);
         };
         let store_format_version = required_field(alloc, object, "store-format-version")?;
@@ -160,8 +161,8 @@ impl Form for RecordedRunInfo {
     }
 
     #[tactic(auto, unfolding(crate::specs::RunForms::info_form))]
-    fn from_value(alloc: Global, value: &Value) -> Result<RecordedRunInfo, FromValueError> {
-        let Value::Object(object) = value else {
+    fn from_node(alloc: Global, node: &Node<'_>) -> Result<RecordedRunInfo, FromValueError> {
+        let Some(object) = node.as_object() else {
             return Err(FromValueError::NotAValue);
         };
         let store_format_version = required_field(alloc, object, "store-format-version")?;

@@ -4,6 +4,7 @@ use rec_events::Items;
 use rec_forms::{
     Form, FromValueError, defaulted_field, optional_field, put_field, put_optional, required_field,
 };
+use rec_json::Node;
 use serde_json::{Map, Value};
 use std::alloc::{AllocError, Global};
 
@@ -35,8 +36,8 @@ impl Form for RecordedRunList {
     }
 
     #[tactic(auto, unfolding(crate::specs::RunListForms::run_list_form))]
-    fn from_value(alloc: Global, value: &Value) -> Result<RecordedRunList, FromValueError> {
-        let Value::Object(object) = value else {
+    fn from_node(alloc: Global, node: &Node<'_>) -> Result<RecordedRunList, FromValueError> {
+        let Some(object) = node.as_object() else {
             return Err(FromValueError::NotAValue);
         };
         Ok(RecordedRunList {

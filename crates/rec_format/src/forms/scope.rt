@@ -1,6 +1,7 @@
 //! What was built.
 use crate::{BuildKind, RecordedBuildScope};
 use rec_forms::{Form, FromValueError, put_field, required_field};
+use rec_json::Node;
 use serde_json::{Map, Value};
 use std::alloc::{AllocError, Global};
 
@@ -32,8 +33,8 @@ impl Form for BuildKind {
     }
 
     #[tactic(auto, unfolding(crate::specs::ScopeForms::build_kind_form))]
-    fn from_value(_alloc: Global, value: &Value) -> Result<BuildKind, FromValueError> {
-        match value.as_str() {
+    fn from_node(_alloc: Global, node: &Node<'_>) -> Result<BuildKind, FromValueError> {
+        match node.as_str() {
             Some("cargo") => Ok(BuildKind::Cargo),
             Some("reused") => Ok(BuildKind::Reused),
             _ => Err(FromValueError::NotAValue),
@@ -68,8 +69,8 @@ impl Form for RecordedBuildScope {
     }
 
     #[tactic(auto, unfolding(crate::specs::ScopeForms::recorded_scope_form))]
-    fn from_value(alloc: Global, value: &Value) -> Result<RecordedBuildScope, FromValueError> {
-        let Value::Object(object) = value else {
+    fn from_node(alloc: Global, node: &Node<'_>) -> Result<RecordedBuildScope, FromValueError> {
+        let Some(object) = node.as_object() else {
             return Err(FromValueError::NotAValue);
         };
         Ok(RecordedBuildScope {

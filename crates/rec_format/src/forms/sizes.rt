@@ -1,6 +1,7 @@
 //! Sizes, which are written as their formats.
 use crate::{ComponentSizes, ComponentSizesFormat, RecordedSizes, RecordedSizesFormat};
 use rec_forms::{Form, FromValueError, Held, defaulted_field, put_field, required_field};
+use rec_json::Node;
 use serde_json::{Map, Value};
 use std::alloc::{AllocError, Global};
 
@@ -32,8 +33,8 @@ impl Form for ComponentSizesFormat {
     }
 
     #[tactic(auto, unfolding(crate::specs::SizeForms::component_format_form))]
-    fn from_value(alloc: Global, value: &Value) -> Result<ComponentSizesFormat, FromValueError> {
-        let Value::Object(object) = value else {
+    fn from_node(alloc: Global, node: &Node<'_>) -> Result<ComponentSizesFormat, FromValueError> {
+        let Some(object) = node.as_object() else {
             return Err(FromValueError::NotAValue);
         };
         Ok(ComponentSizesFormat {
@@ -79,8 +80,8 @@ impl Form for RecordedSizesFormat {
     }
 
     #[tactic(auto, unfolding(crate::specs::SizeForms::sizes_format_form))]
-    fn from_value(alloc: Global, value: &Value) -> Result<RecordedSizesFormat, FromValueError> {
-        let Value::Object(object) = value else {
+    fn from_node(alloc: Global, node: &Node<'_>) -> Result<RecordedSizesFormat, FromValueError> {
+        let Some(object) = node.as_object() else {
             return Err(FromValueError::NotAValue);
         };
         Ok(RecordedSizesFormat {
@@ -119,8 +120,8 @@ impl Form for ComponentSizes {
         ComponentSizesFormat::from(*self).to_value(alloc)
     }
 
-    fn from_value(alloc: Global, value: &Value) -> Result<ComponentSizes, FromValueError> {
-        Ok(ComponentSizesFormat::from_value(alloc, value)?.into())
+    fn from_node(alloc: Global, node: &Node<'_>) -> Result<ComponentSizes, FromValueError> {
+        Ok(ComponentSizesFormat::from_node(alloc, node)?.into())
     }
 }
 
@@ -146,7 +147,7 @@ impl Form for RecordedSizes {
         RecordedSizesFormat::from(*self).to_value(alloc)
     }
 
-    fn from_value(alloc: Global, value: &Value) -> Result<RecordedSizes, FromValueError> {
-        Ok(RecordedSizesFormat::from_value(alloc, value)?.into())
+    fn from_node(alloc: Global, node: &Node<'_>) -> Result<RecordedSizes, FromValueError> {
+        Ok(RecordedSizesFormat::from_node(alloc, node)?.into())
     }
 }

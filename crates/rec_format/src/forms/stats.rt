@@ -1,7 +1,8 @@
 //! The statistics of runs that ended: by themselves they are an object, and in a status they stand
 //! beside its name.
 ghost use Rattle.std.specs.Prelude.{◌≡◌, OnOk};
-ghost use Rattle.serde_json.specs.View.{members_view};
+ghost use Rattle.serde_json.specs.View.{members_view as value_members};
+ghost use Rattle.rec_json.specs.Nodes.{members_view};
 ghost use Rattle.rec_forms.specs.Gives.{Gives};
 ghost use Rattle.rec_forms.specs.Shape.{with_members};
 
@@ -10,6 +11,7 @@ use rec_forms::{
     Form, FromValueError, Held, Object, held_optional, optional_field, put_field, put_optional,
     required_field,
 };
+use rec_json::Node;
 use serde_json::{Map, Value};
 use std::alloc::{AllocError, Global};
 
@@ -18,7 +20,7 @@ impl CompletedRunStats {
 
     /// Puts the statistics into an object.
     pub(crate) fn put(&self, alloc: Global, object: &mut Object) -> Result<(), AllocError>
-        ensures written { OnOk result (members_view object.new.entries ≡ with_members (members_view object.old.entries) (completed_fields self.now)) }
+        ensures written { OnOk result (value_members object.new.entries ≡ with_members (value_members object.old.entries) (completed_fields self.now)) }
         ensures known { OnOk result (AreCompleted self.now) }
     {
         put_field(alloc, object, "initial-run-count", &self.initial_run_count)?;
@@ -29,8 +31,11 @@ impl CompletedRunStats {
 
     /// Reads the statistics that an object has.
     #[tactic(auto, unfolding(crate::specs::StatsForms::completed_form))]
-    pub(crate) fn read(alloc: Global, object: &Object) -> Result<CompletedRunStats, FromValueError>
-        ensures { Gives result (completed_form (members_view object.now.entries)) }
+    pub(crate) fn read<'a>(
+        alloc: Global,
+        object: &[(&'a str, Node<'a>)],
+    ) -> Result<CompletedRunStats, FromValueError>
+        ensures { Gives result (completed_form (members_view object.now)) }
     {
         Ok(CompletedRunStats {
             initial_run_count: required_field(alloc, object, "initial-run-count")?,
@@ -67,8 +72,8 @@ impl Form for CompletedRunStats {
     }
 
     #[tactic(auto, unfolding(crate::specs::StatsForms::completed_stats_form))]
-    fn from_value(alloc: Global, value: &Value) -> Result<CompletedRunStats, FromValueError> {
-        let Value::Object(object) = value else {
+    fn from_node(alloc: Global, node: &Node<'_>) -> Result<CompletedRunStats, FromValueError> {
+        let Some(object) = node.as_object() else {
             return Err(FromValueError::NotAValue);
         };
         CompletedRunStats::read(alloc, object)
@@ -89,7 +94,7 @@ impl StressCompletedRunStats {
 
     /// Puts the statistics into an object.
     pub(crate) fn put(&self, alloc: Global, object: &mut Object) -> Result<(), AllocError>
-        ensures written { OnOk result (members_view object.new.entries ≡ with_members (members_view object.old.entries) (stress_fields self.now)) }
+        ensures written { OnOk result (value_members object.new.entries ≡ with_members (value_members object.old.entries) (stress_fields self.now)) }
         ensures known { OnOk result (AreStress self.now) }
     {
         put_optional(
@@ -105,11 +110,11 @@ impl StressCompletedRunStats {
 
     /// Reads the statistics that an object has.
     #[tactic(auto, unfolding(crate::specs::StatsForms::stress_form))]
-    pub(crate) fn read(
+    pub(crate) fn read<'a>(
         alloc: Global,
-        object: &Object,
+        object: &[(&'a str, Node<'a>)],
     ) -> Result<StressCompletedRunStats, FromValueError>
-        ensures { Gives result (stress_form (members_view object.now.entries)) }
+        ensures { Gives result (stress_form (members_view object.now)) }
     {
         Ok(StressCompletedRunStats {
             initial_iteration_count: optional_field(alloc, object, "initial-iteration-count")?,
@@ -146,8 +151,11 @@ impl Form for StressCompletedRunStats {
     }
 
     #[tactic(auto, unfolding(crate::specs::StatsForms::stress_stats_form))]
-    fn from_value(alloc: Global, value: &Value) -> Result<StressCompletedRunStats, FromValueError> {
-        let Value::Object(object) = value else {
+    fn from_node(
+        alloc: Global,
+        node: &Node<'_>,
+    ) -> Result<StressCompletedRunStats, FromValueError> {
+        let Some(object) = node.as_object() else {
             return Err(FromValueError::NotAValue);
         };
         StressCompletedRunStats::read(alloc, object)

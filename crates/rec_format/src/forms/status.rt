@@ -2,7 +2,8 @@
 ghost use Rattle.std.specs.Prelude.{◌≡◌, [], ◌∷◌, IfOk, option_map, codes};
 ghost use Rattle.serde_json.specs.Data.{string, no_members};
 ghost use Rattle.serde_json.specs.Find.{as_str};
-ghost use Rattle.serde_json.specs.View.{view, members_view};
+ghost use Rattle.serde_json.specs.View.{view, members_view as value_members};
+ghost use Rattle.rec_json.specs.Nodes.{members_view};
 ghost use Rattle.rec_forms.specs.Gives.{Gives};
 ghost use Rattle.rec_forms.specs.Shape.{field, required, with_members};
 ghost use Rattle.rec_format.specs.StatsForms.{AreCompleted, AreStress};
@@ -11,13 +12,14 @@ ghost use Rattle.rec_format.specs.StatusForms.{bare_value, completed_value, stre
 use crate::{
     CompletedRunStats, RecordedRunStatus, RecordedRunStatusFormat, StressCompletedRunStats,
 };
-use rec_forms::{Form, FromValueError, Held, Object, member, put_text};
+use rec_forms::{Form, FromValueError, Held, Object, put_text};
+use rec_json::{Node, member};
 use serde_json::{Map, Value};
 use std::alloc::{AllocError, Global};
 
 /// An object with the name of a status.
 fn named(alloc: Global, name: &str) -> Result<Object, AllocError>
-    ensures { IfOk result (λ object. members_view object.entries ≡ with_members no_members (field (codes "status") (string name.now) ∷ [])) }
+    ensures { IfOk result (λ object. value_members object.entries ≡ with_members no_members (field (codes "status") (string name.now) ∷ [])) }
 {
     let mut object = Map::new(alloc);
     put_text(alloc, &mut object, "status", name)?;
@@ -25,8 +27,8 @@ fn named(alloc: Global, name: &str) -> Result<Object, AllocError>
 }
 
 /// The name of the status that an object has.
-fn name_in(object: &Object) -> Option<&str>
-    ensures { option_map (λ name. name.now) result ≡ required as_str (codes "status") (members_view object.now.entries) }
+fn name_in<'a>(object: &[(&'a str, Node<'a>)]) -> Option<&'a str>
+    ensures { option_map (λ name. name.now) result ≡ required as_str (codes "status") (members_view object.now) }
 {
     member(object, "status")?.as_str()
 }
@@ -62,12 +64,12 @@ fn stress(alloc: Global, name: &str, stats: &StressCompletedRunStats) -> Result<
 }
 
 /// The status of a name, with what an object has beside it.
-fn status_in(
+fn status_in<'a>(
     alloc: Global,
     name: &str,
-    object: &Object,
+    object: &[(&'a str, Node<'a>)],
 ) -> Result<RecordedRunStatus, FromValueError>
-    ensures { Gives result (status_with name.now (members_view object.now.entries)) }
+    ensures { Gives result (status_with name.now (members_view object.now)) }
 {
     match name {
         "incomplete" => Ok(RecordedRunStatus::Incomplete),
@@ -113,8 +115,8 @@ impl Form for RecordedRunStatus {
     }
 
     #[tactic(auto, unfolding(crate::specs::StatusForms::status_form))]
-    fn from_value(alloc: Global, value: &Value) -> Result<RecordedRunStatus, FromValueError> {
-        let Value::Object(object) = value else {
+    fn from_node(alloc: Global, node: &Node<'_>) -> Result<RecordedRunStatus, FromValueError> {
+        let Some(object) = node.as_object() else {
             return Err(FromValueError::NotAValue);
         };
         match name_in(object) {
@@ -158,9 +160,12 @@ impl Form for RecordedRunStatusFormat {
         RecordedRunStatus::from(*self).to_value(alloc)
     }
 
-    fn from_value(alloc: Global, value: &Value) -> Result<RecordedRunStatusFormat, FromValueError> {
+    fn from_node(
+        alloc: Global,
+        node: &Node<'_>,
+    ) -> Result<RecordedRunStatusFormat, FromValueError> {
         // A `?` here, or a `map`, is a form that gets no proof.
-        match RecordedRunStatus::from_value(alloc, value) {
+        match RecordedRunStatus::from_node(alloc, node) {
             Ok(status) => Ok(RecordedRunStatusFormat::from(status)),
             Err(error) => Err(error),
         }

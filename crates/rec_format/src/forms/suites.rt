@@ -1,6 +1,7 @@
 //! Test suites: an array in the order of binary ids, which is read in any order.
 use crate::{RerunSuites, RerunTestSuiteInfo};
 use rec_forms::{Form, FromValueError, put_field, required_field};
+use rec_json::Node;
 use serde_json::{Map, Value};
 use std::alloc::{AllocError, Global};
 
@@ -32,8 +33,8 @@ impl Form for RerunTestSuiteInfo {
     }
 
     #[tactic(auto, unfolding(crate::specs::SuiteForms::suite_form))]
-    fn from_value(alloc: Global, value: &Value) -> Result<RerunTestSuiteInfo, FromValueError> {
-        let Value::Object(object) = value else {
+    fn from_node(alloc: Global, node: &Node<'_>) -> Result<RerunTestSuiteInfo, FromValueError> {
+        let Some(object) = node.as_object() else {
             return Err(FromValueError::NotAValue);
         };
         Ok(RerunTestSuiteInfo {
@@ -71,13 +72,13 @@ impl Form for RerunSuites {
     }
 
     #[tactic(auto, unfolding(crate::specs::SuiteForms::suites_form))]
-    fn from_value(alloc: Global, value: &Value) -> Result<RerunSuites, FromValueError> {
-        let Value::Array(values) = value else {
+    fn from_node(alloc: Global, node: &Node<'_>) -> Result<RerunSuites, FromValueError> {
+        let Some(nodes) = node.as_array() else {
             return Err(FromValueError::NotAValue);
         };
         let mut suites = RerunSuites::new(alloc);
-        for value in values {
-            let suite = RerunTestSuiteInfo::from_value(alloc, value)?;
+        for node in nodes {
+            let suite = RerunTestSuiteInfo::from_node(alloc, node)?;
             if suites.insert(suite)?.is_some() {
                 return Err(FromValueError::NotAValue);
             }

@@ -5,6 +5,7 @@ use crate::{
     StoreFormatMinorVersion, StoreFormatVersion,
 };
 use rec_forms::{Form, FromValueError, Held, put_field, required_field};
+use rec_json::Node;
 use serde_json::{Map, Value};
 use std::alloc::{AllocError, Global};
 
@@ -32,8 +33,11 @@ impl Form for StoreFormatMajorVersion {
         self.number().to_value(alloc)
     }
 
-    fn from_value(alloc: Global, value: &Value) -> Result<StoreFormatMajorVersion, FromValueError> {
-        Ok(StoreFormatMajorVersion::new(u32::from_value(alloc, value)?))
+    fn from_node(
+        alloc: Global,
+        node: &Node<'_>,
+    ) -> Result<StoreFormatMajorVersion, FromValueError> {
+        Ok(StoreFormatMajorVersion::new(u32::from_node(alloc, node)?))
     }
 }
 
@@ -67,8 +71,11 @@ impl Form for StoreFormatMinorVersion {
         self.number().to_value(alloc)
     }
 
-    fn from_value(alloc: Global, value: &Value) -> Result<StoreFormatMinorVersion, FromValueError> {
-        Ok(StoreFormatMinorVersion::new(u32::from_value(alloc, value)?))
+    fn from_node(
+        alloc: Global,
+        node: &Node<'_>,
+    ) -> Result<StoreFormatMinorVersion, FromValueError> {
+        Ok(StoreFormatMinorVersion::new(u32::from_node(alloc, node)?))
     }
 }
 
@@ -102,11 +109,11 @@ impl Form for PortableRecordingFormatMajorVersion {
         self.number().to_value(alloc)
     }
 
-    fn from_value(
+    fn from_node(
         alloc: Global,
-        value: &Value,
+        node: &Node<'_>,
     ) -> Result<PortableRecordingFormatMajorVersion, FromValueError> {
-        Ok(PortableRecordingFormatMajorVersion::new(u32::from_value(alloc, value)?))
+        Ok(PortableRecordingFormatMajorVersion::new(u32::from_node(alloc, node)?))
     }
 }
 
@@ -140,11 +147,11 @@ impl Form for PortableRecordingFormatMinorVersion {
         self.number().to_value(alloc)
     }
 
-    fn from_value(
+    fn from_node(
         alloc: Global,
-        value: &Value,
+        node: &Node<'_>,
     ) -> Result<PortableRecordingFormatMinorVersion, FromValueError> {
-        Ok(PortableRecordingFormatMinorVersion::new(u32::from_value(alloc, value)?))
+        Ok(PortableRecordingFormatMinorVersion::new(u32::from_node(alloc, node)?))
     }
 }
 
@@ -178,8 +185,8 @@ impl Form for RunsJsonFormatVersion {
         self.number().to_value(alloc)
     }
 
-    fn from_value(alloc: Global, value: &Value) -> Result<RunsJsonFormatVersion, FromValueError> {
-        Ok(RunsJsonFormatVersion::new(u32::from_value(alloc, value)?))
+    fn from_node(alloc: Global, node: &Node<'_>) -> Result<RunsJsonFormatVersion, FromValueError> {
+        Ok(RunsJsonFormatVersion::new(u32::from_node(alloc, node)?))
     }
 }
 
@@ -210,8 +217,8 @@ impl Form for StoreFormatVersion {
     }
 
     #[tactic(auto, unfolding(crate::specs::VersionForms::store_version_form))]
-    fn from_value(alloc: Global, value: &Value) -> Result<StoreFormatVersion, FromValueError> {
-        let Value::Object(object) = value else {
+    fn from_node(alloc: Global, node: &Node<'_>) -> Result<StoreFormatVersion, FromValueError> {
+        let Some(object) = node.as_object() else {
             return Err(FromValueError::NotAValue);
         };
         Ok(StoreFormatVersion {
@@ -248,11 +255,11 @@ impl Form for PortableRecordingFormatVersion {
     }
 
     #[tactic(auto, unfolding(crate::specs::VersionForms::portable_version_form))]
-    fn from_value(
+    fn from_node(
         alloc: Global,
-        value: &Value,
+        node: &Node<'_>,
     ) -> Result<PortableRecordingFormatVersion, FromValueError> {
-        let Value::Object(object) = value else {
+        let Some(object) = node.as_object() else {
             return Err(FromValueError::NotAValue);
         };
         Ok(PortableRecordingFormatVersion {
