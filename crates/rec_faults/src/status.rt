@@ -28,5 +28,7 @@ pub const NO_BUNDLE: u8 = 12;
 pub const NO_EVENT: u8 = 13;
 /// Means that the events of a log aren't those of one run whose slots can be reported.
 pub const NO_USAGE: u8 = 14;
+/// Means that nothing can be salvaged of a store.
+pub const NOTHING_SALVAGED: u8 = 15;
 /// Means that memory ran out.
 pub const OUT_OF_MEMORY: u8 = 70;

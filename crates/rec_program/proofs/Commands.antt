@@ -4,7 +4,7 @@ use Rattle.std.specs.Io.KnownBytes.{Appends}
 use Rattle.std.specs.Option.{option_map, option_or}
 use Rattle.semver.specs.Parse.{Parts}
 use Rattle.rec_container.proofs.Results.{Ok-injective, then_ok, unless_ok}
-use Rattle.rec_container.proofs.Unique.{no_fault, one_reading_spec}
+use Rattle.rec_container.proofs.Unique.{one_reading_spec}
 use Rattle.rec_container.specs.Causes.{Rose}
 use Rattle.rec_container.specs.Container.{Entry, IsContainer, content_of}
 use Rattle.rec_container.specs.declared.within.ReadError.TheVariants as read
@@ -69,8 +69,9 @@ use Rattle.rec_export.specs.TraceFaults.{trace_fault}
 use Rattle.rec_faults.specs.FaultLine.{Shown}
 use Rattle.rec_faults.specs.ReadingLine.{reading_shown}
 use Rattle.rec_faults.specs.Status.{bundle_status, conversion_status, export_status, junit_status, part_status, reading_status, slots_status}
+use Rattle.rec_program.proofs.BundlesShown.{withheld}
 use Rattle.rec_program.proofs.RecordedDrawn.{recorded-is_drawn}
-use Rattle.rec_program.specs.ReadingCommands.{IsPrintedOf, OfJudged, Shows, Withholds}
+use Rattle.rec_program.specs.ReadingCommands.{IsMadeOf, OfJudged, Shows, Withholds}
 use Rattle.rec_program.specs.Running.{Records, ShowsBundle}
 
 -- ---- the statuses of refusals are above those of success and of faulty words
@@ -95,7 +96,7 @@ export_above exports.BundleFault = lit< tt
 export_above exports.TraceFault = lit< tt
 export_above exports.OutOfMemory = lit< tt
 
-bundle_above : (e : PortableRecordingReadError) → 2 < bundle_status e
+pub bundle_above : (e : PortableRecordingReadError) → 2 < bundle_status e
 bundle_above bundles.SourceFault = lit< tt
 bundle_above (bundles.SpoolTooLarge limit) = lit< tt
 bundle_above (bundles.FileTooLarge file_name size limit) = lit< tt
@@ -178,31 +179,17 @@ module _ {E : Type 0} (shown : E → Shown) (status_of : E → ℕ) (above : (e 
   module _ (bytes : List ℕ) (es : List Entry) (has : left s0 ≡ Some bytes) (short : length bytes ≤ settings.session_limit) (is : IsContainer bytes es)
       (accepted : (e : E) → OfJudged opening prints settings.read_limit es (judged settings.read_limit es) (Err e) → ⊥)
       (source : ¬ (Rose (source_faults s0) (source_faults s1))) (out : ¬ (Rose (out_faults o0) (out_faults o1))) where
-    unread : (e : E) (fault : ReadError) → e ≡ opening (source_error fault) → Unread left source_faults settings.session_limit s0 s1 fault → e ≡ opening bundles.OutOfMemory
-    unread e read.SourceFault h u = absurd (source u.0)
-    unread e (read.TooLarge most) h u = let longer = no_more (left s0) (left s1) bytes u.2.0 has u.2.1 in let count = u.2.2 in absurd (omega arith)
-    unread e read.OutOfMemory h u = h
-
-    refused : (given : List ℕ) (e : E) → given ≡ bytes → IsPrintedOf opening prints settings.read_limit given (Err e) → ⊥
-    refused given e same (inl p) =
-        let one : p.0 ≡ es = one_reading_spec bytes p.0 es (subst (λ (b : List ℕ). IsContainer b p.0) same p.1) is in
-        accepted e (subst (λ (l : List Entry). OfJudged opening prints settings.read_limit l (judged settings.read_limit l) (Err e)) one p.2)
-    refused given e same (inr p) = no_fault bytes es p.0 is (subst (λ (b : List ℕ). IsFault b p.0) same p.1)
-
-    withheld : (e : E) → Withholds opening prints settings.read_limit left source_faults settings.session_limit s0 s1 e → e ≡ opening bundles.OutOfMemory
-    withheld e (inl u) = unread e u.0 u.1 u.2
-    withheld e (inr (given, gave, inl h)) = h
-    withheld e (inr (given, gave, inr p)) = absurd (refused given e (same_session (left s0) (left s1) bytes given has gave.gave gave.ended) p)
-
     -- what can be printed is printed, unless memory runs out or an object fails
     pub shown_or_memory : status_of (opening bundles.OutOfMemory) ≡ 70 → ShowsBundle shown status_of opening left source_faults out_taken out_faults diag_taken diag_faults prints settings status s0 s1 o0 o1 d0 d1
         → (status ≡ 0) ⊎ (status ≡ 70)
     shown_or_memory memory (inl (text, shows, inl p)) = inl p.0
     shown_or_memory memory (inl (text, shows, inr p)) = absurd (out p.1)
-    shown_or_memory memory (inr r) = inr (r.3.0 ∙ ap status_of (withheld r.0 r.1) ∙ memory)
+    shown_or_memory memory (inr r) =
+        let only = withheld opening prints settings.read_limit left source_faults settings.session_limit s0 s1 bytes es has short is (λ e h. absurd (accepted e h)) source in
+        inr (r.3.0 ∙ ap status_of (only r.0 r.1) ∙ memory)
 
--- what is printed of bytes that have a text is that of their entries
-pub printed_of : {E : Type 0} (opening : PortableRecordingReadError → E) (prints : ℕ → List Entry → Result (List ℕ) E → Type 0) (limit : ℕ) (bytes text : List ℕ) → IsPrintedOf opening prints limit bytes (Ok text)
+-- what is made of bytes is made of their entries
+pub printed_of : {A E : Type 0} (opening : PortableRecordingReadError → E) (prints : ℕ → List Entry → Result A E → Type 0) (limit : ℕ) (bytes : List ℕ) (text : A) → IsMadeOf opening prints limit bytes (Ok text)
     → (es : List Entry) × (manifest : PortableManifest) × IsContainer bytes es × (judged limit es ≡ Ok manifest) × prints limit es (Ok text)
 printed_of opening prints limit bytes text (inr p) = absurd (let h = p.2 in cc)
 printed_of opening prints limit bytes text (inl (es, is, p)) = go (judged limit es) refl p

@@ -1,4 +1,6 @@
 pub mod BundlesShown
 pub mod Commands
 pub mod RecordedDrawn
+pub mod RunsSalvaged
 pub mod SamplesRecorded
+pub mod WritingCommands

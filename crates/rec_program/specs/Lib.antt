@@ -1,4 +1,6 @@
+pub mod Counts
 pub mod LogTraces
 pub mod ReadingCommands
 pub mod Running
+pub mod Salvaging
 pub mod Samples

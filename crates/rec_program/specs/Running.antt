@@ -6,6 +6,10 @@ use Rattle.rec_container.specs.Causes.{Rose}
 use Rattle.rec_container.specs.Container.{Entry}
 use Rattle.rec_container.specs.Taking.{TookPart}
 use Rattle.rec_portable.specs.declared.errors.PortableRecordingReadError.{PortableRecordingReadError}
+use Rattle.rec_portable.specs.declared.upgrade_error.UpgradeError.{UpgradeError}
+use Rattle.rec_portable.specs.declared.upgrades.Upgraded.{Upgraded}
+use Rattle.rec_portable.specs.Upgrades.{NotUpgraded, Upgrades}
+use Rattle.rec_salvage.specs.declared.salvaging.Salvaged.{Salvaged}
 use Rattle.rec_reading.specs.declared.errors.ReadingError.{ReadingError}
 use Rattle.rec_reading.specs.Errors.{bundle_error}
 use Rattle.rec_reading.specs.Listing.{PrintsInfo, PrintsReplay, PrintsReport, PrintsTrace}
@@ -19,12 +23,17 @@ use Rattle.rec_export.specs.Export.{Exports, Fails}
 use Rattle.rec_words.specs.declared.usage.TheConstants.{USAGE}
 use Rattle.rec_words.specs.declared.words.WordsError.{WordsError}
 use Rattle.rec_words.specs.Usage.{versions_text}
-use Rattle.rec_words.specs.Words.{Asked, recording, tracing, replaying, reporting, informing, slotting, rerunning, sampling, help, version}
+use Rattle.rec_words.specs.Words.{Asked, recording, tracing, replaying, reporting, informing, slotting, rerunning, sampling, upgrading, salvaging, help, version}
 use Rattle.rec_faults.specs.FaultLine.{Shown, export_shown, line, sink_shown, words_shown}
 use Rattle.rec_faults.specs.ReadingLine.{reading_shown}
 use Rattle.rec_faults.specs.Status.{export_status, reading_status, words_status}
+use Rattle.rec_faults.specs.WritingCommands.{upgrade_shown, upgrade_status}
 use Rattle.rec_faults.specs.WritingFaults.{WritesFault}
+use Rattle.rec_program.specs.Counts.{counts_line}
+use Rattle.rec_program.specs.declared.salvage_refusal.SalvageRefusal.TheVariants.{BundleFailed}
+use Rattle.rec_program.specs.declared.salvage_refusal.SalvageRefusal.{SalvageRefusal}
 use Rattle.rec_program.specs.ReadingCommands.{Shows, Withholds}
+use Rattle.rec_program.specs.Salvaging.{SalvagesRun, bundle_refusal, refusal_shown, refusal_status}
 use Rattle.rec_program.specs.Samples.{SampleFails, Samples}
 
 module _ {E G : Type 0} (shown : E → Shown) (status_of : E → ℕ) (diag_taken : G → Option (List ℕ)) (diag_faults : G → ℕ) where
@@ -73,6 +82,34 @@ module _ {B T G : Type 0} (taken : B → Option (List ℕ)) (bundle_faults : B �
       ⊎ ((e : RecordExportError) × SampleFails taken bundle_faults number settings session b0 b1 e × (o1 ≡ o0)
       × Refuses export_shown export_status diag_taken diag_faults e status d0 d1)
 
+module _ {S B G : Type 0} (left : S → Option (List ℕ)) (source_faults : S → ℕ) (taken : B → Option (List ℕ)) (bundle_faults : B → ℕ)
+    (diag_taken : G → Option (List ℕ)) (diag_faults : G → ℕ) where
+  -- the bundle was upgraded, and nothing is reported; or it wasn't, and the cause is the status and is reported
+  abbrev pub RunsUpgrade : Settings → ℕ → S → S → B → B → G → G → Type 0
+  RunsUpgrade settings status s0 s1 b0 b1 d0 d1 =
+      ((status ≡ 0) × ((u : Upgraded) × Upgrades left source_faults taken bundle_faults settings.session_limit settings.read_limit s0 s1 b0 b1 u) × (d1 ≡ d0))
+      ⊎ ((e : UpgradeError) × NotUpgraded left source_faults taken bundle_faults settings.session_limit settings.read_limit s0 s1 b0 b1 e
+      × Refuses upgrade_shown upgrade_status diag_taken diag_faults e status d0 d1)
+
+module _ {B T G : Type 0} (taken : B → Option (List ℕ)) (bundle_faults : B → ℕ) (out_taken : T → Option (List ℕ)) (out_faults : T → ℕ)
+    (diag_taken : G → Option (List ℕ)) (diag_faults : G → ℕ) where
+  -- what was salvaged was written, and the line with its counts was printed; or the bundle's sink failed, which was reported
+  abbrev pub WritesSalvage : Salvaged → ℕ → B → B → T → T → G → G → Type 0
+  WritesSalvage s status b0 b1 o0 o1 d0 d1 =
+      (Appends (taken b0) (taken b1) s.bundle.items × Prints out_taken out_faults diag_taken diag_faults (counts_line s.events s.outputs) status o0 o1 d0 d1)
+      ⊎ (Rose (bundle_faults b0) (bundle_faults b1) × TookPart (taken b0) (taken b1) s.bundle.items × (o1 ≡ o0)
+      × Refuses refusal_shown refusal_status diag_taken diag_faults BundleFailed status d0 d1)
+
+module _ {S B T G : Type 0} (left : S → Option (List ℕ)) (source_faults : S → ℕ) (taken : B → Option (List ℕ)) (bundle_faults : B → ℕ)
+    (out_taken : T → Option (List ℕ)) (out_faults : T → ℕ) (diag_taken : G → Option (List ℕ)) (diag_faults : G → ℕ) where
+  -- a run was salvaged, and written; or it wasn't, and the cause is the status and is reported
+  abbrev pub RunsSalvage : Settings → ℕ → S → S → B → B → T → T → G → G → Type 0
+  RunsSalvage settings status s0 s1 b0 b1 o0 o1 d0 d1 =
+      ((s : Salvaged) × Shows bundle_refusal SalvagesRun settings.read_limit left source_faults settings.session_limit s0 s1 s
+      × WritesSalvage taken bundle_faults out_taken out_faults diag_taken diag_faults s status b0 b1 o0 o1 d0 d1)
+      ⊎ ((e : SalvageRefusal) × Withholds bundle_refusal SalvagesRun settings.read_limit left source_faults settings.session_limit s0 s1 e × (b1 ≡ b0) × (o1 ≡ o0)
+      × Refuses refusal_shown refusal_status diag_taken diag_faults e status d0 d1)
+
 module _ {S B T G : Type 0} (left : S → Option (List ℕ)) (source_faults : S → ℕ) (taken : B → Option (List ℕ)) (bundle_faults : B → ℕ)
     (out_taken : T → Option (List ℕ)) (out_faults : T → ℕ) (diag_taken : G → Option (List ℕ)) (diag_faults : G → ℕ) (number : List ℕ → ℕ) where
   -- the same of a command that reads a bundle, and refuses as such commands do
@@ -97,6 +134,10 @@ module _ {S B T G : Type 0} (left : S → Option (List ℕ)) (source_faults : S 
       ShowsReading PrintsRerun settings status s0 s1 o0 o1 d0 d1 × (b1 ≡ b0)
   Runs (Ok (sampling n path settings)) status s0 s1 b0 b1 o0 o1 d0 d1 =
       RecordsSample taken bundle_faults out_taken out_faults diag_taken diag_faults number settings (sample_session n) status b0 b1 o0 o1 d0 d1 × (s1 ≡ s0)
+  Runs (Ok (upgrading path settings)) status s0 s1 b0 b1 o0 o1 d0 d1 =
+      RunsUpgrade left source_faults taken bundle_faults diag_taken diag_faults settings status s0 s1 b0 b1 d0 d1 × (o1 ≡ o0)
+  Runs (Ok (salvaging path settings)) status s0 s1 b0 b1 o0 o1 d0 d1 =
+      RunsSalvage left source_faults taken bundle_faults out_taken out_faults diag_taken diag_faults settings status s0 s1 b0 b1 o0 o1 d0 d1
   Runs (Ok help) status s0 s1 b0 b1 o0 o1 d0 d1 = Prints out_taken out_faults diag_taken diag_faults USAGE.now status o0 o1 d0 d1 × (s1 ≡ s0) × (b1 ≡ b0)
   Runs (Ok version) status s0 s1 b0 b1 o0 o1 d0 d1 = Prints out_taken out_faults diag_taken diag_faults versions_text status o0 o1 d0 d1 × (s1 ≡ s0) × (b1 ≡ b0)
   Runs (Err fault) status s0 s1 b0 b1 o0 o1 d0 d1 =

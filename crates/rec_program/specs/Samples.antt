@@ -1,7 +1,6 @@
 -- What `sample` records of a generated session, and what it prints.
-use Rattle.std.specs.Fmt.{decimal}
 use Rattle.std.specs.Io.KnownBytes.{Appends}
-use Rattle.std.specs.Prelude.{◌≡◌, ◌⊎◌, ℕ, ◌<◌, ◌≤◌, List, [], ◌∷◌, ◌++◌, length, Option, Some, codes}
+use Rattle.std.specs.Prelude.{◌≡◌, ◌⊎◌, ℕ, ◌<◌, ◌≤◌, List, length, Option, Some}
 use Rattle.rec_container.specs.Causes.{Rose}
 use Rattle.rec_container.specs.Taking.{TookPart}
 use Rattle.rec_store.specs.Bundle.{outputs_stored}
@@ -11,10 +10,7 @@ use Rattle.rec_export.specs.declared.refusal.RecordExportError.TheVariants.{Bund
 use Rattle.rec_export.specs.declared.refusal.RecordExportError.{RecordExportError}
 use Rattle.rec_export.specs.declared.settings.Settings.{Settings}
 use Rattle.rec_export.specs.Export.{CountsOf}
-
--- how many events and outputs were recorded, as a line
-unfoldable pub counts_line : ℕ → ℕ → List ℕ
-counts_line events outputs = codes "events=" ++ (decimal events ++ (codes " outputs=" ++ (decimal outputs ++ 10 ∷ [])))
+use Rattle.rec_program.specs.Counts.{counts_line}
 
 -- the line that counts the events of a session, and its outputs that are stored
 abbrev pub session_counts : (List ℕ → ℕ) → Settings → List ℕ → List ℕ

@@ -1,14 +1,24 @@
 //! What the program does.
 ghost use Rattle.std.specs.Io.KnownBytes.{Appends};
-ghost use Rattle.std.specs.Prelude.{◌≡◌, ◌↔◌, ◌≤◌, ◌⊎◌, ℕ, List, length, Some, None, Ok, IsErr};
+ghost use Rattle.std.specs.Prelude.{◌≡◌, ◌↔◌, ◌≤◌, ◌⊎◌, ℕ, List, length, Some, None, Ok, IsErr, string_bytes};
 ghost use Rattle.rec_container.specs.Causes.{Rose};
 ghost use Rattle.rec_container.specs.Container.{Entry, IsContainer};
+ghost use Rattle.rec_container.specs.Fronts.{IsWholeFront};
+ghost use Rattle.rec_container.specs.Taking.{TookPart};
 ghost use Rattle.rec_container.specs.Within.{Gave};
 ghost use Rattle.rec_format.specs.declared.manifest.PortableManifest.{PortableManifest};
 ghost use Rattle.rec_codec.specs.LineReading.{first_line_fault};
 ghost use Rattle.rec_store.specs.Namer.{sha256_number};
+ghost use Rattle.rec_store.specs.Reading.{RunRecord};
+ghost use Rattle.rec_store.specs.RunParts.{RunParts, written};
+ghost use Rattle.rec_portable.specs.declared.upgrades.Upgraded.{Upgraded};
 ghost use Rattle.rec_portable.specs.Judging.{judged};
 ghost use Rattle.rec_portable.specs.OuterEntries.{log_part};
+ghost use Rattle.rec_portable.specs.Upgrades.{IsUpgradable, Upgrades};
+ghost use Rattle.rec_portable.specs.Upgrading.{IsAccepted};
+ghost use Rattle.rec_salvage.specs.declared.salvaging.Salvaged.{Salvaged};
+ghost use Rattle.rec_salvage.specs.Refusals.{front_refusal};
+ghost use Rattle.rec_salvage.specs.Salvages.{Salvages};
 ghost use Rattle.rec_replay.specs.declared.output_load.LoadOutput.{LoadOutput};
 ghost use Rattle.rec_slots.specs.declared.report.SlotReport.{SlotReport};
 ghost use Rattle.rec_slots.specs.Refusals.{Reports};
@@ -22,15 +32,21 @@ ghost use Rattle.rec_export.specs.declared.counts.Exported.{Exported};
 ghost use Rattle.rec_export.specs.declared.settings.Settings.{Settings};
 ghost use Rattle.rec_export.specs.Export.{Exports};
 ghost use Rattle.rec_export.specs.Timelines.{DrawsTimeline};
-ghost use Rattle.rec_words.specs.Words.{command, informing, recording, replaying, reporting, rerunning, sampling, slotting, texts, tracing};
-ghost use Rattle.rec_program.specs.Running.{Prints, Records, RecordsSample, Runs, ShowsMade};
+ghost use Rattle.rec_words.specs.Words.{command, informing, recording, replaying, reporting, rerunning, salvaging, sampling, slotting, texts, tracing, upgrading};
+ghost use Rattle.rec_program.specs.Counts.{counts_line};
+ghost use Rattle.rec_program.specs.Running.{Prints, Records, RecordsSample, Runs, RunsSalvage, RunsUpgrade, ShowsMade, WritesSalvage};
+ghost use Rattle.rec_program.specs.Salvaging.{StoppedRun, stopped_run};
 ghost use Rattle.rec_program.specs.Samples.{TakesSample, session_counts};
 
 use crate::reading::read_bundle;
+use crate::salvage::{CountedSalvage, salvage_bundle};
+use crate::salvage_refusal::SalvageRefusal;
 use crate::sample::record_sample;
 use rec_container::{Sink, Source, write_all};
 use rec_export::{Settings, record_and_export};
 use rec_faults::{Refusal, SUCCESS, refuse};
+use rec_portable::laws::readable_bundles_are_upgraded;
+use rec_portable::upgrade;
 use rec_reading::{Info, Replay, Report, Rerun, Slots, Trace};
 use rec_store::Sha256Namer;
 use rec_words::{Command, USAGE, read_words, versions};
@@ -250,6 +266,73 @@ pub fn run_program<S: Source, B: Sink, T: Sink, G: Sink>(
         → ¬ Rose (T.faults out.old) (T.faults out.new)
         → (result ≡ 0) ⊎ (result ≡ 70) }
 
+    // Status 0 of `upgrade`: the source was read to its end, its bytes are a bundle with a reading, and the bundle's sink took this run
+    // written anew, which is read as the same run but for the versions and the sizes.
+    ensures upgraded { (path : List ℕ) (settings : Settings)
+        → command (texts words.now) ≡ Ok (upgrading path settings)
+        → result ≡ 0
+        → (counts : Upgraded) × Upgrades S.left S.faults B.taken B.faults settings.session_limit settings.read_limit
+        source.old source.new bundle.old bundle.new counts }
+
+    // With another status the bundle's sink took nothing; or the status is 10, and it took a proper prefix of a run written anew.
+    ensures not_upgraded { (path : List ℕ) (settings : Settings)
+        → command (texts words.now) ≡ Ok (upgrading path settings)
+        → ¬ (result ≡ 0)
+        → (bundle.new ≡ bundle.old)
+        ⊎ ((result ≡ 10) × ((bytes : List ℕ) × (parts : RunParts) × Gave S.left S.faults settings.session_limit source.old source.new bytes
+        × IsAccepted bytes settings.read_limit parts × TookPart (B.taken bundle.old) (B.taken bundle.new) (written parts))) }
+
+    // Status 0 of `salvage`: the source was read to its end, its bytes are a bundle, and the bundle's sink took the bundle of what is left
+    // of its run: its events are the salvaged ones, and `out` took the line that counts these and their outputs.
+    ensures salvaged { (path : List ℕ) (settings : Settings)
+        → command (texts words.now) ≡ Ok (salvaging path settings)
+        → result ≡ 0
+        → (bytes : List ℕ) × (es : List Entry) × (stopped : StoppedRun) × (made : Salvaged)
+        × Gave S.left S.faults settings.session_limit source.old source.new bytes
+        × IsContainer bytes es
+        × (stopped_run settings.read_limit es ≡ Ok stopped)
+        × Salvages stopped.run stopped.log stopped.store made
+        × Appends (B.taken bundle.old) (B.taken bundle.new) made.bundle.items
+        × Appends (T.taken out.old) (T.taken out.new) (counts_line made.events made.outputs) }
+
+    // With another status the bundle's sink took nothing; or the status is 11, and it took the whole bundle; or the status is 10, and it
+    // took a proper prefix of it.
+    ensures not_salvaged { (path : List ℕ) (settings : Settings)
+        → command (texts words.now) ≡ Ok (salvaging path settings)
+        → ¬ (result ≡ 0)
+        → (bundle.new ≡ bundle.old)
+        ⊎ ((bytes : List ℕ) × (es : List Entry) × (stopped : StoppedRun) × (made : Salvaged)
+        × Gave S.left S.faults settings.session_limit source.old source.new bytes
+        × IsContainer bytes es
+        × (stopped_run settings.read_limit es ≡ Ok stopped)
+        × Salvages stopped.run stopped.log stopped.store made
+        × (((result ≡ 11) × Appends (B.taken bundle.old) (B.taken bundle.new) made.bundle.items)
+        ⊎ ((result ≡ 10) × TookPart (B.taken bundle.old) (B.taken bundle.new) made.bundle.items))) }
+
+    // A bundle with a reading is upgraded, where its versions are read and nothing is too long.
+    ensures upgraded_complete { (path : List ℕ) (settings : Settings) (bytes : List ℕ) (run : RunRecord)
+        → command (texts words.now) ≡ Ok (upgrading path settings)
+        → S.left source.old ≡ Some bytes
+        → length bytes ≤ settings.session_limit
+        → IsUpgradable bytes settings.read_limit run
+        → ¬ Rose (S.faults source.old) (S.faults source.new)
+        → ¬ Rose (B.faults bundle.old) (B.faults bundle.new)
+        → (result ≡ 0) ⊎ (result ≡ 70) }
+
+    // So is a run salvaged, where the metadata is read in the whole front of its store.
+    ensures salvaged_complete { (path : List ℕ) (settings : Settings) (bytes : List ℕ) (es front : List Entry) (stopped : StoppedRun)
+        → command (texts words.now) ≡ Ok (salvaging path settings)
+        → S.left source.old ≡ Some bytes
+        → length bytes ≤ settings.session_limit
+        → IsContainer bytes es
+        → stopped_run settings.read_limit es ≡ Ok stopped
+        → IsWholeFront stopped.store front
+        → front_refusal front ≡ None
+        → ¬ Rose (S.faults source.old) (S.faults source.new)
+        → ¬ Rose (B.faults bundle.old) (B.faults bundle.new)
+        → ¬ Rose (T.faults out.old) (T.faults out.new)
+        → (result ≡ 0) ⊎ (result ≡ 70) }
+
     // A generated session within the limits is recorded, unless memory runs out or an object fails.
     ensures sampled_complete { (n : ℕ) (path : List ℕ) (settings : Settings)
         → command (texts words.now) ≡ Ok (sampling n path settings)
@@ -259,6 +342,8 @@ pub fn run_program<S: Source, B: Sink, T: Sink, G: Sink>(
         → ¬ Rose (T.faults out.old) (T.faults out.new)
         → (result ≡ 0) ⊎ (result ≡ 70) }
 {
+    // Bundles with a reading aren't refused.
+    readable_bundles_are_upgraded();
     run(alloc, words, source, bundle, out, diag)
 }
 
@@ -314,6 +399,18 @@ fn run<S: Source, B: Sink, T: Sink, G: Sink>(
                 settings,
             },
         ) => sample(alloc, n, &settings, bundle, out, diag),
+        Ok(
+            Command::Upgrade {
+                bundle: _,
+                settings,
+            },
+        ) => upgrade_bundle(alloc, &settings, source, bundle, diag),
+        Ok(
+            Command::Salvage {
+                bundle: _,
+                settings,
+            },
+        ) => salvage(alloc, &settings, source, bundle, out, diag),
         Ok(Command::Help) => print(USAGE.as_bytes(), out, diag),
         Ok(Command::Version) => print(versions().as_bytes(), out, diag),
         Err(fault) => refuse(fault, diag),
@@ -354,6 +451,64 @@ fn sample<B: Sink, T: Sink, G: Sink>(
     match record_sample(alloc, tests, settings, bundle) {
         Ok(line) => print(line.as_bytes(), out, diag),
         Err(error) => refuse(error, diag),
+    }
+}
+
+/// Writes the bundle of the source anew.
+fn upgrade_bundle<S: Source, B: Sink, G: Sink>(
+    alloc: Global,
+    settings: &Settings,
+    source: &mut S,
+    bundle: &mut B,
+    diag: &mut G,
+) -> u8
+    ensures { RunsUpgrade S.left S.faults B.taken B.faults G.taken G.faults settings.now result
+        source.old source.new bundle.old bundle.new diag.old diag.new }
+{
+    match upgrade(
+        alloc,
+        source,
+        settings.session_limit,
+        settings.read_limit,
+        bundle,
+    ) {
+        Ok(_) => SUCCESS,
+        Err(error) => refuse(error, diag),
+    }
+}
+
+/// Writes what is left of the run in the bundle of the source, and prints how much that is.
+fn salvage<S: Source, B: Sink, T: Sink, G: Sink>(
+    alloc: Global,
+    settings: &Settings,
+    source: &mut S,
+    bundle: &mut B,
+    out: &mut T,
+    diag: &mut G,
+) -> u8
+    ensures { RunsSalvage S.left S.faults B.taken B.faults T.taken T.faults G.taken G.faults settings.now result
+        source.old source.new bundle.old bundle.new out.old out.new diag.old diag.new }
+{
+    match salvage_bundle(alloc, settings, source) {
+        Ok(counted) => write_salvaged(&counted, bundle, out, diag),
+        Err(error) => refuse(error, diag),
+    }
+}
+
+/// Writes what was salvaged, and prints how much it is.
+fn write_salvaged<B: Sink, T: Sink, G: Sink>(
+    counted: &CountedSalvage,
+    bundle: &mut B,
+    out: &mut T,
+    diag: &mut G,
+) -> u8
+    requires { string_bytes counted.now.line ≡ counts_line counted.now.salvaged.events counted.now.salvaged.outputs }
+    ensures { WritesSalvage B.taken B.faults T.taken T.faults G.taken G.faults counted.now.salvaged result
+        bundle.old bundle.new out.old out.new diag.old diag.new }
+{
+    match write_all(bundle, &counted.salvaged.bundle) {
+        Ok(()) => print(counted.line.as_bytes(), out, diag),
+        Err(_) => refuse(SalvageRefusal::BundleFailed, diag),
     }
 }
 

@@ -1,13 +1,12 @@
 //! What the commands make that read a bundle, before the first byte of it is printed.
-ghost use Rattle.std.specs.Prelude.{◌≡◌, [], IfOk, IfErr};
-ghost use Rattle.rec_portable.specs.declared.errors.PortableRecordingReadError.{PortableRecordingReadError};
+ghost use Rattle.std.specs.Prelude.{[], IfOk, IfErr};
 ghost use Rattle.rec_portable.specs.Opening.{Opens, Unopened};
 ghost use Rattle.rec_reading.specs.Errors.{bundle_error};
 ghost use Rattle.rec_program.specs.ReadingCommands.{Shows, Withholds};
 
 use rec_container::Source;
 use rec_export::Settings;
-use rec_portable::PortableRecording;
+use rec_portable::{PortableRecording, PortableRecordingReadError};
 use rec_reading::{BundleText, ReadingError};
 use std::alloc::Global;
 
@@ -33,22 +32,20 @@ pub fn read_bundle<S: Source, P: BundleText>(
 }
 
 /// Reads the bundle of a source. It stands on no path.
-fn open_bundle<S: Source>(
+pub fn open_bundle<S: Source>(
     alloc: Global,
     settings: &Settings,
     source: &mut S,
-) -> Result<PortableRecording, ReadingError>
+) -> Result<PortableRecording, PortableRecordingReadError>
     ensures ok { IfOk result (Opens S.left S.faults [] settings.now.session_limit settings.now.read_limit source.old source.new) }
-    ensures err { IfErr result (λ e. (fault : PortableRecordingReadError) × (e ≡ bundle_error fault)
-        × Unopened S.left S.faults settings.now.session_limit settings.now.read_limit source.old source.new fault) }
+    ensures err { IfErr result (Unopened S.left S.faults settings.now.session_limit settings.now.read_limit source.old source.new) }
 {
     let path = String::new(alloc);
-    let bundle = PortableRecording::open(
+    PortableRecording::open(
         alloc,
         path,
         source,
         settings.session_limit,
         settings.read_limit,
-    )?;
-    Ok(bundle)
+    )
 }

@@ -2,13 +2,14 @@
 ghost use Rattle.std.specs.Prelude.{◌≡◌, ◌≤◌, IfOk, IfErr, string_bytes};
 ghost use Rattle.rec_store.specs.Namer.{sha256_number};
 ghost use Rattle.rec_sample.specs.Session.{sample_session};
-ghost use Rattle.rec_program.specs.Samples.{MakesSample, SampleFails, Samples, counts_line, sample_error};
+ghost use Rattle.rec_program.specs.Samples.{MakesSample, SampleFails, Samples, sample_error};
 
+use crate::counts::counts_line;
 use rec_container::{GrowingSink, Sink, SliceSource};
 use rec_export::{Exported, RecordExportError, Settings, record_and_export};
 use rec_sample::sample_session;
 use rec_store::Sha256Namer;
-use std::alloc::{AllocError, Global};
+use std::alloc::Global;
 
 /// Makes the session of `tests` tests, writes its bundle, and returns the line that says how much was recorded.
 ///
@@ -67,12 +68,4 @@ fn made_error(error: RecordExportError) -> RecordExportError
         RecordExportError::TraceFault => RecordExportError::OutOfMemory,
         other => other,
     }
-}
-
-/// Makes the line that says how much was recorded.
-#[tactic(auto, unfolding(crate::specs::Samples::counts_line))]
-fn counts_line(alloc: Global, events: u64, outputs: u64) -> Result<String, AllocError>
-    ensures { IfOk result (λ line. string_bytes line ≡ counts_line events outputs) }
-{
-    format!(in alloc; "events={events} outputs={outputs}\n")
 }

@@ -12,7 +12,7 @@ use Rattle.rec_trace.specs.declared.settings.ChromeTraceMessageFormat.TheVariant
 use Rattle.rec_trace.specs.declared.settings.ChromeTraceMessageFormat.{ChromeTraceMessageFormat}
 use Rattle.rec_export.specs.declared.settings.Settings.{Settings}
 use Rattle.rec_export.specs.Settings.{default_settings}
-use Rattle.rec_words.specs.declared.options.CommandName.TheVariants.{Record, Trace, Replay, Sample}
+use Rattle.rec_words.specs.declared.options.CommandName.TheVariants.{Record, Trace, Replay, Sample, Upgrade, Salvage}
 use Rattle.rec_words.specs.declared.options.CommandName.{CommandName}
 use Rattle.rec_words.specs.declared.options.OptionName.TheVariants.{GroupBy, MessageFormat, MaxOutput, ReadLimit, SessionLimit, Output}
 use Rattle.rec_words.specs.declared.options.OptionName.{OptionName}
@@ -62,6 +62,8 @@ takes command SessionLimit = true
 abbrev pub options_at : CommandName → ℕ
 options_at Record = 2
 options_at Sample = 3
+options_at Upgrade = 2
+options_at Salvage = 2
 options_at command = 1
 
 -- the number that one or more decimal digits write, where it fits 64 bits

@@ -6,8 +6,9 @@ use Rattle.std.specs.Str.{bytes_eq}
 use Rattle.rec_container.specs.Reading.{◌>>=◌}
 use Rattle.rec_replay.specs.declared.output_load.LoadOutput.{LoadOutput}
 use Rattle.rec_export.specs.declared.settings.Settings.{Settings}
-use Rattle.rec_words.specs.declared.options.CommandName.TheVariants.{Record, Trace, Replay, Report, Info, Slots, Rerun, Sample}
+use Rattle.rec_words.specs.declared.options.CommandName.TheVariants.{Record, Trace, Replay, Report, Info, Slots, Rerun, Sample, Upgrade, Salvage}
 use Rattle.rec_words.specs.declared.options.CommandName.{CommandName}
+use Rattle.rec_words.specs.declared.words.BundleWords.{BundleWords}
 use Rattle.rec_words.specs.declared.words.Command.TheVariants as commands
 use Rattle.rec_words.specs.declared.words.Command.{Command}
 use Rattle.rec_words.specs.declared.words.WordsError.TheVariants.{NoCommand, UnknownCommand, MissingPositional, BadNumber}
@@ -15,7 +16,8 @@ use Rattle.rec_words.specs.declared.words.WordsError.{WordsError}
 use Rattle.rec_words.specs.Options.{load_of, no_values, options_at, settings_from, settings_of, tests_of, values_from}
 
 -- what words ask for: a recording into a bundle at a path; the trace of a bundle, its events, its reports, what its manifest says, how its
--- slots were used, or which tests to run again; a recording of a generated session of so many tests; or a text about the program
+-- slots were used, or which tests to run again; a recording of a generated session of so many tests; a bundle upgraded, or what is salvaged
+-- of it, at a path; or a text about the program
 pub data Asked : Type 0 where
   recording : List ℕ → Settings → Asked
   tracing : Settings → Asked
@@ -25,8 +27,15 @@ pub data Asked : Type 0 where
   slotting : Settings → Asked
   rerunning : Settings → Asked
   sampling : ℕ → List ℕ → Settings → Asked
+  upgrading : List ℕ → Settings → Asked
+  salvaging : List ℕ → Settings → Asked
   help : Asked
   version : Asked
+
+-- the path of a bundle, and settings
+pub record BundleAsked : Type 0 where
+  pub path : List ℕ
+  pub settings : Settings
 
 -- a command as plain data
 abbrev pub asked : Command → Asked
@@ -38,6 +47,8 @@ asked (commands.Info settings) = informing settings
 asked (commands.Slots settings) = slotting settings
 asked (commands.Rerun settings) = rerunning settings
 asked (commands.Sample n bundle settings) = sampling n bundle.now settings
+asked (commands.Upgrade bundle settings) = upgrading bundle.now settings
+asked (commands.Salvage bundle settings) = salvaging bundle.now settings
 asked commands.Help = help
 asked commands.Version = version
 
@@ -56,7 +67,14 @@ command_named word =
     else if bytes_eq word (codes "slots") then Some Slots
     else if bytes_eq word (codes "rerun") then Some Rerun
     else if bytes_eq word (codes "sample") then Some Sample
+    else if bytes_eq word (codes "upgrade") then Some Upgrade
+    else if bytes_eq word (codes "salvage") then Some Salvage
     else None
+
+-- the words after a command that takes a bundle alone: its path, and the options
+abbrev pub bundle_after : CommandName → List (List ℕ) → Result BundleAsked WordsError
+bundle_after name [] = Err (MissingPositional 1)
+bundle_after name (bundle ∷ words) = settings_from name words >>= (λ settings. Ok (record { path = bundle; settings = settings }))
 
 -- what `sample` asks for with the words after its number of tests: the path of the bundle, and then its options
 abbrev pub sample_after : ℕ → List (List ℕ) → Result Asked WordsError
@@ -65,8 +83,7 @@ sample_after n (bundle ∷ words) = settings_from Sample words >>= (λ settings.
 
 -- what a command asks for with the words after its name: its positional words, and then its options
 abbrev pub command_after : CommandName → List (List ℕ) → Result Asked WordsError
-command_after Record [] = Err (MissingPositional 1)
-command_after Record (bundle ∷ words) = settings_from Record words >>= (λ settings. Ok (recording bundle settings))
+command_after Record words = bundle_after Record words >>= (λ b. Ok (recording b.path b.settings))
 command_after Trace words = settings_from Trace words >>= (λ settings. Ok (tracing settings))
 command_after Replay words = values_from Replay no_values (options_at Replay) words >>= (λ values. Ok (replaying (load_of values) (settings_of values)))
 command_after Report words = settings_from Report words >>= (λ settings. Ok (reporting settings))
@@ -75,6 +92,8 @@ command_after Slots words = settings_from Slots words >>= (λ settings. Ok (slot
 command_after Rerun words = settings_from Rerun words >>= (λ settings. Ok (rerunning settings))
 command_after Sample [] = Err (MissingPositional 1)
 command_after Sample (number ∷ words) = ok_or (tests_of number) (BadNumber 1) >>= (λ n. sample_after n words)
+command_after Upgrade words = bundle_after Upgrade words >>= (λ b. Ok (upgrading b.path b.settings))
+command_after Salvage words = bundle_after Salvage words >>= (λ b. Ok (salvaging b.path b.settings))
 
 -- what a word asks for that is the name of no such command, with the words after it
 abbrev pub other_command : List ℕ → List (List ℕ) → Result Asked WordsError
@@ -97,6 +116,11 @@ abbrev pub Reads : Result Command WordsError → Result Asked WordsError → Typ
 Reads (Ok c) read = read ≡ Ok (asked c)
 Reads (Err fault) read = read ≡ Err fault
 
+-- a bundle and settings are answered, or a fault, exactly as the words have it
+abbrev pub ReadsBundle : Result BundleWords WordsError → Result BundleAsked WordsError → Type 0
+ReadsBundle (Ok b) read = read ≡ Ok (record { path = b.bundle.now; settings = b.settings })
+ReadsBundle (Err fault) read = read ≡ Err fault
+
 -- the number of tests that a command asks for is at most 10000
 abbrev pub HasTests : Command → Type 0
 HasTests (commands.Sample n bundle settings) = n ≤ 10000
@@ -106,6 +130,8 @@ HasTests command = ⊤
 abbrev pub bundle_asked : Asked → Option (List ℕ)
 bundle_asked (recording bundle settings) = Some bundle
 bundle_asked (sampling n bundle settings) = Some bundle
+bundle_asked (upgrading bundle settings) = Some bundle
+bundle_asked (salvaging bundle settings) = Some bundle
 bundle_asked asked = None
 
 abbrev pub bundle_of : Result Asked WordsError → Option (List ℕ)

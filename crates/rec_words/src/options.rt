@@ -20,6 +20,8 @@ pub enum CommandName {
     Slots,
     Rerun,
     Sample,
+    Upgrade,
+    Salvage,
 }
 
 impl CommandName {
@@ -45,7 +47,9 @@ impl CommandName {
             | CommandName::Report
             | CommandName::Info
             | CommandName::Slots
-            | CommandName::Rerun => false,
+            | CommandName::Rerun
+            | CommandName::Upgrade
+            | CommandName::Salvage => false,
         }
     }
 
@@ -60,7 +64,9 @@ impl CommandName {
             | CommandName::Report
             | CommandName::Info
             | CommandName::Slots
-            | CommandName::Rerun => false,
+            | CommandName::Rerun
+            | CommandName::Upgrade
+            | CommandName::Salvage => false,
         }
     }
 
@@ -76,7 +82,9 @@ impl CommandName {
             | CommandName::Info
             | CommandName::Slots
             | CommandName::Rerun
-            | CommandName::Sample => false,
+            | CommandName::Sample
+            | CommandName::Upgrade
+            | CommandName::Salvage => false,
         }
     }
 
@@ -86,7 +94,7 @@ impl CommandName {
     {
         match self {
             CommandName::Sample => 3,
-            CommandName::Record => 2,
+            CommandName::Record | CommandName::Upgrade | CommandName::Salvage => 2,
             CommandName::Trace
             | CommandName::Replay
             | CommandName::Report

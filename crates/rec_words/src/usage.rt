@@ -12,6 +12,8 @@ Usage: rezovamy record BUNDLE [OPTION VALUE]..
        rezovamy slots [OPTION VALUE]..
        rezovamy rerun [OPTION VALUE]..
        rezovamy sample N BUNDLE [OPTION VALUE]..
+       rezovamy upgrade BUNDLE [OPTION VALUE]..
+       rezovamy salvage BUNDLE [OPTION VALUE]..
 
 record reads the session of a test run from standard input, and writes it into
 the file BUNDLE, a portable recording. Its trace, a timeline for trace viewers,
@@ -27,6 +29,12 @@ skipped, or that is to run again but is no longer listed.
 
 sample makes a session of N tests, at most 10000, and writes it into the file
 BUNDLE as record does. It prints how many events and outputs were written.
+
+upgrade reads a bundle from standard input, and writes it anew into the file
+BUNDLE, as it would be recorded today. salvage reads a bundle whose recording
+was stopped, and writes what is whole in it into the file BUNDLE: the metadata,
+the events up to the first that isn't there with all its outputs, and these
+outputs. It prints how many events and outputs were written.
 
 Options, each at most once, with a value after it; limits are in bytes:
   --group-by        of record, trace and sample: binary draws a process for
@@ -53,7 +61,8 @@ needs what isn't open, starts what is, or takes a slot that is held, 9 for a
 number out of range, 10 if the bundle can't be written, 11 if standard output
 fails, 12 for a bundle that is damaged, incomplete or of another version, 13
 for an event that can't be replayed or reported, 14 for a log of which slots
-can't tell the use, and 70 if memory runs out.
+can't tell the use, 15 for a store of which nothing can be salvaged, and 70 if
+memory runs out.
 With a status other than 0, a line on standard error names the cause.
 ";
 

@@ -1,8 +1,8 @@
 //! The words of the command line.
 ghost use Rattle.std.specs.Option.{option_map};
 ghost use Rattle.std.specs.Prelude.{◌≡◌, ◌≤◌, IfOk};
-ghost use Rattle.rec_words.specs.declared.options.CommandName.TheVariants.{Record, Replay, Sample};
-ghost use Rattle.rec_words.specs.Words.{texts, command, command_after, command_named, other_command, bundle_of, sample_after, HasTests, Reads};
+ghost use Rattle.rec_words.specs.declared.options.CommandName.TheVariants.{Record, Replay, Sample, Salvage, Upgrade};
+ghost use Rattle.rec_words.specs.Words.{texts, bundle_after, command, command_after, command_named, other_command, bundle_of, sample_after, HasTests, Reads, ReadsBundle};
 
 use crate::options::{CommandName, read_options, read_settings, tests};
 use rec_export::Settings;
@@ -45,6 +45,16 @@ pub enum Command<'w> {
     /// Records a generated session of `n` tests, at most 10000, into the file `bundle`.
     Sample {
         n: u64,
+        bundle: &'w str,
+        settings: Settings,
+    },
+    /// Writes the bundle on standard input anew into the file `bundle`, as it would be recorded today.
+    Upgrade {
+        bundle: &'w str,
+        settings: Settings,
+    },
+    /// Writes what is whole in the bundle on standard input, whose recording was stopped, into the file `bundle`.
+    Salvage {
         bundle: &'w str,
         settings: Settings,
     },
@@ -116,6 +126,8 @@ fn command_named(word: &str) -> Option<CommandName>
         "slots" => Some(CommandName::Slots),
         "rerun" => Some(CommandName::Rerun),
         "sample" => Some(CommandName::Sample),
+        "upgrade" => Some(CommandName::Upgrade),
+        "salvage" => Some(CommandName::Salvage),
         _ => None,
     }
 }
@@ -149,6 +161,8 @@ fn read_command(name: CommandName, words: &[String]) -> Result<Command<'_>, Word
             Ok(Command::Rerun { settings })
         }
         CommandName::Sample => read_sample(words),
+        CommandName::Upgrade => read_upgrade(words),
+        CommandName::Salvage => read_salvage(words),
     }
 }
 
@@ -157,11 +171,43 @@ fn read_record(words: &[String]) -> Result<Command<'_>, WordsError>
     ensures reads { Reads result (command_after Record (texts words.now)) }
     ensures within { IfOk result HasTests }
 {
+    let BundleWords { bundle, settings } = read_bundle_words(CommandName::Record, words)?;
+    Ok(Command::Record { bundle, settings })
+}
+
+/// Reads the words after `upgrade`: the bundle, and the options.
+fn read_upgrade(words: &[String]) -> Result<Command<'_>, WordsError>
+    ensures reads { Reads result (command_after Upgrade (texts words.now)) }
+    ensures within { IfOk result HasTests }
+{
+    let BundleWords { bundle, settings } = read_bundle_words(CommandName::Upgrade, words)?;
+    Ok(Command::Upgrade { bundle, settings })
+}
+
+/// Reads the words after `salvage`: the bundle, and the options.
+fn read_salvage(words: &[String]) -> Result<Command<'_>, WordsError>
+    ensures reads { Reads result (command_after Salvage (texts words.now)) }
+    ensures within { IfOk result HasTests }
+{
+    let BundleWords { bundle, settings } = read_bundle_words(CommandName::Salvage, words)?;
+    Ok(Command::Salvage { bundle, settings })
+}
+
+/// Holds the words after a command that takes a bundle alone.
+struct BundleWords<'w> {
+    bundle: &'w str,
+    settings: Settings,
+}
+
+/// Reads the words after a command that takes a bundle alone: the bundle, and the options.
+fn read_bundle_words(name: CommandName, words: &[String]) -> Result<BundleWords<'_>, WordsError>
+    ensures { ReadsBundle result (bundle_after name (texts words.now)) }
+{
     let Some((bundle, options)) = words.split_first() else {
         return Err(WordsError::MissingPositional { at: 1 });
     };
-    let settings = read_settings(CommandName::Record, options)?;
-    Ok(Command::Record {
+    let settings = read_settings(name, options)?;
+    Ok(BundleWords {
         bundle: bundle.as_str(),
         settings,
     })
@@ -236,6 +282,14 @@ pub fn bundle_path(words: &[String]) -> Option<&str>
             }
             | Command::Sample {
                 n: _,
+                bundle,
+                settings: _,
+            }
+            | Command::Upgrade {
+                bundle,
+                settings: _,
+            }
+            | Command::Salvage {
                 bundle,
                 settings: _,
             },

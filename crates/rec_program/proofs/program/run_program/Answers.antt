@@ -7,6 +7,7 @@ use Rattle.rec_words.specs.Words.{Asked}
 use Rattle.rec_program.proofs.Commands.{bundle_printed, info_or_memory, informed, recorded_whole, redrawn, replay_or_memory, replayed, report_or_memory, rerun_or_memory, rerun_selected, slots_or_memory, slotted, trace_or_memory, traced}
 use Rattle.rec_program.proofs.program.run_program.Goals as goal
 use Rattle.rec_program.proofs.SamplesRecorded.{sampled, sampled_or_memory}
+use Rattle.rec_program.proofs.WritingCommands.{not_salvaged, not_upgraded, salvaged, salvaged_or_memory, upgraded, upgraded_or_memory}
 use Rattle.rec_program.specs.Running.{Runs}
 
 pub returns-clause-recorded : goal.returns-clause-recorded
@@ -120,3 +121,45 @@ returns-clause-slotted_complete g c = λ settings bytes es manifest log asked ha
     c.args.source.now c.run.new.source c.args.bundle.now c.run.new.bundle c.args.out.now c.run.new.out c.args.diag.now c.run.new.diag) asked c.run.ensures in
     slots_or_memory g.S.Source.left g.S.Source.faults g.T.Sink.taken g.T.Sink.faults g.G.Sink.taken g.G.Sink.faults settings c.run.result
     c.args.source.now c.run.new.source c.args.out.now c.run.new.out c.args.diag.now c.run.new.diag bytes es has short is source out manifest log judged log_is no_fault usage runs.0
+
+pub returns-clause-upgraded : goal.returns-clause-upgraded
+returns-clause-upgraded g c = λ path settings asked zeroed.
+    let runs = subst (λ (a : Result Asked WordsError). Runs g.S.Source.left g.S.Source.faults g.B.Sink.taken g.B.Sink.faults g.T.Sink.taken g.T.Sink.faults g.G.Sink.taken g.G.Sink.faults sha256_number a c.run.result
+    c.args.source.now c.run.new.source c.args.bundle.now c.run.new.bundle c.args.out.now c.run.new.out c.args.diag.now c.run.new.diag) asked c.run.ensures in
+    upgraded g.S.Source.left g.S.Source.faults g.B.Sink.taken g.B.Sink.faults g.G.Sink.taken g.G.Sink.faults settings c.run.result
+    c.args.source.now c.run.new.source c.args.bundle.now c.run.new.bundle c.args.diag.now c.run.new.diag zeroed runs.0
+
+pub returns-clause-not_upgraded : goal.returns-clause-not_upgraded
+returns-clause-not_upgraded g c = λ path settings asked other.
+    let runs = subst (λ (a : Result Asked WordsError). Runs g.S.Source.left g.S.Source.faults g.B.Sink.taken g.B.Sink.faults g.T.Sink.taken g.T.Sink.faults g.G.Sink.taken g.G.Sink.faults sha256_number a c.run.result
+    c.args.source.now c.run.new.source c.args.bundle.now c.run.new.bundle c.args.out.now c.run.new.out c.args.diag.now c.run.new.diag) asked c.run.ensures in
+    not_upgraded g.S.Source.left g.S.Source.faults g.B.Sink.taken g.B.Sink.faults g.G.Sink.taken g.G.Sink.faults settings c.run.result
+    c.args.source.now c.run.new.source c.args.bundle.now c.run.new.bundle c.args.diag.now c.run.new.diag other runs.0
+
+pub returns-clause-upgraded_complete : goal.returns-clause-upgraded_complete
+returns-clause-upgraded_complete g c = λ path settings bytes run asked has short is source bundle.
+    let runs = subst (λ (a : Result Asked WordsError). Runs g.S.Source.left g.S.Source.faults g.B.Sink.taken g.B.Sink.faults g.T.Sink.taken g.T.Sink.faults g.G.Sink.taken g.G.Sink.faults sha256_number a c.run.result
+    c.args.source.now c.run.new.source c.args.bundle.now c.run.new.bundle c.args.out.now c.run.new.out c.args.diag.now c.run.new.diag) asked c.run.ensures in
+    upgraded_or_memory g.S.Source.left g.S.Source.faults g.B.Sink.taken g.B.Sink.faults g.G.Sink.taken g.G.Sink.faults settings c.run.result
+    c.args.source.now c.run.new.source c.args.bundle.now c.run.new.bundle c.args.diag.now c.run.new.diag bytes run has short is c.readable_bundles_are_upgraded.ensures.refused source bundle runs.0
+
+pub returns-clause-salvaged : goal.returns-clause-salvaged
+returns-clause-salvaged g c = λ path settings asked zeroed.
+    let runs = subst (λ (a : Result Asked WordsError). Runs g.S.Source.left g.S.Source.faults g.B.Sink.taken g.B.Sink.faults g.T.Sink.taken g.T.Sink.faults g.G.Sink.taken g.G.Sink.faults sha256_number a c.run.result
+    c.args.source.now c.run.new.source c.args.bundle.now c.run.new.bundle c.args.out.now c.run.new.out c.args.diag.now c.run.new.diag) asked c.run.ensures in
+    salvaged g.S.Source.left g.S.Source.faults g.B.Sink.taken g.B.Sink.faults g.T.Sink.taken g.T.Sink.faults g.G.Sink.taken g.G.Sink.faults settings c.run.result
+    c.args.source.now c.run.new.source c.args.bundle.now c.run.new.bundle c.args.out.now c.run.new.out c.args.diag.now c.run.new.diag zeroed runs
+
+pub returns-clause-not_salvaged : goal.returns-clause-not_salvaged
+returns-clause-not_salvaged g c = λ path settings asked other.
+    let runs = subst (λ (a : Result Asked WordsError). Runs g.S.Source.left g.S.Source.faults g.B.Sink.taken g.B.Sink.faults g.T.Sink.taken g.T.Sink.faults g.G.Sink.taken g.G.Sink.faults sha256_number a c.run.result
+    c.args.source.now c.run.new.source c.args.bundle.now c.run.new.bundle c.args.out.now c.run.new.out c.args.diag.now c.run.new.diag) asked c.run.ensures in
+    not_salvaged g.S.Source.left g.S.Source.faults g.B.Sink.taken g.B.Sink.faults g.T.Sink.taken g.T.Sink.faults g.G.Sink.taken g.G.Sink.faults settings c.run.result
+    c.args.source.now c.run.new.source c.args.bundle.now c.run.new.bundle c.args.out.now c.run.new.out c.args.diag.now c.run.new.diag other runs
+
+pub returns-clause-salvaged_complete : goal.returns-clause-salvaged_complete
+returns-clause-salvaged_complete g c = λ path settings bytes es front stopped asked has short is found whole sound source bundle out.
+    let runs = subst (λ (a : Result Asked WordsError). Runs g.S.Source.left g.S.Source.faults g.B.Sink.taken g.B.Sink.faults g.T.Sink.taken g.T.Sink.faults g.G.Sink.taken g.G.Sink.faults sha256_number a c.run.result
+    c.args.source.now c.run.new.source c.args.bundle.now c.run.new.bundle c.args.out.now c.run.new.out c.args.diag.now c.run.new.diag) asked c.run.ensures in
+    salvaged_or_memory g.S.Source.left g.S.Source.faults g.B.Sink.taken g.B.Sink.faults g.T.Sink.taken g.T.Sink.faults g.G.Sink.taken g.G.Sink.faults settings c.run.result
+    c.args.source.now c.run.new.source c.args.bundle.now c.run.new.bundle c.args.out.now c.run.new.out c.args.diag.now c.run.new.diag bytes es front stopped has short is found whole sound source bundle out runs
