@@ -5,9 +5,10 @@
     tools/sweep.py [--only WORD] [--from N] [--to N] [--kept FILE] crates/rezovamy/out/rezovamy
 
 It runs the built program: `record` on the session that ships with the repository, on one with a cut output and on one with
-each kind of event, in each form of the trace; the commands that read a bundle on the bundles that these gave, in each form;
-`sample`, `--help` and `--version`. Each run is that of a traced child whose calls of the C library are counted, and one of
-them is refused. Each is held to what a refusal has to leave; the first that leaves anything else ends the sweep with status 1.
+each kind of event, in each form of the trace; the commands that read a bundle, those that write another one among them, on the
+bundles that these gave, in each form; `sample`, `--help` and `--version`. Each run is that of a traced child whose calls of the C
+library are counted, and one of them is refused. Each is held to what a refusal has to leave; the first that leaves anything else
+ends the sweep with status 1.
 
 The whole sweep takes long. `--only` takes the runs that have this word in their names, and `--from` and `--to` the calls of these
 numbers, counted from 1 for allocations, reads and writes each. Into the file of `--kept` each call that was refused is written,
@@ -47,8 +48,9 @@ OTHERS = [
 ]
 
 Run = collections.namedtuple("Run", "status bundle out line calls")
-# Words with their standard input and the line where standard output fails.
-Target = collections.namedtuple("Target", "name words source fault")
+# Words with their standard input, and the lines where standard output, the file and standard input fail.
+Target = collections.namedtuple(
+    "Target", "name words source fault unwritten unread", defaults=(b"BundleFault\n", b"SourceFault\n"))
 
 
 class Sweep:
@@ -133,7 +135,7 @@ def judge_memory(target, run, whole_run, number):
 
 
 def judge_read(target, run, whole_run, number):
-    demand((run.status, run.line) == (3, b"SourceFault\n"), f"{target.name}: read {number} gives {run.status} {run.line}")
+    demand((run.status, run.line) == (3, target.unread), f"{target.name}: read {number} gives {run.status} {run.line}")
     demand(run.bundle == OLD and run.out == b"", f"{target.name}: read {number} changes a sink")
     return False
 
@@ -145,7 +147,7 @@ def judge_write(target, run, whole_run, number):
         demand((run.status, run.line) == (11, target.fault), f"{said} gives {run.status} {run.line}")
         demand(is_proper_prefix(run.out, whole_run.out), f"{said} leaves no prefix of what is printed")
     else:
-        demand((run.status, run.line) == (10, b"BundleFault\n"), f"{said} gives {run.status} {run.line}")
+        demand((run.status, run.line) == (10, target.unwritten), f"{said} gives {run.status} {run.line}")
         demand(is_proper_prefix(run.bundle, whole_run.bundle) and run.out == b"", f"{said} leaves no prefix of the bundle")
     return False
 
@@ -189,6 +191,16 @@ def targets_of(tool, name, session, options):
         demand(shown.out.startswith(begin) and shown.bundle == OLD, f"{name}: {command} prints {shown.out}")
         demand(command != "info" or shown.out == entry(plain.bundle, MANIFEST) + b"\n", f"{name}: info prints another manifest")
         yield Target(f"{name}, {' '.join((command, *words[1:]))}", [command, *words], plain.bundle, b"SinkFailed\n")
+    yield from writing_targets(tool, name, plain.bundle)
+
+
+def writing_targets(tool, name, bundle):
+    """The commands that write the bundle of a recording again, byte for byte."""
+    for command, begin in (("upgrade", b""), ("salvage", b"events=")):
+        written = tool.sound([command, "bundle"], bundle)
+        demand(written.bundle == bundle and written.out.startswith(begin), f"{name}: {command} writes another bundle")
+    yield Target(f"{name}, upgrade", ["upgrade", "bundle"], bundle, b"", unread=b"Open SourceFault\n")
+    yield Target(f"{name}, salvage", ["salvage", "bundle"], bundle, b"SinkFailed\n", unwritten=b"SinkFailed\n")
 
 
 def cut_session(example):

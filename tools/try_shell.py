@@ -71,6 +71,9 @@ STANDARD_OUTPUT = [
     Try("output left within the text",
         "{ rezovamy trace < large; echo $? > status; } | head -c 1 > first; exit $(cat status)", 11,
         b"SinkFailed\n"),
+    Try("upgrade, output closed", "rezovamy upgrade b < bundle >&-", file=BUNDLE),
+    Try("salvage, output closed", "rezovamy salvage b < bundle >&-", 11, b"SinkFailed\n", file=BUNDLE),
+    Try("salvage, output full", "rezovamy salvage b < bundle > /dev/full", 11, b"SinkFailed\n", file=BUNDLE),
     Try("faulty words, output closed", "rezovamy record >&-", 2, b"MissingPositional at=1\n"),
 ]
 
@@ -88,12 +91,23 @@ STANDARD_INPUT = [
     Try("record, input a folder", "rezovamy record b < folder", 3, b"SourceFault\n"),
     *[Try("input closed", f"rezovamy {words} <&-", 3, b"SourceFault\n") for words in READERS],
     *[Try("input a folder", f"rezovamy {words} < folder", 3, b"SourceFault\n") for words in READERS],
+    Try("upgrade, input closed", "rezovamy upgrade b <&-", 3, b"Open SourceFault\n"),
+    Try("salvage, input closed", "rezovamy salvage b <&-", 3, b"SourceFault\n"),
+    Try("upgrade, input a folder", "rezovamy upgrade b < folder", 3, b"Open SourceFault\n"),
+    Try("salvage, input a folder", "rezovamy salvage b < folder", 3, b"SourceFault\n"),
     Try("sample, input closed", "rezovamy sample 0 b <&-", printed=b"events=2 outputs=0\n", file=BUNDLE_OF_NONE),
     Try("input and output closed", "rezovamy info <&- >&-", 3, b"SourceFault\n"),
 ]
 
 PATHS = [
     Try("a full device", "rezovamy record /dev/full < session", 10, b"BundleFault\n"),
+    Try("upgrade into a full device", "rezovamy upgrade /dev/full < bundle", 10, b"BundleFault\n"),
+    Try("salvage into a full device", "rezovamy salvage /dev/full < bundle", 10, b"SinkFailed\n"),
+    Try("upgrade of an older file", "rezovamy upgrade old < bundle", old=BUNDLE),
+    Try("upgrade of an older file, refused", "rezovamy upgrade old < session", 12, b"Open ReadArchive fault=BadMagic\n"),
+    Try("salvage of an older file", "rezovamy salvage old < bundle", printed=b"events=1 outputs=0\n", old=BUNDLE),
+    Try("salvage of an older file, refused", "rezovamy salvage old < session", 12, b"ReadArchive fault=BadMagic\n"),
+    Try("a bundle's own file", "cp bundle b; rezovamy upgrade b < b", file=BUNDLE),
     Try("a folder", "rezovamy record folder < session", 10, b"BundleFault\n"),
     Try("in no folder", "rezovamy record none/b < session", 10, b"BundleFault\n"),
     Try("below a file", "rezovamy record old/b < session", 10, b"BundleFault\n"),

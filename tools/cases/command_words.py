@@ -41,6 +41,16 @@ COMMANDS = [
     (["sample", "0", "b"], 0, "", True, True),
     (["sample", "0", ""], 10, "BundleFault", False, False),
     (["sample", "0", "--help"], 0, "", True, False),
+    (["upgrade"], 2, "MissingPositional at=1", False, False),
+    (["upgrade", "b", "x"], 2, "UnknownOption at=2", False, False),
+    (["upgrade", "b"], 12, "Open ReadArchive fault=BadMagic", False, False),
+    (["upgrade", ""], 12, "Open ReadArchive fault=BadMagic", False, False),
+    (["upgrade", "b", "--session-limit", "9"], 4, "Open SpoolTooLarge limit=9", False, False),
+    (["salvage"], 2, "MissingPositional at=1", False, False),
+    (["salvage", "b", "x"], 2, "UnknownOption at=2", False, False),
+    (["salvage", "b"], 12, "ReadArchive fault=BadMagic", False, False),
+    (["salvage", ""], 12, "ReadArchive fault=BadMagic", False, False),
+    (["salvage", "b", "--session-limit", "9"], 4, "SpoolTooLarge limit=9", False, False),
     (["--help"], 0, "", True, False),
     (["--version"], 0, "", True, False),
 ]
@@ -138,6 +148,24 @@ REFUSED = [
     ("sample 1 b --read-limit 1 --read-limit 1", "RepeatedOption at=5"),
     ("sample 1 b --read-limit 1 --session-limit x", "BadValue at=6"),
     ("sample 1 b --group-by x", "BadValue at=4"),
+    ("upgrade b --group-by slot", "UnknownOption at=2"),
+    ("upgrade b --message-format json", "UnknownOption at=2"),
+    ("upgrade b --max-output 1", "UnknownOption at=2"),
+    ("upgrade b --output load", "UnknownOption at=2"),
+    ("upgrade b --read-limit", "MissingValue at=3"),
+    ("upgrade b --read-limit x", "BadValue at=3"),
+    ("upgrade b --read-limit 1 --session-limit 1 --read-limit 1", "RepeatedOption at=6"),
+    ("upgrade --read-limit 1", "UnknownOption at=2"),
+    ("upgrades b", "UnknownCommand at=0"),
+    ("salvage b --group-by slot", "UnknownOption at=2"),
+    ("salvage b --message-format json", "UnknownOption at=2"),
+    ("salvage b --max-output 1", "UnknownOption at=2"),
+    ("salvage b --output skip", "UnknownOption at=2"),
+    ("salvage b --session-limit", "MissingValue at=3"),
+    ("salvage b --session-limit -1", "BadValue at=3"),
+    ("salvage b --session-limit 1 --read-limit 1 --session-limit 1", "RepeatedOption at=6"),
+    ("salvage --session-limit 1", "UnknownOption at=2"),
+    ("salvaged b", "UnknownCommand at=0"),
     ("record b --group-by", "MissingValue at=3"),
     ("record b --group-by ", "BadValue at=3"),
     ("record b --group-by Slot", "BadValue at=3"),
@@ -174,6 +202,8 @@ Usage: rezovamy record BUNDLE [OPTION VALUE]..
        rezovamy slots [OPTION VALUE]..
        rezovamy rerun [OPTION VALUE]..
        rezovamy sample N BUNDLE [OPTION VALUE]..
+       rezovamy upgrade BUNDLE [OPTION VALUE]..
+       rezovamy salvage BUNDLE [OPTION VALUE]..
 
 record reads the session of a test run from standard input, and writes it into
 the file BUNDLE, a portable recording. Its trace, a timeline for trace viewers,
@@ -189,6 +219,12 @@ skipped, or that is to run again but is no longer listed.
 
 sample makes a session of N tests, at most 10000, and writes it into the file
 BUNDLE as record does. It prints how many events and outputs were written.
+
+upgrade reads a bundle from standard input, and writes it anew into the file
+BUNDLE, as it would be recorded today. salvage reads a bundle whose recording
+was stopped, and writes what is whole in it into the file BUNDLE: the metadata,
+the events up to the first that isn't there with all its outputs, and these
+outputs. It prints how many events and outputs were written.
 
 Options, each at most once, with a value after it; limits are in bytes:
   --group-by        of record, trace and sample: binary draws a process for
@@ -215,7 +251,8 @@ needs what isn't open, starts what is, or takes a slot that is held, 9 for a
 number out of range, 10 if the bundle can't be written, 11 if standard output
 fails, 12 for a bundle that is damaged, incomplete or of another version, 13
 for an event that can't be replayed or reported, 14 for a log of which slots
-can't tell the use, and 70 if memory runs out.
+can't tell the use, 15 for a store of which nothing can be salvaged, and 70 if
+memory runs out.
 With a status other than 0, a line on standard error names the cause.
 """
 

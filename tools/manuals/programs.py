@@ -20,6 +20,8 @@ RECORDING = {
     "slots": ("print how long each slot of the run in the bundle on standard input was busy, paused and idle", ()),
     "rerun": ("print which tests are to run again after the run in the bundle on standard input", ()),
     "sample": ("record a generated session of N tests into BUNDLE", ("N", "BUNDLE")),
+    "upgrade": ("write the bundle on standard input anew into BUNDLE, as it would be recorded today", ("BUNDLE",)),
+    "salvage": ("write what is whole of the stopped recording in the bundle on standard input into BUNDLE", ("BUNDLE",)),
 }
 OPERANDS = {"BUNDLE": "the file of the bundle; options stand after it", "N": "how many tests, up to 10000"}
 OPTIONS = {

@@ -11,8 +11,8 @@ from runs import inputs
 
 # What file systems commonly take.
 LONGEST_NAME = 255
-COMMANDS = ("record", "info", "trace", "replay", "report", "slots", "rerun", "sample")
-PLACES = {"record": 1, "sample": 2}
+COMMANDS = ("record", "info", "trace", "replay", "report", "slots", "rerun", "sample", "upgrade", "salvage")
+PLACES = {"record": 1, "sample": 2, "upgrade": 1, "salvage": 1}
 OPTIONS = {
     "--group-by": "binary or slot",
     "--message-format": "json or json-pretty",
@@ -30,6 +30,8 @@ TAKEN = {
     "info": ("--read-limit", "--session-limit"),
     "slots": ("--read-limit", "--session-limit"),
     "rerun": ("--read-limit", "--session-limit"),
+    "upgrade": ("--read-limit", "--session-limit"),
+    "salvage": ("--read-limit", "--session-limit"),
 }
 
 @dataclasses.dataclass(frozen=True)
@@ -81,6 +83,8 @@ def about_missing(call, _values):
     """Which argument is missing."""
     if call.command == "record":
         return "`record` wants the file that it is to write: rezovamy record BUNDLE < SESSION"
+    if call.command in ("upgrade", "salvage"):
+        return f"`{call.command}` wants the file that it is to write: rezovamy {call.command} BUNDLE < OLDER"
     if call.command == "sample":
         return "`sample` wants a number of tests, and the file that it is to write: rezovamy sample 80 BUNDLE"
     return None

@@ -108,7 +108,11 @@ TABLE = (
         "the bundle was written, but not the trace: see where standard output goes, and whether there is room; `trace` "
         "prints it again",
     ),
-    ("SinkFailed", "standard output could not be written: see that it is open, and that there is room where it goes"),
+    (
+        "SinkFailed",
+        "standard output, or the bundle of `salvage`, could not be written: see that it is open, and that there is room where it "
+        "goes",
+    ),
     (
         "OutOfMemory",
         "memory ran out: close other programs or raise the limit of memory; a run takes about three times its session",
@@ -171,6 +175,25 @@ TABLE = (
         "DeserializeMetadata file_name={file_name}",
         "{file_name} in the store isn't what docs/FORMATS.md says: ask the tool that wrote the bundle",
     ),
+    (
+        "NotUtf8 file_name={file_name}",
+        "{file_name} in the store isn't UTF-8: ask the tool that wrote the bundle",
+    ),
+    (
+        "ForeignEntry file_name={file_name}",
+        "{file_name} has no place in a bundle of today: `upgrade` takes a bundle of manifest, log and store alone, whose store has "
+        "metadata and the outputs of its events",
+    ),
+    ("CountOutOfRange", "what is to be written is longer than 64 bits count: take a smaller bundle"),
+    ("BadMagic", "the store in the bundle doesn't begin as one does, so nothing can be salvaged of it: pack the directory again"),
+    (
+        "MissingMeta file_name={file_name}",
+        "the store was stopped before {file_name} was whole, so no event stands in it: there is nothing to salvage",
+    ),
+    (
+        "BadMeta file_name={file_name}",
+        "{file_name} in the store isn't what docs/FORMATS.md says, so nothing is salvaged: ask the tool that wrote the store",
+    ),
     ("ReadError ReadRunLog line_number={line_number}", "line {line_number} of the bundle's log isn't UTF-8: {damaged}"),
     (
         "ReadError ParseEvent line_number={line_number}",
@@ -221,10 +244,13 @@ def pattern_of(form):
 def find(line):
     """The form of the table that a line has, its sentence, and its values; None where it has none.
 
-    What `slots` doesn't take of a log, as `record` and `trace` don't, it answers after a word of its own.
+    What `slots` doesn't take of a log, and `upgrade` of a bundle, as other commands don't, they answer after a word of their own.
     """
+    said = line
+    for word in ("Refused ", "Open ", "Read "):
+        said = said.removeprefix(word)
     for form, sentence in TABLE:
-        found = pattern_of(form).fullmatch(line.removeprefix("Refused "))
+        found = pattern_of(form).fullmatch(said)
         if found:
             return form, sentence, found.groupdict()
     return None
