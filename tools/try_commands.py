@@ -7,7 +7,7 @@ The real session is that of `examples/`, of a run of a small crate's tests. Of t
 with each kind of event, and one has a pause and a retry, with its trace written by hand. Each is recorded; its bundle is
 looked into, its trace is drawn again, its events are replayed, and its report is written as JUnit XML, which is held against
 its schema and read by Python's own parser. What is printed is held to the session, event by event, and how slots were used to
-sums over the gaps between its events.
+sums over the gaps between its events. Each bundle is upgraded and salvaged, which gives the same bytes.
 """
 
 import collections
@@ -19,6 +19,7 @@ import tempfile
 import xml.etree.ElementTree as ElementTree
 
 from command_line import command_line, demand_program
+from container import entries
 from junit import schema
 
 HERE = pathlib.Path(__file__).resolve().parent
@@ -117,6 +118,18 @@ def try_slots(program, name, session, bundle):
     demand(printed == usage_of(events), f"{name}: its slots are used so: {printed}")
 
 
+def try_again(program, name):
+    """A bundle that was recorded is upgraded to itself, and all of it is salvaged."""
+    bundle = (program.folder / f"{name}.bundle").read_bytes()
+    parts = entries(bundle)
+    outputs = sum(path.startswith(b"out/") for path in entries(parts[b"store.zip"]))
+    counts = f"events={len(parts[b'run.log.zst'].splitlines())} outputs={outputs}\n".encode()
+    for command, printed in (("upgrade", b""), ("salvage", counts)):
+        said = program.run([command, f"{name}.{command}"], bundle)
+        demand(said == printed, f"{name}: {command} prints {said}")
+        demand((program.folder / f"{name}.{command}").read_bytes() == bundle, f"{name}: {command} writes another bundle")
+
+
 def xml_of(program, name, bundle, events):
     """The JUnit XML of each report of a bundle, as Python reads it."""
     reports = program.folder / f"{name}.reports"
@@ -201,6 +214,8 @@ def main():
         try_log_line(program)
         try_kinds(program)
         try_sample(program)
+        for name in ("sums", "pause", "kinds", "sample"):
+            try_again(program, name)
 
 
 if __name__ == "__main__":

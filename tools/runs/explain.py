@@ -110,8 +110,8 @@ TABLE = (
     ),
     (
         "SinkFailed",
-        "standard output, or the bundle of `salvage`, could not be written: see that it is open, and that there is room where it "
-        "goes",
+        "standard output could not be written: see that it is open, and that there is room where it goes; with status 10 of "
+        "`salvage` it is the file of the bundle that could not be written",
     ),
     (
         "OutOfMemory",

@@ -5,11 +5,12 @@ ghost use Rattle.std.specs.Prelude.{◌≡◌, ◌≤◌, ◌<◌, ◌^◌, List
 ghost use Rattle.rec_format.specs.declared.head.SessionHead.{SessionHead};
 ghost use Rattle.rec_format.specs.declared.manifest.PortableManifest.{PortableManifest};
 ghost use Rattle.rec_format.specs.HeadForms.{IsHead};
-ghost use Rattle.rec_codec.specs.Event.{IsLogged, LiveEvent};
-ghost use Rattle.rec_store.specs.Bundle.{events_recorded, run_bundle, run_outputs};
+ghost use Rattle.rec_codec.specs.Event.{LiveEvent};
+ghost use Rattle.rec_store.specs.Bundle.{run_bundle, run_outputs};
 ghost use Rattle.rec_store.specs.Clashes.{clash};
 ghost use Rattle.rec_store.specs.Parts.{AreWithin};
 ghost use Rattle.rec_store.specs.Reading.{IsReading, RunRecord};
+ghost use Rattle.rec_store.specs.Recordable.{IsRecordable};
 ghost use Rattle.rec_store.specs.RunParts.{HasParts, RunParts, written};
 ghost use Rattle.rec_portable.specs.Components.{AreComponents};
 ghost use Rattle.rec_portable.specs.declared.errors.PortableRecordingReadError.{PortableRecordingReadError};
@@ -61,10 +62,10 @@ pub fn upgraded_again()
 }
 
 /// States that upgrading the bundle of a recorded run writes the same bytes again: where the head is
-/// well-formed, the line of each event is read as it, no two outputs of one path differ, and the bundle's
-/// length is a u64.
+/// well-formed, each event is well-formed with loaded outputs, the lengths of outputs and their numbers are
+/// u64s, no two outputs of one path differ, and the bundle's length is a u64.
 pub fn recorded_stay()
-    ensures { (number : List ℕ → ℕ) (m : ℕ) (head : SessionHead) (events : List LiveEvent) → IsHead head → AllByRecursion IsLogged (events_recorded number m events)
+    ensures { (number : List ℕ → ℕ) (m : ℕ) (head : SessionHead) (events : List LiveEvent) → IsHead head → AllByRecursion IsRecordable events → ((bytes : List ℕ) → number bytes < 2 ^ 64)
         → clash [] (run_outputs number m events) ≡ None → length (run_bundle number m head events) < 2 ^ 64
         → (q : RunParts) → HasParts (run_bundle number m head events) q → written q ≡ run_bundle number m head events }
 {

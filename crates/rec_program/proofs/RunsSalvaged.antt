@@ -47,7 +47,7 @@ module _ (limit : ℕ) (es : List Entry) (manifest : PortableManifest) (is_judge
   stopped_is : stopped_run limit es ≡ stopped_with limit es manifest
   stopped_is = ap (λ (r : Result PortableManifest PortableRecordingReadError). r >>= stopped_with limit es) is_judged
 
-  then_store : List ℕ → Result StoppedRun PortableRecordingReadError
+  abbrev then_store : List ℕ → Result StoppedRun PortableRecordingReadError
   then_store log = store_found (content_of es store_name) >>= (λ store. Ok (record { run = info_of manifest.run; log = log; store = store }))
 
   no_log : (e : PortableRecordingReadError) → log_part limit es ≡ Err e → stopped_run limit es ≡ Err e

@@ -30,7 +30,7 @@ use Rattle.rec_export.proofs.Complete.{no_more, same_session}
 use Rattle.rec_export.specs.declared.settings.Settings.{Settings}
 use Rattle.rec_faults.specs.WritingCommands.{run_part_status, salvage_status, upgrade_status}
 use Rattle.rec_program.proofs.BundlesShown.{withheld}
-use Rattle.rec_program.proofs.Commands.{bundle_above, part_above, printed_of}
+use Rattle.rec_program.proofs.Commands.{bundle_above, printed_of}
 use Rattle.rec_program.proofs.RunsSalvaged.{stopped_unfound}
 use Rattle.rec_program.specs.Counts.{counts_line}
 use Rattle.rec_program.specs.declared.salvage_refusal.SalvageRefusal.TheVariants.{Bundle, Store, BundleFailed, OutOfMemory}
@@ -137,26 +137,27 @@ module _ {S B G : Type 0} (left : S → Option (List ℕ)) (source_faults : S �
 
 module _ {S B T G : Type 0} (left : S → Option (List ℕ)) (source_faults : S → ℕ) (taken : B → Option (List ℕ)) (bundle_faults : B → ℕ) (out_taken : T → Option (List ℕ)) (out_faults : T → ℕ)
     (diag_taken : G → Option (List ℕ)) (diag_faults : G → ℕ) (settings : Settings) (status : ℕ) (s0 s1 : S) (b0 b1 : B) (o0 o1 : T) (d0 d1 : G) where
-  -- the run of the source was salvaged, of which the sinks took this
-  OfRun : (Salvaged → Type 0) → Type 0
-  OfRun took =
-      (bytes : List ℕ) × (es : List Entry) × (stopped : StoppedRun) × (made : Salvaged) × Gave left source_faults settings.session_limit s0 s1 bytes × IsContainer bytes es
-      × (stopped_run settings.read_limit es ≡ Ok stopped) × Salvages stopped.run stopped.log stopped.store made × took made
+  -- what was salvaged of the source, and of which run
+  record OfRun (made : Salvaged) : Type 0 where
+    bytes : List ℕ
+    es : List Entry
+    stopped : StoppedRun
+    gave : Gave left source_faults settings.session_limit s0 s1 bytes
+    is : IsContainer bytes es
+    found : stopped_run settings.read_limit es ≡ Ok stopped
+    salvages : Salvages stopped.run stopped.log stopped.store made
 
-  of_run : (took : Salvaged → Type 0) (s : Salvaged) → Shows bundle_refusal SalvagesRun settings.read_limit left source_faults settings.session_limit s0 s1 s → took s → OfRun took
-  unfolding OfRun
-  of_run took s (bytes, gave, is) h =
+  of_run : (s : Salvaged) → Shows bundle_refusal SalvagesRun settings.read_limit left source_faults settings.session_limit s0 s1 s → OfRun s
+  of_run s (bytes, gave, is) =
       let p = printed_of bundle_refusal SalvagesRun settings.read_limit bytes s is in
-      (bytes, p.0, p.4.0, s, gave, p.2, p.4.1, p.4.2, h)
+      record { bytes = bytes; es = p.0; stopped = p.4.0; gave = gave; is = p.2; found = p.4.1; salvages = p.4.2 }
 
   -- with status 0 it was written, and counted
   pub salvaged : status ≡ 0 → RunsSalvage left source_faults taken bundle_faults out_taken out_faults diag_taken diag_faults settings status s0 s1 b0 b1 o0 o1 d0 d1
       → (bytes : List ℕ) × (es : List Entry) × (stopped : StoppedRun) × (made : Salvaged) × Gave left source_faults settings.session_limit s0 s1 bytes × IsContainer bytes es
       × (stopped_run settings.read_limit es ≡ Ok stopped) × Salvages stopped.run stopped.log stopped.store made
       × Appends (taken b0) (taken b1) made.bundle.items × Appends (out_taken o0) (out_taken o1) (counts_line made.events made.outputs)
-  unfolding OfRun
-  salvaged zeroed (inl (s, shows, inl (took, inl p))) =
-      of_run (λ m. Appends (taken b0) (taken b1) m.bundle.items × Appends (out_taken o0) (out_taken o1) (counts_line m.events m.outputs)) s shows (took, p.1)
+  salvaged zeroed (inl (s, shows, inl (took, inl p))) = let r = of_run s shows in (r.bytes, r.es, r.stopped, s, r.gave, r.is, r.found, r.salvages, took, p.1)
   salvaged zeroed (inl (s, shows, inl (took, inr p))) = absurd (let eleven : status ≡ 11 = p.0 in omega (arith, zeroed, eleven))
   salvaged zeroed (inl (s, shows, inr f)) = absurd (let ten : status ≡ 10 = f.3.0 in omega (arith, zeroed, ten))
   salvaged zeroed (inr r) = absurd (let above = refusal_above r.0 in let same : status ≡ refusal_status r.0 = r.4.0 in omega (arith, zeroed, same, above))
@@ -167,12 +168,9 @@ module _ {S B T G : Type 0} (left : S → Option (List ℕ)) (source_faults : S 
       ⊎ ((bytes : List ℕ) × (es : List Entry) × (stopped : StoppedRun) × (made : Salvaged) × Gave left source_faults settings.session_limit s0 s1 bytes × IsContainer bytes es
       × (stopped_run settings.read_limit es ≡ Ok stopped) × Salvages stopped.run stopped.log stopped.store made
       × (((status ≡ 11) × Appends (taken b0) (taken b1) made.bundle.items) ⊎ ((status ≡ 10) × TookPart (taken b0) (taken b1) made.bundle.items)))
-  unfolding OfRun
   not_salvaged other (inl (s, shows, inl (took, inl p))) = absurd (other p.0)
-  not_salvaged other (inl (s, shows, inl (took, inr p))) =
-      inr (of_run (λ m. ((status ≡ 11) × Appends (taken b0) (taken b1) m.bundle.items) ⊎ ((status ≡ 10) × TookPart (taken b0) (taken b1) m.bundle.items)) s shows (inl (p.0, took)))
-  not_salvaged other (inl (s, shows, inr f)) =
-      inr (of_run (λ m. ((status ≡ 11) × Appends (taken b0) (taken b1) m.bundle.items) ⊎ ((status ≡ 10) × TookPart (taken b0) (taken b1) m.bundle.items)) s shows (inr (f.3.0, f.1)))
+  not_salvaged other (inl (s, shows, inl (took, inr p))) = let r = of_run s shows in inr (r.bytes, r.es, r.stopped, s, r.gave, r.is, r.found, r.salvages, inl (p.0, took))
+  not_salvaged other (inl (s, shows, inr f)) = let r = of_run s shows in inr (r.bytes, r.es, r.stopped, s, r.gave, r.is, r.found, r.salvages, inr (f.3.0, f.1))
   not_salvaged other (inr r) = inl r.2
 
   module _ (bytes : List ℕ) (es front : List Entry) (stopped : StoppedRun) (has : left s0 ≡ Some bytes) (short : length bytes ≤ settings.session_limit) (is : IsContainer bytes es)

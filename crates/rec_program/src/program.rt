@@ -472,7 +472,7 @@ fn upgrade_bundle<S: Source, B: Sink, G: Sink>(
         settings.read_limit,
         bundle,
     ) {
-        Ok(_) => SUCCESS,
+        Ok(_counts) => SUCCESS,
         Err(error) => refuse(error, diag),
     }
 }

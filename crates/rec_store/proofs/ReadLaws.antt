@@ -59,7 +59,7 @@ module _ (number : List ℕ → ℕ) (m : ℕ) (head : SessionHead) (events : Li
       subst (λ (b : List ℕ). IsReading b (recorded number m head events)) (sym same)
       (subst (λ (r : RunRecord). IsReading (written parts) r) kept (written_reads parts (recorded_back is logged agree short) spelled short))
 
-all_logged : (number : List ℕ → ℕ) (m : ℕ) → ((b : List ℕ) → number b < 2 ^ 64) → (events : List LiveEvent) → AllByRecursion IsRecordable events → AllByRecursion IsLogged (events_recorded number m events)
+pub all_logged : (number : List ℕ → ℕ) (m : ℕ) → ((b : List ℕ) → number b < 2 ^ 64) → (events : List LiveEvent) → AllByRecursion IsRecordable events → AllByRecursion IsLogged (events_recorded number m events)
 all_logged number m in_range [] are = tt
 all_logged number m in_range (e ∷ events) are = (event_logged (event_recorded number m e) (event_recorded_is number m in_range e are.0), all_logged number m in_range events are.1)
 

@@ -5,6 +5,7 @@ use Rattle.rec_sample.specs.Session.{sample_session}
 use Rattle.rec_words.specs.declared.words.WordsError.{WordsError}
 use Rattle.rec_words.specs.Words.{Asked}
 use Rattle.rec_program.proofs.Commands.{bundle_printed, info_or_memory, informed, recorded_whole, redrawn, replay_or_memory, replayed, report_or_memory, rerun_or_memory, rerun_selected, slots_or_memory, slotted, trace_or_memory, traced}
+use Rattle.rec_program.proofs.FaultyWords.{two_is_faulty}
 use Rattle.rec_program.proofs.program.run_program.Goals as goal
 use Rattle.rec_program.proofs.SamplesRecorded.{sampled, sampled_or_memory}
 use Rattle.rec_program.proofs.WritingCommands.{not_salvaged, not_upgraded, salvaged, salvaged_or_memory, upgraded, upgraded_or_memory}
@@ -163,3 +164,8 @@ returns-clause-salvaged_complete g c = λ path settings bytes es front stopped a
     c.args.source.now c.run.new.source c.args.bundle.now c.run.new.bundle c.args.out.now c.run.new.out c.args.diag.now c.run.new.diag) asked c.run.ensures in
     salvaged_or_memory g.S.Source.left g.S.Source.faults g.B.Sink.taken g.B.Sink.faults g.T.Sink.taken g.T.Sink.faults g.G.Sink.taken g.G.Sink.faults settings c.run.result
     c.args.source.now c.run.new.source c.args.bundle.now c.run.new.bundle c.args.out.now c.run.new.out c.args.diag.now c.run.new.diag bytes es front stopped has short is found whole sound source bundle out runs
+
+pub returns-clause-faulty_words : goal.returns-clause-faulty_words
+returns-clause-faulty_words g c =
+    two_is_faulty g.S.Source.left g.S.Source.faults g.B.Sink.taken g.B.Sink.faults g.T.Sink.taken g.T.Sink.faults g.G.Sink.taken g.G.Sink.faults sha256_number c.run.result
+    c.args.source.now c.run.new.source c.args.bundle.now c.run.new.bundle c.args.out.now c.run.new.out c.args.diag.now c.run.new.diag _ c.run.ensures
