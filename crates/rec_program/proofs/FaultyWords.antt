@@ -1,17 +1,17 @@
 -- That a command ends with another status than faulty words.
 use Rattle.std.proofs.Common.{◌≡◌, ◌⊎◌, inl, inr, ℕ, ◌<◌, List, Option, Result, Ok, Err, refl, arith}
 use Rattle.std.specs.Prelude.{◌↔◌, IsErr}
-use Rattle.rec_export.specs.declared.settings.Settings.{Settings}
-use Rattle.rec_portable.specs.declared.errors.PortableRecordingReadError.{PortableRecordingReadError}
 use Rattle.rec_container.specs.Container.{Entry}
+use Rattle.rec_portable.specs.declared.errors.PortableRecordingReadError.{PortableRecordingReadError}
 use Rattle.rec_reading.specs.declared.errors.ReadingError.{ReadingError}
 use Rattle.rec_reading.specs.Errors.{bundle_error}
 use Rattle.rec_sample.specs.Session.{sample_session}
+use Rattle.rec_export.specs.declared.settings.Settings.{Settings}
+use Rattle.rec_words.specs.declared.words.WordsError.{WordsError}
+use Rattle.rec_words.specs.Words.{Asked, recording, tracing, replaying, reporting, informing, slotting, rerunning, sampling, upgrading, salvaging, help, version}
 use Rattle.rec_faults.specs.ReadingLine.{reading_shown}
 use Rattle.rec_faults.specs.Status.{export_status, reading_status}
 use Rattle.rec_faults.specs.WritingCommands.{upgrade_status}
-use Rattle.rec_words.specs.declared.words.WordsError.{WordsError}
-use Rattle.rec_words.specs.Words.{Asked, recording, tracing, replaying, reporting, informing, slotting, rerunning, sampling, upgrading, salvaging, help, version}
 use Rattle.rec_program.proofs.Commands.{export_above, reading_above}
 use Rattle.rec_program.proofs.WritingCommands.{refusal_above, upgrade_above}
 use Rattle.rec_program.specs.Running.{Prints, Records, RecordsSample, Runs, RunsSalvage, RunsUpgrade, ShowsBundle}

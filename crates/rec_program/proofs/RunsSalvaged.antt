@@ -1,8 +1,8 @@
 -- What is salvaged of a bundle, and why nothing is.
 use Rattle.std.proofs.Common.{◌≡◌, ◌⊎◌, inl, inr, ℕ, List, Option, Some, None, Result, Ok, Err, IfOk, IfErr, refl, sym, ap, subst, ◌∙◌, nat_lt}
 use Rattle.std.specs.Borrow.{Bor}
-use Rattle.std.specs.Prelude.{unwrap_or}
 use Rattle.std.specs.Option.{option_map}
+use Rattle.std.specs.Prelude.{unwrap_or}
 use Rattle.rec_container.proofs.Results.{Ok-injective, unless_ok}
 use Rattle.rec_container.specs.Container.{Entry, IsContainer, content_of}
 use Rattle.rec_container.specs.Reading.{◌>>=◌}

@@ -11,10 +11,10 @@ use Rattle.rec_forms.specs.Shape.{only}
 use Rattle.rec_codec.specs.Event.{RecordedEvent}
 use Rattle.rec_store.proofs.Held.{all_weaker}
 use Rattle.rec_store.proofs.OtherEntries.{IsOther, is_other, others_stay, path_of_output}
+use Rattle.rec_store.proofs.PartOutputs.{IsOutputPath, event_paths_are}
 use Rattle.rec_store.specs.Kept.{event_paths, event_resolved}
 use Rattle.rec_store.specs.RunParts.{is_metadata, metadata_paths, outputs_of}
 use Rattle.rec_salvage.proofs.FoundEntries.{all_chosen, append_from, chosen, chosen_found, chosen_from, chosen_missing, listed_found, listed_from, listed_of}
-use Rattle.rec_salvage.proofs.NamedPaths.{IsOutputPath, event_paths_are}
 use Rattle.rec_salvage.proofs.ResolvedEvents.{events_same}
 use Rattle.rec_salvage.specs.Gathering.{is_among}
 use Rattle.rec_salvage.specs.Salvaged.{front_metadata, kept_entries, listed, named_entries}

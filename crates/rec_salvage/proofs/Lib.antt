@@ -3,9 +3,7 @@ mod GatheredLines
 mod Judged
 mod KeptBundle
 mod KeptEntries
-mod NamedPaths
 mod ReadLines
-mod RecordedOutputs
 mod Refused
 mod ResolvedEvents
 mod SoundLines

@@ -20,13 +20,13 @@ use Rattle.rec_codec.specs.Event.{IsLogged, LiveEvent, RecordedEvent, event_line
 use Rattle.rec_codec.specs.EventForms.{event_value}
 use Rattle.rec_codec.specs.Lines.{text_of}
 use Rattle.rec_store.proofs.Held.{all_prefix, all_back}
+use Rattle.rec_store.proofs.KeptLaws.{names, paths_of_event, resolved_events}
 use Rattle.rec_store.specs.Bundle.{events_recorded, run_log, run_outputs}
 use Rattle.rec_store.specs.Entries.{build_scope_path, cargo_metadata_path, record_opts_path, rerun_info_path, test_list_path}
 use Rattle.rec_store.specs.EventOutputs.{event_entries, event_recorded}
 use Rattle.rec_store.specs.Kept.{IsHeld, event_resolved}
 use Rattle.rec_store.specs.RunParts.{maybe_part}
 use Rattle.rec_store.specs.Saved.{HasMetadata, IsStopped}
-use Rattle.rec_salvage.proofs.RecordedOutputs.{names, paths_of_event, resolved_events}
 use Rattle.rec_salvage.proofs.Refused.{only_refused}
 use Rattle.rec_salvage.proofs.WholeLog.{all_sound, lines_and_part}
 use Rattle.rec_salvage.specs.declared.errors.SalvageError.TheVariants.{OutOfMemory}

@@ -8,16 +8,16 @@ mod EqualContents
 pub mod EventMapLaws
 mod Growing
 pub mod Held
-mod KeptLaws
+pub mod KeptLaws
 pub mod LeftStopped
 mod Logged
 mod OneRecord
 pub mod OtherEntries
 pub mod OutputLaws
 mod OutputsRead
-mod PartContents
+pub mod PartContents
 pub mod PartLaws
-mod PartOutputs
+pub mod PartOutputs
 pub mod PartRefusals
 mod PartsBack
 mod PartsJudged
