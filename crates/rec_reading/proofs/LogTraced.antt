@@ -11,15 +11,12 @@ use Rattle.rec_codec.specs.EventForms.{event_form}
 use Rattle.rec_codec.specs.LineItems.{GivesNext}
 use Rattle.rec_codec.specs.LineReading.{events_before_fault, first_line_fault, log_items}
 use Rattle.rec_codec.specs.Lines.{NumberedLine}
-use Rattle.rec_spans.proofs.Acceptance.{history_refusal_after-append}
-use Rattle.rec_spans.proofs.Histories.{history-append}
+use Rattle.rec_spans.proofs.Histories.{refused-more}
 use Rattle.rec_spans.specs.declared.errors.ChromeTraceError.TheVariants.{OutOfMemory, ReadError}
 use Rattle.rec_spans.specs.declared.errors.ChromeTraceError.{ChromeTraceError}
 use Rattle.rec_spans.specs.declared.settings.ChromeTraceGroupBy.{ChromeTraceGroupBy}
-use Rattle.rec_spans.specs.History.{after}
-use Rattle.rec_spans.specs.Kinds.{history, history_after}
-use Rattle.rec_spans.specs.Plain.{PlainEvent, plain}
-use Rattle.rec_spans.specs.Refusals.{events_refusal, history_refusal, history_refusal_after}
+use Rattle.rec_spans.specs.Plain.{plain}
+use Rattle.rec_spans.specs.Refusals.{events_refusal}
 use Rattle.rec_trace.specs.Converting.{Converts, HasNoTrace, IsRefused, IsUnread}
 use Rattle.rec_trace.specs.declared.settings.ChromeTraceMessageFormat.{ChromeTraceMessageFormat}
 use Rattle.rec_trace.specs.Traces.{trace_text}
@@ -69,22 +66,13 @@ module _ (g : ChromeTraceGroupBy) (format : ChromeTraceMessageFormat) (version :
       let all : events_before_fault ls ≡ u.events = is.0 in
       refusal-line g ls u.fault is.1 (ap (λ es. events_refusal g (map plain es)) all ∙ u.accepted) ∙ ap Some (sym u.answered)
 
-  -- events that are refused stay so with more after them
-  refused-more : (xs ys : List PlainEvent) (e : ChromeTraceError) → events_refusal g xs ≡ Some e → events_refusal g (xs ++ ys) ≡ Some e
-  refused-more xs ys e refused =
-      let past = after [] (history g xs) in
-      let more = history_after g past ys in
-      ap history_refusal (history-append g xs ys)
-      ∙ history_refusal_after-append [] (history g xs) more
-      ∙ ap (λ o. option_or o (history_refusal_after past more)) refused
-
   refused : (e : ChromeTraceError) → IsRefused steps ls g e → log_refusal g ls ≡ Some e
   unfolding log_items
   refused e r =
       let first = r.before ++ r.event ∷ [] in
       let is = yielded (event_form stored_outputs_form) first ls r.rest r.yielded in
       let all : plain_log ls ≡ map plain first ++ map plain is.0 = ap (map plain) is.1 ∙ map-append plain first is.0 in
-      refusal-event g ls e (ap (events_refusal g) all ∙ refused-more (map plain first) (map plain is.0) e r.refused)
+      refusal-event g ls e (ap (events_refusal g) all ∙ refused-more g (map plain first) (map plain is.0) e r.refused)
 
   not-drawn : (e : ChromeTraceError) → HasNoTrace steps ls g e → (e ≡ OutOfMemory) ⊎ (log_refusal g ls ≡ Some e)
   not-drawn e (inl memory) = inl memory
