@@ -8,7 +8,7 @@ use Rattle.rec_spans.specs.declared.errors.ChromeTraceError.{ChromeTraceError}
 use Rattle.rec_spans.specs.declared.settings.ChromeTraceGroupBy.{ChromeTraceGroupBy}
 use Rattle.rec_spans.specs.Plain.{PlainEvent, plain}
 use Rattle.rec_spans.specs.Refusals.{events_refusal}
-use Rattle.rec_trace.specs.declared.builder.TraceBuilder.{TraceBuilder}
+use Rattle.rec_trace.specs.declared.printed_trace.PrintedTrace.{PrintedTrace}
 use Rattle.rec_trace.specs.declared.settings.ChromeTraceMessageFormat.{ChromeTraceMessageFormat}
 use Rattle.rec_trace.specs.Traces.{HasTraced, trace_text}
 use Rattle.rec_export.specs.declared.refusal.RecordExportError.TheVariants.{OutOfMemory}
@@ -25,14 +25,14 @@ trace_refusal settings events = option_map trace_fault (events_refusal settings.
 unfoldable pub run_trace : Settings → SessionHead → List LiveEvent → List ℕ
 run_trace settings head events = trace_text settings.message_format settings.group_by head.nextest_version (map plain events)
 
--- the builder has traced these events, or they are refused
-abbrev pub IsTracedOr : ChromeTraceMessageFormat → ChromeTraceGroupBy → Parts → List PlainEvent → TraceBuilder → Option ChromeTraceError → Type 0
-IsTracedOr format g version events builder None = HasTraced format g version events builder
-IsTracedOr format g version events builder (Some refusal) = events_refusal g events ≡ Some refusal
+-- these events are traced, or they are refused
+abbrev pub IsTracedOr : ChromeTraceMessageFormat → ChromeTraceGroupBy → Parts → List PlainEvent → PrintedTrace → Option ChromeTraceError → Type 0
+IsTracedOr format g version events trace None = HasTraced format g version events trace
+IsTracedOr format g version events trace (Some refusal) = events_refusal g events ≡ Some refusal
 
 -- this is the trace of these events, of runs by this version of the runner, or it holds why there is none
 abbrev pub IsTraceOf : ChromeTraceMessageFormat → ChromeTraceGroupBy → Parts → List PlainEvent → SessionTrace → Type 0
-IsTraceOf format g version events t = IsTracedOr format g version events t.builder t.refusal
+IsTraceOf format g version events t = IsTracedOr format g version events t.trace t.refusal
 
 -- the text of the trace of these events is answered, or why there is none, or memory ran out
 abbrev pub AnswersTrace : ChromeTraceGroupBy → List PlainEvent → List ℕ → Result (String Global) RecordExportError → Type 0

@@ -10,14 +10,14 @@ ghost use Rattle.rec_export.specs.SessionTraces.{IsTraceOf, AnswersTrace};
 
 use crate::refusal::RecordExportError;
 use rec_events::{LiveSpec, TestEventSummary, Version};
-use rec_trace::{ChromeTraceError, ChromeTraceGroupBy, ChromeTraceMessageFormat, TraceBuilder};
+use rec_trace::{ChromeTraceError, ChromeTraceGroupBy, ChromeTraceMessageFormat, PrintedTrace};
 use std::alloc::{AllocError, Global};
 
 /// Holds the trace of the events so far, or why they have none. A refusal is kept while further lines are
 /// read, since a line that fails comes before it.
 #[derive(Drop)]
 pub struct SessionTrace {
-    builder: TraceBuilder,
+    trace: PrintedTrace,
     refusal: Option<ChromeTraceError>,
 }
 
@@ -32,7 +32,7 @@ impl SessionTrace {
         ensures { IsTraceOf message_format group_by version [] result }
     {
         SessionTrace {
-            builder: TraceBuilder::new(alloc, version, group_by, message_format),
+            trace: PrintedTrace::new(alloc, version, group_by, message_format),
             refusal: None,
         }
     }
@@ -54,7 +54,7 @@ impl SessionTrace {
         if self.refusal.is_some() {
             return Ok(());
         }
-        match self.builder.process_event(alloc, event) {
+        match self.trace.process_event(alloc, event) {
             Ok(()) => Ok(()),
             Err(error) => {
                 self.refusal = Some(refusal_of(error)?);
@@ -73,9 +73,9 @@ impl SessionTrace {
             → IsTraceOf format g version events self
             → AnswersTrace g events (trace_text format g version events) result }
     {
-        let SessionTrace { builder, refusal } = self;
+        let SessionTrace { trace, refusal } = self;
         match refusal {
-            None => Ok(builder.into_text(alloc)?),
+            None => Ok(trace.into_text(alloc)?),
             Some(refusal) => Err(RecordExportError::from(refusal)),
         }
     }

@@ -21,12 +21,12 @@ use Rattle.rec_trace.proofs.Groupings.{groupings-draw_alike}
 use Rattle.rec_trace.proofs.Marks.{marks-of-trace}
 use Rattle.rec_trace.proofs.Prefixes.{keeps-drawn}
 use Rattle.rec_trace.specs.Converting.{AddsItem, Converts, HasNoTrace}
-use Rattle.rec_trace.specs.declared.builder.TraceBuilder.{TraceBuilder}
+use Rattle.rec_trace.specs.declared.printed_trace.PrintedTrace.{PrintedTrace}
 use Rattle.rec_trace.specs.declared.settings.ChromeTraceMessageFormat.{ChromeTraceMessageFormat}
 use Rattle.rec_trace.specs.Traces.{HasTraced, trace_text}
 
 -- the builder has traced the events that these items hold
-abbrev pub HasConverted : ChromeTraceMessageFormat → ChromeTraceGroupBy → Parts → List (Result RecordedEvent LineError) → TraceBuilder → Type 0
+abbrev pub HasConverted : ChromeTraceMessageFormat → ChromeTraceGroupBy → Parts → List (Result RecordedEvent LineError) → PrintedTrace → Type 0
 HasConverted format g version items b = (events : List RecordedEvent) × (items ≡ map Ok events) × HasTraced format g version (map plain events) b
 
 error_or : ChromeTraceError → Result ⊤ ChromeTraceError → ChromeTraceError
@@ -49,34 +49,32 @@ items-push : (items : List (Result RecordedEvent LineError)) (item : Result Reco
     items ≡ map Ok events → item ≡ Ok event → items ++ item ∷ [] ≡ map Ok (events ++ event ∷ [])
 items-push items item events event all is = ap (λ v. items ++ v ∷ []) is ∙ ap (λ v. v ++ Ok event ∷ []) all ∙ sym (map-append Ok events (event ∷ []))
 
-module _ (format : ChromeTraceMessageFormat) (g : ChromeTraceGroupBy) (version : Parts) (b : TraceBuilder) (items : List (Result RecordedEvent LineError))
+module _ (format : ChromeTraceMessageFormat) (g : ChromeTraceGroupBy) (version : Parts) (b : PrintedTrace) (items : List (Result RecordedEvent LineError))
     (converted : HasConverted format g version items b) where
   -- an event that was traced is converted with those before it
-  converted-push : (new : TraceBuilder) (item : Result RecordedEvent LineError) (event : RecordedEvent) → item ≡ Ok event →
-      ((past : List PlainEvent) → HasTraced format b.group_by version past b → HasTraced format b.group_by version (past ++ plain event ∷ []) new)
+  converted-push : (new : PrintedTrace) (item : Result RecordedEvent LineError) (event : RecordedEvent) → item ≡ Ok event →
+      ((past : List PlainEvent) → HasTraced format g version past b → HasTraced format g version (past ++ plain event ∷ []) new)
       → HasConverted format g version (items ++ item ∷ []) new
   converted-push new item event is step =
       let events = converted.0 in
       let has = converted.2 in
-      let traced = subst (λ k. HasTraced format k version (map plain events ++ plain event ∷ []) new) has.group_kept
-      (step (map plain events) (subst (λ k. HasTraced format k version (map plain events) b) (sym has.group_kept) has)) in
+      let traced = step (map plain events) has in
       (events ++ event ∷ [], items-push items item events event converted.1 is, subst (λ v. HasTraced format g version v new) (sym (plain-push events event)) traced)
 
   -- and so is an item that was added
-  pub converted-item : (new : TraceBuilder) (item : Result RecordedEvent LineError) (u : ⊤) → AddsItem b new item (Ok u) → HasConverted format g version (items ++ item ∷ []) new
-  converted-item new (Ok event) u adds = converted-push new (Ok event) event refl (adds format version)
+  pub converted-item : (new : PrintedTrace) (item : Result RecordedEvent LineError) (u : ⊤) → AddsItem b new item (Ok u) → HasConverted format g version (items ++ item ∷ []) new
+  converted-item new (Ok event) u adds = converted-push new (Ok event) event refl (adds format g version)
   converted-item new (Err fault) u adds = cc
 
   module _ {S : Type 0} (steps : S → Option (Result RecordedEvent LineError) → S → Type 0) (s start mid rest : S) (from : start ≡ s) (yields : Yields steps start items mid) where
     -- an event that was refused is the first one
-    refused-event : (new : TraceBuilder) (item : Result RecordedEvent LineError) (event : RecordedEvent) (e : ChromeTraceError) → item ≡ Ok event → steps mid (Some item) rest →
-        ((past : List PlainEvent) → HasTraced format b.group_by version past b
-        → ((e ≡ OutOfMemory) ⊎ (events_refusal b.group_by (past ++ plain event ∷ []) ≡ Some e)) × HasTraced format b.group_by version past new) → HasNoTrace steps s g e
+    refused-event : (new : PrintedTrace) (item : Result RecordedEvent LineError) (event : RecordedEvent) (e : ChromeTraceError) → item ≡ Ok event → steps mid (Some item) rest →
+        ((past : List PlainEvent) → HasTraced format g version past b
+        → ((e ≡ OutOfMemory) ⊎ (events_refusal g (past ++ plain event ∷ []) ≡ Some e)) × HasTraced format g version past new) → HasNoTrace steps s g e
     refused-event new item event e is step answer =
         let events = converted.0 in
         let has = converted.2 in
-        elim (subst (λ k. (e ≡ OutOfMemory) ⊎ (events_refusal k (map plain events ++ plain event ∷ []) ≡ Some e)) has.group_kept
-        (answer (map plain events) (subst (λ k. HasTraced format k version (map plain events) b) (sym has.group_kept) has)).0) [
+        elim (answer (map plain events) has).0 [
           | inl memory ↦ inl memory
           | inr refused ↦ inr (inr (record {
             before = events;
@@ -84,7 +82,7 @@ module _ (format : ChromeTraceMessageFormat) (g : ChromeTraceGroupBy) (version :
             rest = rest;
             yielded = subst (λ v. Yields steps v (map Ok (events ++ event ∷ [])) rest) from
                 (subst (λ v. Yields steps start v rest) (items-push items item events event converted.1 is) (yields-push steps start items item mid rest yields step));
-            accepted = has.accepted;
+            accepted = has.tracer.accepted;
             refused = ap (events_refusal g) (plain-push events event) ∙ refused;
           }))
         ]
@@ -105,7 +103,7 @@ module _ (format : ChromeTraceMessageFormat) (g : ChromeTraceGroupBy) (version :
           );
           answered = answer;
           no_memory = no_memory;
-          accepted = converted.2.accepted;
+          accepted = converted.2.tracer.accepted;
         }))
 
         go : (fault : LineError) → item ≡ Err fault → e ≡ fault_error fault → HasNoTrace steps s g e
@@ -114,9 +112,9 @@ module _ (format : ChromeTraceMessageFormat) (g : ChromeTraceGroupBy) (version :
         go faults.OutOfMemory is answer = inl answer
 
     -- an item that was not added
-    pub refused-item : (new : TraceBuilder) (item : Result RecordedEvent LineError) (e : ChromeTraceError) → steps mid (Some item) rest → AddsItem b new item (Err e) → HasNoTrace steps s g e
+    pub refused-item : (new : PrintedTrace) (item : Result RecordedEvent LineError) (e : ChromeTraceError) → steps mid (Some item) rest → AddsItem b new item (Err e) → HasNoTrace steps s g e
     unfolding error_or
-    refused-item new (Ok event) e step adds = refused-event new (Ok event) event e refl step (adds format version)
+    refused-item new (Ok event) e step adds = refused-event new (Ok event) event e refl step (adds format g version)
     refused-item new (Err fault) e step adds = unread-event (Err fault) fault e refl step (ap (λ r. error_or e r) adds)
 
     -- events to the end, and the text of their trace
@@ -132,13 +130,13 @@ module _ (format : ChromeTraceMessageFormat) (g : ChromeTraceGroupBy) (version :
             rest,
             (mid, subst (λ v. Yields steps v (map Ok events) mid) from (subst (λ v. Yields steps start v mid) converted.1 yields), step),
           );
-          accepted = has.accepted;
+          accepted = has.tracer.accepted;
           written = written format g version (map plain events) has;
           marks = marks-of-trace version g (map plain events);
-          timeline = timeline g (map plain events) has.accepted;
-          times = times-add_up g (map plain events) has.accepted;
+          timeline = timeline g (map plain events) has.tracer.accepted;
+          times = times-add_up g (map plain events) has.tracer.accepted;
           groupings = groupings-agree (map plain events);
           drawn_alike = groupings-draw_alike version (map plain events);
-          prefixes = keeps-drawn version g (map plain events) has.accepted;
-          arrows = arrows-pair version g (map plain events) has.accepted;
+          prefixes = keeps-drawn version g (map plain events) has.tracer.accepted;
+          arrows = arrows-pair version g (map plain events) has.tracer.accepted;
         }

@@ -79,6 +79,18 @@ module _ (r : Row) (m n : BTreeMap Row Bool) (b : Bool) (changed : UpdatesBy row
       go true = is
       go false = refl
 
+-- a row that loses its entry was not named
+pub row-forgotten : (r : Row) (m n : BTreeMap Row Bool) → UpdatesBy rows.cmp-value.it (rows.cmp-value.it r) m n None → unwrap_or (lookup (row_eq r) m.entries) false ≡ false
+    → (q : Row) → unwrap_or (lookup (row_eq q) n.entries) false ≡ unwrap_or (lookup (row_eq q) m.entries) false
+row-forgotten r m n changed unnamed q =
+    ap (λ o. unwrap_or o false)
+    (sym (row-get n q) ∙ changed.0 q ∙ ap (λ x. cond x None (get_by (rows.cmp-value.it q) m)) (same_row r q) ∙ ap (cond (row_eq r q) None) (row-get m q))
+    ∙ go (row_eq r q) refl
+  where
+    go : (x : Bool) → row_eq r q ≡ x → unwrap_or (cond x None (lookup (row_eq q) m.entries)) false ≡ unwrap_or (lookup (row_eq q) m.entries) false
+    go true h = sym (subst (λ v. unwrap_or (lookup (row_eq v) m.entries) false ≡ false) (row_eq-true r q h) unnamed)
+    go false h = refl
+
 -- ---- tests
 
 -- what a map has at a test
@@ -122,3 +134,11 @@ module _ (t : OwnedTestInstanceId) (m n : BTreeMap OwnedTestInstanceId TestNotes
         go : (x : Bool) → test_eq t q ≡ x → option_and_then f (cond x w (lookup (test_eq q) m.entries)) ≡ read f m q
         go true h = is ∙ sym (ap (option_and_then f) (subst (λ v. lookup (test_eq v) m.entries ≡ None) (test_eq-true t q h) none))
         go false h = refl
+
+  -- a test of which this isn't noted loses its notes
+  pub test-forgotten : {Y : Type 0} (f : TestNotes → Option Y) → w ≡ None → read f m t ≡ None → (q : OwnedTestInstanceId) → read f n q ≡ read f m q
+  test-forgotten f gone none q = ap (option_and_then f) (test-updates q) ∙ go (test_eq t q) refl
+    where
+      go : (x : Bool) → test_eq t q ≡ x → option_and_then f (cond x w (lookup (test_eq q) m.entries)) ≡ read f m q
+      go true h = ap (option_and_then f) gone ∙ sym (subst (λ v. read f m v ≡ None) (test_eq-true t q h) none)
+      go false h = refl

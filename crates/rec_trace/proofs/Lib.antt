@@ -4,13 +4,17 @@ pub mod ArrowsPaired
 pub mod Converting
 pub mod DrawingSteps
 pub mod Groupings
+pub mod HandedOn
 pub mod KnownMaps
 pub mod KnownNews
 pub mod Marks
 pub mod Prefixes
+pub mod Printing
 pub mod Pushes
 pub mod Readable
+pub mod Refusals
 pub mod Same
+pub mod Taking
 pub mod TextsKept
 pub mod TextsOfEvents
 pub mod TextsOfTraces

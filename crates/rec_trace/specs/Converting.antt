@@ -18,7 +18,7 @@ use Rattle.rec_spans.specs.Refusals.{events_refusal}
 use Rattle.rec_spans.specs.Timeline.{IsTimeline}
 use Rattle.rec_spans.specs.Times.{TimesAddUp}
 use Rattle.rec_trace.specs.Arrows.{ArrowsPair, arrow_ends}
-use Rattle.rec_trace.specs.declared.builder.TraceBuilder.{TraceBuilder}
+use Rattle.rec_trace.specs.declared.printed_trace.PrintedTrace.{PrintedTrace}
 use Rattle.rec_trace.specs.declared.settings.ChromeTraceMessageFormat.{ChromeTraceMessageFormat}
 use Rattle.rec_trace.specs.Drawn.{Drawn, marks_of}
 use Rattle.rec_trace.specs.Groupings.{all_ungrouped}
@@ -47,10 +47,10 @@ pub record Converts {S : Type 0} (steps : S → Option (Result RecordedEvent Lin
   pub arrows : ArrowsPair (arrow_ends (trace_drawn version g (map plain events)))
 
 -- an item of the iterator is traced after others, or it is a fault
-abbrev pub AddsItem : TraceBuilder → TraceBuilder → Result RecordedEvent LineError → Result ⊤ ChromeTraceError → Type 0
+abbrev pub AddsItem : PrintedTrace → PrintedTrace → Result RecordedEvent LineError → Result ⊤ ChromeTraceError → Type 0
 AddsItem old new (Ok event) r =
-    (format : ChromeTraceMessageFormat) (version : Parts) (events : List PlainEvent) → HasTraced format old.group_by version events old
-    → Traces format old.group_by version events (plain event) new r
+    (format : ChromeTraceMessageFormat) (g : ChromeTraceGroupBy) (version : Parts) (events : List PlainEvent) → HasTraced format g version events old
+    → Traces format g version events (plain event) new r
 AddsItem old new (Err fault) r = r ≡ Err (fault_error fault)
 
 -- the iterator gave events without a cause to be refused, and then a fault, which is the error

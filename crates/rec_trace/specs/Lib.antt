@@ -9,6 +9,9 @@ pub mod Groupings
 pub mod Texts
 pub mod Kept
 pub mod Drawing
-pub mod Prepared
+pub mod Standing
+pub mod Steps
+pub mod Targets
+pub mod Building
 pub mod Traces
 pub mod Converting

@@ -1,140 +1,161 @@
-//! Builds the trace of a history, event by event.
-ghost use Rattle.std.specs.Prelude.{◌≡◌, List, [], IfOk, string_bytes};
+//! Builds the trace of a history, event by event: the trace events of each are handed on at once.
+ghost use Rattle.std.specs.Prelude.{◌≡◌, List, [], map, false, IfOk};
 ghost use Rattle.semver.specs.Parse.{Parts};
+ghost use Rattle.serde_json.specs.View.{view};
 ghost use Rattle.rec_spans.specs.declared.settings.ChromeTraceGroupBy.{ChromeTraceGroupBy};
-ghost use Rattle.rec_spans.specs.Judged.{IsJudged};
-ghost use Rattle.rec_spans.specs.Kinds.{trace_input};
 ghost use Rattle.rec_spans.specs.Plain.{PlainEvent, plain};
-ghost use Rattle.rec_trace.specs.declared.settings.ChromeTraceMessageFormat.{ChromeTraceMessageFormat};
-ghost use Rattle.rec_trace.specs.Prepared.{IsPrepared, StaysTraced};
-ghost use Rattle.rec_trace.specs.Traces.{HasTraced, Traces, trace_text};
+ghost use Rattle.rec_trace.specs.Building.{HandsOn, HandsOver, Processes, TargetCause};
+ghost use Rattle.rec_trace.specs.declared.tracer.Tracer.{Tracer};
+ghost use Rattle.rec_trace.specs.Histories.{known_of};
+ghost use Rattle.rec_trace.specs.KnownNews.{HasRoom};
+ghost use Rattle.rec_trace.specs.Steps.{IsNumbered, IsPrepared};
+ghost use Rattle.rec_trace.specs.Texts.{other_data};
 
-use crate::drawing::draw_event;
-use crate::known::{Known, News};
-use crate::printed::{Piece, Printed};
-use crate::settings::ChromeTraceMessageFormat;
-use rec_events::{OutputSpec, TestEventSummary, Version};
-use rec_spans::{ChromeTraceError, ChromeTraceGroupBy, JudgedEvent, SpanTracker};
+use crate::build_error::{TraceBuildError, build_error};
+use crate::other_data::other_data;
+use crate::putting::put_all;
+use crate::target::{TargetFailed, TraceTarget};
+use crate::tracer::{DrawnEvent, Tracer};
+use rec_events::{RecordingSpec, TestEventSummary, TryClone, Version};
+use rec_spans::ChromeTraceGroupBy;
+use serde_json::Value;
 use std::alloc::{AllocError, Global};
 
-/// Builds a trace event by event, from events with outputs of either form.
+/// Keeps what is needed to hand the trace events of the next event on.
 #[derive(Drop)]
-pub struct TraceBuilder {
-    version: Version,
-    group_by: ChromeTraceGroupBy,
-    message_format: ChromeTraceMessageFormat,
-    tracker: SpanTracker,
-    known: Known,
-    printed: Printed,
+pub(crate) struct Handing {
+    alloc: Global,
+    tracer: Tracer,
+    /// Whether the target failed.
+    failed: bool,
 }
 
-/// Holds what an event that was judged adds to the trace events and to what is known, for which there is room.
-#[derive(Drop)]
-struct PreparedEvent {
-    piece: Piece,
-    news: News,
-}
-
-impl TraceBuilder {
-    /// Makes the builder of a trace without an event so far, of runs by this version of the runner, which is
-    /// written in this form.
-    pub fn new(
-        alloc: Global,
-        version: Version,
-        group_by: ChromeTraceGroupBy,
-        message_format: ChromeTraceMessageFormat,
-    ) -> TraceBuilder
-        ensures { HasTraced message_format group_by version [] result }
+impl Handing {
+    /// Traces an event into a target that is at hand.
+    fn trace_event<T: TraceTarget>(
+        &mut self,
+        target: &mut T,
+        event: &TestEventSummary<RecordingSpec>,
+    ) -> Result<(), TraceBuildError>
+        ensures processed { (g : ChromeTraceGroupBy) (version : Parts) (events : List PlainEvent) → HandsOn g version events self.old
+            → Processes T.holds g version events (plain event.now) self.old target.old self.new target.new result }
+        ensures cause { TargetCause (T.faults target.old) (T.faults target.new) result }
     {
-        TraceBuilder {
-            version,
-            group_by,
-            message_format,
-            tracker: SpanTracker::new(alloc),
-            known: Known::new(alloc),
-            printed: Printed::new(alloc),
+        if self.failed {
+            return Err(TraceBuildError::Failed);
+        }
+        match self.tracer.prepare(self.alloc, event) {
+            Ok(drawn) => self.hand_on(target, event, drawn),
+            Err(error) => Err(build_error(error)),
         }
     }
 
-    /// Adds the trace events of an event.
-    ///
-    /// # Errors
-    ///
-    /// Answers the first cause for which the event is refused, in the order that `ChromeTraceError` gives, or
-    /// `OutOfMemory` where memory ran out. The trace is then that of the events before, and may be built on.
-    pub fn process_event<S: OutputSpec>(
+    /// Hands on what an event draws, and accepts the event if all of it was taken.
+    fn hand_on<T: TraceTarget>(
         &mut self,
-        alloc: Global,
-        event: &TestEventSummary<S>,
-    ) -> Result<(), ChromeTraceError>
-        ensures { (format : ChromeTraceMessageFormat) (version : Parts) (events : List PlainEvent) → HasTraced format self.old.group_by version events self.old
-            → Traces format self.old.group_by version events (plain event.now) self.new result }
+        target: &mut T,
+        event: &TestEventSummary<RecordingSpec>,
+        drawn: DrawnEvent,
+    ) -> Result<(), TraceBuildError>
+        requires numbered { IsNumbered drawn.prepared self.old.tracer }
+        requires room { HasRoom drawn.prepared.news self.old.tracer.known }
+        requires sound { self.old.failed ≡ false }
+        ensures handed { (before : Tracer) → IsPrepared before (plain event.now) self.old.tracer drawn.prepared
+            → HandsOver T.holds (map view drawn.values.items) before (plain event.now) target.old self.new target.new result }
+        ensures cause { TargetCause (T.faults target.old) (T.faults target.new) result }
     {
-        let judged = self.tracker.judge_event(alloc, self.group_by, event)?;
-        let prepared = self.prepare(alloc, event, &judged)?;
-        self.commit(alloc, event, judged, prepared)
+        let DrawnEvent { values, prepared } = drawn;
+        match put_all(target, values) {
+            Ok(()) => {
+                self.tracer.accept(event, prepared);
+                Ok(())
+            }
+            Err(TargetFailed) => {
+                self.tracer.let_go(event, prepared);
+                self.failed = true;
+                Err(TraceBuildError::TargetFault)
+            }
+        }
     }
+}
 
-    /// Draws an event that was judged, and makes room for it. What was traced stays, whatever the answer is.
-    fn prepare<S: OutputSpec>(
-        &mut self,
-        alloc: Global,
-        event: &TestEventSummary<S>,
-        judged: &JudgedEvent,
-    ) -> Result<PreparedEvent, AllocError>
-        requires { IsJudged self.old.tracker (trace_input self.old.group_by self.old.tracker.binaries (plain event.now)) judged.now }
-        ensures stays { StaysTraced self.old self.new }
-        ensures prepared { IfOk result (IsPrepared self.new (plain event.now) judged.now) }
-    {
-        let drawn = draw_event(
-            alloc,
-            &self.version,
-            self.group_by,
-            &self.tracker,
-            &self.known,
-            judged,
-            event,
-        )?;
-        let piece = self.printed.prepare(alloc, drawn)?;
-        let news = self
-            .known
-            .prepare(alloc, self.tracker.next_flow(), &judged.started, event)?;
-        Ok(PreparedEvent { piece, news })
-    }
+/// Builds a trace event by event, and hands its trace events on to a target. No event is kept.
+#[derive(Drop)]
+pub struct TraceBuilder<'t, T: TraceTarget> {
+    handing: Handing,
+    target: &'t mut T,
+}
 
-    /// Commits an event that was prepared. All else than the tracker takes no memory, so nothing has changed where
-    /// memory runs out.
-    fn commit<S: OutputSpec>(
-        &mut self,
-        alloc: Global,
-        event: &TestEventSummary<S>,
-        judged: JudgedEvent,
-        prepared: PreparedEvent,
-    ) -> Result<(), ChromeTraceError>
-        requires { IsPrepared self.old (plain event.now) judged prepared }
-        ensures { (format : ChromeTraceMessageFormat) (version : Parts) (events : List PlainEvent) → HasTraced format self.old.group_by version events self.old
-            → Traces format self.old.group_by version events (plain event.now) self.new result }
-    {
-        self.tracker.commit(alloc, self.group_by, event, judged)?;
-        self.known.take(prepared.news);
-        self.printed.append(prepared.piece);
-        Ok(())
-    }
-
-    /// Writes the text of the trace.
+impl<'t, T: TraceTarget> TraceBuilder<'t, T> {
+    /// Makes the builder of a trace without an event so far, of runs by this version of the runner.
     ///
     /// # Errors
     ///
     /// Fails only where memory ran out.
-    pub fn into_text(self, alloc: Global) -> Result<String, AllocError>
-        ensures { IfOk result (λ text. (format : ChromeTraceMessageFormat) (g : ChromeTraceGroupBy) (version : Parts) (events : List PlainEvent)
-            → HasTraced format g version events self → string_bytes text ≡ trace_text format g version events) }
+    pub fn new(
+        alloc: Global,
+        version: &Version,
+        group_by: ChromeTraceGroupBy,
+        target: &'t mut T,
+    ) -> Result<TraceBuilder<'t, T>, AllocError>
+        ensures same { IfOk result (λ b. b.target.ghost_name ≡ target.entry.ghost_name) }
+        ensures target { IfOk result (λ b. b.target.now ≡ target.old) }
+        ensures stands { IfOk result (λ b. HandsOn group_by version.now [] b.handing) }
+        ensures sound { IfOk result (λ b. b.handing.failed ≡ false) }
     {
-        self.printed.into_text(
-            alloc,
-            self.message_format,
-            &self.version,
-            self.known.last_run(),
-        )
+        let version = version.try_clone(alloc)?;
+        Ok(TraceBuilder {
+            handing: Handing {
+                alloc,
+                tracer: Tracer::new(alloc, version, group_by),
+                failed: false,
+            },
+            target,
+        })
+    }
+
+    /// Hands the trace events of an event on to the target, one after the other, and accepts the event once all were
+    /// taken. All memory is taken before the first of them.
+    ///
+    /// # Errors
+    ///
+    /// The event isn't accepted, and the trace is that of the events before it:
+    ///
+    /// - `Failed`: the target failed at an earlier event. It gets nothing any more.
+    /// - `Refused`: the event has a cause to be refused, which is never `ReadError` or `OutOfMemory`. The target
+    ///   gets nothing, and the trace may be built on.
+    /// - `TargetFault`: the target failed. It got the trace events before the one at which it failed.
+    /// - `OutOfMemory`: memory ran out. The target gets nothing, and the trace may be built on.
+    pub fn process_event(
+        &mut self,
+        event: &TestEventSummary<RecordingSpec>,
+    ) -> Result<(), TraceBuildError>
+        ensures same { self.new.target.ghost_name ≡ self.old.target.ghost_name }
+        ensures processed { (g : ChromeTraceGroupBy) (version : Parts) (events : List PlainEvent) → HandsOn g version events self.old.handing
+            → Processes T.holds g version events (plain event.now) self.old.handing self.old.target.now self.new.handing self.new.target.now result }
+        ensures cause { TargetCause (T.faults self.old.target.now) (T.faults self.new.target.now) result }
+    {
+        self.handing.trace_event(self.target, event)
+    }
+
+    /// Returns whether the target failed.
+    pub fn is_failed(&self) -> bool
+        ensures { result ≡ self.now.handing.failed }
+    {
+        self.handing.failed
+    }
+
+    /// Ends the trace, and returns what it says of the run beside its events: the version of the runner, and the
+    /// last start of a run.
+    ///
+    /// # Errors
+    ///
+    /// Fails only where memory ran out.
+    pub fn finish(self, alloc: Global) -> Result<Value, AllocError>
+        ensures { IfOk result (λ v. (g : ChromeTraceGroupBy) (version : Parts) (events : List PlainEvent) → HandsOn g version events self.entry.handing
+            → view v ≡ other_data version (known_of g events).last_run) }
+    {
+        let tracer = &self.handing.tracer;
+        other_data(alloc, tracer.version(), tracer.last_run())
     }
 }

@@ -3,7 +3,7 @@ ghost use Rattle.std.specs.Iterator.{IsFinite};
 ghost use Rattle.std.specs.Prelude.{IfOk, IfErr};
 ghost use Rattle.rec_trace.specs.Converting.{AddsItem, Converts, HasNoTrace};
 
-use crate::builder::TraceBuilder;
+use crate::printed_trace::PrintedTrace;
 use crate::settings::ChromeTraceMessageFormat;
 use rec_codec::LineError;
 use rec_events::{RecordingSpec, TestEventSummary, TryClone, Version};
@@ -56,14 +56,14 @@ where
     ensures no_trace { IfErr result (λ error. HasNoTrace I.next_gives events group_by error) }
 {
     let runner = version.try_clone(alloc)?;
-    let mut builder = TraceBuilder::new(alloc, runner, group_by, message_format);
+    let mut trace = PrintedTrace::new(alloc, runner, group_by, message_format);
     for item in events {
-        if let Err(error) = add_item(alloc, &mut builder, item) {
-            drop(builder);
+        if let Err(error) = add_item(alloc, &mut trace, item) {
+            drop(trace);
             return Err(error);
         }
     }
-    let text = builder.into_text(alloc)?;
+    let text = trace.into_text(alloc)?;
     Ok(text.into_bytes())
 }
 
@@ -71,13 +71,13 @@ where
 /// by a call: to drop one of that many kinds in place is too much for a proof.
 fn add_item(
     alloc: Global,
-    builder: &mut TraceBuilder,
+    trace: &mut PrintedTrace,
     item: Result<TestEventSummary<RecordingSpec>, LineError>,
 ) -> Result<(), ChromeTraceError>
-    ensures { AddsItem builder.old builder.new item result }
+    ensures { AddsItem trace.old trace.new item result }
 {
     let event = item?;
-    let result = builder.process_event(alloc, &event);
+    let result = trace.process_event(alloc, &event);
     drop(event);
     result
 }

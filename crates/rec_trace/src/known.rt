@@ -1,5 +1,5 @@
 //! What earlier events decide of the trace events of the next one.
-ghost use Rattle.std.specs.Prelude.{◌≡◌, IfOk, option_copied};
+ghost use Rattle.std.specs.Prelude.{◌≡◌, IfOk, OnOk, option_copied};
 ghost use Rattle.rec_spans.specs.Plain.{plain_kind};
 ghost use Rattle.rec_trace.specs.Known.{SameKnown, nothing_known};
 ghost use Rattle.rec_trace.specs.KnownNews.{HasRoom, Tells, known_in, known_with};
@@ -95,9 +95,23 @@ impl Known {
     {
         let row = row_to_name(started, &event.kind);
         let test = new_test(flow, &event.kind);
-        self.names.make_room(row)?;
-        self.notes.make_room(alloc, test)?;
-        news_of(alloc, row, test, &event.kind)
+        let news = news_of(alloc, row, test, &event.kind)?;
+        match self.make_room(alloc, &news) {
+            Ok(()) => Ok(news),
+            Err(AllocError) => {
+                self.let_go(news);
+                Err(AllocError)
+            }
+        }
+    }
+
+    /// Makes room for the news of an event.
+    fn make_room(&mut self, alloc: Global, news: &News) -> Result<(), AllocError>
+        ensures same { SameKnown (known_in self.new) (known_in self.old) }
+        ensures room { OnOk result (HasRoom news.now self.new) }
+    {
+        self.names.make_room(news.row)?;
+        self.notes.make_room(alloc, &news.test)
     }
 
     /// Takes the news of an event for which room was made. It takes no memory.
@@ -109,5 +123,13 @@ impl Known {
         self.running = news.running.unwrap_or(self.running);
         self.last_run = news.run.or(self.last_run.take());
         self.notes.take(news.test);
+    }
+
+    /// Lets the news of an event go, and the room that was made for it. What is known stays the same.
+    pub fn let_go(&mut self, news: News)
+        ensures { SameKnown (known_in self.new) (known_in self.old) }
+    {
+        self.names.let_go(news.row);
+        self.notes.let_go(&news.test);
     }
 }

@@ -1,6 +1,7 @@
 //! The trace of a test run: a timeline for trace viewers, in which pauses are gaps.
 #![tactic(auto)]
 
+mod build_error;
 mod builder;
 mod convert;
 mod drawing;
@@ -8,11 +9,20 @@ mod known;
 pub mod laws;
 mod other_data;
 mod printed;
+mod printed_trace;
+mod putting;
 mod run_start;
 mod settings;
+mod target;
 mod text;
+mod tracer;
+mod vec_target;
 
+pub use build_error::TraceBuildError;
 pub use builder::TraceBuilder;
 pub use convert::convert_to_chrome_trace;
+pub use printed_trace::PrintedTrace;
 pub use rec_spans::{ChromeTraceError, ChromeTraceGroupBy, SpanKey};
 pub use settings::ChromeTraceMessageFormat;
+pub use target::{TargetFailed, TraceEvent, TraceTarget};
+pub use vec_target::VecTarget;

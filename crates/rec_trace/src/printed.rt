@@ -1,5 +1,5 @@
 //! Keeps the texts of the trace events so far.
-ghost use Rattle.std.specs.Prelude.{◌≡◌, List, [], ◌++◌, map, IfOk, string_bytes};
+ghost use Rattle.std.specs.Prelude.{◌≡◌, List, [], ◌++◌, map, IfOk, OnOk, OnErr, string_bytes};
 ghost use Rattle.serde_json.specs.Data.{Data};
 ghost use Rattle.serde_json.specs.View.{view};
 ghost use Rattle.rec_trace.specs.declared.settings.ChromeTraceMessageFormat.{ChromeTraceMessageFormat};
@@ -25,7 +25,7 @@ pub struct Printed {
 /// Holds the texts of trace events that are to be put behind those so far, with commas between them and before
 /// them where others stand there.
 #[derive(Drop)]
-pub struct Piece {
+struct Piece {
     text: String,
     /// Whether any events stand there afterwards.
     has_events: bool,
@@ -42,8 +42,22 @@ impl Printed {
         }
     }
 
+    /// Puts the texts of trace events behind those so far.
+    ///
+    /// # Errors
+    ///
+    /// Fails only where memory ran out. The trace events so far then stay as they are.
+    pub fn put_all(&mut self, alloc: Global, events: Vec<Value>) -> Result<(), AllocError>
+        ensures all { OnOk result ((kept : List Data) → AreKept kept self.old → AreKept (kept ++ map view events.items) self.new) }
+        ensures same { OnErr result ((kept : List Data) → AreKept kept self.old → AreKept kept self.new) }
+    {
+        let piece = self.prepare(alloc, events)?;
+        self.append(piece);
+        Ok(())
+    }
+
     /// Makes what is to be put behind the trace events so far, and room for it. These stay as they are.
-    pub fn prepare(&mut self, alloc: Global, events: Vec<Value>) -> Result<Piece, AllocError>
+    fn prepare(&mut self, alloc: Global, events: Vec<Value>) -> Result<Piece, AllocError>
         ensures same { (kept : List Data) → AreKept kept self.old → AreKept kept self.new }
         ensures piece { IfOk result (Continues self.new (map view events.items)) }
         ensures room { IfOk result (HasRoom self.new) }
@@ -55,7 +69,7 @@ impl Printed {
     }
 
     /// Puts it there. It takes no memory.
-    pub fn append(&mut self, piece: Piece)
+    fn append(&mut self, piece: Piece)
         requires { HasRoom self.old piece }
         ensures { (kept events : List Data) → AreKept kept self.old → Continues self.old events piece → AreKept (kept ++ events) self.new }
     {

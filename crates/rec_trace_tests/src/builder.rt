@@ -1,148 +1,110 @@
-//! Builders that are handed events one by one, some of which are refused: the trace is that of the others.
+//! Trace events that are handed on one by one, to a target that takes them all and to one that fails.
 
-use crate::drawn::outline_of;
-use crate::lines::Line::{
-    self, End, Event, Fail, Retry, Run, RunEnd, Script, ScriptEnd, ScriptSlow, Start, SubRunEnd,
-};
+use crate::lines::Line::{self, End, Event, Start};
 use crate::lines::log;
-use rec_codec::{LineIter, OutputForm};
-use rec_events::{LiveSpec, OutputSpec, RecordingSpec, TestEventSummary, Version};
-use rec_trace::{ChromeTraceError, ChromeTraceGroupBy, ChromeTraceMessageFormat, TraceBuilder};
+use rec_codec::LineIter;
+use rec_events::{RecordingSpec, TestEventSummary, Version};
+use rec_trace::{ChromeTraceGroupBy, TraceBuildError, TraceBuilder, TraceEvent, VecTarget};
 use serde_json::Value;
 use std::alloc::Global;
-use std::test;
+use std::test::Fail;
 
-// Adds the events of these lines to the builder, and counts those that are refused.
-fn added<S: OutputForm>(
-    alloc: Global,
-    builder: &mut TraceBuilder,
-    lines: &[Line],
-) -> Result<u64, test::Fail> {
-    let log = log(alloc, lines)?;
-    let mut refused: u64 = 0;
-    for event in LineIter::<S>::new(alloc, log.as_str().as_bytes(), 1) {
-        if add_event(alloc, builder, event?).is_err() {
-            refused = refused.saturating_add(1);
-        }
-    }
-    Ok(refused)
-}
+const PAUSED: &str = r#""kind":"run-paused","setup-scripts-running":0,"running":1"#;
 
-// Adds an event, and lets it go here and by a call: in place, each of its kinds would be a case of the proof.
-fn add_event<S: OutputSpec>(
-    alloc: Global,
-    builder: &mut TraceBuilder,
-    event: TestEventSummary<S>,
-) -> Result<(), ChromeTraceError> {
-    let result = builder.process_event(alloc, &event);
-    drop(event);
-    result
-}
+const CONTINUED: &str = r#""kind":"run-continued","setup-scripts-running":0,"running":1"#;
 
-const OTHER_RUN: &str =
-    r#""kind":"run-started","run-id":"6ba7b810-9dad-11d1-80b4-00c04fd430c8","profile-name":"ci","cli-args":["x"]"#;
-
-// Ten events that are drawn, among ten that are refused: each of the latter would name a row, start what
-// another one needs, or say how many tests run.
-fn with_refusals() -> [Line; 20] {
+// A test that starts, is interrupted by a pause, and ends.
+fn interrupted_test() -> [Line; 4] {
     [
-        SubRunEnd(1000),
-        Run(1000),
-        Event(1001, OTHER_RUN),
-        Start(1001, 1, 0),
-        End(1002, 1, 18446744073709551615),
-        Fail(1002, 3),
-        ScriptSlow(1002, 1),
-        Script(1002, 18446744073709551615, 1),
-        Script(1002, 0, 1),
-        Retry(1003, 3, 0),
-        Start(1003, 3, 18446744073709551615),
-        ScriptEnd(1003, 0, 1),
-        Fail(1004, 1),
-        Start(1005, 2, 0),
-        Retry(1006, 1, 0),
-        Retry(1007, 1, 1),
-        Fail(1008, 4),
-        Fail(1009, 2),
-        Start(1010, 3, 0),
-        RunEnd(1011),
+        Start(1000, 1, 0),
+        Event(1001, PAUSED),
+        Event(1002, CONTINUED),
+        End(1003, 1, 0),
     ]
 }
 
-const WITHOUT_REFUSED: &str = r#"M :process_name 0/0 0 {"name":"nextest run (default)"}
-M :process_sort_index 0/0 0 {"sort_index":0}
-M :thread_name 0/1 0 {"name":"run"}
-M :thread_sort_index 0/1 0 {"sort_index":1}
-B run:test run 0/1 1000000000
-M :process_name 2/0 0 {"name":"alpha::a"}
-M :process_sort_index 2/0 0 {"sort_index":2}
-M :thread_name 2/10000 0 {"name":"slot-0"}
-M :thread_sort_index 2/10000 0 {"sort_index":10000}
-B test:t1 2/10000 1001000000
-C run:concurrency 0/0 1001000000 {"running_scripts":0,"running_tests":1}
-M :process_name 1/0 0 {"name":"setup-scripts"}
-M :process_sort_index 1/0 0 {"sort_index":1}
-M :thread_name 1/10000 0 {"name":"script-0"}
-M :thread_sort_index 1/10000 0 {"sort_index":10000}
-B setup-script:db1 1/10000 1002000000
-C run:concurrency 0/0 1002000000 {"running_scripts":1,"running_tests":1}
-E setup-script:db1 1/10000 1003000000
-C run:concurrency 0/0 1003000000 {"running_scripts":0,"running_tests":1}
-E test:t1 2/10000 1004000000
-s test:retry 2/10000 1004000000 0
-C run:concurrency 0/0 1004000000 {"running_scripts":0,"running_tests":1}
-B test:t2 2/10000 1005000000
-C run:concurrency 0/0 1005000000 {"running_scripts":0,"running_tests":2}
-M :thread_name 2/10001 0 {"name":"slot-1"}
-M :thread_sort_index 2/10001 0 {"sort_index":10001}
-B test:t1 2/10001 1007000000
-f test:retry 2/10001 1007000000 0
-C run:concurrency 0/0 1007000000 {"running_scripts":0,"running_tests":4}
-E test:t2 2/10000 1009000000
-s test:retry 2/10000 1009000000 1
-C run:concurrency 0/0 1009000000 {"running_scripts":0,"running_tests":2}
-M :process_name 3/0 0 {"name":"beta::b"}
-M :process_sort_index 3/0 0 {"sort_index":3}
-M :thread_name 3/10000 0 {"name":"slot-0"}
-M :thread_sort_index 3/10000 0 {"sort_index":10000}
-B test:t3 3/10000 1010000000
-C run:concurrency 0/0 1010000000 {"running_scripts":0,"running_tests":3}
-E run:test run 0/1 1011000000
-"#;
-
-fn run_kept() -> &'static str {
-    r#"{"nextest_version":"0.9.111","profile_name":"default","run_id":"550e8400-e29b-41d4-a716-446655440000"}"#
+// Names what becomes of an event, which is let go here and by a call.
+fn processed(builder: &mut TraceBuilder<'_, VecTarget>, event: TestEventSummary<RecordingSpec>) -> &'static str {
+    let result = builder.process_event(&event);
+    drop(event);
+    match result {
+        Ok(()) => "taken",
+        Err(TraceBuildError::Failed) => "failed",
+        Err(TraceBuildError::Refused(_)) => "refused",
+        Err(TraceBuildError::TargetFault) => "target fault",
+        Err(TraceBuildError::OutOfMemory) => "out of memory",
+    }
 }
 
-// The trace of the events with outputs of this form, of which ten are refused.
-fn built<S: OutputForm>(
-    alloc: Global,
-    message_format: ChromeTraceMessageFormat,
-) -> Result<Value, test::Fail> {
+// What becomes of these events, and then what the builder ends with.
+fn traced(alloc: Global, target: &mut VecTarget, lines: &[Line]) -> Result<String, Fail> {
     let version = Version::parse(alloc, "0.9.111")?;
-    let group_by = ChromeTraceGroupBy::Binary;
-    let mut builder = TraceBuilder::new(alloc, version, group_by, message_format);
-    if added::<S>(alloc, &mut builder, &with_refusals())? != 10 {
-        return Err("not ten refusals".into());
+    let log = log(alloc, lines)?;
+    let mut text = String::new(alloc);
+    let mut builder = TraceBuilder::new(alloc, &version, ChromeTraceGroupBy::Binary, target)?;
+    for event in LineIter::<RecordingSpec>::new(alloc, log.as_str().as_bytes(), 1) {
+        text.push_str(processed(&mut builder, event?))?;
+        text.push_str(", ")?;
     }
-    let text = builder.into_text(alloc)?;
-    Ok(Value::from_str(alloc, text.as_str())?)
+    text.push_str(if builder.is_failed() { "failed" } else { "sound" })?;
+    text.push_str(" with ")?;
+    text.push_str(ending(alloc, builder)?.as_str())?;
+    Ok(text)
+}
+
+// What a builder ends with.
+fn ending(alloc: Global, builder: TraceBuilder<'_, VecTarget>) -> Result<String, Fail> {
+    let other: Value = builder.finish(alloc)?;
+    Ok(other.to_string(alloc)?)
+}
+
+// The phases of trace events.
+fn phases(alloc: Global, events: &[TraceEvent]) -> Result<String, Fail> {
+    let mut text = String::new(alloc);
+    for event in events {
+        text.push_str(event.value().get("ph").and_then(Value::as_str).unwrap_or("?"))?;
+    }
+    Ok(text)
 }
 
 #[test]
-fn a_refused_event_leaves_the_trace(rt: HostRuntime) -> Result<(), test::Fail> {
+fn each_trace_event_is_handed_on_at_once(rt: HostRuntime) -> Result<(), Fail> {
     let alloc = rt.alloc();
-    let json = built::<RecordingSpec>(alloc, ChromeTraceMessageFormat::Json)?;
-    let pretty = built::<RecordingSpec>(alloc, ChromeTraceMessageFormat::JsonPretty)?;
-    let live = built::<LiveSpec>(alloc, ChromeTraceMessageFormat::Json)?;
-    for trace in [&json, &pretty, &live] {
-        let got = outline_of(alloc, trace, "MBECisf")?;
-        assert!(rt; got.as_str() == WITHOUT_REFUSED, "{got}");
-        let other = trace.get("otherData").ok_or("no other data")?;
-        let other = other.to_string(alloc)?;
-        assert!(rt; other.as_str() == run_kept(), "{other}");
-        let text = trace.to_string(alloc)?;
-        assert!(rt; !text.as_str().contains("\"ci\""), "{text}");
+    let lines = interrupted_test();
+    let all = "MMMMBCCEMMMMiCiBECC";
+    for (count, events) in [(1, 6), (2, 13), (3, 16), (4, 19)] {
+        let mut target = VecTarget::new(alloc, Vec::new(alloc));
+        let Some(first) = lines.get(..count) else {
+            return Err("fewer lines".into());
+        };
+        traced(alloc, &mut target, first)?;
+        let got = phases(alloc, target.events())?;
+        assert!(rt; Some(got.as_str()) == all.get(..events), "{got}");
     }
+    Ok(())
+}
+
+#[test]
+fn a_target_that_fails_ends_the_trace(rt: HostRuntime) -> Result<(), Fail> {
+    let alloc = rt.alloc();
+    let mut target = VecTarget::new(alloc, vec![in alloc; 3]?);
+    let got = traced(alloc, &mut target, &interrupted_test())?;
+    let want = "target fault, failed, failed, failed, failed with {\"nextest_version\":\"0.9.111\"}";
+    assert!(rt; got.as_str() == want, "{got}");
+    let got = phases(alloc, target.events())?;
+    assert!(rt; got.as_str() == "MM", "{got}");
+    Ok(())
+}
+
+#[test]
+fn a_refused_event_is_not_handed_on(rt: HostRuntime) -> Result<(), Fail> {
+    let alloc = rt.alloc();
+    let mut target = VecTarget::new(alloc, Vec::new(alloc));
+    let lines = [Start(1000, 1, 0), Start(1001, 2, 0), End(1002, 1, 0)];
+    let got = traced(alloc, &mut target, &lines)?;
+    let want = "taken, refused, taken, sound with {\"nextest_version\":\"0.9.111\"}";
+    assert!(rt; got.as_str() == want, "{got}");
+    let got = phases(alloc, target.events())?;
+    assert!(rt; got.as_str() == "MMMMBCECC", "{got}");
     Ok(())
 }

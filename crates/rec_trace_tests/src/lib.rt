@@ -10,4 +10,6 @@ mod errors;
 #[cfg(test)]
 mod lines;
 #[cfg(test)]
+mod printed_trace;
+#[cfg(test)]
 mod values;

@@ -72,6 +72,26 @@ impl Names {
         }
     }
 
+    /// Takes the room away that was made for the names of a row and of its process, of those that weren't named.
+    pub fn let_go(&mut self, row: Option<Row>)
+        ensures { (other : Row) → row_named self.new other ≡ row_named self.old other }
+    {
+        if let Some(row) = row {
+            self.let_go_row(first_row(row));
+            self.let_go_row(row);
+        }
+    }
+
+    /// Takes the room away that was made for the name of one row, unless it was named.
+    fn let_go_row(&mut self, row: Row)
+        ensures { (other : Row) → row_named self.new other ≡ row_named self.old other }
+    {
+        if self.is_named(row) {
+            return;
+        }
+        self.rows.remove(&row);
+    }
+
     /// Names one row.
     fn name_row(&mut self, row: Row)
         requires { HasRow row self.old }

@@ -1,10 +1,10 @@
 //! What is noted of tests: the groups of their open attempts, and their pending arrows.
-ghost use Rattle.std.specs.Prelude.{◌≡◌, None, OnOk, option_copied, option_map};
+ghost use Rattle.std.specs.Prelude.{◌≡◌, true, None, OnOk, option_copied};
 ghost use Rattle.rec_events.specs.declared.instances.OwnedTestInstanceId.{OwnedTestInstanceId};
 ghost use Rattle.rec_trace.specs.Known.{of_test};
-ghost use Rattle.rec_trace.specs.KnownMaps.{HasTest, HasTests, arrow_noted, arrow_with, arrows_with, group_noted, groups_with, test_told};
+ghost use Rattle.rec_trace.specs.KnownMaps.{HasTest, HasTests, arrow_noted, arrow_with, arrows_with, group_noted, groups_with};
 
-use super::news::{ArrowNews, NewTest, TestNews};
+use super::news::{ArrowNews, TestNews};
 use rec_events::{OwnedTestInstanceId, TestGroup, TryClone};
 use std::alloc::{AllocError, Global};
 use std::collections::BTreeMap;
@@ -53,18 +53,18 @@ impl Notes {
         }
     }
 
-    /// Makes room for the notes of a test. Nothing is noted by that, whatever the answer is.
+    /// Makes room for the notes of a test of which there is news. Nothing is noted by that, whatever the answer is.
     ///
     /// # Errors
     ///
     /// Fails only where memory ran out.
-    pub fn make_room(&mut self, alloc: Global, news: Option<NewTest<'_>>) -> Result<(), AllocError>
+    pub fn make_room(&mut self, alloc: Global, news: &Option<TestNews>) -> Result<(), AllocError>
         ensures groups { (test : OwnedTestInstanceId) → group_noted self.new test ≡ group_noted self.old test }
         ensures arrows { (test : OwnedTestInstanceId) → arrow_noted self.new test ≡ arrow_noted self.old test }
-        ensures room { OnOk result (HasTests (option_map test_told news.entry) self.new) }
+        ensures room { OnOk result (HasTests news.now self.new) }
     {
         match news {
-            Some(news) => self.make_test(alloc, news.test),
+            Some(news) => self.make_test(alloc, &news.test),
             None => Ok(()),
         }
     }
@@ -87,6 +87,34 @@ impl Notes {
             },
         )?;
         Ok(())
+    }
+
+    /// Takes the room away that was made for the notes of a test, unless something is noted of it.
+    pub fn let_go(&mut self, news: &Option<TestNews>)
+        ensures groups { (test : OwnedTestInstanceId) → group_noted self.new test ≡ group_noted self.old test }
+        ensures arrows { (test : OwnedTestInstanceId) → arrow_noted self.new test ≡ arrow_noted self.old test }
+    {
+        if let Some(news) = news {
+            self.let_go_test(&news.test);
+        }
+    }
+
+    /// Takes the room away that was made for the notes of one test.
+    fn let_go_test(&mut self, test: &OwnedTestInstanceId)
+        ensures groups { (other : OwnedTestInstanceId) → group_noted self.new other ≡ group_noted self.old other }
+        ensures arrows { (other : OwnedTestInstanceId) → arrow_noted self.new other ≡ arrow_noted self.old other }
+    {
+        if self.says_nothing(test) {
+            drop(self.tests.remove(test));
+        }
+    }
+
+    /// Returns whether nothing is noted of a test.
+    fn says_nothing(&self, test: &OwnedTestInstanceId) -> bool
+        ensures group { result ≡ true → group_noted self.now test.now ≡ None }
+        ensures arrow { result ≡ true → arrow_noted self.now test.now ≡ None }
+    {
+        self.group(test).is_none() && self.arrow(test).is_none()
     }
 
     /// Takes the news of a test, for which there is room. It takes no memory.

@@ -1,0 +1,40 @@
+use Rattle.std.proofs.Common.{inl, refl}
+use Rattle.std.proofs.lemmas.Result.{err_from_is_err_and}
+use Rattle.rec_trace.proofs.Same.{same-self}
+use Rattle.rec_trace.proofs.tracer.Tracer.prepare.Goals as goal
+use Rattle.rec_trace.specs.declared.tracer.Tracer.{Tracer}
+use Rattle.rec_trace.specs.KnownNews.{known_in}
+use Rattle.rec_trace.specs.Steps.{StaysSame}
+
+same : (t : Tracer) → StaysSame t t
+same t = record { group = refl; version = refl; stands = refl; knows = same-self (known_in t.known) }
+
+pub returns-in_err-judged-clause-judged : goal.returns-in_err-judged-clause-judged
+returns-in_err-judged-clause-judged g c =
+    let p = err_from_is_err_and c.from_residual.result c.from_residual.ensures.1 in
+    rw (p.1, p.2) c.in_err-judged.ensures.judged
+
+pub returns-in_err-judged-clause-err : goal.returns-in_err-judged-clause-err
+returns-in_err-judged-clause-err g c =
+    let p = err_from_is_err_and c.from_residual.result c.from_residual.ensures.1 in
+    rw (p.1) (same c.args.self.now)
+
+pub returns-in_err-values-clause-judged : goal.returns-in_err-values-clause-judged
+returns-in_err-values-clause-judged g c =
+    let p = err_from_is_err_and c.from_residual-in_err-values.result c.from_residual-in_err-values.ensures.1 in
+    rw (p.1, p.2) (inl refl)
+
+pub returns-in_err-values-clause-err : goal.returns-in_err-values-clause-err
+returns-in_err-values-clause-err g c =
+    let p = err_from_is_err_and c.from_residual-in_err-values.result c.from_residual-in_err-values.ensures.1 in
+    rw (p.1) (same c.args.self.now)
+
+pub returns-in_err-prepared-clause-judged : goal.returns-in_err-prepared-clause-judged
+returns-in_err-prepared-clause-judged g c =
+    let p = err_from_is_err_and c.from_residual-in_err-prepared.result c.from_residual-in_err-prepared.ensures.1 in
+    rw (p.1, p.2) (inl refl)
+
+pub returns-in_err-prepared-clause-err : goal.returns-in_err-prepared-clause-err
+returns-in_err-prepared-clause-err g c =
+    let p = err_from_is_err_and c.from_residual-in_err-prepared.result c.from_residual-in_err-prepared.ensures.1 in
+    rw (p.1) c.in_err-prepared.ensures.err

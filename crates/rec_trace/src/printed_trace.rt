@@ -1,0 +1,106 @@
+//! Builds the text of a trace, event by event.
+ghost use Rattle.std.specs.Prelude.{◌≡◌, List, [], map, IfOk, string_bytes};
+ghost use Rattle.serde_json.specs.View.{view};
+ghost use Rattle.semver.specs.Parse.{Parts};
+ghost use Rattle.rec_spans.specs.declared.settings.ChromeTraceGroupBy.{ChromeTraceGroupBy};
+ghost use Rattle.rec_spans.specs.Plain.{PlainEvent, plain};
+ghost use Rattle.rec_trace.specs.declared.settings.ChromeTraceMessageFormat.{ChromeTraceMessageFormat};
+ghost use Rattle.rec_trace.specs.declared.tracer.Tracer.{Tracer};
+ghost use Rattle.rec_trace.specs.KnownNews.{HasRoom};
+ghost use Rattle.rec_trace.specs.Steps.{IsNumbered, IsPrepared};
+ghost use Rattle.rec_trace.specs.Traces.{HasTraced, Prints, Traces, trace_text};
+
+use crate::printed::Printed;
+use crate::settings::ChromeTraceMessageFormat;
+use crate::tracer::{DrawnEvent, Tracer};
+use rec_events::{OutputSpec, TestEventSummary, Version};
+use rec_spans::{ChromeTraceError, ChromeTraceGroupBy};
+use std::alloc::{AllocError, Global};
+
+/// Builds the text of a trace event by event, from events with outputs of either form. The trace events of each are
+/// printed at once.
+#[derive(Drop)]
+pub struct PrintedTrace {
+    tracer: Tracer,
+    message_format: ChromeTraceMessageFormat,
+    printed: Printed,
+}
+
+impl PrintedTrace {
+    /// Makes the text of a trace without an event so far, of runs by this version of the runner, which is
+    /// written in this form.
+    pub fn new(
+        alloc: Global,
+        version: Version,
+        group_by: ChromeTraceGroupBy,
+        message_format: ChromeTraceMessageFormat,
+    ) -> PrintedTrace
+        ensures { HasTraced message_format group_by version [] result }
+    {
+        PrintedTrace {
+            tracer: Tracer::new(alloc, version, group_by),
+            message_format,
+            printed: Printed::new(alloc),
+        }
+    }
+
+    /// Adds the trace events of an event.
+    ///
+    /// # Errors
+    ///
+    /// Answers the first cause for which the event is refused, in the order that `ChromeTraceError` gives, or
+    /// `OutOfMemory` where memory ran out. The trace is then that of the events before, and may be built on.
+    pub fn process_event<S: OutputSpec>(
+        &mut self,
+        alloc: Global,
+        event: &TestEventSummary<S>,
+    ) -> Result<(), ChromeTraceError>
+        ensures { (format : ChromeTraceMessageFormat) (g : ChromeTraceGroupBy) (version : Parts) (events : List PlainEvent) → HasTraced format g version events self.old
+            → Traces format g version events (plain event.now) self.new result }
+    {
+        let drawn = self.tracer.prepare(alloc, event)?;
+        self.print(alloc, event, drawn)
+    }
+
+    /// Prints what an event draws, and accepts the event.
+    fn print<S: OutputSpec>(
+        &mut self,
+        alloc: Global,
+        event: &TestEventSummary<S>,
+        drawn: DrawnEvent,
+    ) -> Result<(), ChromeTraceError>
+        requires numbered { IsNumbered drawn.prepared self.old.tracer }
+        requires room { HasRoom drawn.prepared.news self.old.tracer.known }
+        ensures { (before : Tracer) → IsPrepared before (plain event.now) self.old.tracer drawn.prepared
+            → Prints (map view drawn.values.items) before (plain event.now) self.old self.new result }
+    {
+        let DrawnEvent { values, prepared } = drawn;
+        match self.printed.put_all(alloc, values) {
+            Ok(()) => {
+                self.tracer.accept(event, prepared);
+                Ok(())
+            }
+            Err(AllocError) => {
+                self.tracer.let_go(event, prepared);
+                Err(ChromeTraceError::OutOfMemory)
+            }
+        }
+    }
+
+    /// Writes the text of the trace.
+    ///
+    /// # Errors
+    ///
+    /// Fails only where memory ran out.
+    pub fn into_text(self, alloc: Global) -> Result<String, AllocError>
+        ensures { IfOk result (λ text. (format : ChromeTraceMessageFormat) (g : ChromeTraceGroupBy) (version : Parts) (events : List PlainEvent)
+            → HasTraced format g version events self → string_bytes text ≡ trace_text format g version events) }
+    {
+        self.printed.into_text(
+            alloc,
+            self.message_format,
+            self.tracer.version(),
+            self.tracer.last_run(),
+        )
+    }
+}
