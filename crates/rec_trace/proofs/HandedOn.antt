@@ -1,5 +1,5 @@
 -- What a builder does with an event, from what its tracer and its target do.
-use Rattle.std.proofs.Common.{◌≡◌, ◌⊎◌, inl, inr, List, [], ◌∷◌, ◌++◌, Bool, true, false, None, Some, Result, Ok, Err, refl, sym, subst, ◌∙◌}
+use Rattle.std.proofs.Common.{◌≡◌, ◌⊎◌, inl, inr, List, false, None, Some, Result, Ok, Err, refl, sym, subst, ◌∙◌}
 use Rattle.std.specs.Bool.{⊤}
 use Rattle.semver.specs.Parse.{Parts}
 use Rattle.serde_json.specs.Data.{Data}
@@ -10,7 +10,7 @@ use Rattle.rec_spans.specs.Plain.{PlainEvent}
 use Rattle.rec_spans.specs.Refusals.{next_refusal}
 use Rattle.rec_trace.proofs.Refusals.{of-event}
 use Rattle.rec_trace.proofs.Tracing.{advanced, draws-is, refusal-is, stays}
-use Rattle.rec_trace.specs.Building.{HandsOver, IsOfEvent, Processes, build_error}
+use Rattle.rec_trace.specs.Building.{HandsOver, Processes, build_error}
 use Rattle.rec_trace.specs.declared.build_error.TraceBuildError.TheVariants.{Failed, Refused, TargetFault, OutOfMemory}
 use Rattle.rec_trace.specs.declared.build_error.TraceBuildError.{TraceBuildError}
 use Rattle.rec_trace.specs.declared.builder.Handing.{Handing}

@@ -1,10 +1,10 @@
 -- An event that is refused has a cause of its own: it is no want of memory, and no history that can't be read.
-use Rattle.std.proofs.Common.{◌≡◌, ◌^◌, ℕ, ℤ, suc, Bool, true, false, List, Option, None, Some, subst}
+use Rattle.std.proofs.Common.{◌≡◌, ◌^◌, ℕ, suc, Bool, true, false, List, Option, None, Some, subst}
 use Rattle.std.specs.Bool.{⊤}
 use Rattle.std.specs.Option.{option_or}
 use Rattle.std.specs.Prelude.{if◌then◌else◌, nat_lt}
 use Rattle.rec_forms.specs.Shape.{fits}
-use Rattle.rec_spans.specs.Acts.Act.{RunStarts, RunEnds, SubRunStarts, SubRunEnds, ScriptStarts, ScriptEnds, ScriptIsSlow, AttemptStarts, AttemptFails, TestEnds, TestIsSlow, Pauses, Continues, Cancels, Silent}
+use Rattle.rec_spans.specs.Acts.Act.{SubRunEnds, ScriptStarts, ScriptEnds, ScriptIsSlow, AttemptFails, TestEnds, TestIsSlow}
 use Rattle.rec_spans.specs.Acts.{Act}
 use Rattle.rec_spans.specs.declared.errors.ChromeTraceError.TheVariants.{CountOutOfRange, MissingScriptStart, MissingStressSubRunStart, MissingTestStart, RowOutOfRange, SpanAlreadyOpen, TimestampOutOfRange}
 use Rattle.rec_spans.specs.declared.errors.ChromeTraceError.{ChromeTraceError}
@@ -16,7 +16,7 @@ use Rattle.rec_spans.specs.History.{TraceState}
 use Rattle.rec_spans.specs.Past.Change.{Start, Stop, Pause, Resume, Other}
 use Rattle.rec_spans.specs.Past.{Change, TraceInput, in_place, of_key}
 use Rattle.rec_spans.specs.Places.{number}
-use Rattle.rec_spans.specs.Refusals.{act_refusal, attempt_missing, busy, failures_refusal, flow_refusal, instant_refusal, is_none_open, missing_refusal, next_refusal, number_refusal, open_refusal, row_refusal, script_missing, scripts_in, scripts_refusal, slot_refusal, under}
+use Rattle.rec_spans.specs.Refusals.{act_refusal, busy, failures_refusal, flow_refusal, instant_refusal, is_none_open, missing_refusal, next_refusal, number_refusal, open_refusal, row_refusal, scripts_in, scripts_refusal, slot_refusal, under}
 use Rattle.rec_trace.specs.Building.{IsOfEvent}
 
 -- such a cause, if any

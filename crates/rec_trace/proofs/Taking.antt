@@ -1,7 +1,7 @@
 -- What several puts leave, one after the other.
-use Rattle.std.proofs.Common.{◌≡◌, ◌<◌, ◌≤◌, ◌+◌, ℕ, suc, List, [], ◌∷◌, ◌++◌, length, take, refl, sym, subst, arith, append_assoc, append-nil}
+use Rattle.std.proofs.Common.{suc, List, [], ◌∷◌, ◌++◌, take, subst, arith, append_assoc}
 use Rattle.serde_json.specs.Data.{Data}
-use Rattle.rec_trace.specs.Targets.{Stays, Takes, TakesPart}
+use Rattle.rec_trace.specs.Targets.{Takes, TakesPart}
 
 module _ {T : Type 0} (holds : T → List Data → Type 0) where
   pub Takes-append : (a b c : T) (xs ys : List Data) → Takes holds a b xs → Takes holds b c ys → Takes holds a c (xs ++ ys)

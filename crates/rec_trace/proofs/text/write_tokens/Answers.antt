@@ -1,7 +1,6 @@
-use Rattle.std.proofs.Common.{◌≡◌, [], ◌∷◌, ◌++◌, sym, refl, ap, ◌∙◌, subst, append_assoc, append-nil}
+use Rattle.std.proofs.Common.{[], ◌∷◌, ◌++◌, sym, refl, ap, ◌∙◌, subst, append_assoc, append-nil}
 use Rattle.json.specs.Print.{ArePrintable}
 use Rattle.json.specs.Reads.{token_of}
-use Rattle.json.specs.Token.{bad}
 use Rattle.rec_trace.proofs.Readable.{no-bad}
 use Rattle.rec_trace.proofs.text.write_tokens.Goals as goal
 

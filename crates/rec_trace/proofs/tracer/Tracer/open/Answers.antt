@@ -1,4 +1,4 @@
-use Rattle.std.proofs.Common.{◌≡◌, ap, refl, subst, suc, sym, ◌∙◌}
+use Rattle.std.proofs.Common.{ap, refl, subst, suc, sym, ◌∙◌}
 use Rattle.rec_spans.specs.History.{TraceState}
 use Rattle.rec_spans.specs.Plain.{plain, plain_kind}
 use Rattle.rec_trace.proofs.Same.{same-trans}
