@@ -1,19 +1,25 @@
 -- That a command ends with another status than faulty words.
-use Rattle.std.proofs.Common.{◌≡◌, ◌⊎◌, inl, inr, ℕ, ◌<◌, List, Option, Result, Ok, Err, refl, arith}
+use Rattle.std.proofs.Common.{◌≡◌, ◌⊎◌, inl, inr, ℕ, ◌<◌, List, Option, Bool, true, false, true≢false, Result, Ok, Err, refl, sym, arith}
 use Rattle.std.specs.Prelude.{◌↔◌, IsErr}
 use Rattle.rec_container.specs.Container.{Entry}
 use Rattle.rec_portable.specs.declared.errors.PortableRecordingReadError.{PortableRecordingReadError}
 use Rattle.rec_reading.specs.declared.errors.ReadingError.{ReadingError}
 use Rattle.rec_reading.specs.Errors.{bundle_error}
+use Rattle.rec_reading.specs.Listing.{PrintsInfo, PrintsReplay, PrintsReport, PrintsTrace}
+use Rattle.rec_reading.specs.Reruns.{PrintsRerun}
+use Rattle.rec_reading.specs.Slots.{PrintsSlots}
 use Rattle.rec_sample.specs.Session.{sample_session}
 use Rattle.rec_export.specs.declared.settings.Settings.{Settings}
+use Rattle.rec_words.specs.declared.usage.TheConstants.{USAGE}
 use Rattle.rec_words.specs.declared.words.WordsError.{WordsError}
+use Rattle.rec_words.specs.Usage.{versions_text}
 use Rattle.rec_words.specs.Words.{Asked, recording, tracing, replaying, reporting, informing, slotting, rerunning, sampling, upgrading, salvaging, help, version}
 use Rattle.rec_faults.specs.ReadingLine.{reading_shown}
 use Rattle.rec_faults.specs.Status.{export_status, reading_status}
 use Rattle.rec_faults.specs.WritingCommands.{upgrade_status}
 use Rattle.rec_program.proofs.Commands.{export_above, reading_above}
 use Rattle.rec_program.proofs.WritingCommands.{refusal_above, upgrade_above}
+use Rattle.rec_program.specs.Counts.{counts_line}
 use Rattle.rec_program.specs.Running.{Prints, Records, RecordsSample, Runs, RunsSalvage, RunsUpgrade, ShowsBundle}
 use Rattle.rec_program.specs.Salvaging.{refusal_status}
 
@@ -51,25 +57,25 @@ module _ {S B T G : Type 0} (left : S → Option (List ℕ)) (source_faults : S 
   upgrades settings (inr r) = above (upgrade_status r.0) (upgrade_above r.0) r.2.0
 
   salvages : (settings : Settings) → RunsSalvage left source_faults taken bundle_faults out_taken out_faults diag_taken diag_faults settings status s0 s1 b0 b1 o0 o1 d0 d1 → status ≡ 2 → ⊥
-  salvages settings (inl (s, shows, inl w)) = prints _ w.1
+  salvages settings (inl (s, shows, inl w)) = prints (counts_line s.events s.outputs) w.1
   salvages settings (inl (s, shows, inr f)) = above 10 (omega arith) f.3.0
   salvages settings (inr r) = above (refusal_status r.0) (refusal_above r.0) r.4.0
 
-  apart : (asked : Asked) → (status ≡ 2 → ⊥) → (status ≡ 2) ↔ IsErr (let r : Result Asked WordsError = Ok asked in r)
-  apart asked other = (λ two. absurd (other two), λ err. absurd cc)
+  apart : (status ≡ 2 → ⊥) → (status ≡ 2) ↔ (false ≡ true)
+  apart other = (λ two. absurd (other two), λ err. absurd (true≢false (sym err)))
 
   -- status 2 comes exactly for faulty words
   pub two_is_faulty : (a : Result Asked WordsError) → Runs left source_faults taken bundle_faults out_taken out_faults diag_taken diag_faults number a status s0 s1 b0 b1 o0 o1 d0 d1 → (status ≡ 2) ↔ IsErr a
   two_is_faulty (Err fault) r = (λ two. refl, λ err. r.3.0)
-  two_is_faulty (Ok (recording path settings)) r = apart _ (records settings r)
-  two_is_faulty (Ok (tracing settings)) r = apart _ (reads _ settings r.0)
-  two_is_faulty (Ok (replaying output settings)) r = apart _ (reads _ settings r.0)
-  two_is_faulty (Ok (reporting settings)) r = apart _ (reads _ settings r.0)
-  two_is_faulty (Ok (informing settings)) r = apart _ (reads _ settings r.0)
-  two_is_faulty (Ok (slotting settings)) r = apart _ (reads _ settings r.0)
-  two_is_faulty (Ok (rerunning settings)) r = apart _ (reads _ settings r.0)
-  two_is_faulty (Ok (sampling n path settings)) r = apart _ (samples settings (sample_session n) r.0)
-  two_is_faulty (Ok (upgrading path settings)) r = apart _ (upgrades settings r.0)
-  two_is_faulty (Ok (salvaging path settings)) r = apart _ (salvages settings r)
-  two_is_faulty (Ok help) r = apart _ (prints _ r.0)
-  two_is_faulty (Ok version) r = apart _ (prints _ r.0)
+  two_is_faulty (Ok (recording path settings)) r = apart (records settings r)
+  two_is_faulty (Ok (tracing settings)) r = apart (reads (PrintsTrace settings.group_by settings.message_format) settings r.0)
+  two_is_faulty (Ok (replaying output settings)) r = apart (reads (PrintsReplay output) settings r.0)
+  two_is_faulty (Ok (reporting settings)) r = apart (reads PrintsReport settings r.0)
+  two_is_faulty (Ok (informing settings)) r = apart (reads PrintsInfo settings r.0)
+  two_is_faulty (Ok (slotting settings)) r = apart (reads PrintsSlots settings r.0)
+  two_is_faulty (Ok (rerunning settings)) r = apart (reads PrintsRerun settings r.0)
+  two_is_faulty (Ok (sampling n path settings)) r = apart (samples settings (sample_session n) r.0)
+  two_is_faulty (Ok (upgrading path settings)) r = apart (upgrades settings r.0)
+  two_is_faulty (Ok (salvaging path settings)) r = apart (salvages settings r)
+  two_is_faulty (Ok help) r = apart (prints USAGE.now r.0)
+  two_is_faulty (Ok version) r = apart (prints versions_text r.0)

@@ -1,7 +1,7 @@
 //! Builds the text of a trace, event by event.
 ghost use Rattle.std.specs.Prelude.{◌≡◌, List, [], map, IfOk, string_bytes};
-ghost use Rattle.serde_json.specs.View.{view};
 ghost use Rattle.semver.specs.Parse.{Parts};
+ghost use Rattle.serde_json.specs.View.{view};
 ghost use Rattle.rec_spans.specs.declared.settings.ChromeTraceGroupBy.{ChromeTraceGroupBy};
 ghost use Rattle.rec_spans.specs.Plain.{PlainEvent, plain};
 ghost use Rattle.rec_trace.specs.declared.settings.ChromeTraceMessageFormat.{ChromeTraceMessageFormat};

@@ -1,8 +1,8 @@
 use Rattle.std.proofs.Common.{◌≡◌, ◌≤◌, length, map}
 use Rattle.std.specs.Vec.Iter.{into_iter_items, into_iter_len}
 use Rattle.serde_json.specs.View.{view}
-use Rattle.rec_trace.specs.Targets.{Takes, TakesPart}
 use Rattle.rec_trace.proofs.putting.put_all.Given as goal
+use Rattle.rec_trace.specs.Targets.{Takes, TakesPart}
 
 -- what is left completes what was put
 abbrev pub invariant-loop-value : goal.invariant-loop-value
