@@ -1,5 +1,5 @@
 -- The trace of a session, with one event more and with those of a line more.
-use Rattle.std.proofs.Common.{◌≡◌, inl, inr, List, [], ◌∷◌, ◌++◌, map, append_assoc, append-nil, Option, None, Some, is_some, true, false, Err, ap, sym, subst, ◌∙◌}
+use Rattle.std.proofs.Common.{◌≡◌, inl, inr, List, [], ◌∷◌, ◌++◌, map, append_assoc, append-nil, Option, None, Some, is_some, true, false, Err, ap, sym}
 use Rattle.std.specs.List.{cons_option}
 use Rattle.std.specs.Option.{option_to_list}
 use Rattle.semver.specs.Parse.{Parts}
