@@ -24,7 +24,10 @@ fn interrupted_test() -> [Line; 4] {
 }
 
 // Names what becomes of an event, which is let go here and by a call.
-fn processed(builder: &mut TraceBuilder<'_, VecTarget>, event: TestEventSummary<RecordingSpec>) -> &'static str {
+fn processed(
+    builder: &mut TraceBuilder<'_, VecTarget>,
+    event: TestEventSummary<RecordingSpec>,
+) -> &'static str {
     let result = builder.process_event(&event);
     drop(event);
     match result {
@@ -46,7 +49,11 @@ fn traced(alloc: Global, target: &mut VecTarget, lines: &[Line]) -> Result<Strin
         text.push_str(processed(&mut builder, event?))?;
         text.push_str(", ")?;
     }
-    text.push_str(if builder.is_failed() { "failed" } else { "sound" })?;
+    text.push_str(if builder.is_failed() {
+        "failed"
+    } else {
+        "sound"
+    })?;
     text.push_str(" with ")?;
     text.push_str(ending(alloc, builder)?.as_str())?;
     Ok(text)
@@ -62,7 +69,13 @@ fn ending(alloc: Global, builder: TraceBuilder<'_, VecTarget>) -> Result<String,
 fn phases(alloc: Global, events: &[TraceEvent]) -> Result<String, Fail> {
     let mut text = String::new(alloc);
     for event in events {
-        text.push_str(event.value().get("ph").and_then(Value::as_str).unwrap_or("?"))?;
+        text.push_str(
+            event
+                .value()
+                .get("ph")
+                .and_then(Value::as_str)
+                .unwrap_or("?"),
+        )?;
     }
     Ok(text)
 }
@@ -89,7 +102,8 @@ fn a_target_that_fails_ends_the_trace(rt: HostRuntime) -> Result<(), Fail> {
     let alloc = rt.alloc();
     let mut target = VecTarget::new(alloc, vec![in alloc; 3]?);
     let got = traced(alloc, &mut target, &interrupted_test())?;
-    let want = "target fault, failed, failed, failed, failed with {\"nextest_version\":\"0.9.111\"}";
+    let want =
+        "target fault, failed, failed, failed, failed with {\"nextest_version\":\"0.9.111\"}";
     assert!(rt; got.as_str() == want, "{got}");
     let got = phases(alloc, target.events())?;
     assert!(rt; got.as_str() == "MM", "{got}");
