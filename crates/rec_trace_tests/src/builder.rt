@@ -23,13 +23,8 @@ fn interrupted_test() -> [Line; 4] {
     ]
 }
 
-// Names what becomes of an event, which is let go here and by a call.
-fn processed(
-    builder: &mut TraceBuilder<'_, VecTarget>,
-    event: TestEventSummary<RecordingSpec>,
-) -> &'static str {
-    let result = builder.process_event(&event);
-    drop(event);
+// Names what became of an event.
+fn outcome(result: &Result<(), TraceBuildError>) -> &'static str {
     match result {
         Ok(()) => "taken",
         Err(TraceBuildError::Failed) => "failed",
@@ -39,23 +34,46 @@ fn processed(
     }
 }
 
+// Names what becomes of an event, which is let go here and by a call.
+fn processed(
+    builder: &mut TraceBuilder<'_, VecTarget>,
+    event: TestEventSummary<RecordingSpec>,
+) -> &'static str {
+    let result = builder.process_event(&event);
+    drop(event);
+    let name = outcome(&result);
+    drop(result);
+    name
+}
+
+// Hands these events to the builder, and names what becomes of each.
+fn handed(
+    alloc: Global,
+    builder: &mut TraceBuilder<'_, VecTarget>,
+    lines: &[Line],
+) -> Result<String, Fail> {
+    let log = log(alloc, lines)?;
+    let mut text = String::new(alloc);
+    for event in LineIter::<RecordingSpec>::new(alloc, log.as_str().as_bytes(), 1) {
+        text.push_str(processed(builder, event?))?;
+        text.push_str(", ")?;
+    }
+    Ok(text)
+}
+
 // What becomes of these events, and then what the builder ends with.
 fn traced(alloc: Global, target: &mut VecTarget, lines: &[Line]) -> Result<String, Fail> {
     let version = Version::parse(alloc, "0.9.111")?;
-    let log = log(alloc, lines)?;
-    let mut text = String::new(alloc);
-    let mut builder = TraceBuilder::new(alloc, &version, ChromeTraceGroupBy::Binary, target)?;
-    for event in LineIter::<RecordingSpec>::new(alloc, log.as_str().as_bytes(), 1) {
-        text.push_str(processed(&mut builder, event?))?;
-        text.push_str(", ")?;
-    }
-    text.push_str(if builder.is_failed() {
+    let group_by = ChromeTraceGroupBy::Binary;
+    let mut builder = TraceBuilder::new(alloc, &version, group_by, target)?;
+    let mut text = handed(alloc, &mut builder, lines)?;
+    let state = if builder.is_failed() {
         "failed"
     } else {
         "sound"
-    })?;
-    text.push_str(" with ")?;
-    text.push_str(ending(alloc, builder)?.as_str())?;
+    };
+    let ending = ending(alloc, builder)?;
+    text.push_str(format!(in alloc; "{state} with {ending}")?.as_str())?;
     Ok(text)
 }
 
