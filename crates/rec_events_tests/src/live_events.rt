@@ -103,25 +103,33 @@ fn cancelled(cancel_reason: Option<CancelReason>) -> RunStats {
     stats
 }
 
+/// Whether the begin of a cancel is recorded with this reason, where the statistics have that one or none.
+fn has_reason(
+    alloc: Global,
+    cancel_reason: Option<CancelReason>,
+    reason: CancelReason,
+) -> Result<bool, AllocError> {
+    let kind = TestEventKind::RunBeginCancel {
+        setup_scripts_running: 1,
+        running: 2,
+        current_stats: cancelled(cancel_reason),
+    };
+    let expected = CoreEventKind::RunBeginCancel {
+        setup_scripts_running: 1,
+        running: 2,
+        reason,
+    };
+    is_recorded_as(alloc, kind, expected)
+}
+
 #[test]
 fn a_cancel_has_the_reason_of_its_statistics(rt: HostRuntime) -> Result<(), Fail> {
-    for (reason, expected) in [
-        (Some(CancelReason::TestFailure), CancelReason::TestFailure),
-        (Some(CancelReason::Interrupt), CancelReason::Interrupt),
-        (None, CancelReason::Signal),
-    ] {
-        let kind = TestEventKind::RunBeginCancel {
-            setup_scripts_running: 1,
-            running: 2,
-            current_stats: cancelled(reason),
-        };
-        let expected = CoreEventKind::RunBeginCancel {
-            setup_scripts_running: 1,
-            running: 2,
-            reason: expected,
-        };
-        assert!(rt; is_recorded_as(rt.alloc(), kind, expected)?);
-    }
+    let alloc = rt.alloc();
+    let failure = CancelReason::TestFailure;
+    let interrupt = CancelReason::Interrupt;
+    assert!(rt; has_reason(alloc, Some(failure), failure)?);
+    assert!(rt; has_reason(alloc, Some(interrupt), interrupt)?);
+    assert!(rt; has_reason(alloc, None, CancelReason::Signal)?);
     Ok(())
 }
 
@@ -170,6 +178,24 @@ fn is_kept<'a>(
     }
 }
 
+/// Whether a count of two, none and a minute are each recorded as they are.
+fn keeps_each<'a>(alloc: Global, test_list: &'a TestList<'a>) -> Result<bool, AllocError> {
+    let two = NonZeroCount::new(2);
+    let two = two.map(|count| StressCondition::Count(StressCount::Count { count }));
+    let twice = StressConditionSummary::Count { count: Some(2) };
+    let endless = StressCondition::Count(StressCount::Infinite);
+    let uncounted = StressConditionSummary::Count { count: None };
+    let duration = Duration { secs: 60, nanos: 0 };
+    let minute = StressCondition::Duration(duration);
+    let lasting = StressConditionSummary::Duration { duration };
+    Ok(
+        is_kept(alloc, test_list, None, None)?
+            && is_kept(alloc, test_list, two, Some(twice))?
+            && is_kept(alloc, test_list, Some(endless), Some(uncounted))?
+            && is_kept(alloc, test_list, Some(minute), Some(lasting))?,
+    )
+}
+
 #[test]
 fn a_run_keeps_its_stress_condition(rt: HostRuntime) -> Result<(), Fail> {
     let alloc = rt.alloc();
@@ -178,22 +204,6 @@ fn a_run_keeps_its_stress_condition(rt: HostRuntime) -> Result<(), Fail> {
     };
     let test_list = TestList::from_summary(NextestRunMode::Benchmark, &summary);
     assert!(rt; test_list.mode() == NextestRunMode::Benchmark);
-    let two = NonZeroCount::new(2);
-    let two = two.map(|count| StressCondition::Count(StressCount::Count { count }));
-    let minute = Duration { secs: 60, nanos: 0 };
-    for (condition, expected) in [
-        (None, None),
-        (two, Some(StressConditionSummary::Count { count: Some(2) })),
-        (
-            Some(StressCondition::Count(StressCount::Infinite)),
-            Some(StressConditionSummary::Count { count: None }),
-        ),
-        (
-            Some(StressCondition::Duration(minute)),
-            Some(StressConditionSummary::Duration { duration: minute }),
-        ),
-    ] {
-        assert!(rt; is_kept(alloc, &test_list, condition, expected)?);
-    }
+    assert!(rt; keeps_each(alloc, &test_list)?);
     Ok(())
 }

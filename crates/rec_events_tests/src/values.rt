@@ -6,6 +6,7 @@ use rec_events::{
     TestGroup, TestNames, Text, TextMap, TryClone,
 };
 use std::alloc::{AllocError, Global};
+use std::process::Abort;
 use std::test::Fail;
 use uuid::Uuid;
 
@@ -75,19 +76,27 @@ fn names(rt: HostRuntime) -> Result<(), Fail> {
     Ok(())
 }
 
+// A stamp of these seconds and nanoseconds has so many microseconds, if it is one that has.
+fn check_stamps(rt: &impl Abort, rows: &[(i64, u32, Option<i64>)]) {
+    for (secs, nanos, want) in rows {
+        let stamp = Stamp::new(*secs, *nanos, 0);
+        assert_eq!(rt; stamp.and_then(|stamp| stamp.microseconds()), *want);
+    }
+}
+
 #[test]
 fn times_and_counts(rt: HostRuntime) {
-    for (secs, nanos, want) in [
-        (-1, 999999999, Some(-1)),
-        (0, 1000000000, None),
-        (9223372036854, 775807999, Some(9223372036854775807)),
-        (9223372036854, 775808000, None),
-        (-9223372036855, 224192000, Some(-9223372036854775808)),
-        (-9223372036855, 224191999, None),
-    ] {
-        let stamp = Stamp::new(secs, nanos, 0);
-        assert_eq!(rt; stamp.and_then(|stamp| stamp.microseconds()), want);
-    }
+    check_stamps(
+        &rt,
+        &[
+            (-1, 999999999, Some(-1)),
+            (0, 1000000000, None),
+            (9223372036854, 775807999, Some(9223372036854775807)),
+            (9223372036854, 775808000, None),
+            (-9223372036855, 224192000, Some(-9223372036854775808)),
+            (-9223372036855, 224191999, None),
+        ],
+    );
     assert!(rt; Duration::new(0, 1000000000).is_none());
     assert!(rt; NonZeroCount::new(0).is_none());
 }
@@ -102,34 +111,55 @@ fn selections(rt: HostRuntime) -> Result<(), Fail> {
     Ok(())
 }
 
-#[test]
-fn output_names(rt: HostRuntime) -> Result<(), Fail> {
-    let alloc = rt.alloc();
-    let name = OutputFileName::new(1, OutputKind::Stderr);
-    assert!(rt; name.text(alloc)?.as_str() == "0000000000000001-stderr");
-    for text in [
-        "0123456789abcdef-stdout",
-        "ffffffffffffffff-stderr",
-        "0000000000000000-combined",
-    ] {
+// Each of these texts is a name, and is what that name is written as.
+fn check_output_names(rt: &impl Abort, alloc: Global, texts: &[&str]) -> Result<(), Fail> {
+    for text in texts {
         let Some(name) = OutputFileName::parse(text) else {
             assert!(rt; false, "{text}");
             continue;
         };
-        assert!(rt; name.text(alloc)?.as_str() == text, "{text}");
+        assert!(rt; name.text(alloc)?.as_str() == *text, "{text}");
     }
     Ok(())
 }
 
 #[test]
-fn groups_and_lists(rt: HostRuntime) -> Result<(), Fail> {
+fn output_names(rt: HostRuntime) -> Result<(), Fail> {
+    let alloc = rt.alloc();
+    let name = OutputFileName::new(1, OutputKind::Stderr);
+    assert!(rt; name.text(alloc)?.as_str() == "0000000000000001-stderr");
+    check_output_names(
+        &rt,
+        alloc,
+        &[
+            "0123456789abcdef-stdout",
+            "ffffffffffffffff-stderr",
+            "0000000000000000-combined",
+        ],
+    )
+}
+
+// Each of these names is that of a group of its own.
+fn check_groups(rt: &impl Abort, alloc: Global, names: &[&str]) -> Result<(), Fail> {
+    for name in names {
+        let group = TestGroup::custom(String::from_str(alloc, name)?);
+        assert!(rt; group.is_some_and(|group| group.text() == *name), "{name}");
+    }
+    Ok(())
+}
+
+#[test]
+fn groups(rt: HostRuntime) -> Result<(), Fail> {
     let alloc = rt.alloc();
     assert!(rt; TestGroup::custom(String::from_str(alloc, "@global")?).is_none());
-    for name in ["", "global", "@global ", "é"] {
-        let group = TestGroup::custom(String::from_str(alloc, name)?);
-        assert!(rt; group.is_some_and(|group| group.text() == name), "{name}");
-    }
+    check_groups(&rt, alloc, &["", "global", "@global ", "é"])?;
     assert!(rt; TestGroup::Global.text() == "@global");
+    Ok(())
+}
+
+#[test]
+fn lists_with_an_item(rt: HostRuntime) -> Result<(), Fail> {
+    let alloc = rt.alloc();
     assert!(rt; NonEmpty::<Text>::from_items(Items::empty(alloc)).is_none());
     let mut texts = Vec::new(alloc);
     texts.push(Text::from_str(alloc, "a")?)?;
