@@ -27,23 +27,10 @@ fn natural_at(alloc: Global, node: &Node<'_>, key: &str) -> Result<String, Alloc
     }
 }
 
-#[test]
-fn members(rt: HostRuntime) -> Result<(), Fail> {
-    let alloc = rt.alloc();
+// Each text has at the key what stands beside it.
+fn check_members(rt: &impl Abort, alloc: Global, rows: &[(&str, &str, &str)]) -> Result<(), Fail> {
     let mut scratch = Scratch::new(alloc);
-    let rows: [(&str, &str, &str); 10] = [
-        ("{}", "a", "none"),
-        ("{\"a\":1}", "a", "1"),
-        ("{\"a\":1}", "b", "none"),
-        ("{\"a\":1}", "", "none"),
-        ("{\"\":1}", "", "1"),
-        ("{\"a\":1,\"ab\":2,\"b\":3}", "ab", "2"),
-        ("{\"a\":1,\"b\":2,\"a\":3}", "a", "3"),
-        ("{\"a\":1,\"b\":2,\"a\":null}", "a", "other"),
-        ("{\"\\u0061\":1}", "a", "1"),
-        ("{\"b\":{\"a\":1}}", "a", "none"),
-    ];
-    for (text, key, want) in &rows {
+    for (text, key, want) in rows {
         let node = parsed(alloc, text, &mut scratch)?;
         let got = natural_at(alloc, &node, key)?;
         assert!(rt;
@@ -52,6 +39,26 @@ fn members(rt: HostRuntime) -> Result<(), Fail> {
         );
     }
     Ok(())
+}
+
+#[test]
+fn members(rt: HostRuntime) -> Result<(), Fail> {
+    check_members(
+        &rt,
+        rt.alloc(),
+        &[
+            ("{}", "a", "none"),
+            ("{\"a\":1}", "a", "1"),
+            ("{\"a\":1}", "b", "none"),
+            ("{\"a\":1}", "", "none"),
+            ("{\"\":1}", "", "1"),
+            ("{\"a\":1,\"ab\":2,\"b\":3}", "ab", "2"),
+            ("{\"a\":1,\"b\":2,\"a\":3}", "a", "3"),
+            ("{\"a\":1,\"b\":2,\"a\":null}", "a", "other"),
+            ("{\"\\u0061\":1}", "a", "1"),
+            ("{\"b\":{\"a\":1}}", "a", "none"),
+        ],
+    )
 }
 
 // The only member, if there is one.
@@ -63,27 +70,6 @@ fn only(alloc: Global, node: &Node<'_>) -> Result<String, AllocError> {
         None => String::from_str(alloc, "none"),
         Some((key, found)) => format!(in alloc; "{key} {}", found.as_u64().unwrap_or(0)),
     }
-}
-
-#[test]
-fn only_ones(rt: HostRuntime) -> Result<(), Fail> {
-    let alloc = rt.alloc();
-    let mut scratch = Scratch::new(alloc);
-    let rows: [(&str, &str); 7] = [
-        ("{}", "none"),
-        ("{\"a\":1}", "a 1"),
-        ("{\"a\":1,\"b\":2}", "none"),
-        ("{\"a\":1,\"a\":2}", "a 2"),
-        ("{\"a\":1,\"\\u0061\":2,\"a\":3}", "a 3"),
-        ("{\"a\":1,\"b\":2,\"a\":3}", "none"),
-        ("{\"a\":1,\"a\":2,\"\":3}", "none"),
-    ];
-    for (text, want) in &rows {
-        let node = parsed(alloc, text, &mut scratch)?;
-        let got = only(alloc, &node)?;
-        assert!(rt; got.as_str() == *want, "{text} has {got}, and not {want}");
-    }
-    Ok(())
 }
 
 // The keys in their order, each with its number.
@@ -100,31 +86,6 @@ fn in_order(alloc: Global, node: &Node<'_>) -> Result<String, AllocError> {
         text.push_str(number.as_str())?;
     }
     Ok(text)
-}
-
-#[test]
-fn order(rt: HostRuntime) -> Result<(), Fail> {
-    let alloc = rt.alloc();
-    let mut scratch = Scratch::new(alloc);
-    let rows: [(&str, &str); 5] = [
-        ("{}", ""),
-        ("{\"b\":1,\"a\":2}", "a:2 b:1 "),
-        ("{\"a\":1,\"b\":2,\"a\":3}", "a:3 b:2 "),
-        (
-            "{\"a_b\":1,\"ab\":2,\"a\":3,\"a-b\":4,\"a1\":5,\"B\":6,\"\":7}",
-            ":7 B:6 a:3 a-b:4 a1:5 a_b:1 ab:2 ",
-        ),
-        (
-            "{\"\u{ff5e}\":1,\"\\ud800\\udc00\":2,\"z\":3}",
-            "z:3 \u{ff5e}:1 \u{10000}:2 ",
-        ),
-    ];
-    for (text, want) in &rows {
-        let node = parsed(alloc, text, &mut scratch)?;
-        let got = in_order(alloc, &node)?;
-        assert!(rt; got.as_str() == *want, "{text} has {got}, and not {want}");
-    }
-    Ok(())
 }
 
 // What each of the four accessors gives.
@@ -147,33 +108,100 @@ fn taken(alloc: Global, node: &Node<'_>) -> Result<String, AllocError> {
     Ok(found)
 }
 
-#[test]
-fn scalars(rt: HostRuntime) -> Result<(), Fail> {
-    let alloc = rt.alloc();
+/// What is asked of a node.
+#[derive(Clone, Copy)]
+enum Asked {
+    /// Its only member.
+    OnlyMember,
+    /// Its members in their order.
+    Order,
+    /// What it is as a scalar.
+    Scalar,
+}
+
+fn answer(alloc: Global, asked: Asked, node: &Node<'_>) -> Result<String, AllocError> {
+    match asked {
+        Asked::OnlyMember => only(alloc, node),
+        Asked::Order => in_order(alloc, node),
+        Asked::Scalar => taken(alloc, node),
+    }
+}
+
+// Each text has the answer that stands beside it.
+fn check(rt: &impl Abort, alloc: Global, asked: Asked, rows: &[(&str, &str)]) -> Result<(), Fail> {
     let mut scratch = Scratch::new(alloc);
-    let rows: [(&str, &str); 14] = [
-        ("null", ""),
-        ("true", "bool true"),
-        ("false", "bool false"),
-        ("\"1\"", "text 1"),
-        ("[1]", ""),
-        ("{}", ""),
-        ("0", "u64 0 i64 0 "),
-        (
-            "9223372036854775807",
-            "u64 9223372036854775807 i64 9223372036854775807 ",
-        ),
-        ("9223372036854775808", "u64 9223372036854775808 "),
-        ("18446744073709551615", "u64 18446744073709551615 "),
-        ("18446744073709551616", ""),
-        ("-9223372036854775808", "i64 -9223372036854775808 "),
-        ("-9223372036854775809", ""),
-        ("1.0", ""),
-    ];
-    for (text, want) in &rows {
+    for (text, want) in rows {
         let node = parsed(alloc, text, &mut scratch)?;
-        let got = taken(alloc, &node)?;
+        let got = answer(alloc, asked, &node)?;
         assert!(rt; got.as_str() == *want, "{text} gives {got}, and not {want}");
     }
     Ok(())
+}
+
+#[test]
+fn only_ones(rt: HostRuntime) -> Result<(), Fail> {
+    check(
+        &rt,
+        rt.alloc(),
+        Asked::OnlyMember,
+        &[
+            ("{}", "none"),
+            ("{\"a\":1}", "a 1"),
+            ("{\"a\":1,\"b\":2}", "none"),
+            ("{\"a\":1,\"a\":2}", "a 2"),
+            ("{\"a\":1,\"\\u0061\":2,\"a\":3}", "a 3"),
+            ("{\"a\":1,\"b\":2,\"a\":3}", "none"),
+            ("{\"a\":1,\"a\":2,\"\":3}", "none"),
+        ],
+    )
+}
+
+#[test]
+fn order(rt: HostRuntime) -> Result<(), Fail> {
+    check(
+        &rt,
+        rt.alloc(),
+        Asked::Order,
+        &[
+            ("{}", ""),
+            ("{\"b\":1,\"a\":2}", "a:2 b:1 "),
+            ("{\"a\":1,\"b\":2,\"a\":3}", "a:3 b:2 "),
+            (
+                "{\"a_b\":1,\"ab\":2,\"a\":3,\"a-b\":4,\"a1\":5,\"B\":6,\"\":7}",
+                ":7 B:6 a:3 a-b:4 a1:5 a_b:1 ab:2 ",
+            ),
+            (
+                "{\"\u{ff5e}\":1,\"\\ud800\\udc00\":2,\"z\":3}",
+                "z:3 \u{ff5e}:1 \u{10000}:2 ",
+            ),
+        ],
+    )
+}
+
+#[test]
+fn scalars(rt: HostRuntime) -> Result<(), Fail> {
+    check(
+        &rt,
+        rt.alloc(),
+        Asked::Scalar,
+        &[
+            ("null", ""),
+            ("true", "bool true"),
+            ("false", "bool false"),
+            ("\"1\"", "text 1"),
+            ("[1]", ""),
+            ("{}", ""),
+            ("0", "u64 0 i64 0 "),
+            (
+                "9223372036854775807",
+                "u64 9223372036854775807 i64 9223372036854775807 ",
+            ),
+            ("9223372036854775808", "u64 9223372036854775808 "),
+            ("18446744073709551615", "u64 18446744073709551615 "),
+            ("18446744073709551616", ""),
+            ("-9223372036854775808", "i64 -9223372036854775808 "),
+            ("-9223372036854775809", ""),
+            ("1.0", ""),
+        ],
+    )
 }

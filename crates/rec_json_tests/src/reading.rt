@@ -167,18 +167,14 @@ fn deep(alloc: Global, levels: usize, open: &str, close: &str) -> Result<String,
     Ok(text)
 }
 
-#[test]
-fn nesting(rt: HostRuntime) -> Result<(), Fail> {
-    let alloc = rt.alloc();
+// So many levels are read as what stands beside them.
+fn check_levels(
+    rt: &impl Abort,
+    alloc: Global,
+    rows: &[(usize, &str, &str, &str)],
+) -> Result<(), Fail> {
     let mut scratch = Scratch::new(alloc);
-    let rows: [(usize, &str, &str, &str); 5] = [
-        (127, "[", "]", "list of 1"),
-        (128, "[", "]", "invalid"),
-        (127, "{\"a\":", "}", "object of 1"),
-        (128, "{\"a\":", "}", "invalid"),
-        (100_000, "[", "]", "invalid"),
-    ];
-    for (levels, open, close, want) in &rows {
+    for (levels, open, close, want) in rows {
         let text = deep(alloc, *levels, open, close)?;
         let got = read(alloc, text.as_str(), &mut scratch)?;
         assert!(rt;
@@ -187,6 +183,21 @@ fn nesting(rt: HostRuntime) -> Result<(), Fail> {
         );
     }
     Ok(())
+}
+
+#[test]
+fn nesting(rt: HostRuntime) -> Result<(), Fail> {
+    check_levels(
+        &rt,
+        rt.alloc(),
+        &[
+            (127, "[", "]", "list of 1"),
+            (128, "[", "]", "invalid"),
+            (127, "{\"a\":", "}", "object of 1"),
+            (128, "{\"a\":", "}", "invalid"),
+            (100_000, "[", "]", "invalid"),
+        ],
+    )
 }
 
 // What a value that `serde_json` reads is as a node.
@@ -198,21 +209,28 @@ fn seen(alloc: Global, text: &str) -> Result<String, AllocError> {
     shown(alloc, &node)
 }
 
-#[test]
-fn values(rt: HostRuntime) -> Result<(), Fail> {
-    let alloc = rt.alloc();
-    let rows: [(&str, &str); 7] = [
-        ("null", "null"),
-        ("true", "bool true"),
-        ("-1", "number -1"),
-        ("\"t1\"", "text t1"),
-        ("[0,[[]],{}]", "list of 3"),
-        ("{\"b\":{\"a\":[]},\"a\":1,\"b\":2}", "object of 2"),
-        ("[", "invalid"),
-    ];
-    for (text, want) in &rows {
+// Each text, read by `serde_json`, is the node that stands beside it.
+fn check_values(rt: &impl Abort, alloc: Global, rows: &[(&str, &str)]) -> Result<(), Fail> {
+    for (text, want) in rows {
         let got = seen(alloc, text)?;
         assert!(rt; got.as_str() == *want, "{text} is {got}, and not {want}");
     }
     Ok(())
+}
+
+#[test]
+fn values(rt: HostRuntime) -> Result<(), Fail> {
+    check_values(
+        &rt,
+        rt.alloc(),
+        &[
+            ("null", "null"),
+            ("true", "bool true"),
+            ("-1", "number -1"),
+            ("\"t1\"", "text t1"),
+            ("[0,[[]],{}]", "list of 3"),
+            ("{\"b\":{\"a\":[]},\"a\":1,\"b\":2}", "object of 2"),
+            ("[", "invalid"),
+        ],
+    )
 }

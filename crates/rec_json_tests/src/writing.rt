@@ -31,52 +31,76 @@ fn string(alloc: Global, content: &str) -> Result<JsonText, AllocError> {
     Ok(text)
 }
 
+// Each number is written as what stands beside it.
+fn check_naturals(rt: &impl Abort, alloc: Global, rows: &[(u64, &str)]) -> Result<(), Fail> {
+    for (number, want) in rows {
+        check(rt, natural(alloc, *number)?, want)?;
+    }
+    Ok(())
+}
+
 #[test]
 fn naturals(rt: HostRuntime) -> Result<(), Fail> {
-    let rows: [(u64, &str); 5] = [
-        (0, "0"),
-        (7, "7"),
-        (4_294_967_295, "4294967295"),
-        (9_223_372_036_854_775_808, "9223372036854775808"),
-        (18_446_744_073_709_551_615, "18446744073709551615"),
-    ];
-    for (number, want) in &rows {
-        check(&rt, natural(rt.alloc(), *number)?, want)?;
+    check_naturals(
+        &rt,
+        rt.alloc(),
+        &[
+            (0, "0"),
+            (7, "7"),
+            (4_294_967_295, "4294967295"),
+            (9_223_372_036_854_775_808, "9223372036854775808"),
+            (18_446_744_073_709_551_615, "18446744073709551615"),
+        ],
+    )
+}
+
+// Each number is written as what stands beside it.
+fn check_integers(rt: &impl Abort, alloc: Global, rows: &[(i64, &str)]) -> Result<(), Fail> {
+    for (number, want) in rows {
+        check(rt, integer(alloc, *number)?, want)?;
     }
     Ok(())
 }
 
 #[test]
 fn integers(rt: HostRuntime) -> Result<(), Fail> {
-    let rows: [(i64, &str); 5] = [
-        (0, "0"),
-        (-1, "-1"),
-        (-2_147_483_648, "-2147483648"),
-        (-9_223_372_036_854_775_808, "-9223372036854775808"),
-        (9_223_372_036_854_775_807, "9223372036854775807"),
-    ];
-    for (number, want) in &rows {
-        check(&rt, integer(rt.alloc(), *number)?, want)?;
+    check_integers(
+        &rt,
+        rt.alloc(),
+        &[
+            (0, "0"),
+            (-1, "-1"),
+            (-2_147_483_648, "-2147483648"),
+            (-9_223_372_036_854_775_808, "-9223372036854775808"),
+            (9_223_372_036_854_775_807, "9223372036854775807"),
+        ],
+    )
+}
+
+// Each string is written as what stands beside it.
+fn check_strings(rt: &impl Abort, alloc: Global, rows: &[(&str, &str)]) -> Result<(), Fail> {
+    for (content, want) in rows {
+        check(rt, string(alloc, content)?, want)?;
     }
     Ok(())
 }
 
 #[test]
 fn strings(rt: HostRuntime) -> Result<(), Fail> {
-    let rows: [(&str, &str); 8] = [
-        ("", "\"\""),
-        ("t1", "\"t1\""),
-        ("a b/c", "\"a b/c\""),
-        ("\"quoted\"", "\"\\\"quoted\\\"\""),
-        ("back\\slash", "\"back\\\\slash\""),
-        ("\n\r\t\u{8}\u{c}", "\"\\n\\r\\t\\b\\f\""),
-        ("\u{0}\u{1b}\u{1f}", "\"\\u0000\\u001b\\u001f\""),
-        ("\u{7f}é\u{1f980}", "\"\u{7f}é\u{1f980}\""),
-    ];
-    for (content, want) in &rows {
-        check(&rt, string(rt.alloc(), content)?, want)?;
-    }
-    Ok(())
+    check_strings(
+        &rt,
+        rt.alloc(),
+        &[
+            ("", "\"\""),
+            ("t1", "\"t1\""),
+            ("a b/c", "\"a b/c\""),
+            ("\"quoted\"", "\"\\\"quoted\\\"\""),
+            ("back\\slash", "\"back\\\\slash\""),
+            ("\n\r\t\u{8}\u{c}", "\"\\n\\r\\t\\b\\f\""),
+            ("\u{0}\u{1b}\u{1f}", "\"\\u0000\\u001b\\u001f\""),
+            ("\u{7f}é\u{1f980}", "\"\u{7f}é\u{1f980}\""),
+        ],
+    )
 }
 
 fn plain_list(alloc: Global) -> Result<JsonText, AllocError> {
@@ -163,6 +187,16 @@ fn lists_and_objects(rt: HostRuntime) -> Result<(), Fail> {
     check(&rt, nothing_inside(alloc)?, "[[],{}]")?;
     check(
         &rt,
+        nested(alloc)?,
+        "{\"fail\":{\"runs\":[1,{\"\\n\":\"\"}]}}",
+    )
+}
+
+#[test]
+fn fields(rt: HostRuntime) -> Result<(), Fail> {
+    let alloc = rt.alloc();
+    check(
+        &rt,
         all_fields(alloc)?,
         "{\"a\":true,\"a-b\":-2,\"a1\":3,\"a_b\":\"four\"}",
     )?;
@@ -172,13 +206,7 @@ fn lists_and_objects(rt: HostRuntime) -> Result<(), Fail> {
         "{\"count\":0,\"name\":\"\",\"z\":1}",
     )?;
     check(&rt, absent_fields(alloc, false)?, "{\"z\":1}")?;
-    check(&rt, map(alloc)?, "{\"\":1,\"a-b\":2,\"a_b\":3}")?;
-    check(
-        &rt,
-        nested(alloc)?,
-        "{\"fail\":{\"runs\":[1,{\"\\n\":\"\"}]}}",
-    )?;
-    Ok(())
+    check(&rt, map(alloc)?, "{\"\":1,\"a-b\":2,\"a_b\":3}")
 }
 
 #[test]
@@ -197,22 +225,25 @@ fn sample(alloc: Global, limit: Option<u64>) -> Result<Sample, AllocError> {
     })
 }
 
+// The text of a sample with this limit.
+fn text_of_sample(alloc: Global, limit: Option<u64>) -> Result<String, AllocError> {
+    let sample = sample(alloc, limit)?;
+    let text = sample_text(alloc, &sample);
+    drop(sample);
+    text
+}
+
 #[test]
 fn samples(rt: HostRuntime) -> Result<(), Fail> {
     let alloc = rt.alloc();
-    let rows: [(Option<u64>, &str); 2] = [
-        (
-            Some(7),
-            "{\"counts\":[0,18446744073709551615],\"label\":\"a\\tb\",\"limit\":7,\"shift\":-1}",
-        ),
-        (
-            None,
-            "{\"counts\":[0,18446744073709551615],\"label\":\"a\\tb\",\"shift\":-1}",
-        ),
-    ];
-    for (limit, want) in &rows {
-        let got = sample_text(alloc, &sample(alloc, *limit)?)?;
-        assert!(rt; got.as_str() == *want, "{got} was written, and not {want}");
-    }
+    let got = text_of_sample(alloc, Some(7))?;
+    assert!(rt;
+        got.as_str()
+            == "{\"counts\":[0,18446744073709551615],\"label\":\"a\\tb\",\"limit\":7,\"shift\":-1}"
+    );
+    let got = text_of_sample(alloc, None)?;
+    assert!(rt;
+        got.as_str() == "{\"counts\":[0,18446744073709551615],\"label\":\"a\\tb\",\"shift\":-1}"
+    );
     Ok(())
 }
