@@ -71,16 +71,44 @@ fn a_store_without_outputs_has_its_size(rt: HostRuntime) -> Result<(), Fail> {
     Ok(())
 }
 
+/// Whether log and store of finished tests with these outputs have these sizes.
+fn have_sizes<N: OutputNamer>(
+    alloc: Global,
+    namer: &N,
+    max_size: u64,
+    outputs: &[&str],
+    sizes: &str,
+) -> Result<bool, Fail> {
+    let left = finished_tests(alloc, namer, max_size, outputs)?;
+    Ok(left.sizes.as_str() == sizes)
+}
+
 #[test]
 fn log_and_store_have_their_sizes(rt: HostRuntime) -> Result<(), Fail> {
     let alloc = rt.alloc();
-    let left = finished_tests(alloc, &Sha256Namer, 100, &[abc(), abc_as_stderr()])?;
-    assert!(rt; left.sizes.as_str() == "2119 2119 2, 91 6 2, 2210 2125");
-    let left = finished_tests(alloc, &Sha256Namer, 3, &[abc(), abcd()])?;
-    assert!(rt; left.sizes.as_str() == "2139 2139 2, 119 34 2, 2258 2173");
+    let twice = &[abc(), abc_as_stderr()];
+    assert!(rt;
+        have_sizes(
+            alloc,
+            &Sha256Namer,
+            100,
+            twice,
+            "2119 2119 2, 91 6 2, 2210 2125"
+        )?
+    );
+    let cut = &[abc(), abcd()];
+    assert!(rt;
+        have_sizes(
+            alloc,
+            &Sha256Namer,
+            3,
+            cut,
+            "2139 2139 2, 119 34 2, 2258 2173"
+        )?
+    );
     let zero = ConstantNamer { number: 0 };
-    let left = finished_tests(alloc, &zero, 100, &[abc(), hello()])?;
-    assert!(rt; left.sizes.as_str() == "1051 1051 1, 50 3 1, 1101 1054");
+    let clash = &[abc(), hello()];
+    assert!(rt; have_sizes(alloc, &zero, 100, clash, "1051 1051 1, 50 3 1, 1101 1054")?);
     Ok(())
 }
 
@@ -148,15 +176,23 @@ fn outputs_stand_under_their_numbers(rt: HostRuntime) -> Result<(), Fail> {
     Ok(())
 }
 
+/// Whether an event of this text, one of whose outputs is not loaded, is refused, and leaves what the one
+/// before it left.
+fn leaves_all(alloc: Global, text: &str) -> Result<bool, Fail> {
+    let calls = [Call::Event(script()), Call::Unloaded(text)];
+    let left = recorded(alloc, &Setup::sound(&Sha256Namer, 100), &calls)?;
+    Ok(
+        left.answers.as_str() == "accepted\nan output is not loaded\nsound"
+            && left.store.as_str() == abc_in_store()
+            && left.log.as_str() == script_line(),
+    )
+}
+
 #[test]
 fn an_output_that_is_not_loaded_leaves_all_as_it_was(rt: HostRuntime) -> Result<(), Fail> {
     let alloc = rt.alloc();
-    for text in [script(), failed_attempt(), two_attempts()] {
-        let calls = [Call::Event(script()), Call::Unloaded(text)];
-        let left = recorded(alloc, &Setup::sound(&Sha256Namer, 100), &calls)?;
-        assert!(rt; left.answers.as_str() == "accepted\nan output is not loaded\nsound");
-        assert!(rt; left.store.as_str() == abc_in_store());
-        assert!(rt; left.log.as_str() == script_line());
-    }
+    assert!(rt; leaves_all(alloc, script())?);
+    assert!(rt; leaves_all(alloc, failed_attempt())?);
+    assert!(rt; leaves_all(alloc, two_attempts())?);
     Ok(())
 }

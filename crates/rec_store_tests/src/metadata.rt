@@ -1,9 +1,17 @@
 //! Metadata, and what a fault leaves.
 
-use crate::helpers::{Call, Setup, recorded};
+use crate::helpers::{Call, Left, Setup, recorded};
 use crate::texts::{started, stored_text};
 use rec_store::Sha256Namer;
+use std::process::Abort;
 use std::test::Fail;
+
+// Calls answered so, and left these sizes, and a log without bytes.
+fn check(rt: &impl Abort, left: &Left, answers: &str, sizes: &str) {
+    assert!(rt; left.answers.as_str() == answers);
+    assert!(rt; left.sizes.as_str() == sizes);
+    assert!(rt; left.log.is_empty());
+}
 
 fn one_collides() -> &'static str {
     "accepted\naccepted\naccepted\naccepted\nother bytes are stored under meta/cargo-metadata.json\nsound"
@@ -20,10 +28,8 @@ fn equal_metadata_changes_nothing_and_other_is_refused(rt: HostRuntime) -> Resul
         Call::Meta("[]"),
     ];
     let left = recorded(alloc, &Setup::sound(&Sha256Namer, 10), &calls)?;
-    assert!(rt; left.answers.as_str() == one_collides());
-    assert!(rt; left.sizes.as_str() == "0 0 0, 1066 897 5, 1066 897");
+    check(&rt, &left, one_collides(), "0 0 0, 1066 897 5, 1066 897");
     assert!(rt; left.store.as_str() == stored_text());
-    assert!(rt; left.log.is_empty());
     Ok(())
 }
 
@@ -42,8 +48,12 @@ fn nothing_is_written_after_a_fault_of_the_store(rt: HostRuntime) -> Result<(), 
         log_fails: 0,
     };
     let left = recorded(alloc, &setup, &[Call::Scope, Call::Meta("{}"), Call::Scope])?;
-    assert!(rt; left.answers.as_str() == nothing_after_the_store());
-    assert!(rt; left.sizes.as_str() == "an earlier write failed");
+    check(
+        &rt,
+        &left,
+        nothing_after_the_store(),
+        "an earlier write failed",
+    );
     Ok(())
 }
 
@@ -63,9 +73,12 @@ fn nothing_is_written_after_a_fault_of_the_log(rt: HostRuntime) -> Result<(), Fa
     let event = Call::Event(started());
     let calls = [event, event, Call::Scope, Call::Rerun, Call::Meta("{}")];
     let left = recorded(alloc, &setup, &calls)?;
-    assert!(rt; left.answers.as_str() == nothing_after_the_log());
-    assert!(rt; left.sizes.as_str() == "an earlier write failed");
-    assert!(rt; left.log.is_empty());
+    check(
+        &rt,
+        &left,
+        nothing_after_the_log(),
+        "an earlier write failed",
+    );
     // The store has no end mark either.
     assert!(rt; left.store.as_str() == "0 bytes without an end");
     Ok(())

@@ -6,6 +6,7 @@ use rec_events::{RecordingSpec, TestEventSummary};
 use rec_store::named_outputs;
 use serde_json::Value;
 use std::alloc::Global;
+use std::process::Abort;
 use std::test::Fail;
 
 /// The names of the outputs in a line of a log, with a space behind each.
@@ -22,21 +23,30 @@ fn names_in(alloc: Global, line: &str) -> Result<String, Fail> {
     Ok(text)
 }
 
+// The line names these outputs.
+fn check(rt: &impl Abort, alloc: Global, line: &str, names: &str) -> Result<(), Fail> {
+    let found = names_in(alloc, line)?;
+    assert!(rt; found.as_str() == names, "{found}, and not {names}");
+    Ok(())
+}
+
 #[test]
 fn events_name_the_outputs_of_their_attempts(rt: HostRuntime) -> Result<(), Fail> {
     let alloc = rt.alloc();
-    for (line, names) in [
-        (paused_line(), ""),
-        (script_line(), "ba7816bf8f01cfea-stdout "),
-        (failed_attempt_line(), "2cf24dba5fb0a30e-combined "),
-        (
-            two_attempts_line(),
-            "ba7816bf8f01cfea-stdout 486ea46224d1bb4f-stdout ",
-        ),
-    ] {
-        assert!(rt; names_in(alloc, line)?.as_str() == names, "{names}");
-    }
-    Ok(())
+    check(&rt, alloc, paused_line(), "")?;
+    check(&rt, alloc, script_line(), "ba7816bf8f01cfea-stdout ")?;
+    check(
+        &rt,
+        alloc,
+        failed_attempt_line(),
+        "2cf24dba5fb0a30e-combined ",
+    )?;
+    check(
+        &rt,
+        alloc,
+        two_attempts_line(),
+        "ba7816bf8f01cfea-stdout 486ea46224d1bb4f-stdout ",
+    )
 }
 
 // Standard error comes first in the text.
@@ -52,22 +62,21 @@ fn not_started() -> &'static str {
     r#"{"start-error":"no such file"}"#
 }
 
+// A finished test with this output names these outputs.
+fn check_output(rt: &impl Abort, alloc: Global, output: &str, names: &str) -> Result<(), Fail> {
+    let line = lines(alloc, &[output])?;
+    check(rt, alloc, line.as_str(), names)
+}
+
 #[test]
 fn only_outputs_with_bytes_have_names(rt: HostRuntime) -> Result<(), Fail> {
     let alloc = rt.alloc();
-    for (output, names) in [
-        (
-            both_streams(),
-            "0000000000000007-stdout 0000000000000007-stderr ",
-        ),
-        (nothing_written(), ""),
-        (not_started(), ""),
-    ] {
-        let line = lines(alloc, &[output])?;
-        assert!(rt;
-            names_in(alloc, line.as_str())?.as_str() == names,
-            "{names}"
-        );
-    }
-    Ok(())
+    check_output(
+        &rt,
+        alloc,
+        both_streams(),
+        "0000000000000007-stdout 0000000000000007-stderr ",
+    )?;
+    check_output(&rt, alloc, nothing_written(), "")?;
+    check_output(&rt, alloc, not_started(), "")
 }

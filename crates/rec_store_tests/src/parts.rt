@@ -11,7 +11,8 @@ use rec_store::RecordReadError;
 use rec_store::parts::{
     extract_entry, read_metadata, read_output, read_rerun_info, read_text_entry,
 };
-use std::alloc::Global;
+use std::alloc::{AllocError, Global};
+use std::process::Abort;
 use std::test::Fail;
 
 /// A content for each metadata entry: record options, and then scope, list and what it is a rerun of.
@@ -61,23 +62,41 @@ fn add_line<T: Drop>(
 fn parts_text(alloc: Global, store: &[u8], limit: u64) -> Result<String, Fail> {
     let entries = Container::parse(alloc, store)?;
     let mut text = String::new(alloc);
-    let cargo = read_text_entry(alloc, &entries, limit, CARGO_METADATA_JSON_PATH);
-    add_line(alloc, &mut text, cargo)?;
-    let opts = read_metadata::<RecordOpts>(alloc, &entries, limit, RECORD_OPTS_JSON_PATH);
-    add_line(alloc, &mut text, opts)?;
-    let scope = read_metadata::<RecordedBuildScope>(alloc, &entries, limit, BUILD_SCOPE_JSON_PATH);
-    add_line(alloc, &mut text, scope)?;
-    let list = read_metadata::<TestListSummary>(alloc, &entries, limit, TEST_LIST_JSON_PATH);
-    add_line(alloc, &mut text, list)?;
-    let rerun = read_rerun_info(alloc, &entries, limit);
-    add_line(alloc, &mut text, rerun)?;
-    add_line(
-        alloc,
-        &mut text,
-        read_output(alloc, &entries, limit, "1-stdout"),
-    )?;
-    add_line(alloc, &mut text, read_output(alloc, &entries, limit, "1"))?;
+    add_items(alloc, &mut text, &entries, limit)?;
+    add_outputs(alloc, &mut text, &entries, limit)?;
     Ok(text)
+}
+
+/// Adds a line for each part of the metadata.
+fn add_items(
+    alloc: Global,
+    text: &mut String,
+    entries: &Container<'_>,
+    limit: u64,
+) -> Result<(), Fail> {
+    let cargo = read_text_entry(alloc, entries, limit, CARGO_METADATA_JSON_PATH);
+    add_line(alloc, text, cargo)?;
+    let opts = read_metadata::<RecordOpts>(alloc, entries, limit, RECORD_OPTS_JSON_PATH);
+    add_line(alloc, text, opts)?;
+    let scope = read_metadata::<RecordedBuildScope>(alloc, entries, limit, BUILD_SCOPE_JSON_PATH);
+    add_line(alloc, text, scope)?;
+    let list = read_metadata::<TestListSummary>(alloc, entries, limit, TEST_LIST_JSON_PATH);
+    add_line(alloc, text, list)?;
+    let rerun = read_rerun_info(alloc, entries, limit);
+    add_line(alloc, text, rerun)
+}
+
+/// Adds a line for each of two outputs.
+fn add_outputs(
+    alloc: Global,
+    text: &mut String,
+    entries: &Container<'_>,
+    limit: u64,
+) -> Result<(), Fail> {
+    let named = read_output(alloc, entries, limit, "1-stdout");
+    add_line(alloc, text, named)?;
+    let nameless = read_output(alloc, entries, limit, "1");
+    add_line(alloc, text, nameless)
 }
 
 fn all_read() -> &'static str {
@@ -174,79 +193,77 @@ fn extracted(alloc: Global, path: &str, fails: u64) -> Result<String, Fail> {
     }
 }
 
-#[test]
-fn an_entry_is_extracted(rt: HostRuntime) -> Result<(), Fail> {
-    let text = extracted(rt.alloc(), "out/1", 0)?;
-    assert_eq!(rt; text.as_str(), "2: hi");
-    let text = extracted(rt.alloc(), "out/1", 2)?;
-    assert_eq!(rt; text.as_str(), "writing the entry out/1 failed: h");
-    let text = extracted(rt.alloc(), "out/2", 0)?;
-    assert_eq!(rt; text.as_str(), "the store has no entry out/2: ");
+// What is extracted of a path into a sink whose call of this number fails is as it says.
+fn check_extracted(rt: &impl Abort, alloc: Global, rows: &[(&str, u64, &str)]) -> Result<(), Fail> {
+    for (path, fails, want) in rows {
+        let text = extracted(alloc, path, *fails)?;
+        assert!(rt; text.as_str() == *want, "{text}");
+    }
     Ok(())
 }
 
-/// The path that an error names.
-fn path(alloc: Global) -> Result<Text, Fail> {
-    Ok(Text::from_str(alloc, "p")?)
+#[test]
+fn an_entry_is_extracted(rt: HostRuntime) -> Result<(), Fail> {
+    check_extracted(
+        &rt,
+        rt.alloc(),
+        &[
+            ("out/1", 0, "2: hi"),
+            ("out/1", 2, "writing the entry out/1 failed: h"),
+            ("out/2", 0, "the store has no entry out/2: "),
+        ],
+    )
 }
 
-/// What an error says.
-fn said(alloc: Global, error: RecordReadError) -> Result<String, Fail> {
-    Ok(format!(in alloc; "{error}")?)
+/// The path that an error names.
+fn path(alloc: Global) -> Result<Text, AllocError> {
+    Text::from_str(alloc, "p")
+}
+
+// The error says this.
+fn check_said(
+    rt: &impl Abort,
+    alloc: Global,
+    error: RecordReadError,
+    want: &str,
+) -> Result<(), Fail> {
+    let text = format!(in alloc; "{error}");
+    drop(error);
+    let text = text?;
+    assert!(rt; text.as_str() == want, "{text}");
+    Ok(())
 }
 
 #[test]
 fn errors_say_their_path(rt: HostRuntime) -> Result<(), Fail> {
-    let path_of_run = path(rt.alloc())?;
-    let text = said(
-        rt.alloc(),
-        RecordReadError::RunNotFound { path: path_of_run },
-    )?;
-    assert_eq!(rt; text.as_str(), "there is no run at p");
-    let path_of_store = path(rt.alloc())?;
-    let text = said(
-        rt.alloc(),
-        RecordReadError::OpenArchive {
-            path: path_of_store,
-        },
-    )?;
-    assert_eq!(rt; text.as_str(), "there is no store at p");
-    let path_of_log = path(rt.alloc())?;
-    let text = said(
-        rt.alloc(),
-        RecordReadError::OpenRunLog { path: path_of_log },
-    )?;
-    assert_eq!(rt; text.as_str(), "there is no event log at p");
-    Ok(())
+    let alloc = rt.alloc();
+    let error = RecordReadError::RunNotFound { path: path(alloc)? };
+    check_said(&rt, alloc, error, "there is no run at p")?;
+    let error = RecordReadError::OpenArchive { path: path(alloc)? };
+    check_said(&rt, alloc, error, "there is no store at p")?;
+    let error = RecordReadError::OpenRunLog { path: path(alloc)? };
+    check_said(&rt, alloc, error, "there is no event log at p")
 }
 
 #[test]
 fn errors_say_what_failed(rt: HostRuntime) -> Result<(), Fail> {
-    let path_of_disk = path(rt.alloc())?;
-    let text = said(
-        rt.alloc(),
-        RecordReadError::DiskFault { path: path_of_disk },
-    )?;
-    assert_eq!(rt; text.as_str(), "the disk failed at p");
+    let alloc = rt.alloc();
+    let error = RecordReadError::DiskFault { path: path(alloc)? };
+    check_said(&rt, alloc, error, "the disk failed at p")?;
     let error = RecordReadError::ParseArchive {
-        path: path(rt.alloc())?,
+        path: path(alloc)?,
         fault: ContainerError::BadTag { at: 8 },
     };
-    let text = said(rt.alloc(), error)?;
-    assert_eq!(rt;
-        text.as_str(),
-        "the store at p is no container: no tag at byte 8"
-    );
-    Ok(())
+    let want = "the store at p is no container: no tag at byte 8";
+    check_said(&rt, alloc, error, want)
 }
 
 #[test]
 fn errors_say_their_line(rt: HostRuntime) -> Result<(), Fail> {
-    let text = said(rt.alloc(), RecordReadError::ReadRunLog { line_number: 7 })?;
-    assert_eq!(rt; text.as_str(), "line 7 isn't UTF-8");
-    let text = said(rt.alloc(), RecordReadError::ParseEvent { line_number: 8 })?;
-    assert_eq!(rt; text.as_str(), "line 8 is no event");
-    let text = said(rt.alloc(), RecordReadError::OutOfMemory)?;
-    assert_eq!(rt; text.as_str(), "out of memory");
-    Ok(())
+    let alloc = rt.alloc();
+    let error = RecordReadError::ReadRunLog { line_number: 7 };
+    check_said(&rt, alloc, error, "line 7 isn't UTF-8")?;
+    let error = RecordReadError::ParseEvent { line_number: 8 };
+    check_said(&rt, alloc, error, "line 8 is no event")?;
+    check_said(&rt, alloc, RecordReadError::OutOfMemory, "out of memory")
 }
