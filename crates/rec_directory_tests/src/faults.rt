@@ -4,6 +4,7 @@ use crate::asking::{Part, events_of, fault_text, open, part_read, store_of};
 use crate::texts::{log_text, scope_text};
 use rec_container::MemoryDisk;
 use std::alloc::Global;
+use std::process::Abort;
 use std::test::Fail;
 
 /// What is answered where the call of this number fails: opening, reading a part twice, and the events twice.
@@ -23,46 +24,51 @@ fn answers(alloc: Global, store: &[u8], number: u64) -> Result<String, Fail> {
     }
 }
 
-fn rows() -> [(u64, &'static str); 8] {
-    [
-        (1, "the disk failed at r"),
-        (
-            2,
-            "the disk failed at r/store.zip\n{}\nevent. line 3 is no event. event. \nevent. line 3 is no event. event. ",
-        ),
-        (
-            3,
-            "the disk failed at r/store.zip\n{}\nevent. line 3 is no event. event. \nevent. line 3 is no event. event. ",
-        ),
-        (
-            4,
-            "{}\n{}\nthe disk failed at r/run.log.zst\nevent. line 3 is no event. event. ",
-        ),
-        (
-            5,
-            "{}\n{}\nthe disk failed at r/run.log.zst. \nevent. line 3 is no event. event. ",
-        ),
-        (
-            6,
-            "{}\n{}\nevent. line 3 is no event. event. \nthe disk failed at r/run.log.zst",
-        ),
-        (
-            7,
-            "{}\n{}\nevent. line 3 is no event. event. \nthe disk failed at r/run.log.zst. ",
-        ),
-        (
-            8,
-            "{}\n{}\nevent. line 3 is no event. event. \nevent. line 3 is no event. event. ",
-        ),
-    ]
+// Where the call of this number fails, what stands beside it is answered.
+fn check(rt: &impl Abort, alloc: Global, rows: &[(u64, &str)]) -> Result<(), Fail> {
+    let store = store_of(alloc, scope_text())?;
+    for (number, want) in rows {
+        let answer = answers(alloc, &store, *number)?;
+        assert!(rt; answer.as_str() == *want, "{number}: {answer}");
+    }
+    Ok(())
 }
 
 #[test]
 fn each_call_may_fail(rt: HostRuntime) -> Result<(), Fail> {
-    let store = store_of(rt.alloc(), scope_text())?;
-    for (number, want) in rows() {
-        let answer = answers(rt.alloc(), &store, number)?;
-        assert!(rt; answer.as_str() == want, "{number}: {answer}");
-    }
-    Ok(())
+    check(
+        &rt,
+        rt.alloc(),
+        &[
+            (1, "the disk failed at r"),
+            (
+                2,
+                "the disk failed at r/store.zip\n{}\nevent. line 3 is no event. event. \nevent. line 3 is no event. event. ",
+            ),
+            (
+                3,
+                "the disk failed at r/store.zip\n{}\nevent. line 3 is no event. event. \nevent. line 3 is no event. event. ",
+            ),
+            (
+                4,
+                "{}\n{}\nthe disk failed at r/run.log.zst\nevent. line 3 is no event. event. ",
+            ),
+            (
+                5,
+                "{}\n{}\nthe disk failed at r/run.log.zst. \nevent. line 3 is no event. event. ",
+            ),
+            (
+                6,
+                "{}\n{}\nevent. line 3 is no event. event. \nthe disk failed at r/run.log.zst",
+            ),
+            (
+                7,
+                "{}\n{}\nevent. line 3 is no event. event. \nthe disk failed at r/run.log.zst. ",
+            ),
+            (
+                8,
+                "{}\n{}\nevent. line 3 is no event. event. \nevent. line 3 is no event. event. ",
+            ),
+        ],
+    )
 }

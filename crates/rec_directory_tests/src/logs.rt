@@ -3,6 +3,7 @@
 use crate::asking::{events_of, open};
 use rec_container::{Disk, DiskError};
 use std::alloc::Global;
+use std::process::Abort;
 use std::test::Fail;
 
 /// A disk whose one file has this length, and then these bytes, or is gone.
@@ -53,20 +54,6 @@ impl Disk for ChangingDisk {
     }
 }
 
-fn rows() -> [(u64, Option<&'static [u8]>, &'static str); 5] {
-    [
-        (2, Some(b"x\ny\nz\n"), "line 1 is no event. "),
-        (
-            5,
-            Some(b"x\ny\nz\n"),
-            "line 1 is no event. line 2 is no event. line 3 is no event. ",
-        ),
-        (9, Some(b"x\ny"), "line 1 is no event. line 2 is no event. "),
-        (9, None, "there is no event log at r/run.log.zst. "),
-        (0, None, ""),
-    ]
-}
-
 /// The items of the log.
 fn items(alloc: Global, len: u64, bytes: Option<&'static [u8]>) -> Result<String, Fail> {
     let mut disk = ChangingDisk { len, bytes };
@@ -74,11 +61,41 @@ fn items(alloc: Global, len: u64, bytes: Option<&'static [u8]>) -> Result<String
     events_of(alloc, &mut reader)
 }
 
+// A log of this length, and then of these bytes, has the items that stand beside it.
+fn check(
+    rt: &impl Abort,
+    alloc: Global,
+    rows: &[(u64, &'static [u8], &'static str)],
+) -> Result<(), Fail> {
+    for (len, bytes, want) in rows {
+        let answer = items(alloc, *len, Some(bytes))?;
+        assert!(rt; answer.as_str() == *want, "{len}: {answer}");
+    }
+    Ok(())
+}
+
 #[test]
 fn a_log_is_read_up_to_the_length_that_it_had(rt: HostRuntime) -> Result<(), Fail> {
-    for (len, bytes, want) in rows() {
-        let answer = items(rt.alloc(), len, bytes)?;
-        assert!(rt; answer.as_str() == want, "{len}: {answer}");
-    }
+    check(
+        &rt,
+        rt.alloc(),
+        &[
+            (2, b"x\ny\nz\n", "line 1 is no event. "),
+            (
+                5,
+                b"x\ny\nz\n",
+                "line 1 is no event. line 2 is no event. line 3 is no event. ",
+            ),
+            (9, b"x\ny", "line 1 is no event. line 2 is no event. "),
+        ],
+    )
+}
+
+#[test]
+fn a_log_that_is_gone_is_missed_where_it_had_bytes(rt: HostRuntime) -> Result<(), Fail> {
+    let answer = items(rt.alloc(), 9, None)?;
+    assert_eq!(rt; answer.as_str(), "there is no event log at r/run.log.zst. ");
+    let answer = items(rt.alloc(), 0, None)?;
+    assert_eq!(rt; answer.as_str(), "");
     Ok(())
 }
