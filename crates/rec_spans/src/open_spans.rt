@@ -1,5 +1,5 @@
 //! The spans that are open at once.
-ghost use Rattle.std.specs.Prelude.{◌≡◌, [], false, Some, not, OnOk, OnErr, option_copied, option_to_list, slice_get};
+ghost use Rattle.std.specs.Prelude.{◌≡◌, [], length, false, Some, not, OnOk, OnErr, option_copied, option_to_list, slice_get};
 ghost use Rattle.rec_spans.specs.declared.spans.Place.TheVariants as places;
 ghost use Rattle.rec_spans.specs.declared.spans.SpanKey.TheVariants as keys;
 ghost use Rattle.rec_spans.specs.Past.{in_place, of_key, put_in, without};
@@ -56,6 +56,13 @@ impl OpenSpans {
         ensures { result ≡ self.now }
     {
         self.spans.values()
+    }
+
+    /// Returns how many spans are open.
+    pub fn len(&self) -> usize
+        ensures { result ≡ length self.now }
+    {
+        self.spans.len()
     }
 
     /// Returns the span of the run, where it is open.

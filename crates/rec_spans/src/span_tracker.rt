@@ -1,5 +1,5 @@
 //! Tracks the spans of a run, event by event: an event is judged first, and then committed.
-ghost use Rattle.std.specs.Prelude.{◌≡◌, suc, IfOk};
+ghost use Rattle.std.specs.Prelude.{◌≡◌, suc, length, IfOk};
 ghost use Rattle.rec_events.specs.Times.{micros};
 ghost use Rattle.rec_spans.specs.History.{initial_state};
 ghost use Rattle.rec_spans.specs.Judged.{IsJudged};
@@ -81,6 +81,13 @@ impl SpanTracker {
         ensures { result.now ≡ self.now.spans }
     {
         &self.open_spans
+    }
+
+    /// Returns how many binaries have started an attempt.
+    pub fn binary_count(&self) -> usize
+        ensures { result ≡ length self.now.binaries }
+    {
+        self.binaries.len()
     }
 
     /// Returns the number of the next flow, which is how many attempts failed.

@@ -1,8 +1,11 @@
 -- The maps of rows and of tests, as the definitions see them, and what their changes leave.
 use Rattle.std.proofs.Common.{◌≡◌, ◌==◌, ◌&&◌, ◌||◌, Bool, true, false, not, cond, Option, None, Some, IsSome, is_some, option_and_then, unwrap_or, refl, sym, ◌∙◌, ap, subst}
 use Rattle.std.proofs.lemmas.Bool.{false≢true}
-use Rattle.std.specs.BTreeMap.{BTreeMap, UpdatesBy, get_by, is_at}
-use Rattle.std.specs.Map.{lookup}
+use Rattle.std.proofs.lemmas.Map.Entries.{option_filter}
+use Rattle.std.proofs.lemmas.Map.Keys.{IsDistinct-from_sorted}
+use Rattle.std.specs.BTreeMap.{BTreeMap, IsOrdered, UpdatesBy, get_by, is_at}
+use Rattle.std.specs.List.{IsDistinct}
+use Rattle.std.specs.Map.{keys_of, lookup}
 use Rattle.std.specs.Ordering.{is_eq, nat_cmp}
 use Rattle.rec_events.proofs.TestOrder.{is_eq-then, same_test, test_eq-self, test_eq-true, tests_at}
 use Rattle.rec_events.specs.contracts.instances.OwnedTestInstanceIdOrd.TheImpl as tests
@@ -43,6 +46,16 @@ rows_at : (λ (a b : Row). is_at (rows.cmp-value.it a) b) ≡ row_eq
 rows_at = λ i a b. same_row a b i
 
 -- ---- rows
+
+-- the rows of a map are there once each
+pub rows-once : (m : BTreeMap Row Bool) → IsOrdered rows.cmp-value.it m → IsDistinct row_eq (keys_of m.entries)
+rows-once m h = subst (λ eq. IsDistinct eq (keys_of m.entries)) rows_at (IsDistinct-from_sorted rows.cmp-value.it (keys_of m.entries) h)
+
+-- a row whose entry says so was named
+pub row-passes : (o : Option Bool) → is_some (option_filter (λ b. b) o) ≡ unwrap_or o false
+row-passes None = refl
+row-passes (Some true) = refl
+row-passes (Some false) = refl
 
 -- what a map has at a row
 row-get : (m : BTreeMap Row Bool) (r : Row) → get_by (rows.cmp-value.it r) m ≡ lookup (row_eq r) m.entries
@@ -92,6 +105,19 @@ row-forgotten r m n changed unnamed q =
     go false h = refl
 
 -- ---- tests
+
+-- the tests of a map are there once each
+pub tests-once : (m : BTreeMap OwnedTestInstanceId TestNotes) → IsOrdered tests.cmp-value.it m → IsDistinct test_eq (keys_of m.entries)
+tests-once m h = subst (λ eq. IsDistinct eq (keys_of m.entries)) tests_at (IsDistinct-from_sorted tests.cmp-value.it (keys_of m.entries) h)
+
+-- a test whose notes have an arrow has one pending
+pub test-passes : (o : Option TestNotes) → is_some (option_filter (λ (n : TestNotes). is_some n.arrow) o) ≡ is_some (option_and_then (λ (n : TestNotes). n.arrow) o)
+test-passes None = refl
+test-passes (Some n) = go (is_some n.arrow)
+  where
+    go : (b : Bool) → is_some (cond b (Some n) None) ≡ b
+    go true = refl
+    go false = refl
 
 -- what a map has at a test
 pub test-get : (m : BTreeMap OwnedTestInstanceId TestNotes) (t : OwnedTestInstanceId) → get_by (tests.cmp-value.it t) m ≡ lookup (test_eq t) m.entries

@@ -2,6 +2,7 @@ pub mod Arrows
 pub mod ArrowsDrawn
 pub mod ArrowsPaired
 pub mod Converting
+pub mod Counting
 pub mod DrawingSteps
 pub mod Groupings
 pub mod HandedOn

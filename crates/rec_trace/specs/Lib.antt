@@ -13,5 +13,6 @@ pub mod Standing
 pub mod Steps
 pub mod Targets
 pub mod Building
+pub mod Held
 pub mod Traces
 pub mod Converting

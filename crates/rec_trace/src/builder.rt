@@ -6,6 +6,7 @@ ghost use Rattle.rec_spans.specs.declared.settings.ChromeTraceGroupBy.{ChromeTra
 ghost use Rattle.rec_spans.specs.Plain.{PlainEvent, plain};
 ghost use Rattle.rec_trace.specs.Building.{HandsOn, HandsOver, Processes, TargetCause};
 ghost use Rattle.rec_trace.specs.declared.tracer.Tracer.{Tracer};
+ghost use Rattle.rec_trace.specs.Held.{IsHeld};
 ghost use Rattle.rec_trace.specs.Histories.{known_of};
 ghost use Rattle.rec_trace.specs.KnownNews.{HasRoom};
 ghost use Rattle.rec_trace.specs.Steps.{IsNumbered, IsPrepared};
@@ -143,6 +144,15 @@ impl<'t, T: TraceTarget> TraceBuilder<'t, T> {
         ensures { result ≡ self.now.handing.failed }
     {
         self.handing.failed
+    }
+
+    /// Counts what is kept of the events so far: the open spans, the rows and processes that were named, the arrows
+    /// that are pending, and where tests are grouped by binary, the binaries that have started an attempt. It is at
+    /// most the greatest usize. To count takes as long as there is much to count.
+    pub fn held(&self) -> usize
+        ensures { (g : ChromeTraceGroupBy) (version : Parts) (events : List PlainEvent) → HandsOn g version events self.now.handing → IsHeld g events result }
+    {
+        self.handing.tracer.held()
     }
 
     /// Ends the trace, and returns what it says of the run beside its events: the version of the runner, and the

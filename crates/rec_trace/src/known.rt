@@ -1,6 +1,9 @@
 //! What earlier events decide of the trace events of the next one.
-ghost use Rattle.std.specs.Prelude.{◌≡◌, IfOk, OnOk, option_copied};
+ghost use Rattle.std.specs.Prelude.{◌≡◌, is_some, IfOk, OnOk, option_copied};
+ghost use Rattle.rec_events.specs.Tests.{test_eq};
+ghost use Rattle.rec_spans.specs.Keys.{row_eq};
 ghost use Rattle.rec_spans.specs.Plain.{plain_kind};
+ghost use Rattle.rec_trace.specs.Held.{IsCountOf};
 ghost use Rattle.rec_trace.specs.Known.{SameKnown, nothing_known};
 ghost use Rattle.rec_trace.specs.KnownNews.{HasRoom, Tells, known_in, known_with};
 
@@ -74,6 +77,20 @@ impl Known {
         ensures { result ≡ (known_in self.now).arrow test.now }
     {
         self.notes.arrow(test)
+    }
+
+    /// Counts the rows that were named.
+    pub fn named(&self) -> usize
+        ensures { IsCountOf row_eq (known_in self.now).is_named result }
+    {
+        self.names.count()
+    }
+
+    /// Counts the tests of which an arrow is pending.
+    pub fn pending(&self) -> usize
+        ensures { IsCountOf test_eq (λ test. is_some ((known_in self.now).arrow test)) result }
+    {
+        self.notes.pending()
     }
 
     /// Takes all memory that it takes to know of an event, which has this next flow number and starts this

@@ -5,9 +5,10 @@ ghost use Rattle.semver.specs.Parse.{Parts};
 ghost use Rattle.serde_json.specs.View.{view};
 ghost use Rattle.rec_spans.specs.Judged.{IsJudged};
 ghost use Rattle.rec_spans.specs.Kinds.{trace_input};
-ghost use Rattle.rec_spans.specs.Plain.{plain};
+ghost use Rattle.rec_spans.specs.Plain.{PlainEvent, plain};
 ghost use Rattle.rec_spans.specs.Refusals.{Judges, next_refusal};
 ghost use Rattle.rec_trace.specs.declared.tracer.Tracer.{Tracer};
+ghost use Rattle.rec_trace.specs.Held.{IsHeld, binaries_held};
 ghost use Rattle.rec_trace.specs.KnownNews.{HasRoom, known_in};
 ghost use Rattle.rec_trace.specs.Standing.{StandsFor};
 ghost use Rattle.rec_trace.specs.Steps.{Advances, IsPrepared, StaysSame, draws};
@@ -68,6 +69,28 @@ impl Tracer {
         ensures { result.now ≡ (known_in self.now.known).last_run }
     {
         self.known.last_run()
+    }
+
+    /// Counts what is kept of the events so far: the open spans, the rows and processes that were named, the pending
+    /// arrows, and where each binary is a process, the binaries. It goes over all of it.
+    pub fn held(&self) -> usize
+        ensures { (version : Parts) (events : List PlainEvent) → StandsFor self.now.group_by version events self.now → IsHeld self.now.group_by events result }
+    {
+        let spans = self.tracker.open_spans().len();
+        let known = self.known.named().saturating_add(self.known.pending());
+        spans
+            .saturating_add(known)
+            .saturating_add(self.binaries_held())
+    }
+
+    /// Counts the binaries, where each of them is a process.
+    fn binaries_held(&self) -> usize
+        ensures { result ≡ binaries_held self.now.group_by self.now.tracker.binaries }
+    {
+        match self.group_by {
+            ChromeTraceGroupBy::Binary => self.tracker.binary_count(),
+            ChromeTraceGroupBy::Slot => 0,
+        }
     }
 
     /// Judges and draws the next event, and takes all memory that it takes to accept it. Nothing else may be drawn

@@ -24,8 +24,8 @@ fn interrupted_test() -> [Line; 4] {
 }
 
 // Names what became of an event.
-fn outcome(result: &Result<(), TraceBuildError>) -> &'static str {
-    match result {
+fn outcome(answer: &Result<(), TraceBuildError>) -> &'static str {
+    match answer {
         Ok(()) => "taken",
         Err(TraceBuildError::Failed) => "failed",
         Err(TraceBuildError::Refused(_)) => "refused",
@@ -72,8 +72,9 @@ fn traced(alloc: Global, target: &mut VecTarget, lines: &[Line]) -> Result<Strin
     } else {
         "sound"
     };
+    let held = builder.held();
     let ending = ending(alloc, builder)?;
-    text.push_str(format!(in alloc; "{state} with {ending}")?.as_str())?;
+    text.push_str(format!(in alloc; "{state}, holding {held}, with {ending}")?.as_str())?;
     Ok(text)
 }
 
@@ -103,12 +104,14 @@ fn each_trace_event_is_handed_on_at_once(rt: HostRuntime) -> Result<(), Fail> {
     let alloc = rt.alloc();
     let lines = interrupted_test();
     let all = "MMMMBCCEMMMMiCiBECC";
-    for (count, events) in [(1, 6), (2, 13), (3, 16), (4, 19)] {
+    for (count, events, held) in [(1, 6, 4), (2, 13, 6), (3, 16, 6), (4, 19, 5)] {
         let mut target = VecTarget::new(alloc, Vec::new(alloc));
         let Some(first) = lines.get(..count) else {
             return Err("fewer lines".into());
         };
-        traced(alloc, &mut target, first)?;
+        let got = traced(alloc, &mut target, first)?;
+        let want = format!(in alloc; "sound, holding {held}, with")?;
+        assert!(rt; got.as_str().contains(want.as_str()), "{got}");
         let got = phases(alloc, target.events())?;
         assert!(rt; Some(got.as_str()) == all.get(..events), "{got}");
     }
@@ -121,7 +124,7 @@ fn a_target_that_fails_ends_the_trace(rt: HostRuntime) -> Result<(), Fail> {
     let mut target = VecTarget::new(alloc, vec![in alloc; 3]?);
     let got = traced(alloc, &mut target, &interrupted_test())?;
     let want =
-        "target fault, failed, failed, failed, failed with {\"nextest_version\":\"0.9.111\"}";
+        "target fault, failed, failed, failed, failed, holding 0, with {\"nextest_version\":\"0.9.111\"}";
     assert!(rt; got.as_str() == want, "{got}");
     let got = phases(alloc, target.events())?;
     assert!(rt; got.as_str() == "MM", "{got}");
@@ -134,7 +137,7 @@ fn a_refused_event_is_not_handed_on(rt: HostRuntime) -> Result<(), Fail> {
     let mut target = VecTarget::new(alloc, Vec::new(alloc));
     let lines = [Start(1000, 1, 0), Start(1001, 2, 0), End(1002, 1, 0)];
     let got = traced(alloc, &mut target, &lines)?;
-    let want = "taken, refused, taken, sound with {\"nextest_version\":\"0.9.111\"}";
+    let want = "taken, refused, taken, sound, holding 3, with {\"nextest_version\":\"0.9.111\"}";
     assert!(rt; got.as_str() == want, "{got}");
     let got = phases(alloc, target.events())?;
     assert!(rt; got.as_str() == "MMMMBCECC", "{got}");

@@ -3,6 +3,7 @@ ghost use Rattle.std.specs.Prelude.{◌≡◌, ◌||◌, false, OnOk};
 ghost use Rattle.rec_trace_events.specs.declared.rows.Row.{Row};
 ghost use Rattle.rec_trace_events.specs.TraceEvents.{process_row};
 ghost use Rattle.rec_spans.specs.Keys.{row_eq};
+ghost use Rattle.rec_trace.specs.Held.{IsCountOf};
 ghost use Rattle.rec_trace.specs.Known.{names};
 ghost use Rattle.rec_trace.specs.KnownMaps.{HasRow, HasRows, row_named};
 
@@ -31,6 +32,18 @@ impl Names {
         ensures { result ≡ row_named self.now row }
     {
         self.rows.get(&row).copied().unwrap_or(false)
+    }
+
+    /// Counts the rows that were named.
+    pub fn count(&self) -> usize
+        ensures { IsCountOf row_eq (row_named self.now) result }
+    {
+        let mut count = 0;
+        let _rows = self.rows.len();
+        for named in self.rows.values() {
+            count += usize::from(*named);
+        }
+        count
     }
 
     /// Makes room for the names of a row and of its process. None is named by that, whatever the answer is.

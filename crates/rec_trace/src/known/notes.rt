@@ -1,6 +1,8 @@
 //! What is noted of tests: the groups of their open attempts, and their pending arrows.
-ghost use Rattle.std.specs.Prelude.{◌≡◌, true, None, OnOk, option_copied};
+ghost use Rattle.std.specs.Prelude.{◌≡◌, true, None, is_some, OnOk, option_copied};
+ghost use Rattle.rec_events.specs.Tests.{test_eq};
 ghost use Rattle.rec_events.specs.declared.instances.OwnedTestInstanceId.{OwnedTestInstanceId};
+ghost use Rattle.rec_trace.specs.Held.{IsCountOf};
 ghost use Rattle.rec_trace.specs.Known.{of_test};
 ghost use Rattle.rec_trace.specs.KnownMaps.{HasTest, HasTests, arrow_noted, arrow_with, arrows_with, group_noted, groups_with};
 
@@ -51,6 +53,18 @@ impl Notes {
             Some(notes) => notes.arrow,
             None => None,
         }
+    }
+
+    /// Counts the tests of which an arrow is pending.
+    pub fn pending(&self) -> usize
+        ensures { IsCountOf test_eq (λ test. is_some (arrow_noted self.now test)) result }
+    {
+        let mut count = 0;
+        let _tests = self.tests.len();
+        for notes in self.tests.values() {
+            count += usize::from(notes.arrow.is_some());
+        }
+        count
     }
 
     /// Makes room for the notes of a test of which there is news. Nothing is noted by that, whatever the answer is.
