@@ -1,7 +1,7 @@
 //! What is noted of tests: the groups of their open attempts, and their pending arrows.
 ghost use Rattle.std.specs.Prelude.{◌≡◌, true, None, is_some, OnOk, option_copied};
-ghost use Rattle.rec_events.specs.Tests.{test_eq};
 ghost use Rattle.rec_events.specs.declared.instances.OwnedTestInstanceId.{OwnedTestInstanceId};
+ghost use Rattle.rec_events.specs.Tests.{test_eq};
 ghost use Rattle.rec_trace.specs.Held.{IsCountOf};
 ghost use Rattle.rec_trace.specs.Known.{of_test};
 ghost use Rattle.rec_trace.specs.KnownMaps.{HasTest, HasTests, arrow_noted, arrow_with, arrows_with, group_noted, groups_with};
