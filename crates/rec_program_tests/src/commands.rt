@@ -23,6 +23,17 @@ fn named(alloc: Global, name: &str, settings: Settings) -> Result<String, AllocE
     format!(in alloc; "{name} {output} {read} {session} {group_by:?} {message_format:?}")
 }
 
+/// The path of a bundle that is written, and what the command for it has.
+fn named_at(
+    alloc: Global,
+    command: &str,
+    bundle: &str,
+    settings: Settings,
+) -> Result<String, AllocError> {
+    let name = format!(in alloc; "{command} {bundle}")?;
+    named(alloc, name.as_str(), settings)
+}
+
 /// What words ask for.
 fn asked(alloc: Global, words: &[String]) -> Result<String, AllocError> {
     match read_words(words) {
@@ -34,6 +45,10 @@ fn asked(alloc: Global, words: &[String]) -> Result<String, AllocError> {
         }
         Ok(Command::Report { settings }) => named(alloc, "report", settings),
         Ok(Command::Info { settings }) => named(alloc, "info", settings),
+        Ok(Command::Slots { settings }) => named(alloc, "slots", settings),
+        Ok(Command::Rerun { settings }) => named(alloc, "rerun", settings),
+        Ok(Command::Upgrade { bundle, settings }) => named_at(alloc, "upgrade", bundle, settings),
+        Ok(Command::Salvage { bundle, settings }) => named_at(alloc, "salvage", bundle, settings),
         Ok(
             Command::Sample {
                 n,
@@ -99,11 +114,23 @@ sample 7 b --session-limit 3 --max-output 1 --read-limit 2|b|sample 7 b 1 2 3 Bi
 sample 1 b|b|sample 1 b 10485760 268435456 268435456 Binary Json
 sample 1 b --group-by slot|b|sample 1 b 10485760 268435456 268435456 Slot Json
 sample 1 b --message-format json-pretty|b|sample 1 b 10485760 268435456 268435456 Binary JsonPretty
+slots|none|slots 10485760 268435456 268435456 Binary Json
+slots --session-limit 3 --read-limit 2|none|slots 10485760 2 3 Binary Json
+rerun|none|rerun 10485760 268435456 268435456 Binary Json
+rerun --read-limit 2|none|rerun 10485760 2 268435456 Binary Json
+upgrade b|b|upgrade b 10485760 268435456 268435456 Binary Json
+upgrade b --read-limit 2|b|upgrade b 10485760 2 268435456 Binary Json
+upgrade --read-limit --session-limit 3|--read-limit|upgrade --read-limit 10485760 268435456 3 Binary Json
+salvage b|b|salvage b 10485760 268435456 268435456 Binary Json
+salvage b --session-limit 3 --read-limit 2|b|salvage b 10485760 2 3 Binary Json
 --help|none|a text
 --version|none|a text
 rec b|none|a fault
 record b x|none|a fault
 sample 10001 b|none|a fault
+slots --max-output 1|none|a fault
+upgrade b --max-output 1|none|a fault
+salvage|none|a fault
 "
 }
 
