@@ -13,12 +13,13 @@ use std::alloc::Global;
 /// `Line` with the fault of the first line that gives no event. `OutOfMemory` may come at any time.
 pub(crate) fn read_events(
     alloc: Global,
-    items: LineIter<'_, RecordingSpec>,
+    mut items: LineIter<'_, RecordingSpec>,
 ) -> Result<Vec<TestEventSummary<RecordingSpec>>, ReadingError>
     ensures { ReadsEvents items.entry result }
 {
     let mut events = Vec::new(alloc);
-    for item in items {
+    // By a reference: an iterator that owns memory doesn't say what it gave.
+    for item in &mut items {
         events.reserve(1)?;
         let event = item?;
         events.push(event).unwrap();

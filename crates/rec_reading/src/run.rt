@@ -57,7 +57,7 @@ fn print_events<P: EventPrinter>(
     context: &ReplayContext<'_>,
     reader: &mut dyn StoreReader,
     load_output: LoadOutput,
-    events: LineIter<'_, RecordingSpec>,
+    mut events: LineIter<'_, RecordingSpec>,
     printer: &mut P,
     text: &mut Vec<u8>,
 ) -> Result<(), ReadingError>
@@ -68,7 +68,7 @@ fn print_events<P: EventPrinter>(
         (text_from (P.prints printer.old) (converted (is_registered context.now.tests) context.now.test_list load_output es (limit reader.old)) [] (log_items events.entry))
         text.old.items text.new.items result }
 {
-    for item in events {
+    for item in &mut events {
         let event = item?;
         print_event(alloc, context, reader, load_output, event, printer, text)?;
     }

@@ -35,7 +35,8 @@ pub(crate) fn rewrite_log(
         events: 0,
         names: Vec::new(alloc),
     };
-    for item in log.events(alloc) {
+    let mut events = log.events(alloc);
+    for item in &mut events {
         rewritten.add_item(alloc, item)?;
     }
     Ok(rewritten)

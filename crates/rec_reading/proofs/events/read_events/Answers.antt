@@ -13,7 +13,7 @@ returns-in_err-event c =
     let p = err_from_is_err_and c.from_residual-in_err-event.result c.from_residual-in_err-event.ensures.1 in
     let fault = c.in_err-event.field-0.0 in
     rw (p.1, p.2) (fault-read c.args.items c.loop-item.events.items fault
-    (λ memory. lines-fault c.args.items _ _ _ _ c.loop-item.events.items c.into_iter-item-iterator.ensures.into_iter_gives c.loop-item.invariant c.loop-item.yielded_by c.in-Some.item fault c.in_err-event.was c.in-Some.ensures.steps memory))
+    (λ memory. lines-fault c.args.items _ _ _ _ c.loop-item.events.items (ap (λ b. b.now) c.into_iter-item-iterator.ensures.into_iter_gives) c.loop-item.invariant c.loop-item.yielded_by c.in-Some.item fault c.in_err-event.was c.in-Some.ensures.steps memory))
 
 pub loop-item-preserved : goal.loop-item-preserved
 loop-item-preserved c =
@@ -25,4 +25,4 @@ loop-item-preserved c =
 pub returns : goal.returns
 returns c =
     all-read c.args.items c.loop-item.events.items
-    (lines-end c.args.items _ _ _ _ c.loop-item.events.items c.into_iter-item-iterator.ensures.into_iter_gives c.loop-item.invariant c.loop-item.yielded_by c.in-None.ensures.steps)
+    (lines-end c.args.items _ _ _ _ c.loop-item.events.items (ap (λ b. b.now) c.into_iter-item-iterator.ensures.into_iter_gives) c.loop-item.invariant c.loop-item.yielded_by c.in-None.ensures.steps)

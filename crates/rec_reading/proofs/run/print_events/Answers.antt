@@ -1,4 +1,4 @@
-use Rattle.std.proofs.Common.{[], Ok, Err, refl, ◌∙◌}
+use Rattle.std.proofs.Common.{[], Ok, Err, refl, ap, ◌∙◌}
 use Rattle.std.proofs.lemmas.Result.{err_from_is_err_and}
 use Rattle.rec_replay.specs.Registration.{is_registered}
 use Rattle.rec_reading.proofs.Printed.{keeps-both, lines-end, lines-event, lines-fault, nothing-printed, printed-all, printed-more, printed-refused, printed-unread, same-step}
@@ -33,7 +33,7 @@ returns-in_err-event g c = λ es holds.
     let p = err_from_is_err_and c.from_residual.result c.from_residual.ensures.1 in
     let fault = c.in_err-event.field-0.0 in
     rw (p.1, p.2) (printed-unread _ _ _ _ _ _ has c.args.events fault []
-    (λ memory. lines-fault c.args.events _ _ _ _ has.events c.into_iter-item-iterator.ensures.into_iter_gives has.are c.loop-item.yielded_by c.in-Some.item fault c.in_err-event.was c.in-Some.ensures.steps memory))
+    (λ memory. lines-fault c.args.events _ _ _ _ has.events (ap (λ b. b.now) c.into_iter-item-iterator.ensures.into_iter_gives) has.are c.loop-item.yielded_by c.in-Some.item fault c.in_err-event.was c.in-Some.ensures.steps memory))
 
 pub returns-in_err-print_event : goal.returns-in_err-print_event
 returns-in_err-print_event g c = λ es holds.
@@ -41,7 +41,7 @@ returns-in_err-print_event g c = λ es holds.
     let step = c.in_err-print_event.ensures in
     let has = kept.printed es holds in
     let p = err_from_is_err_and c.from_residual-in_err-print_event.result c.from_residual-in_err-print_event.ensures.1 in
-    let all = lines-event c.args.events _ _ _ _ has.events c.into_iter-item-iterator.ensures.into_iter_gives has.are c.loop-item.yielded_by c.in-Some.item c.in_ok-event.event c.in_ok-event.was c.in-Some.ensures.steps in
+    let all = lines-event c.args.events _ _ _ _ has.events (ap (λ b. b.now) c.into_iter-item-iterator.ensures.into_iter_gives) has.are c.loop-item.yielded_by c.in-Some.item c.in_ok-event.event c.in_ok-event.was c.in-Some.ensures.steps in
     let x = c.in_err-print_event.field-0.0 in
     rw (p.1, p.2) (printed-refused _ _ _ _ _ _ has _ all.0 c.in_ok-event.event c.print_event.new.text.items [] (g.P.EventPrinter.stands c.print_event.new.printer) x all.1
     (λ past stands. same-step (converted (is_registered c.args.context.now.tests) c.args.context.now.test_list c.args.load_output es) _ _ _ _
@@ -51,4 +51,4 @@ returns-in_err-print_event g c = λ es holds.
 pub returns : goal.returns
 returns g c = λ es holds.
     let has = c.loop-item.invariant.printed es holds in
-    printed-all _ _ _ _ _ _ has _ (lines-end c.args.events _ _ _ _ has.events c.into_iter-item-iterator.ensures.into_iter_gives has.are c.loop-item.yielded_by c.in-None.ensures.steps)
+    printed-all _ _ _ _ _ _ has _ (lines-end c.args.events _ _ _ _ has.events (ap (λ b. b.now) c.into_iter-item-iterator.ensures.into_iter_gives) has.are c.loop-item.yielded_by c.in-None.ensures.steps)

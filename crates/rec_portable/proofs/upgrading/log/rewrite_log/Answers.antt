@@ -1,4 +1,4 @@
-use Rattle.std.proofs.Common.{refl, ◌∙◌}
+use Rattle.std.proofs.Common.{refl, ap, ◌∙◌}
 use Rattle.std.proofs.lemmas.Result.{err_from_is_err_and}
 use Rattle.rec_portable.proofs.RewrittenLogs.{log_fault, log_whole, nothing_rewritten, one_rewritten, refuses_log}
 use Rattle.rec_portable.proofs.upgrading.log.rewrite_log.Goals as goal
@@ -14,9 +14,9 @@ returns-in_err-add_item c =
     let has = c.loop-item.invariant in
     let p = err_from_is_err_and c.from_residual.result c.from_residual.ensures.1 in
     rw (p.1, p.2) (refuses_log c.args.log.now c.in-Some.item _ c.in_err-add_item.ensures.err
-    (λ fault is memory. log_fault c.args.log.now _ _ _ _ has.events (c.into_iter-item-iterator.ensures.into_iter_gives ∙ c.events-item-items.ensures) has.are c.loop-item.yielded_by c.in-Some.item fault c.in-Some.ensures.steps is memory))
+    (λ fault is memory. log_fault c.args.log.now _ _ _ _ has.events (ap (λ b. b.now) c.into_iter-item-iterator.ensures.into_iter_gives ∙ c.events-events.ensures) has.are c.loop-item.yielded_by c.in-Some.item fault c.in-Some.ensures.steps is memory))
 
 pub returns : goal.returns
 returns c =
     let has = c.loop-item.invariant in
-    (has.events, log_whole c.args.log.now _ _ _ _ has.events (c.into_iter-item-iterator.ensures.into_iter_gives ∙ c.events-item-items.ensures) has.are c.loop-item.yielded_by c.in-None.ensures.steps, has.is)
+    (has.events, log_whole c.args.log.now _ _ _ _ has.events (ap (λ b. b.now) c.into_iter-item-iterator.ensures.into_iter_gives ∙ c.events-events.ensures) has.are c.loop-item.yielded_by c.in-None.ensures.steps, has.is)
