@@ -28,11 +28,8 @@ def refused(name, given, status, line, options=()):
     return Case(f"salvage {name}", ("salvage", "b", *options), given, status=status, err=f"{line}\n".encode())
 
 
-# Cuts of a log: around the end of each line, and within it.
-CUTS = sorted({
-    at for end in (sum(map(len, LINES[:k])) for k in range(len(LINES) + 1)) for at in (end - 100, end - 2, end - 1, end, end + 1)
-    if 0 <= at <= len(TWO_SLOTS_LOG)
-})
+# Cuts of a log: at each of its bytes.
+CUTS = range(len(TWO_SLOTS_LOG) + 1)
 
 
 def cut(at):
