@@ -1,7 +1,6 @@
 -- An event that is accepted is one more.
 use Rattle.std.proofs.Common.{◌≡◌, ◌+◌, ℕ, List, [], ◌∷◌, ◌++◌, Option, Ok, length, ap, ◌∙◌}
 use Rattle.std.proofs.lemmas.List.{length-append}
-use Rattle.std.specs.Bool.{tt}
 use Rattle.rec_codec.specs.Event.{LiveEvent}
 use Rattle.rec_store.specs.Recording.{Recording}
 use Rattle.rec_store.specs.Saved.{AcceptsEvent}

@@ -111,7 +111,7 @@ pub(crate) fn take_lines(
     let mut gathered = Gathered::new(alloc);
     let mut scratch = Scratch::new(alloc);
     let mut rest = log;
-    while let Some(after) = gathered.take_line(alloc, front, rest, &mut scratch)? {
+    'lines: while let Some(after) = gathered.take_line(alloc, front, rest, &mut scratch)? {
         rest = after;
     }
     Ok((log.len() - rest.len(), gathered))
