@@ -6,7 +6,6 @@ use rec_events::{
     FlakyResult, LiveSpec, RetryData, Stamp,
 };
 use std::alloc::Global;
-use std::process::Abort;
 use std::test::Fail;
 
 // An attempt that ended so.
@@ -90,56 +89,33 @@ fn described(alloc: Global, passes: &[bool]) -> Result<(&'static str, u32, u32, 
     })
 }
 
-type Described = (&'static str, u32, u32, usize);
-
-// Attempts of which these pass are described as stands beside them.
-fn check(rt: &impl Abort, alloc: Global, rows: &[(&[bool], Described)]) -> Result<(), Fail> {
-    for (passes, want) in rows {
-        assert!(rt; described(alloc, passes)? == *want, "{passes:?}");
+#[test]
+fn attempts_are_described(rt: HostRuntime) -> Result<(), Fail> {
+    let alloc = rt.alloc();
+    for (passes, want) in [
+        ([true].as_slice(), ("success", 1, 1, 0)),
+        (&[false], ("failure", 1, 1, 0)),
+        (&[false, true], ("flaky", 1, 2, 1)),
+        (&[true, true, true], ("flaky", 1, 3, 2)),
+        (&[true, false], ("failure", 1, 2, 1)),
+        (&[false, false, false], ("failure", 1, 3, 2)),
+    ] {
+        assert!(rt; described(alloc, passes)? == want, "{passes:?}");
     }
     Ok(())
 }
 
 #[test]
-fn attempts_are_described(rt: HostRuntime) -> Result<(), Fail> {
-    check(
-        &rt,
-        rt.alloc(),
-        &[
-            (&[true], ("success", 1, 1, 0)),
-            (&[false], ("failure", 1, 1, 0)),
-            (&[false, true], ("flaky", 1, 2, 1)),
-            (&[true, true, true], ("flaky", 1, 3, 2)),
-            (&[true, false], ("failure", 1, 2, 1)),
-            (&[false, false, false], ("failure", 1, 3, 2)),
-        ],
-    )
-}
-
-// Two attempts, of which the second passes.
-fn failed_and_passed(alloc: Global) -> Result<ExecutionStatuses<LiveSpec>, Fail> {
+fn attempts_by_number(rt: HostRuntime) -> Result<(), Fail> {
+    let alloc = rt.alloc();
     let mut statuses = Vec::new(alloc);
     statuses.push(attempt(alloc, 1, ExecutionResultDescription::ExecFail)?)?;
     statuses.push(attempt(alloc, 2, ExecutionResultDescription::Pass)?)?;
-    Ok(ExecutionStatuses::new(statuses, FlakyResult::Pass))
-}
-
-// The numbers of the first attempt and the last one, and how many they are.
-fn numbers(statuses: &ExecutionStatuses<LiveSpec>) -> (u32, u32, usize) {
-    let first = statuses.status(0).retry_data.attempt;
-    let last = statuses.last_status().retry_data.attempt;
-    (first, last, statuses.len())
-}
-
-#[test]
-fn attempts_by_number(rt: HostRuntime) -> Result<(), Fail> {
-    let statuses = failed_and_passed(rt.alloc())?;
-    let numbers = numbers(&statuses);
-    let flaky_result = statuses.flaky_result();
-    let is_equal = statuses == statuses;
-    drop(statuses);
-    assert!(rt; numbers == (1, 2, 2));
-    assert!(rt; flaky_result == FlakyResult::Pass);
-    assert!(rt; is_equal);
+    let statuses = ExecutionStatuses::new(statuses, FlakyResult::Pass);
+    assert!(rt; statuses.len() == 2);
+    assert!(rt; statuses.status(0).retry_data.attempt == 1);
+    assert!(rt; statuses.last_status().retry_data.attempt == 2);
+    assert!(rt; statuses.flaky_result() == FlakyResult::Pass);
+    assert!(rt; statuses == statuses);
     Ok(())
 }
