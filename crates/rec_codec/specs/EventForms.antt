@@ -1,7 +1,8 @@
 -- The values and forms of events, over those of an output.
-use Rattle.std.specs.Prelude.{ℕ, Bool, true, List, ◌∷◌, Option, Some, codes, map}
+use Rattle.std.specs.Prelude.{ℕ, Bool, true, List, ◌∷◌, ◌++◌, Option, Some, codes, map}
 use Rattle.serde_json.specs.Data.{Data, Members}
 use Rattle.serde_json.specs.Find.{as_object, as_str}
+use Rattle.rec_json.specs.Fields.{in_order}
 use Rattle.rec_events.specs.declared.events.CoreEventKind.{CoreEventKind}
 use Rattle.rec_events.specs.declared.events.TestEventKindSummary.TheVariants.{Core, Output}
 use Rattle.rec_events.specs.declared.events.TestEventKindSummary.{TestEventKindSummary}
@@ -10,6 +11,7 @@ use Rattle.rec_forms.specs.Shape.{◌>>=◌, Field, field, struct, required, nam
 use Rattle.rec_forms.specs.Times.{stamp_value, stamp_form, IsStamp, duration_value, duration_form, IsDuration}
 use Rattle.rec_codec.specs.CoreKindForms.{core_kinds}
 use Rattle.rec_codec.specs.CoreKinds.{core_fields, IsCore}
+use Rattle.rec_codec.specs.EventParts.{times_fields}
 use Rattle.rec_codec.specs.OutputKinds.{output_fields, output_loaded, IsOutput, script_finished_form, attempt_failed_form, test_finished_form}
 
 -- ---- values
@@ -18,6 +20,10 @@ module _ {S O : Type 0} (output_value : O → Data) where
   abbrev pub kind_fields : TestEventKindSummary S O → List Field
   kind_fields (Core kind) = core_fields kind
   kind_fields (Output kind) = output_fields output_value kind
+
+  -- the members of an event, in the order in which they are written
+  abbrev pub event_fields : TestEventSummary S O → List Field
+  event_fields e = in_order (times_fields e.timestamp e.elapsed ++ kind_fields e.kind)
 
   abbrev pub event_value : TestEventSummary S O → Data
   event_value e = struct (field (codes "timestamp") (stamp_value e.timestamp) ∷ field (codes "elapsed") (duration_value e.elapsed) ∷ kind_fields e.kind)

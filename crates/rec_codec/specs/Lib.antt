@@ -9,6 +9,7 @@ pub mod StatusLaws
 pub mod ScriptStatus
 pub mod ScriptStatusLaws
 pub mod CoreKinds
+pub mod EventParts
 pub mod CoreKindForms
 pub mod CoreKindLaws
 pub mod OutputKinds

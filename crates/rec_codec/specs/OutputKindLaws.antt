@@ -146,11 +146,11 @@ module _ {S O : Type 0} (P : O → Type 0) (n : ℕ) (output_value : O → Data)
             (
               weaker 0 (n + 9) (omega arith) (output_display_writable failure_output),
               (
-                boolean_writable store_success,
+                weaker 0 (n + 9) (omega arith) (flaky_fail_status_writable flaky_fail_status),
                 (
                   boolean_writable store_failure,
                   (
-                    weaker 0 (n + 9) (omega arith) (flaky_fail_status_writable flaky_fail_status),
+                    boolean_writable store_success,
                     (
                       statuses_writable P n output_value writable run_statuses h.2,
                       (

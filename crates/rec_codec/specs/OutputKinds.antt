@@ -2,18 +2,25 @@
 use Rattle.std.specs.Prelude.{ℕ, ◌^◌, ◌<◌, IfSome, Bool, List, [], ◌∷◌, ◌++◌, Option, Some, codes}
 use Rattle.serde_json.specs.Data.{Data, Members, boolean}
 use Rattle.serde_json.specs.Find.{as_bool}
+use Rattle.rec_json.specs.Fields.{in_order}
 use Rattle.rec_events.specs.declared.events.OutputEventKind.TheVariants.{SetupScriptFinished, TestAttemptFailedWillRetry, TestFinished}
 use Rattle.rec_events.specs.declared.events.OutputEventKind.{OutputEventKind}
+use Rattle.rec_events.specs.declared.instances.OwnedTestInstanceId.{OwnedTestInstanceId}
+use Rattle.rec_events.specs.declared.instances.StressIndexSummary.{StressIndexSummary}
+use Rattle.rec_events.specs.declared.reporting.JunitFlakyFailStatus.{JunitFlakyFailStatus}
+use Rattle.rec_events.specs.declared.reporting.TestOutputDisplay.{TestOutputDisplay}
 use Rattle.rec_events.specs.Names.{IsText, AreTexts}
+use Rattle.rec_events.specs.Times.{Span, Moment}
 use Rattle.rec_forms.specs.Instances.{test_instance_value, test_instance_form, IsTestInstance, stress_index_value, stress_index_form, IsStressIndex}
 use Rattle.rec_forms.specs.Numbers.{u64_form}
 use Rattle.rec_forms.specs.Reporting.{output_display_value, output_display_form, flaky_fail_status_value, flaky_fail_status_form}
 use Rattle.rec_forms.specs.Shape.{◌>>=◌, Field, natural, field, optional, required, maybe}
 use Rattle.rec_forms.specs.Stats.{run_stats_value, run_stats_form, IsRunStats}
-use Rattle.rec_forms.specs.Times.{duration_value, duration_form, IsDuration}
+use Rattle.rec_forms.specs.Times.{stamp_value, IsStamp, duration_value, duration_form, IsDuration}
 use Rattle.rec_codec.specs.CoreKindForms.{place_form, command_form}
 use Rattle.rec_codec.specs.CoreKinds.{kind_field, place_fields, command_fields}
 use Rattle.rec_codec.specs.declared.output_kinds.Reporting.{Reporting}
+use Rattle.rec_codec.specs.EventParts.{times_fields}
 use Rattle.rec_codec.specs.ScriptStatus.{script_status_value, script_status_form, script_status_loaded, IsScriptStatus}
 use Rattle.rec_codec.specs.Status.{status_value, status_form, status_loaded, IsStatus, statuses_value, statuses_form, statuses_loaded, AreStatuses}
 
@@ -25,14 +32,19 @@ output_name (TestFinished stress_index test_instance success_output failure_outp
 
 -- ---- how a finished test is reported
 
+-- its fields that are next to each other, in the order in which they are written
+abbrev pub reporting_part : TestOutputDisplay → JunitFlakyFailStatus → Bool → Bool → List Field
+reporting_part failure_output flaky_fail_status store_failure store_success =
+    field (codes "failure-output") (output_display_value failure_output)
+    ∷ field (codes "junit-flaky-fail-status") (flaky_fail_status_value flaky_fail_status)
+    ∷ field (codes "junit-store-failure-output") (boolean store_failure)
+    ∷ field (codes "junit-store-success-output") (boolean store_success)
+    ∷ []
+
 abbrev pub reporting_fields : Reporting → List Field
 reporting_fields r =
     field (codes "success-output") (output_display_value r.success_output)
-    ∷ field (codes "failure-output") (output_display_value r.failure_output)
-    ∷ field (codes "junit-store-success-output") (boolean r.junit_store_success_output)
-    ∷ field (codes "junit-store-failure-output") (boolean r.junit_store_failure_output)
-    ∷ field (codes "junit-flaky-fail-status") (flaky_fail_status_value r.junit_flaky_fail_status)
-    ∷ []
+    ∷ reporting_part r.failure_output r.junit_flaky_fail_status r.junit_store_failure_output r.junit_store_success_output
 
 unfoldable pub reporting_form : Members → Option Reporting
 reporting_form ms = do
@@ -85,6 +97,19 @@ module _ {S O : Type 0} (output_value : O → Data) where
   -- a kind as it stands among the members of its event
   abbrev pub output_fields : OutputEventKind S O → List Field
   output_fields kind = kind_field (output_name kind) ∷ output_members kind
+
+  -- an event of such a kind, as it is written
+  abbrev pub output_event_fields : Moment → Span → OutputEventKind S O → List Field
+  output_event_fields timestamp elapsed kind = in_order (times_fields timestamp elapsed ++ output_fields kind)
+
+-- which finished test it is, how its output was shown, and when
+abbrev pub finished_part : Option StressIndexSummary → TestOutputDisplay → OwnedTestInstanceId → Moment → List Field
+finished_part stress_index success_output test_instance timestamp =
+    optional (codes "stress-index") stress_index_value stress_index
+    ∷ field (codes "success-output") (output_display_value success_output)
+    ∷ field (codes "test-instance") (test_instance_value test_instance)
+    ∷ field (codes "timestamp") (stamp_value timestamp)
+    ∷ []
 
 -- ---- forms
 
@@ -159,3 +184,6 @@ module _ {S O : Type 0} (P : O → Type 0) where
       × AreStatuses P run_statuses
       × IsRunStats current_stats
       × (running < 2 ^ 64)
+
+  abbrev pub IsOutputEvent : Moment → Span → OutputEventKind S O → Type 0
+  IsOutputEvent timestamp elapsed kind = IsStamp timestamp × IsDuration elapsed × IsOutput kind

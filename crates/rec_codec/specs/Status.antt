@@ -14,38 +14,66 @@ use Rattle.rec_forms.specs.Lists.{list_value, list_form, some_form}
 use Rattle.rec_forms.specs.Results.{flaky_result_value, flaky_result_form, execution_result_value, execution_result_form, IsExecutionResult}
 use Rattle.rec_forms.specs.Shape.{◌>>=◌, Field, field, optional, struct, required, maybe, text_of, tagged, variant}
 use Rattle.rec_forms.specs.Times.{stamp_value, stamp_form, IsStamp, duration_value, duration_form, IsDuration}
-use Rattle.rec_codec.specs.declared.status.Course.{Course}
+use Rattle.rec_codec.specs.declared.status.AfterOutput.{AfterOutput}
+use Rattle.rec_codec.specs.declared.status.BeforeOutput.{BeforeOutput}
 use Rattle.rec_codec.specs.Writes.{every}
 
--- ---- when an attempt ran, and how long
+-- ---- what stands before the output of an attempt, in the order of the keys
 
-abbrev pub course_fields : Course → List Field
-course_fields c =
-    field (codes "start-time") (stamp_value c.start_time)
-    ∷ field (codes "time-taken") (duration_value c.time_taken)
-    ∷ field (codes "is-slow") (boolean c.is_slow)
-    ∷ field (codes "delay-before-start") (duration_value c.delay_before_start)
-    ∷ optional (codes "cpu-time") duration_value c.cpu_time
+abbrev pub before_output_fields : BeforeOutput → List Field
+before_output_fields b =
+    optional (codes "cpu-time") duration_value b.cpu_time
+    ∷ field (codes "delay-before-start") (duration_value b.delay_before_start)
+    ∷ optional (codes "error-summary") error_summary_value b.error_summary
+    ∷ field (codes "is-slow") (boolean b.is_slow)
     ∷ []
 
-unfoldable pub course_form : Members → Option Course
-course_form ms = do
+unfoldable pub before_output_form : Members → Option BeforeOutput
+before_output_form ms = do
+  cpu_time ← maybe duration_form (codes "cpu-time") ms
+  delay_before_start ← required duration_form (codes "delay-before-start") ms
+  is_slow ← required as_bool (codes "is-slow") ms
+  error_summary ← maybe error_summary_form (codes "error-summary") ms
+  Some (record { cpu_time = cpu_time; delay_before_start = delay_before_start; error_summary = error_summary; is_slow = is_slow })
+
+pub record IsBeforeOutput (b : BeforeOutput) : Type 0 where
+  pub cpu_time : IfSome b.cpu_time IsDuration
+  pub delay_before_start : IsDuration b.delay_before_start
+  pub error_summary : IfSome b.error_summary IsErrorSummary
+
+-- ---- what stands after it
+
+abbrev pub after_output_fields : AfterOutput → List Field
+after_output_fields a =
+    optional (codes "output-error-slice") error_slice_value a.output_error_slice
+    ∷ field (codes "result") (execution_result_value a.result)
+    ∷ field (codes "retry-data") (retry_data_value a.retry_data)
+    ∷ field (codes "start-time") (stamp_value a.start_time)
+    ∷ field (codes "time-taken") (duration_value a.time_taken)
+    ∷ []
+
+unfoldable pub after_output_form : Members → Option AfterOutput
+after_output_form ms = do
+  retry_data ← required retry_data_form (codes "retry-data") ms
   start_time ← required stamp_form (codes "start-time") ms
   time_taken ← required duration_form (codes "time-taken") ms
-  is_slow ← required as_bool (codes "is-slow") ms
-  delay_before_start ← required duration_form (codes "delay-before-start") ms
-  cpu_time ← maybe duration_form (codes "cpu-time") ms
-  Some (record { start_time = start_time; time_taken = time_taken; is_slow = is_slow; delay_before_start = delay_before_start; cpu_time = cpu_time })
+  output_error_slice ← maybe error_slice_form (codes "output-error-slice") ms
+  result ← required execution_result_form (codes "result") ms
+  Some (record { output_error_slice = output_error_slice; result = result; retry_data = retry_data; start_time = start_time; time_taken = time_taken })
 
-pub record IsCourse (c : Course) : Type 0 where
-  pub start_time : IsStamp c.start_time
-  pub time_taken : IsDuration c.time_taken
-  pub delay_before_start : IsDuration c.delay_before_start
-  pub cpu_time : IfSome c.cpu_time IsDuration
+pub record IsAfterOutput (a : AfterOutput) : Type 0 where
+  pub output_error_slice : IfSome a.output_error_slice IsErrorSlice
+  pub result : IsExecutionResult a.result
+  pub retry_data : IsRetryData a.retry_data
+  pub start_time : IsStamp a.start_time
+  pub time_taken : IsDuration a.time_taken
 
 module _ {S O : Type 0} where
-  abbrev pub course_of : ExecuteStatus S O → Course
-  course_of s = record { start_time = s.start_time; time_taken = s.time_taken; is_slow = s.is_slow; delay_before_start = s.delay_before_start; cpu_time = s.cpu_time }
+  abbrev pub before_output : ExecuteStatus S O → BeforeOutput
+  before_output s = record { cpu_time = s.cpu_time; delay_before_start = s.delay_before_start; error_summary = s.error_summary; is_slow = s.is_slow }
+
+  abbrev pub after_output : ExecuteStatus S O → AfterOutput
+  after_output s = record { output_error_slice = s.output_error_slice; result = s.result; retry_data = s.retry_data; start_time = s.start_time; time_taken = s.time_taken }
 
 -- ---- values
 
@@ -60,14 +88,7 @@ module _ {S O : Type 0} (output_value : O → Data) where
   description_value (StartError message) = tagged (codes "start-error") (string message)
 
   abbrev pub status_value : ExecuteStatus S O → Data
-  status_value s = struct (
-      field (codes "retry-data") (retry_data_value s.retry_data)
-      ∷ field (codes "output") (description_value s.output)
-      ∷ field (codes "result") (execution_result_value s.result)
-      ∷ course_fields (course_of s)
-      ++ optional (codes "error-summary") error_summary_value s.error_summary
-      ∷ optional (codes "output-error-slice") error_slice_value s.output_error_slice
-      ∷ [])
+  status_value s = struct (before_output_fields (before_output s) ++ field (codes "output") (description_value s.output) ∷ after_output_fields (after_output s))
 
   -- as stores of version 3.0 have it
   abbrev pub status_value_3_0 : ExecuteStatus S O → Data
@@ -106,23 +127,20 @@ module _ {S O : Type 0} (output_form : Data → Option O) where
   unfoldable pub status_form : Data → Option (ExecuteStatus S O)
   status_form d = do
     ms ← as_object d
-    course ← course_form ms
-    retry_data ← required retry_data_form (codes "retry-data") ms
+    before ← before_output_form ms
+    after ← after_output_form ms
     output ← required description_form (codes "output") ms
-    result ← required execution_result_form (codes "result") ms
-    error_summary ← maybe error_summary_form (codes "error-summary") ms
-    output_error_slice ← maybe error_slice_form (codes "output-error-slice") ms
     Some (record {
-      retry_data = retry_data;
+      retry_data = after.retry_data;
       output = output;
-      result = result;
-      start_time = course.start_time;
-      time_taken = course.time_taken;
-      is_slow = course.is_slow;
-      delay_before_start = course.delay_before_start;
-      error_summary = error_summary;
-      output_error_slice = output_error_slice;
-      cpu_time = course.cpu_time;
+      result = after.result;
+      start_time = after.start_time;
+      time_taken = after.time_taken;
+      is_slow = before.is_slow;
+      delay_before_start = before.delay_before_start;
+      error_summary = before.error_summary;
+      output_error_slice = after.output_error_slice;
+      cpu_time = before.cpu_time;
     })
 
   unfoldable pub attempts_form : Data → Option (List (ExecuteStatus S O))
@@ -156,12 +174,9 @@ module _ {S O : Type 0} (P : O → Type 0) where
   IsDescription (StartError message) = IsText message
 
   pub record IsStatus (s : ExecuteStatus S O) : Type 0 where
-    pub course : IsCourse (course_of s)
-    pub retry_data : IsRetryData s.retry_data
+    pub before : IsBeforeOutput (before_output s)
     pub output : IsDescription s.output
-    pub result : IsExecutionResult s.result
-    pub error_summary : IfSome s.error_summary IsErrorSummary
-    pub output_error_slice : IfSome s.output_error_slice IsErrorSlice
+    pub after : IsAfterOutput (after_output s)
 
   pub record AreStatuses (s : ExecutionStatuses S O) : Type 0 where
     pub statuses : AllByRecursion IsStatus s.statuses

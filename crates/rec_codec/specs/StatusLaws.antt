@@ -26,7 +26,7 @@ use Rattle.rec_forms.specs.TimeLaws.{stamp_back, stamp_writable, duration_back, 
 use Rattle.rec_forms.specs.Times.{duration_form, duration_value, stamp_form, IsDuration}
 use Rattle.rec_forms.specs.WellFormedLaws.{any_well_formed, and_then_holds, map_holds, only_holds, object_then, required_then, maybe_then, then_holds, variant_well_formed, list_well_formed}
 use Rattle.rec_forms.specs.Writable.{IsWritable, weaker, struct_writable, tagged_writable, string_writable, boolean_writable, list_writable, optional_writable}
-use Rattle.rec_codec.specs.Status.{description_value, description_form, output_case_form, IsDescription, course_form, status_value, status_form, IsStatus, statuses_value, attempts_form, statuses_form, AreStatuses, IsCourse, start_error_form}
+use Rattle.rec_codec.specs.Status.{description_value, description_form, output_case_form, IsDescription, before_output_form, IsBeforeOutput, after_output_form, IsAfterOutput, status_value, status_form, IsStatus, statuses_value, attempts_form, statuses_form, AreStatuses, start_error_form}
 
 not_empty : (n : ℕ) → 0 < n → nat_lt 0 n ≡ true
 not_empty n h = grind (arith, nat_tests)
@@ -44,19 +44,19 @@ module _ {S O : Type 0} (P : O → Type 0) (output_value : O → Data) (output_f
   description_back (StartError message) h = rw (text_back message h)
 
   pub status_back : (s : ExecuteStatus S O) → IsStatus P s → status_form output_form (status_value output_value s) ≡ Some s
-  unfolding status_form course_form
+  unfolding status_form before_output_form after_output_form
   status_back s h =
       simp (
         get_member-members_of,
-        stamp_back _ h.course.start_time,
-        duration_back _ h.course.time_taken,
-        duration_back _ h.course.delay_before_start,
-        maybe_back IsDuration duration_value duration_form duration_back duration_writable s.cpu_time h.course.cpu_time,
-        retry_data_back _ h.retry_data,
+        maybe_back IsDuration duration_value duration_form duration_back duration_writable s.cpu_time h.before.cpu_time,
+        duration_back _ h.before.delay_before_start,
+        maybe_back IsErrorSummary error_summary_value error_summary_form error_summary_back error_summary_writable s.error_summary h.before.error_summary,
         description_back s.output h.output,
-        execution_result_back s.result h.result,
-        maybe_back IsErrorSummary error_summary_value error_summary_form error_summary_back error_summary_writable s.error_summary h.error_summary,
-        maybe_back IsErrorSlice error_slice_value error_slice_form error_slice_back error_slice_writable s.output_error_slice h.output_error_slice,
+        maybe_back IsErrorSlice error_slice_value error_slice_form error_slice_back error_slice_writable s.output_error_slice h.after.output_error_slice,
+        execution_result_back s.result h.after.result,
+        retry_data_back _ h.after.retry_data,
+        stamp_back _ h.after.start_time,
+        duration_back _ h.after.time_taken,
       )
 
   pub statuses_back : (s : ExecutionStatuses S O) → AreStatuses P s → statuses_form output_form (statuses_value output_value s) ≡ Some s
@@ -84,24 +84,24 @@ module _ {S O : Type 0} (P : O → Type 0) (n : ℕ) (output_value : O → Data)
   pub status_writable : (s : ExecuteStatus S O) → IsStatus P s → IsWritable (n + 7) (status_value output_value s)
   status_writable s h =
       weaker (suc (n + 6)) (n + 7) (omega arith) (struct_writable _ refl (
-        weaker 1 (n + 6) (omega arith) (retry_data_writable s.retry_data h.retry_data),
+        optional_writable duration_value (λ d is. weaker 1 (n + 6) (omega arith) (duration_writable d is)) s.cpu_time h.before.cpu_time,
         (
-          description_writable s.output h.output,
+          weaker 1 (n + 6) (omega arith) (duration_writable s.delay_before_start h.before.delay_before_start),
           (
-            weaker 4 (n + 6) (omega arith) (execution_result_writable s.result h.result),
+            optional_writable error_summary_value (λ e is. weaker 1 (n + 6) (omega arith) (error_summary_writable e is)) s.error_summary h.before.error_summary,
             (
-              weaker 1 (n + 6) (omega arith) (stamp_writable s.start_time h.course.start_time),
+              boolean_writable s.is_slow,
               (
-                weaker 1 (n + 6) (omega arith) (duration_writable s.time_taken h.course.time_taken),
+                description_writable s.output h.output,
                 (
-                  boolean_writable s.is_slow,
+                  optional_writable error_slice_value (λ e is. weaker 1 (n + 6) (omega arith) (error_slice_writable e is)) s.output_error_slice h.after.output_error_slice,
                   (
-                    weaker 1 (n + 6) (omega arith) (duration_writable s.delay_before_start h.course.delay_before_start),
+                    weaker 4 (n + 6) (omega arith) (execution_result_writable s.result h.after.result),
                     (
-                      optional_writable duration_value (λ d is. weaker 1 (n + 6) (omega arith) (duration_writable d is)) s.cpu_time h.course.cpu_time,
+                      weaker 1 (n + 6) (omega arith) (retry_data_writable s.retry_data h.after.retry_data),
                       (
-                        optional_writable error_summary_value (λ e is. weaker 1 (n + 6) (omega arith) (error_summary_writable e is)) s.error_summary h.error_summary,
-                        (optional_writable error_slice_value (λ e is. weaker 1 (n + 6) (omega arith) (error_slice_writable e is)) s.output_error_slice h.output_error_slice, tt),
+                        weaker 1 (n + 6) (omega arith) (stamp_writable s.start_time h.after.start_time),
+                        (weaker 1 (n + 6) (omega arith) (duration_writable s.time_taken h.after.time_taken), tt),
                       ),
                     ),
                   ),
@@ -121,15 +121,24 @@ module _ {S O : Type 0} (P : O → Type 0) (n : ℕ) (output_value : O → Data)
 
 -- ---- what is read is well-formed
 
-pub course_well_formed : (ms : Members) → Holds IsCourse (course_form ms)
-unfolding course_form
-course_well_formed ms =
+before_output_well_formed : (ms : Members) → Holds IsBeforeOutput (before_output_form ms)
+unfolding before_output_form
+before_output_well_formed ms =
+    maybe_then duration_form (codes "cpu-time") ms _ duration_well_formed (λ cpu_time cpu_time_is.
+    required_then duration_form (codes "delay-before-start") ms _ duration_well_formed (λ delay_before_start delay_before_start_is.
+    required_then as_bool (codes "is-slow") ms _ (any_well_formed as_bool) (λ is_slow is_slow_is.
+    maybe_then error_summary_form (codes "error-summary") ms _ error_summary_well_formed (λ error_summary error_summary_is.
+    record { is = record { cpu_time = cpu_time_is; delay_before_start = delay_before_start_is; error_summary = error_summary_is } }))))
+
+after_output_well_formed : (ms : Members) → Holds IsAfterOutput (after_output_form ms)
+unfolding after_output_form
+after_output_well_formed ms =
+    required_then retry_data_form (codes "retry-data") ms _ retry_data_well_formed (λ retry_data retry_data_is.
     required_then stamp_form (codes "start-time") ms _ stamp_well_formed (λ start_time start_time_is.
     required_then duration_form (codes "time-taken") ms _ duration_well_formed (λ time_taken time_taken_is.
-    required_then as_bool (codes "is-slow") ms _ (any_well_formed as_bool) (λ is_slow is_slow_is.
-    required_then duration_form (codes "delay-before-start") ms _ duration_well_formed (λ delay_before_start delay_before_start_is.
-    maybe_then duration_form (codes "cpu-time") ms _ duration_well_formed (λ cpu_time cpu_time_is.
-    record { is = record { start_time = start_time_is; time_taken = time_taken_is; delay_before_start = delay_before_start_is; cpu_time = cpu_time_is } })))))
+    maybe_then error_slice_form (codes "output-error-slice") ms _ error_slice_well_formed (λ output_error_slice output_error_slice_is.
+    required_then execution_result_form (codes "result") ms _ execution_result_well_formed (λ result result_is.
+    record { is = record { output_error_slice = output_error_slice_is; result = result_is; retry_data = retry_data_is; start_time = start_time_is; time_taken = time_taken_is } })))))
 
 -- a list that is not empty
 some_well_formed : {T : Type 0} {P : T → Type 0} (form : Data → Option T) → GivesWellFormed P form → GivesWellFormed (λ xs. AllByRecursion P xs × (0 < length xs)) (some_form form)
@@ -164,22 +173,10 @@ module _ {S O : Type 0} (P : O → Type 0) (output_form : Data → Option O) (gi
   status_well_formed = record {
     each = λ d.
         object_then d _ (λ ms.
-        then_holds (course_form ms) _ (course_well_formed ms) (λ course course_is.
-        required_then retry_data_form (codes "retry-data") ms _ retry_data_well_formed (λ retry_data retry_data_is.
+        then_holds (before_output_form ms) _ (before_output_well_formed ms) (λ before before_is.
+        then_holds (after_output_form ms) _ (after_output_well_formed ms) (λ after after_is.
         required_then (description_form output_form) (codes "output") ms _ description_well_formed (λ output output_is.
-        required_then execution_result_form (codes "result") ms _ execution_result_well_formed (λ result result_is.
-        maybe_then error_summary_form (codes "error-summary") ms _ error_summary_well_formed (λ error_summary error_summary_is.
-        maybe_then error_slice_form (codes "output-error-slice") ms _ error_slice_well_formed (λ output_error_slice output_error_slice_is.
-        record {
-          is = record {
-            course = course_is;
-            retry_data = retry_data_is;
-            output = output_is;
-            result = result_is;
-            error_summary = error_summary_is;
-            output_error_slice = output_error_slice_is;
-          };
-        })))))));
+        record { is = record { before = before_is; output = output_is; after = after_is } }))));
   }
 
   attempts_well_formed : GivesWellFormed {T = List (ExecuteStatus S O)} (λ ss. AllByRecursion (IsStatus P) ss × (0 < length ss)) (attempts_form output_form)

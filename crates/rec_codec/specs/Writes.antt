@@ -16,7 +16,7 @@ abbrev pub Writes : Result Value ToValueError → Data → Bool → Type 0
 Writes (Ok v) d loaded = (view v ≡ d) × (loaded ≡ true)
 Writes (Err e) d loaded = FailsUnloaded e loaded
 
--- What a call that puts members answers, by whether the outputs in them are all loaded.
+-- what a call that writes to a text answers, by whether the outputs in what it writes are all loaded
 abbrev pub PutsLoaded : Result ⊤ ToValueError → Bool → Type 0
 PutsLoaded (Ok u) loaded = loaded ≡ true
 PutsLoaded (Err e) loaded = FailsUnloaded e loaded

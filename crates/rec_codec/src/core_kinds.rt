@@ -1,92 +1,78 @@
 //! The kinds of events that hold no outputs.
-ghost use Rattle.std.specs.Prelude.{◌≡◌, OnOk, [], ◌∷◌, ◌++◌};
-ghost use Rattle.serde_json.specs.View.{members_view as value_members};
+ghost use Rattle.std.specs.Prelude.{◌≡◌, OnOk, ◌++◌};
 ghost use Rattle.rec_json.specs.Nodes.{members_view};
+ghost use Rattle.rec_json.specs.Tokens.{with_fields};
 ghost use Rattle.rec_forms.specs.Gives.{Gives};
-ghost use Rattle.rec_forms.specs.Shape.{with_members};
 ghost use Rattle.rec_codec.specs.CoreKindForms.{script_kinds, test_kinds, core_kinds, kind_in};
-ghost use Rattle.rec_codec.specs.CoreKinds.{kind_field, core_name, core_fields, IsCore};
+ghost use Rattle.rec_codec.specs.EventParts.{core_event_fields, IsCoreEvent};
 
 use crate::run_kinds::{
-    put_run_begin_cancel, put_run_finished, put_run_started, put_running,
-    put_stress_sub_run_finished, put_stress_sub_run_started, run_begin_cancel_from,
-    run_continued_from, run_finished_from, run_paused_from, run_started_from,
-    stress_sub_run_finished_from, stress_sub_run_started_from,
+    run_begin_cancel_from, run_continued_from, run_finished_from, run_paused_from,
+    run_started_from, stress_sub_run_finished_from, stress_sub_run_started_from,
+    write_run_begin_cancel, write_run_continued, write_run_finished, write_run_paused,
+    write_run_started, write_stress_sub_run_finished, write_stress_sub_run_started,
 };
 use crate::script_kinds::{
-    put_setup_script_slow, put_setup_script_started, setup_script_slow_from,
-    setup_script_started_from,
+    setup_script_slow_from, setup_script_started_from, write_setup_script_slow,
+    write_setup_script_started,
 };
 use crate::test_kinds::{
-    put_test_retry_started, put_test_skipped, put_test_slow, put_test_started,
     test_retry_started_from, test_skipped_from, test_slow_from, test_started_from,
+    write_test_retry_started, write_test_skipped, write_test_slow, write_test_started,
 };
-use rec_events::CoreEventKind;
-use rec_forms::{FromValueError, Object, put_text};
-use rec_json::Node;
-use serde_json::Value;
+use rec_events::{CoreEventKind, Duration, Stamp};
+use rec_forms::FromValueError;
+use rec_json::{JsonText, Node};
 use std::alloc::{AllocError, Global};
 
-/// Writes the name of a kind.
-pub fn put_kind_name(alloc: Global, object: &mut Object, name: &str) -> Result<(), AllocError>
-    ensures { OnOk result (value_members object.new.entries
-        ≡ with_members (value_members object.old.entries) (kind_field name.now ∷ [])) }
-{
-    put_text(alloc, object, "kind", name)
-}
-
-/// The name of a kind.
-fn core_name(kind: &CoreEventKind) -> &'static str
-    ensures { result.now ≡ core_name kind.now }
+/// Writes the members of an event of a kind without outputs.
+pub fn write_core(
+    alloc: Global,
+    text: &mut JsonText,
+    timestamp: &Stamp,
+    elapsed: &Duration,
+    kind: &CoreEventKind,
+) -> Result<(), AllocError>
+    ensures written { OnOk result (text.new
+        ≡ with_fields text.old (core_event_fields timestamp.now elapsed.now kind.now)) }
+    ensures known { OnOk result (IsCoreEvent timestamp.now elapsed.now kind.now) }
 {
     match kind {
-        CoreEventKind::RunStarted { .. } => "run-started",
-        CoreEventKind::StressSubRunStarted { .. } => "stress-sub-run-started",
-        CoreEventKind::SetupScriptStarted { .. } => "setup-script-started",
-        CoreEventKind::SetupScriptSlow { .. } => "setup-script-slow",
-        CoreEventKind::TestStarted { .. } => "test-started",
-        CoreEventKind::TestSlow { .. } => "test-slow",
-        CoreEventKind::TestRetryStarted { .. } => "test-retry-started",
-        CoreEventKind::TestSkipped { .. } => "test-skipped",
-        CoreEventKind::RunBeginCancel { .. } => "run-begin-cancel",
-        CoreEventKind::RunPaused { .. } => "run-paused",
-        CoreEventKind::RunContinued { .. } => "run-continued",
-        CoreEventKind::StressSubRunFinished { .. } => "stress-sub-run-finished",
-        CoreEventKind::RunFinished { .. } => "run-finished",
-    }
-}
-
-/// Writes a kind and its members.
-pub fn put_core(alloc: Global, object: &mut Object, kind: &CoreEventKind) -> Result<(), AllocError>
-    ensures written { OnOk result (value_members object.new.entries
-        ≡ with_members (value_members object.old.entries) (core_fields kind.now)) }
-    ensures known { OnOk result (IsCore kind.now) }
-{
-    put_kind_name(alloc, object, core_name(kind))?;
-    match kind {
-        CoreEventKind::RunStarted { .. } => put_run_started(alloc, object, kind),
-        CoreEventKind::StressSubRunStarted { .. } => put_stress_sub_run_started(
-            alloc, object, kind,
+        CoreEventKind::RunStarted { .. } => write_run_started(
+            alloc, text, timestamp, elapsed, kind,
         ),
-        CoreEventKind::SetupScriptStarted { .. } => put_setup_script_started(alloc, object, kind),
-        CoreEventKind::SetupScriptSlow { .. } => put_setup_script_slow(alloc, object, kind),
-        CoreEventKind::TestStarted { .. } => put_test_started(alloc, object, kind),
-        CoreEventKind::TestSlow { .. } => put_test_slow(alloc, object, kind),
-        CoreEventKind::TestRetryStarted { .. } => put_test_retry_started(alloc, object, kind),
-        CoreEventKind::TestSkipped { .. } => put_test_skipped(alloc, object, kind),
-        CoreEventKind::RunBeginCancel { .. } => put_run_begin_cancel(alloc, object, kind),
-        CoreEventKind::RunPaused {
-            setup_scripts_running,
-            running,
-        }
-        | CoreEventKind::RunContinued {
-            setup_scripts_running,
-            running,
-        } => put_running(alloc, object, *setup_scripts_running, *running),
-        CoreEventKind::StressSubRunFinished { .. } => put_stress_sub_run_finished(
-            alloc, object, kind,
+        CoreEventKind::StressSubRunStarted { .. } => write_stress_sub_run_started(
+            alloc, text, timestamp, elapsed, kind,
         ),
-        CoreEventKind::RunFinished { .. } => put_run_finished(alloc, object, kind),
+        CoreEventKind::SetupScriptStarted { .. } => write_setup_script_started(
+            alloc, text, timestamp, elapsed, kind,
+        ),
+        CoreEventKind::SetupScriptSlow { .. } => write_setup_script_slow(
+            alloc, text, timestamp, elapsed, kind,
+        ),
+        CoreEventKind::TestStarted { .. } => write_test_started(
+            alloc, text, timestamp, elapsed, kind,
+        ),
+        CoreEventKind::TestSlow { .. } => write_test_slow(alloc, text, timestamp, elapsed, kind),
+        CoreEventKind::TestRetryStarted { .. } => write_test_retry_started(
+            alloc, text, timestamp, elapsed, kind,
+        ),
+        CoreEventKind::TestSkipped { .. } => write_test_skipped(
+            alloc, text, timestamp, elapsed, kind,
+        ),
+        CoreEventKind::RunBeginCancel { .. } => write_run_begin_cancel(
+            alloc, text, timestamp, elapsed, kind,
+        ),
+        CoreEventKind::RunPaused { .. } => write_run_paused(alloc, text, timestamp, elapsed, kind),
+        CoreEventKind::RunContinued { .. } => write_run_continued(
+            alloc, text, timestamp, elapsed, kind,
+        ),
+        CoreEventKind::StressSubRunFinished { .. } => write_stress_sub_run_finished(
+            alloc, text, timestamp, elapsed, kind,
+        ),
+        CoreEventKind::RunFinished { .. } => write_run_finished(
+            alloc, text, timestamp, elapsed, kind,
+        ),
     }
 }
 

@@ -1,43 +1,76 @@
-//! Events as JSON values.
-ghost use Rattle.std.specs.Prelude.{◌≡◌, OnOk, IfOk, Some, codes, option_map, true};
+//! Events as JSON.
+ghost use Rattle.std.specs.Prelude.{◌≡◌, ◌++◌, OnOk, IfOk, Some, codes, option_map, true};
 ghost use Rattle.serde_json.specs.Find.{as_str};
-ghost use Rattle.serde_json.specs.View.{view, members_view as value_members};
+ghost use Rattle.serde_json.specs.View.{view};
 ghost use Rattle.rec_json.specs.Nodes.{members_view, view as node_view};
+ghost use Rattle.rec_json.specs.Tokens.{value_tokens, with_fields};
 ghost use Rattle.rec_forms.specs.Gives.{Gives};
-ghost use Rattle.rec_forms.specs.Shape.{required, with_members};
-ghost use Rattle.rec_codec.specs.EventForms.{kind_fields, kind_named, kind_form, kind_loaded, IsKind, event_value, event_form, IsEvent};
+ghost use Rattle.rec_forms.specs.Shape.{required};
+ghost use Rattle.rec_codec.specs.EventForms.{kind_named, kind_form, kind_loaded, event_fields, event_value, event_form, IsEvent};
 ghost use Rattle.rec_codec.specs.Writes.{Writes, PutsLoaded};
 
-use crate::core_kinds::{core_from, put_core};
+use crate::core_kinds::{core_from, write_core};
 use crate::output_kinds::{
-    attempt_failed_from, put_output, script_finished_from, test_finished_from,
+    attempt_failed_from, script_finished_from, test_finished_from, write_output,
 };
 use crate::{OutputForm, ToValueError};
 use rec_events::{TestEventKindSummary, TestEventSummary};
-use rec_forms::{FromValueError, Object, put_field, required_field};
-use rec_json::{Node, member};
-use serde_json::{Map, Value};
+use rec_forms::{FromValueError, required_field, value_of_text};
+use rec_json::{JsonText, Node, member};
+use serde_json::Value;
 use std::alloc::Global;
 
-/// Writes a kind and its members.
-fn put_kind<S: OutputForm>(
+/// Writes the members of an event.
+fn write_members<S: OutputForm>(
     alloc: Global,
-    object: &mut Object,
-    kind: &TestEventKindSummary<S>,
+    event: &TestEventSummary<S>,
+    text: &mut JsonText,
 ) -> Result<(), ToValueError>
-    ensures written { OnOk result (value_members object.new.entries
-        ≡ with_members (value_members object.old.entries) (kind_fields S.output_value kind.now)) }
-    ensures loaded { PutsLoaded result (kind_loaded S.loaded kind.now) }
-    ensures known { OnOk result (IsKind S.output_well_formed kind.now) }
+    ensures written { OnOk result (text.new ≡ with_fields text.old (event_fields S.output_value event.now)) }
+    ensures loaded { PutsLoaded result (kind_loaded S.loaded event.now.kind) }
+    ensures known { OnOk result (IsEvent S.output_well_formed event.now) }
 {
-    match kind {
-        TestEventKindSummary::Core(kind) => Ok(put_core(alloc, object, kind)?),
-        TestEventKindSummary::Output(kind) => put_output(alloc, object, kind),
+    match &event.kind {
+        TestEventKindSummary::Core(kind) => Ok(write_core(
+            alloc,
+            text,
+            &event.timestamp,
+            &event.elapsed,
+            kind,
+        )?),
+        TestEventKindSummary::Output(kind) => write_output(
+            alloc,
+            text,
+            &event.timestamp,
+            &event.elapsed,
+            kind,
+        ),
     }
 }
 
-/// Makes the value of an event.
-#[tactic(auto, unfolding(rec_forms::specs::Shape::members_of))]
+/// Writes an event at the end of `text`: an object with its times, the name of its kind and the members
+/// of that kind.
+///
+/// # Errors
+///
+/// `NotLoaded` comes exactly where an output of the event isn't loaded, and `OutOfMemory` where
+/// there was not enough memory. Then `text` may hold a part of the event.
+pub fn write_event<S: OutputForm>(
+    alloc: Global,
+    event: &TestEventSummary<S>,
+    text: &mut JsonText,
+) -> Result<(), ToValueError>
+    ensures written { OnOk result (text.new ≡ text.old ++ value_tokens (event_value S.output_value event.now)) }
+    ensures loaded { PutsLoaded result (kind_loaded S.loaded event.now.kind) }
+    ensures known { OnOk result (IsEvent S.output_well_formed event.now) }
+{
+    text.begin_object()?;
+    write_members(alloc, event, text)?;
+    text.end_struct()?;
+    Ok(())
+}
+
+/// Makes the value of an event, which is the value of its text.
 fn value_from<S: OutputForm>(
     alloc: Global,
     event: &TestEventSummary<S>,
@@ -45,15 +78,15 @@ fn value_from<S: OutputForm>(
     ensures written { Writes result (event_value S.output_value event.now) (kind_loaded S.loaded event.now.kind) }
     ensures known { OnOk result (IsEvent S.output_well_formed event.now) }
 {
-    let mut object = Map::new(alloc);
-    put_field(alloc, &mut object, "timestamp", &event.timestamp)?;
-    put_field(alloc, &mut object, "elapsed", &event.elapsed)?;
-    put_kind(alloc, &mut object, &event.kind)?;
-    Ok(Value::from(object))
+    let mut text = JsonText::new(alloc);
+    write_event(alloc, event, &mut text)?;
+    let text = text.into_text();
+    let value = value_of_text(alloc, &text)?;
+    Ok(value)
 }
 
-/// Makes the value of an event: an object with its times, the name of its kind and the members of
-/// that kind. It is read as this event again.
+/// Makes the value of an event, which is the value of its text. It is read as this event again. Where only
+/// the text is wanted, `write_event` does without a value.
 ///
 /// # Errors
 ///

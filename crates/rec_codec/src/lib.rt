@@ -4,6 +4,7 @@
 mod core_kinds;
 mod errors;
 mod event;
+mod event_parts;
 pub mod laws;
 mod line_events;
 mod line_iter;
@@ -21,7 +22,7 @@ mod status;
 mod test_kinds;
 
 pub use errors::ToValueError;
-pub use event::{event_from_node, event_from_value, event_to_value};
+pub use event::{event_from_node, event_from_value, event_to_value, write_event};
 pub use line_events::{LineError, read_line};
 pub use line_iter::LineIter;
 pub use lines::{Line, Lines, line_end};

@@ -1,15 +1,36 @@
 //! Outputs as they are captured.
-ghost use Rattle.std.specs.Prelude.{◌≡◌};
+ghost use Rattle.std.specs.Prelude.{◌≡◌, ◌++◌, OnOk};
 ghost use Rattle.rec_json.specs.Nodes.{view};
+ghost use Rattle.rec_json.specs.Tokens.{value_tokens};
+ghost use Rattle.rec_events.specs.declared.outputs.ChildOutputDescription.TheVariants.{Split};
 ghost use Rattle.rec_forms.specs.Gives.{Gives};
-ghost use Rattle.rec_codec.specs.Live.{live_split_form};
+ghost use Rattle.rec_codec.specs.Live.{IsLive, live_split_form, live_value};
 
 use crate::{OutputForm, ToValueError};
 use rec_events::{ChildOutputDescription, ChildSingleOutput, LiveSpec};
-use rec_forms::{Form, FromValueError, optional_field, put_optional, tagged};
-use rec_json::{Node, only_member};
-use serde_json::{Map, Value};
-use std::alloc::Global;
+use rec_forms::{Form, FromValueError, optional_field, write_optional, write_tagged};
+use rec_json::{JsonText, Node, only_member};
+use std::alloc::{AllocError, Global};
+
+/// Writes the outputs of a process whose streams were captured apart.
+fn write_split(
+    alloc: Global,
+    stdout: &Option<ChildSingleOutput>,
+    stderr: &Option<ChildSingleOutput>,
+    text: &mut JsonText,
+) -> Result<(), AllocError>
+    ensures written { OnOk result
+        (text.new ≡ text.old ++ value_tokens (live_value (Split stdout.now stderr.now))) }
+    ensures known { OnOk result (IsLive (Split stdout.now stderr.now)) }
+{
+    text.begin_tagged("split")?;
+    text.begin_object()?;
+    write_optional(alloc, text, "stderr", stderr)?;
+    write_optional(alloc, text, "stdout", stdout)?;
+    text.end_struct()?;
+    text.end_tagged()?;
+    Ok(())
+}
 
 /// The outputs of a process whose streams were captured apart.
 #[tactic(auto, unfolding(crate::specs::Live::live_split_form))]
@@ -26,6 +47,8 @@ fn split_from(alloc: Global, node: &Node<'_>) -> Result<ChildOutputDescription, 
 }
 
 impl OutputForm for LiveSpec {
+    ghost use Rattle.std.specs.Prelude.{refl};
+    ghost use Rattle.rec_forms.specs.Writable.{within_depth};
     ghost use Rattle.rec_codec.specs.Live.{IsLive, is_loaded, live_value, live_form};
     ghost use Rattle.rec_codec.specs.LiveLaws.{live_back, live_writable, live_well_formed};
 
@@ -45,20 +68,19 @@ impl OutputForm for LiveSpec {
 
     ghost output_writable = { live_writable };
 
-    #[tactic(auto, unfolding(rec_forms::specs::Shape::members_of))]
-    fn output_to_value(
+    ghost output_shallow = { within_depth refl };
+
+    fn output_write(
         alloc: Global,
         output: &ChildOutputDescription,
-    ) -> Result<Value, ToValueError> {
+        text: &mut JsonText,
+    ) -> Result<(), ToValueError> {
         match output {
             ChildOutputDescription::Split { stdout, stderr } => {
-                let mut object = Map::new(alloc);
-                put_optional(alloc, &mut object, "stdout", stdout)?;
-                put_optional(alloc, &mut object, "stderr", stderr)?;
-                Ok(tagged(alloc, "split", Value::from(object))?)
+                Ok(write_split(alloc, stdout, stderr, text)?)
             }
             ChildOutputDescription::Combined { output } => {
-                Ok(tagged(alloc, "combined", output.to_value(alloc)?)?)
+                Ok(write_tagged(alloc, text, "combined", output)?)
             }
             ChildOutputDescription::NotLoaded => Err(ToValueError::NotLoaded),
         }

@@ -1,24 +1,23 @@
 //! The forms of items that hold outputs, and so aren't written where one isn't loaded.
 ghost use Rattle.std.specs.List.{AllByRecursion};
-ghost use Rattle.std.specs.Prelude.{◌≡◌, ℕ, Bool, Option, Some, OnOk, map};
+ghost use Rattle.std.specs.Prelude.{◌≡◌, ◌++◌, ℕ, Bool, Option, Some, OnOk};
 ghost use Rattle.serde_json.specs.Data.{Data};
-ghost use Rattle.serde_json.specs.View.{members_view as value_members};
 ghost use Rattle.rec_json.specs.Nodes.{members_view, view};
+ghost use Rattle.rec_json.specs.Tokens.{value_tokens, with_field};
 ghost use Rattle.rec_forms.specs.Gives.{Gives};
 ghost use Rattle.rec_forms.specs.GivesWellFormed.{GivesWellFormed};
 ghost use Rattle.rec_forms.specs.Lists.{list_value, list_form, some_form};
-ghost use Rattle.rec_forms.specs.Shape.{with_member, required};
+ghost use Rattle.rec_forms.specs.Shape.{required};
 ghost use Rattle.rec_forms.specs.Writable.{IsWritable};
-ghost use Rattle.rec_codec.specs.Writes.{Writes, PutsLoaded, every};
+ghost use Rattle.rec_codec.specs.Writes.{PutsLoaded, every};
 
 use crate::ToValueError;
 use rec_events::{Items, NonEmpty};
-use rec_forms::{FromValueError, Object};
-use rec_json::{Node, member};
-use serde_json::Value;
+use rec_forms::FromValueError;
+use rec_json::{JsonText, Node, member};
 use std::alloc::Global;
 
-/// Writes items that hold outputs as JSON values, where these outputs are loaded, and reads them.
+/// Writes items that hold outputs as JSON, where these outputs are loaded, and reads them.
 pub trait LoadedForm: Sized {
     // What holds of each item that a program has, if its outputs are loaded.
     ghost well_formed: { Self → Type 0 };
@@ -35,14 +34,15 @@ pub trait LoadedForm: Sized {
     // How deep the arrays and objects of a written value nest at most.
     ghost levels: { ℕ };
 
-    /// Makes the value of the item. It is read as this item again.
+    /// Writes the item at the end of `text`. It is read as this item again.
     ///
     /// # Errors
     ///
-    /// `NotLoaded` comes exactly where an output in the item isn't loaded, and `OutOfMemory` where
-    /// there was not enough memory.
-    fn to_value(&self, alloc: Global) -> Result<Value, ToValueError>
-        ensures written { Writes result (value_of self.now) (loaded self.now) }
+    /// `NotLoaded` comes exactly where an output in the item isn't loaded, and `OutOfMemory` if memory
+    /// runs out; then `text` may hold a part of the item.
+    fn write(&self, alloc: Global, text: &mut JsonText) -> Result<(), ToValueError>
+        ensures written { OnOk result (text.new ≡ text.old ++ value_tokens (value_of self.now)) }
+        ensures loaded { PutsLoaded result (loaded self.now) }
         ensures known { OnOk result (well_formed self.now) };
 
     /// Reads the item for which `node` stands.
@@ -66,20 +66,19 @@ pub trait LoadedForm: Sized {
 }
 
 /// Writes a field that holds outputs.
-pub fn put_loaded<T: LoadedForm>(
+pub fn write_loaded<T: LoadedForm>(
     alloc: Global,
-    object: &mut Object,
+    text: &mut JsonText,
     key: &str,
     item: &T,
 ) -> Result<(), ToValueError>
-    ensures written { OnOk result (value_members object.new.entries
-        ≡ with_member key.now (Some (T.value_of item.now)) (value_members object.old.entries)) }
+    ensures written { OnOk result
+        (text.new ≡ with_field key.now (Some (T.value_of item.now)) text.old) }
     ensures loaded { PutsLoaded result (T.loaded item.now) }
     ensures known { OnOk result (T.well_formed item.now) }
 {
-    let value = item.to_value(alloc)?;
-    serde_json::put(object, alloc, key, value)?;
-    Ok(())
+    text.key(key)?;
+    item.write(alloc, text)
 }
 
 /// Reads a field that holds outputs and has to be there.
@@ -96,17 +95,23 @@ pub fn required_loaded<'a, T: LoadedForm>(
     }
 }
 
-/// Makes the array of the values of `items`.
-pub fn each_to_value<T: LoadedForm>(alloc: Global, items: &[T]) -> Result<Value, ToValueError>
-    ensures written { Writes result (list_value T.value_of items.now) (every T.loaded items.now) }
+/// Writes a list of items that hold outputs.
+pub fn write_each<T: LoadedForm>(
+    alloc: Global,
+    text: &mut JsonText,
+    items: &[T],
+) -> Result<(), ToValueError>
+    ensures written { OnOk result
+        (text.new ≡ text.old ++ value_tokens (list_value T.value_of items.now)) }
+    ensures loaded { PutsLoaded result (every T.loaded items.now) }
     ensures known { OnOk result (AllByRecursion T.well_formed items.now) }
 {
-    let mut values = Vec::new(alloc);
+    text.begin_array()?;
     for item in items {
-        let value = item.to_value(alloc)?;
-        values.push(value)?;
+        item.write(alloc, text)?;
     }
-    Ok(Value::from(values))
+    text.end_list()?;
+    Ok(())
 }
 
 /// Reads the items of an array.

@@ -1,25 +1,27 @@
 //! The lines of a log.
-ghost use Rattle.std.specs.Prelude.{◌≡◌, IfOk, OnOk};
-ghost use Rattle.serde_json.specs.View.{view};
+ghost use Rattle.std.specs.Prelude.{◌≡◌, ◌++◌, IfOk, OnOk};
+ghost use Rattle.rec_json.specs.Tokens.{value_tokens};
 ghost use Rattle.rec_forms.specs.Outputs.{IsStoredOutputs, stored_outputs_value};
 ghost use Rattle.rec_codec.specs.Event.{event_line, IsLogged};
 ghost use Rattle.rec_codec.specs.EventForms.{event_value, IsEvent};
 
-use crate::{ToValueError, event_to_value};
+use crate::{ToValueError, write_event};
 use rec_events::{RecordingSpec, TestEventSummary};
-use serde_json::Value;
+use rec_json::JsonText;
 use std::alloc::{AllocError, Global};
 
-/// Makes the value of an event. The names of files are always loaded, so only memory can be short.
-fn recorded_value(
+/// Writes an event. The names of files are always loaded, so only memory can be short.
+fn write_recorded(
     alloc: Global,
     event: &TestEventSummary<RecordingSpec>,
-) -> Result<Value, AllocError>
-    ensures value { IfOk result (λ v. view v ≡ event_value stored_outputs_value event.now) }
+    text: &mut JsonText,
+) -> Result<(), AllocError>
+    ensures written { OnOk result
+        (text.new ≡ text.old ++ value_tokens (event_value stored_outputs_value event.now)) }
     ensures known { OnOk result (IsEvent IsStoredOutputs event.now) }
 {
-    match event_to_value::<RecordingSpec>(alloc, event) {
-        Ok(value) => Ok(value),
+    match write_event::<RecordingSpec>(alloc, event, text) {
+        Ok(()) => Ok(()),
         Err(ToValueError::OutOfMemory) => Err(AllocError),
         Err(ToValueError::NotLoaded) => unreachable!(),
     }
@@ -38,8 +40,8 @@ pub fn log_line(
     ensures line { IfOk result (λ b. b.items ≡ event_line event.now) }
     ensures logged { OnOk result (IsLogged event.now) }
 {
-    let value = recorded_value(alloc, event)?;
-    let text = value.to_string(alloc)?;
+    let mut text = JsonText::new(alloc);
+    write_recorded(alloc, event, &mut text)?;
     let mut line = text.into_bytes();
     line.push(b'\n')?;
     Ok(line)

@@ -1,21 +1,23 @@
 //! Outputs in either form.
-ghost use Rattle.std.specs.Prelude.{◌≡◌, ℕ, Bool, Option, Some, OnOk};
+ghost use Rattle.std.specs.Prelude.{◌≡◌, ◌≤◌, ◌+◌, ◌++◌, ℕ, Bool, Option, Some, OnOk};
 ghost use Rattle.serde_json.specs.Data.{Data};
+ghost use Rattle.serde_json.specs.Read.{max_depth};
 ghost use Rattle.serde_json.specs.View.{view};
 ghost use Rattle.rec_json.specs.Nodes.{view as node_view};
+ghost use Rattle.rec_json.specs.Tokens.{value_tokens};
 ghost use Rattle.rec_forms.specs.Gives.{Gives};
 ghost use Rattle.rec_forms.specs.GivesWellFormed.{GivesWellFormed};
 ghost use Rattle.rec_forms.specs.Writable.{IsWritable};
-ghost use Rattle.rec_codec.specs.Writes.{Writes};
+ghost use Rattle.rec_codec.specs.Writes.{PutsLoaded, Writes};
 
 use crate::ToValueError;
 use rec_events::{OutputSpec, RecordingSpec, ZipStoreOutputDescription};
-use rec_forms::{Form, FromValueError};
-use rec_json::Node;
+use rec_forms::{Form, FromValueError, value_of_text, writable_values_read_back};
+use rec_json::{JsonText, Node};
 use serde_json::Value;
 use std::alloc::Global;
 
-/// Writes the outputs of one form as JSON values, and reads them.
+/// Writes the outputs of one form as JSON, and reads them.
 pub trait OutputForm: OutputSpec {
     // What holds of each output that a program has, if it is loaded.
     ghost output_well_formed: { Self.ChildOutput → Type 0 };
@@ -32,7 +34,23 @@ pub trait OutputForm: OutputSpec {
     // How deep the objects of a written value nest at most.
     ghost output_levels: { ℕ };
 
-    /// Makes the value of the output. It is read as this output again.
+    /// Writes the output at the end of `text`. It is read as this output again.
+    ///
+    /// # Errors
+    ///
+    /// `NotLoaded` comes exactly where the output isn't loaded, and `OutOfMemory` if memory runs out;
+    /// then `text` may hold a part of the output.
+    fn output_write(
+        alloc: Global,
+        output: &Self::ChildOutput,
+        text: &mut JsonText,
+    ) -> Result<(), ToValueError>
+        ensures text_written { OnOk result
+            (text.new ≡ text.old ++ value_tokens (output_value output.now)) }
+        ensures text_loaded { PutsLoaded result (loaded output.now) }
+        ensures text_known { OnOk result (output_well_formed output.now) };
+
+    /// Makes the value of the output, which is the value of its text. It is read as this output again.
     ///
     /// # Errors
     ///
@@ -40,7 +58,14 @@ pub trait OutputForm: OutputSpec {
     /// not enough memory.
     fn output_to_value(alloc: Global, output: &Self::ChildOutput) -> Result<Value, ToValueError>
         ensures written { Writes result (output_value output.now) (loaded output.now) }
-        ensures known { OnOk result (output_well_formed output.now) };
+        ensures known { OnOk result (output_well_formed output.now) }
+    {
+        let mut text = JsonText::new(alloc);
+        Self::output_write(alloc, output, &mut text)?;
+        let text = text.into_text();
+        writable_values_read_back();
+        Ok(value_of_text(alloc, &text)?)
+    }
 
     /// Reads the output for which `node` stands.
     ///
@@ -74,12 +99,16 @@ pub trait OutputForm: OutputSpec {
     // What is written is no null, is given back by its text, has no float, and nests no deeper than
     // `output_levels`.
     ghost output_writable: { (o : Self.ChildOutput) → output_well_formed o → IsWritable output_levels (output_value o) };
+
+    // An output within an event, where it nests up to ten deeper, is no deeper than what is read as JSON.
+    ghost output_shallow: { output_levels + 10 ≤ max_depth };
 }
 
 impl OutputForm for RecordingSpec {
-    ghost use Rattle.std.specs.Prelude.{true};
+    ghost use Rattle.std.specs.Prelude.{true, refl};
     ghost use Rattle.rec_forms.specs.OutputLaws.{stored_outputs_back, stored_outputs_writable, stored_outputs_well_formed};
     ghost use Rattle.rec_forms.specs.Outputs.{stored_outputs_value, stored_outputs_form, IsStoredOutputs};
+    ghost use Rattle.rec_forms.specs.Writable.{within_depth};
 
     ghost output_well_formed = { IsStoredOutputs };
 
@@ -97,11 +126,14 @@ impl OutputForm for RecordingSpec {
 
     ghost output_writable = { stored_outputs_writable };
 
-    fn output_to_value(
+    ghost output_shallow = { within_depth refl };
+
+    fn output_write(
         alloc: Global,
         output: &ZipStoreOutputDescription,
-    ) -> Result<Value, ToValueError> {
-        Ok(output.to_value(alloc)?)
+        text: &mut JsonText,
+    ) -> Result<(), ToValueError> {
+        Ok(output.write(alloc, text)?)
     }
 
     fn output_from_node(

@@ -1,19 +1,23 @@
 //! The kinds of events that hold outputs.
-ghost use Rattle.std.specs.Prelude.{◌≡◌, OnOk, true, codes};
-ghost use Rattle.serde_json.specs.View.{members_view as value_members};
+ghost use Rattle.std.specs.Prelude.{◌≡◌, OnOk, IfSome, codes};
 ghost use Rattle.rec_json.specs.Nodes.{members_view};
+ghost use Rattle.rec_json.specs.Tokens.{with_fields};
 ghost use Rattle.rec_forms.specs.Gives.{Gives};
-ghost use Rattle.rec_forms.specs.Shape.{with_members};
-ghost use Rattle.rec_codec.specs.OutputKinds.{output_name, reporting_fields, reporting_form, output_members, output_fields, output_loaded, IsOutput, script_finished_form, attempt_failed_form, test_finished_form};
+ghost use Rattle.rec_forms.specs.Instances.{IsStressIndex, IsTestInstance};
+ghost use Rattle.rec_forms.specs.Times.{IsStamp};
+ghost use Rattle.rec_codec.specs.OutputKinds.{output_name, reporting_part, reporting_form, finished_part, output_event_fields, output_loaded, IsOutputEvent, script_finished_form, attempt_failed_form, test_finished_form};
 ghost use Rattle.rec_codec.specs.Writes.{PutsLoaded};
 
-use crate::core_kinds::put_kind_name;
-use crate::loaded_form::{put_loaded, required_loaded};
-use crate::script_kinds::{Command, Place, put_command, put_place};
+use crate::event_parts::{write_args, write_script, write_test};
+use crate::loaded_form::{required_loaded, write_loaded};
+use crate::script_kinds::{Command, Place};
 use crate::{OutputForm, ToValueError};
-use rec_events::{JunitFlakyFailStatus, OutputEventKind, TestOutputDisplay};
-use rec_forms::{FromValueError, Object, optional_field, put_field, put_optional, required_field};
-use rec_json::Node;
+use rec_events::{
+    Duration, JunitFlakyFailStatus, OutputEventKind, OwnedTestInstanceId, Stamp,
+    StressIndexSummary, TestOutputDisplay,
+};
+use rec_forms::{FromValueError, optional_field, required_field, write_field, write_optional};
+use rec_json::{JsonText, Node};
 use std::alloc::{AllocError, Global};
 
 /// How a finished test is reported.
@@ -27,32 +31,6 @@ struct Reporting {
 }
 
 impl Reporting {
-    fn put(&self, alloc: Global, object: &mut Object) -> Result<(), AllocError>
-        ensures { OnOk result (value_members object.new.entries
-            ≡ with_members (value_members object.old.entries) (reporting_fields self.now)) }
-    {
-        put_field(alloc, object, "success-output", &self.success_output)?;
-        put_field(alloc, object, "failure-output", &self.failure_output)?;
-        put_field(
-            alloc,
-            object,
-            "junit-store-success-output",
-            &self.junit_store_success_output,
-        )?;
-        put_field(
-            alloc,
-            object,
-            "junit-store-failure-output",
-            &self.junit_store_failure_output,
-        )?;
-        put_field(
-            alloc,
-            object,
-            "junit-flaky-fail-status",
-            &self.junit_flaky_fail_status,
-        )
-    }
-
     #[tactic(auto, unfolding(crate::specs::OutputKinds::reporting_form))]
     fn read<'a>(alloc: Global, object: &[(&'a str, Node<'a>)]) -> Result<Reporting, FromValueError>
         ensures { Gives result (reporting_form (members_view object.now)) }
@@ -75,28 +53,19 @@ impl Reporting {
     }
 }
 
-/// The name of a kind.
-fn output_name<S: OutputForm>(kind: &OutputEventKind<S>) -> &'static str
-    ensures { result.now ≡ output_name kind.now }
-{
-    match kind {
-        OutputEventKind::SetupScriptFinished { .. } => "setup-script-finished",
-        OutputEventKind::TestAttemptFailedWillRetry { .. } => "test-attempt-failed-will-retry",
-        OutputEventKind::TestFinished { .. } => "test-finished",
-    }
-}
-
 /// Writes the members of a setup script's end.
-fn put_script_finished<S: OutputForm>(
+fn write_script_finished<S: OutputForm>(
     alloc: Global,
-    object: &mut Object,
+    text: &mut JsonText,
+    timestamp: &Stamp,
+    elapsed: &Duration,
     kind: &OutputEventKind<S>,
 ) -> Result<(), ToValueError>
     requires named { output_name kind.now ≡ codes "setup-script-finished" }
-    ensures written { OnOk result (value_members object.new.entries
-        ≡ with_members (value_members object.old.entries) (output_members S.output_value kind.now)) }
+    ensures written { OnOk result (text.new
+        ≡ with_fields text.old (output_event_fields S.output_value timestamp.now elapsed.now kind.now)) }
     ensures loaded { PutsLoaded result (output_loaded S.loaded kind.now) }
-    ensures known { OnOk result (IsOutput S.output_well_formed kind.now) }
+    ensures known { OnOk result (IsOutputEvent S.output_well_formed timestamp.now elapsed.now kind.now) }
 {
     let OutputEventKind::SetupScriptFinished {
         stress_index,
@@ -111,24 +80,28 @@ fn put_script_finished<S: OutputForm>(
     else {
         unreachable!()
     };
-    put_place(alloc, object, stress_index, *index, *total)?;
-    put_command(alloc, object, script_id, program, args)?;
-    put_field(alloc, object, "no-capture", no_capture)?;
-    put_loaded(alloc, object, "run-status", run_status)?;
+    write_args(alloc, text, args, elapsed, *index)?;
+    text.string_field("kind", "setup-script-finished")?;
+    write_field(alloc, text, "no-capture", no_capture)?;
+    write_field(alloc, text, "program", program)?;
+    write_loaded(alloc, text, "run-status", run_status)?;
+    write_script(alloc, text, script_id, stress_index, timestamp, *total)?;
     Ok(())
 }
 
 /// Writes the members of a failed attempt.
-fn put_attempt_failed<S: OutputForm>(
+fn write_attempt_failed<S: OutputForm>(
     alloc: Global,
-    object: &mut Object,
+    text: &mut JsonText,
+    timestamp: &Stamp,
+    elapsed: &Duration,
     kind: &OutputEventKind<S>,
 ) -> Result<(), ToValueError>
     requires named { output_name kind.now ≡ codes "test-attempt-failed-will-retry" }
-    ensures written { OnOk result (value_members object.new.entries
-        ≡ with_members (value_members object.old.entries) (output_members S.output_value kind.now)) }
+    ensures written { OnOk result (text.new
+        ≡ with_fields text.old (output_event_fields S.output_value timestamp.now elapsed.now kind.now)) }
     ensures loaded { PutsLoaded result (output_loaded S.loaded kind.now) }
-    ensures known { OnOk result (IsOutput S.output_well_formed kind.now) }
+    ensures known { OnOk result (IsOutputEvent S.output_well_formed timestamp.now elapsed.now kind.now) }
 {
     let OutputEventKind::TestAttemptFailedWillRetry {
         stress_index,
@@ -141,31 +114,76 @@ fn put_attempt_failed<S: OutputForm>(
     else {
         unreachable!()
     };
-    put_optional(alloc, object, "stress-index", stress_index)?;
-    put_field(alloc, object, "test-instance", test_instance)?;
-    put_loaded(alloc, object, "run-status", run_status)?;
-    put_field(
+    write_field(
         alloc,
-        object,
+        text,
         "delay-before-next-attempt",
         delay_before_next_attempt,
     )?;
-    put_field(alloc, object, "failure-output", failure_output)?;
-    put_field(alloc, object, "running", running)?;
+    write_field(alloc, text, "elapsed", elapsed)?;
+    write_field(alloc, text, "failure-output", failure_output)?;
+    text.string_field("kind", "test-attempt-failed-will-retry")?;
+    write_loaded(alloc, text, "run-status", run_status)?;
+    write_field(alloc, text, "running", running)?;
+    write_test(alloc, text, stress_index, test_instance, timestamp)?;
+    Ok(())
+}
+
+/// Writes how a finished test is reported, from `failure-output` to `junit-store-success-output`.
+fn write_reporting(
+    alloc: Global,
+    text: &mut JsonText,
+    failure_output: &TestOutputDisplay,
+    flaky_fail_status: &JunitFlakyFailStatus,
+    store_failure_output: bool,
+    store_success_output: bool,
+) -> Result<(), AllocError>
+    ensures { OnOk result (text.new
+        ≡ with_fields text.old
+        (reporting_part failure_output.now flaky_fail_status.now store_failure_output store_success_output)) }
+{
+    write_field(alloc, text, "failure-output", failure_output)?;
+    write_field(alloc, text, "junit-flaky-fail-status", flaky_fail_status)?;
+    text.boolean_field("junit-store-failure-output", store_failure_output)?;
+    text.boolean_field("junit-store-success-output", store_success_output)?;
+    Ok(())
+}
+
+/// Writes which finished test it is, how its output is shown, and when it ended.
+fn write_finished(
+    alloc: Global,
+    text: &mut JsonText,
+    stress_index: &Option<StressIndexSummary>,
+    success_output: &TestOutputDisplay,
+    test_instance: &OwnedTestInstanceId,
+    timestamp: &Stamp,
+) -> Result<(), AllocError>
+    ensures written { OnOk result (text.new
+        ≡ with_fields text.old
+        (finished_part stress_index.now success_output.now test_instance.now timestamp.now)) }
+    ensures known { OnOk result
+        (IfSome stress_index.now IsStressIndex × IsTestInstance test_instance.now × IsStamp timestamp.now) }
+{
+    write_optional(alloc, text, "stress-index", stress_index)?;
+    write_field(alloc, text, "success-output", success_output)?;
+    write_field(alloc, text, "test-instance", test_instance)?;
+    write_field(alloc, text, "timestamp", timestamp)?;
     Ok(())
 }
 
 /// Writes the members of a finished test.
-fn put_test_finished<S: OutputForm>(
+fn write_test_finished<S: OutputForm>(
     alloc: Global,
-    object: &mut Object,
+    text: &mut JsonText,
+    timestamp: &Stamp,
+    elapsed: &Duration,
     kind: &OutputEventKind<S>,
 ) -> Result<(), ToValueError>
     requires named { output_name kind.now ≡ codes "test-finished" }
-    ensures written { OnOk result (value_members object.new.entries
-        ≡ with_members (value_members object.old.entries) (output_members S.output_value kind.now)) }
+    ensures written { OnOk result (text.new
+        ≡ with_fields text.old (output_event_fields S.output_value timestamp.now elapsed.now kind.now)) }
     ensures loaded { PutsLoaded result (output_loaded S.loaded kind.now) }
-    ensures known { OnOk result (IsOutput S.output_well_formed kind.now) }
+    ensures known { OnOk result (IsOutputEvent S.output_well_formed timestamp.now elapsed.now kind.now) }
 {
     let OutputEventKind::TestFinished {
         stress_index,
@@ -182,40 +200,53 @@ fn put_test_finished<S: OutputForm>(
     else {
         unreachable!()
     };
-    let reporting = Reporting {
-        success_output: *success_output,
-        failure_output: *failure_output,
-        junit_store_success_output: *junit_store_success_output,
-        junit_store_failure_output: *junit_store_failure_output,
-        junit_flaky_fail_status: *junit_flaky_fail_status,
-    };
-    put_optional(alloc, object, "stress-index", stress_index)?;
-    put_field(alloc, object, "test-instance", test_instance)?;
-    reporting.put(alloc, object)?;
-    put_loaded(alloc, object, "run-statuses", run_statuses)?;
-    put_field(alloc, object, "current-stats", current_stats)?;
-    put_field(alloc, object, "running", running)?;
+    write_field(alloc, text, "current-stats", current_stats)?;
+    write_field(alloc, text, "elapsed", elapsed)?;
+    write_reporting(
+        alloc,
+        text,
+        failure_output,
+        junit_flaky_fail_status,
+        *junit_store_failure_output,
+        *junit_store_success_output,
+    )?;
+    text.string_field("kind", "test-finished")?;
+    write_loaded(alloc, text, "run-statuses", run_statuses)?;
+    write_field(alloc, text, "running", running)?;
+    write_finished(
+        alloc,
+        text,
+        stress_index,
+        success_output,
+        test_instance,
+        timestamp,
+    )?;
     Ok(())
 }
 
-/// Writes a kind and its members.
-pub fn put_output<S: OutputForm>(
+/// Writes the members of an event of a kind with outputs.
+pub fn write_output<S: OutputForm>(
     alloc: Global,
-    object: &mut Object,
+    text: &mut JsonText,
+    timestamp: &Stamp,
+    elapsed: &Duration,
     kind: &OutputEventKind<S>,
 ) -> Result<(), ToValueError>
-    ensures written { OnOk result (value_members object.new.entries
-        ≡ with_members (value_members object.old.entries) (output_fields S.output_value kind.now)) }
+    ensures written { OnOk result (text.new
+        ≡ with_fields text.old (output_event_fields S.output_value timestamp.now elapsed.now kind.now)) }
     ensures loaded { PutsLoaded result (output_loaded S.loaded kind.now) }
-    ensures known { OnOk result (IsOutput S.output_well_formed kind.now) }
+    ensures known { OnOk result (IsOutputEvent S.output_well_formed timestamp.now elapsed.now kind.now) }
 {
-    put_kind_name(alloc, object, output_name(kind))?;
     match kind {
-        OutputEventKind::SetupScriptFinished { .. } => put_script_finished(alloc, object, kind),
-        OutputEventKind::TestAttemptFailedWillRetry { .. } => put_attempt_failed(
-            alloc, object, kind,
+        OutputEventKind::SetupScriptFinished { .. } => write_script_finished(
+            alloc, text, timestamp, elapsed, kind,
         ),
-        OutputEventKind::TestFinished { .. } => put_test_finished(alloc, object, kind),
+        OutputEventKind::TestAttemptFailedWillRetry { .. } => write_attempt_failed(
+            alloc, text, timestamp, elapsed, kind,
+        ),
+        OutputEventKind::TestFinished { .. } => write_test_finished(
+            alloc, text, timestamp, elapsed, kind,
+        ),
     }
 }
 

@@ -1,27 +1,30 @@
 //! The kinds of events of a whole run.
 ghost use Rattle.std.specs.Prelude.{◌≡◌, OnOk, codes};
-ghost use Rattle.serde_json.specs.View.{members_view as value_members};
 ghost use Rattle.rec_json.specs.Nodes.{members_view};
+ghost use Rattle.rec_json.specs.Tokens.{with_fields};
 ghost use Rattle.rec_forms.specs.Gives.{Gives};
-ghost use Rattle.rec_forms.specs.Shape.{with_members};
 ghost use Rattle.rec_codec.specs.CoreKindForms.{run_started_form, stress_sub_run_started_form, run_begin_cancel_form, run_paused_form, run_continued_form, stress_sub_run_finished_form, run_finished_form};
-ghost use Rattle.rec_codec.specs.CoreKinds.{core_name, core_members, running_fields, IsCore};
+ghost use Rattle.rec_codec.specs.CoreKinds.{core_name};
+ghost use Rattle.rec_codec.specs.EventParts.{core_event_fields, IsCoreEvent};
 
-use rec_events::CoreEventKind;
-use rec_forms::{FromValueError, Object, optional_field, put_field, put_optional, required_field};
-use rec_json::Node;
+use crate::event_parts::{write_head, write_running};
+use rec_events::{CoreEventKind, Duration, Stamp};
+use rec_forms::{FromValueError, optional_field, required_field, write_field, write_optional};
+use rec_json::{JsonText, Node};
 use std::alloc::{AllocError, Global};
 
 /// Writes the members of a run's start.
-pub fn put_run_started(
+pub fn write_run_started(
     alloc: Global,
-    object: &mut Object,
+    text: &mut JsonText,
+    timestamp: &Stamp,
+    elapsed: &Duration,
     kind: &CoreEventKind,
 ) -> Result<(), AllocError>
     requires named { core_name kind.now ≡ codes "run-started" }
-    ensures written { OnOk result (value_members object.new.entries
-        ≡ with_members (value_members object.old.entries) (core_members kind.now)) }
-    ensures known { OnOk result (IsCore kind.now) }
+    ensures written { OnOk result (text.new
+        ≡ with_fields text.old (core_event_fields timestamp.now elapsed.now kind.now)) }
+    ensures known { OnOk result (IsCoreEvent timestamp.now elapsed.now kind.now) }
 {
     let CoreEventKind::RunStarted {
         run_id,
@@ -32,10 +35,12 @@ pub fn put_run_started(
     else {
         unreachable!()
     };
-    put_field(alloc, object, "run-id", run_id)?;
-    put_field(alloc, object, "profile-name", profile_name)?;
-    put_field(alloc, object, "cli-args", cli_args)?;
-    put_optional(alloc, object, "stress-condition", stress_condition)?;
+    write_field(alloc, text, "cli-args", cli_args)?;
+    write_head(alloc, text, elapsed, "run-started")?;
+    write_field(alloc, text, "profile-name", profile_name)?;
+    write_field(alloc, text, "run-id", run_id)?;
+    write_optional(alloc, text, "stress-condition", stress_condition)?;
+    write_field(alloc, text, "timestamp", timestamp)?;
     Ok(())
 }
 
@@ -56,20 +61,24 @@ pub fn run_started_from<'a>(
 }
 
 /// Writes the members of the start of one of a stress run's runs.
-pub fn put_stress_sub_run_started(
+pub fn write_stress_sub_run_started(
     alloc: Global,
-    object: &mut Object,
+    text: &mut JsonText,
+    timestamp: &Stamp,
+    elapsed: &Duration,
     kind: &CoreEventKind,
 ) -> Result<(), AllocError>
     requires named { core_name kind.now ≡ codes "stress-sub-run-started" }
-    ensures written { OnOk result (value_members object.new.entries
-        ≡ with_members (value_members object.old.entries) (core_members kind.now)) }
-    ensures known { OnOk result (IsCore kind.now) }
+    ensures written { OnOk result (text.new
+        ≡ with_fields text.old (core_event_fields timestamp.now elapsed.now kind.now)) }
+    ensures known { OnOk result (IsCoreEvent timestamp.now elapsed.now kind.now) }
 {
     let CoreEventKind::StressSubRunStarted { progress } = kind else {
         unreachable!()
     };
-    put_field(alloc, object, "progress", progress)?;
+    write_head(alloc, text, elapsed, "stress-sub-run-started")?;
+    write_field(alloc, text, "progress", progress)?;
+    write_field(alloc, text, "timestamp", timestamp)?;
     Ok(())
 }
 
@@ -86,35 +95,18 @@ pub fn stress_sub_run_started_from<'a>(
     })
 }
 
-/// Writes how many setup scripts and tests run, as a cancel, a pause and a continuation have it.
-pub fn put_running(
-    alloc: Global,
-    object: &mut Object,
-    setup_scripts_running: usize,
-    running: usize,
-) -> Result<(), AllocError>
-    ensures { OnOk result (value_members object.new.entries
-        ≡ with_members (value_members object.old.entries) (running_fields setup_scripts_running running)) }
-{
-    put_field(
-        alloc,
-        object,
-        "setup-scripts-running",
-        &setup_scripts_running,
-    )?;
-    put_field(alloc, object, "running", &running)
-}
-
 /// Writes the members of a cancel.
-pub fn put_run_begin_cancel(
+pub fn write_run_begin_cancel(
     alloc: Global,
-    object: &mut Object,
+    text: &mut JsonText,
+    timestamp: &Stamp,
+    elapsed: &Duration,
     kind: &CoreEventKind,
 ) -> Result<(), AllocError>
     requires named { core_name kind.now ≡ codes "run-begin-cancel" }
-    ensures written { OnOk result (value_members object.new.entries
-        ≡ with_members (value_members object.old.entries) (core_members kind.now)) }
-    ensures known { OnOk result (IsCore kind.now) }
+    ensures written { OnOk result (text.new
+        ≡ with_fields text.old (core_event_fields timestamp.now elapsed.now kind.now)) }
+    ensures known { OnOk result (IsCoreEvent timestamp.now elapsed.now kind.now) }
 {
     let CoreEventKind::RunBeginCancel {
         setup_scripts_running,
@@ -124,8 +116,9 @@ pub fn put_run_begin_cancel(
     else {
         unreachable!()
     };
-    put_running(alloc, object, *setup_scripts_running, *running)?;
-    put_field(alloc, object, "reason", reason)?;
+    write_head(alloc, text, elapsed, "run-begin-cancel")?;
+    write_field(alloc, text, "reason", reason)?;
+    write_running(alloc, text, *running, *setup_scripts_running, timestamp)?;
     Ok(())
 }
 
@@ -144,6 +137,31 @@ pub fn run_begin_cancel_from<'a>(
     })
 }
 
+/// Writes the members of a pause.
+pub fn write_run_paused(
+    alloc: Global,
+    text: &mut JsonText,
+    timestamp: &Stamp,
+    elapsed: &Duration,
+    kind: &CoreEventKind,
+) -> Result<(), AllocError>
+    requires named { core_name kind.now ≡ codes "run-paused" }
+    ensures written { OnOk result (text.new
+        ≡ with_fields text.old (core_event_fields timestamp.now elapsed.now kind.now)) }
+    ensures known { OnOk result (IsCoreEvent timestamp.now elapsed.now kind.now) }
+{
+    let CoreEventKind::RunPaused {
+        setup_scripts_running,
+        running,
+    } = kind
+    else {
+        unreachable!()
+    };
+    write_head(alloc, text, elapsed, "run-paused")?;
+    write_running(alloc, text, *running, *setup_scripts_running, timestamp)?;
+    Ok(())
+}
+
 /// Reads the members of a pause.
 #[tactic(auto, unfolding(crate::specs::CoreKindForms::run_paused_form))]
 pub fn run_paused_from<'a>(
@@ -156,6 +174,31 @@ pub fn run_paused_from<'a>(
         setup_scripts_running: required_field(alloc, object, "setup-scripts-running")?,
         running: required_field(alloc, object, "running")?,
     })
+}
+
+/// Writes the members of a continuation.
+pub fn write_run_continued(
+    alloc: Global,
+    text: &mut JsonText,
+    timestamp: &Stamp,
+    elapsed: &Duration,
+    kind: &CoreEventKind,
+) -> Result<(), AllocError>
+    requires named { core_name kind.now ≡ codes "run-continued" }
+    ensures written { OnOk result (text.new
+        ≡ with_fields text.old (core_event_fields timestamp.now elapsed.now kind.now)) }
+    ensures known { OnOk result (IsCoreEvent timestamp.now elapsed.now kind.now) }
+{
+    let CoreEventKind::RunContinued {
+        setup_scripts_running,
+        running,
+    } = kind
+    else {
+        unreachable!()
+    };
+    write_head(alloc, text, elapsed, "run-continued")?;
+    write_running(alloc, text, *running, *setup_scripts_running, timestamp)?;
+    Ok(())
 }
 
 /// Reads the members of a continuation.
@@ -173,15 +216,17 @@ pub fn run_continued_from<'a>(
 }
 
 /// Writes the members of the end of one of a stress run's runs.
-pub fn put_stress_sub_run_finished(
+pub fn write_stress_sub_run_finished(
     alloc: Global,
-    object: &mut Object,
+    text: &mut JsonText,
+    timestamp: &Stamp,
+    elapsed: &Duration,
     kind: &CoreEventKind,
 ) -> Result<(), AllocError>
     requires named { core_name kind.now ≡ codes "stress-sub-run-finished" }
-    ensures written { OnOk result (value_members object.new.entries
-        ≡ with_members (value_members object.old.entries) (core_members kind.now)) }
-    ensures known { OnOk result (IsCore kind.now) }
+    ensures written { OnOk result (text.new
+        ≡ with_fields text.old (core_event_fields timestamp.now elapsed.now kind.now)) }
+    ensures known { OnOk result (IsCoreEvent timestamp.now elapsed.now kind.now) }
 {
     let CoreEventKind::StressSubRunFinished {
         progress,
@@ -191,9 +236,11 @@ pub fn put_stress_sub_run_finished(
     else {
         unreachable!()
     };
-    put_field(alloc, object, "progress", progress)?;
-    put_field(alloc, object, "sub-elapsed", sub_elapsed)?;
-    put_field(alloc, object, "sub-stats", sub_stats)?;
+    write_head(alloc, text, elapsed, "stress-sub-run-finished")?;
+    write_field(alloc, text, "progress", progress)?;
+    write_field(alloc, text, "sub-elapsed", sub_elapsed)?;
+    write_field(alloc, text, "sub-stats", sub_stats)?;
+    write_field(alloc, text, "timestamp", timestamp)?;
     Ok(())
 }
 
@@ -213,31 +260,35 @@ pub fn stress_sub_run_finished_from<'a>(
 }
 
 /// Writes the members of a run's end.
-pub fn put_run_finished(
+pub fn write_run_finished(
     alloc: Global,
-    object: &mut Object,
+    text: &mut JsonText,
+    timestamp: &Stamp,
+    elapsed: &Duration,
     kind: &CoreEventKind,
 ) -> Result<(), AllocError>
     requires named { core_name kind.now ≡ codes "run-finished" }
-    ensures written { OnOk result (value_members object.new.entries
-        ≡ with_members (value_members object.old.entries) (core_members kind.now)) }
-    ensures known { OnOk result (IsCore kind.now) }
+    ensures written { OnOk result (text.new
+        ≡ with_fields text.old (core_event_fields timestamp.now elapsed.now kind.now)) }
+    ensures known { OnOk result (IsCoreEvent timestamp.now elapsed.now kind.now) }
 {
     let CoreEventKind::RunFinished {
         run_id,
         start_time,
-        elapsed,
+        elapsed: run_elapsed,
         run_stats,
         outstanding_not_seen,
     } = kind
     else {
         unreachable!()
     };
-    put_field(alloc, object, "run-id", run_id)?;
-    put_field(alloc, object, "start-time", start_time)?;
-    put_field(alloc, object, "run-elapsed", elapsed)?;
-    put_field(alloc, object, "run-stats", run_stats)?;
-    put_optional(alloc, object, "outstanding-not-seen", outstanding_not_seen)?;
+    write_head(alloc, text, elapsed, "run-finished")?;
+    write_optional(alloc, text, "outstanding-not-seen", outstanding_not_seen)?;
+    write_field(alloc, text, "run-elapsed", run_elapsed)?;
+    write_field(alloc, text, "run-id", run_id)?;
+    write_field(alloc, text, "run-stats", run_stats)?;
+    write_field(alloc, text, "start-time", start_time)?;
+    write_field(alloc, text, "timestamp", timestamp)?;
     Ok(())
 }
 

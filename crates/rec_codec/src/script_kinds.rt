@@ -1,54 +1,17 @@
 //! The kinds of events of setup scripts that hold no outputs.
-ghost use Rattle.std.specs.Prelude.{◌≡◌, ◌<◌, ◌^◌, OnOk, IfSome, codes};
-ghost use Rattle.serde_json.specs.View.{members_view as value_members};
+ghost use Rattle.std.specs.Prelude.{◌≡◌, OnOk, codes};
 ghost use Rattle.rec_json.specs.Nodes.{members_view};
-ghost use Rattle.rec_events.specs.Names.{IsText, AreTexts};
+ghost use Rattle.rec_json.specs.Tokens.{with_fields};
 ghost use Rattle.rec_forms.specs.Gives.{Gives};
-ghost use Rattle.rec_forms.specs.Instances.{IsStressIndex};
-ghost use Rattle.rec_forms.specs.Shape.{with_members};
 ghost use Rattle.rec_codec.specs.CoreKindForms.{place_form, command_form, setup_script_started_form, setup_script_slow_form};
-ghost use Rattle.rec_codec.specs.CoreKinds.{core_name, place_fields, command_fields, core_members, IsCore};
+ghost use Rattle.rec_codec.specs.CoreKinds.{core_name};
+ghost use Rattle.rec_codec.specs.EventParts.{core_event_fields, IsCoreEvent};
 
-use rec_events::{CoreEventKind, Items, ScriptId, StressIndexSummary, Text};
-use rec_forms::{FromValueError, Object, optional_field, put_field, put_optional, required_field};
-use rec_json::Node;
+use crate::event_parts::{write_args, write_head, write_script};
+use rec_events::{CoreEventKind, Duration, Items, ScriptId, Stamp, StressIndexSummary, Text};
+use rec_forms::{FromValueError, optional_field, required_field, write_field, write_optional};
+use rec_json::{JsonText, Node};
 use std::alloc::{AllocError, Global};
-
-/// Writes which setup script it is, as its start and its end have it.
-pub fn put_place(
-    alloc: Global,
-    object: &mut Object,
-    stress_index: &Option<StressIndexSummary>,
-    index: usize,
-    total: usize,
-) -> Result<(), AllocError>
-    ensures written { OnOk result (value_members object.new.entries
-        ≡ with_members (value_members object.old.entries) (place_fields stress_index.now index total)) }
-    ensures known { OnOk result (IfSome stress_index.now IsStressIndex × (index < 2 ^ 64) × (total < 2 ^ 64)) }
-{
-    put_optional(alloc, object, "stress-index", stress_index)?;
-    put_field(alloc, object, "index", &index)?;
-    put_field(alloc, object, "total", &total)?;
-    Ok(())
-}
-
-/// Writes what a setup script runs, as each of its kinds has it.
-pub fn put_command(
-    alloc: Global,
-    object: &mut Object,
-    script_id: &ScriptId,
-    program: &Text,
-    args: &Items<Text>,
-) -> Result<(), AllocError>
-    ensures written { OnOk result (value_members object.new.entries
-        ≡ with_members (value_members object.old.entries) (command_fields script_id.now program.now args.now)) }
-    ensures known { OnOk result (IsText script_id.now × IsText program.now × AreTexts args.now) }
-{
-    put_field(alloc, object, "script-id", script_id)?;
-    put_field(alloc, object, "program", program)?;
-    put_field(alloc, object, "args", args)?;
-    Ok(())
-}
 
 /// Says which setup script it is: the one with `index` others before it, of `total`.
 #[derive(Drop)]
@@ -96,15 +59,17 @@ impl Command {
 }
 
 /// Writes the members of a setup script's start.
-pub fn put_setup_script_started(
+pub fn write_setup_script_started(
     alloc: Global,
-    object: &mut Object,
+    text: &mut JsonText,
+    timestamp: &Stamp,
+    elapsed: &Duration,
     kind: &CoreEventKind,
 ) -> Result<(), AllocError>
     requires named { core_name kind.now ≡ codes "setup-script-started" }
-    ensures written { OnOk result (value_members object.new.entries
-        ≡ with_members (value_members object.old.entries) (core_members kind.now)) }
-    ensures known { OnOk result (IsCore kind.now) }
+    ensures written { OnOk result (text.new
+        ≡ with_fields text.old (core_event_fields timestamp.now elapsed.now kind.now)) }
+    ensures known { OnOk result (IsCoreEvent timestamp.now elapsed.now kind.now) }
 {
     let CoreEventKind::SetupScriptStarted {
         stress_index,
@@ -118,9 +83,11 @@ pub fn put_setup_script_started(
     else {
         unreachable!()
     };
-    put_place(alloc, object, stress_index, *index, *total)?;
-    put_command(alloc, object, script_id, program, args)?;
-    put_field(alloc, object, "no-capture", no_capture)?;
+    write_args(alloc, text, args, elapsed, *index)?;
+    text.string_field("kind", "setup-script-started")?;
+    write_field(alloc, text, "no-capture", no_capture)?;
+    write_field(alloc, text, "program", program)?;
+    write_script(alloc, text, script_id, stress_index, timestamp, *total)?;
     Ok(())
 }
 
@@ -147,31 +114,37 @@ pub fn setup_script_started_from<'a>(
 }
 
 /// Writes the members of a slow setup script.
-pub fn put_setup_script_slow(
+pub fn write_setup_script_slow(
     alloc: Global,
-    object: &mut Object,
+    text: &mut JsonText,
+    timestamp: &Stamp,
+    elapsed: &Duration,
     kind: &CoreEventKind,
 ) -> Result<(), AllocError>
     requires named { core_name kind.now ≡ codes "setup-script-slow" }
-    ensures written { OnOk result (value_members object.new.entries
-        ≡ with_members (value_members object.old.entries) (core_members kind.now)) }
-    ensures known { OnOk result (IsCore kind.now) }
+    ensures written { OnOk result (text.new
+        ≡ with_fields text.old (core_event_fields timestamp.now elapsed.now kind.now)) }
+    ensures known { OnOk result (IsCoreEvent timestamp.now elapsed.now kind.now) }
 {
     let CoreEventKind::SetupScriptSlow {
         stress_index,
         script_id,
         program,
         args,
-        elapsed,
+        elapsed: slow_elapsed,
         will_terminate,
     } = kind
     else {
         unreachable!()
     };
-    put_optional(alloc, object, "stress-index", stress_index)?;
-    put_command(alloc, object, script_id, program, args)?;
-    put_field(alloc, object, "slow-elapsed", elapsed)?;
-    put_field(alloc, object, "will-terminate", will_terminate)?;
+    write_field(alloc, text, "args", args)?;
+    write_head(alloc, text, elapsed, "setup-script-slow")?;
+    write_field(alloc, text, "program", program)?;
+    write_field(alloc, text, "script-id", script_id)?;
+    write_field(alloc, text, "slow-elapsed", slow_elapsed)?;
+    write_optional(alloc, text, "stress-index", stress_index)?;
+    write_field(alloc, text, "timestamp", timestamp)?;
+    write_field(alloc, text, "will-terminate", will_terminate)?;
     Ok(())
 }
 

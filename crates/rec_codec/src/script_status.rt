@@ -1,11 +1,10 @@
 //! The runs of setup scripts, with their outputs.
 
-use crate::loaded_form::{LoadedForm, put_loaded, required_loaded};
+use crate::loaded_form::{LoadedForm, required_loaded, write_loaded};
 use crate::{OutputForm, ToValueError};
 use rec_events::SetupScriptExecuteStatus;
-use rec_forms::{FromValueError, optional_field, put_field, put_optional, required_field};
-use rec_json::Node;
-use serde_json::{Map, Value};
+use rec_forms::{FromValueError, optional_field, required_field, write_field, write_optional};
+use rec_json::{JsonText, Node};
 use std::alloc::Global;
 
 impl<S: OutputForm> LoadedForm for SetupScriptExecuteStatus<S> {
@@ -29,17 +28,17 @@ impl<S: OutputForm> LoadedForm for SetupScriptExecuteStatus<S> {
 
     ghost writable = { script_status_writable S.output_well_formed S.output_levels S.output_value S.output_writable };
 
-    #[tactic(auto, unfolding(rec_forms::specs::Shape::members_of))]
-    fn to_value(&self, alloc: Global) -> Result<Value, ToValueError> {
-        let mut object = Map::new(alloc);
-        put_loaded(alloc, &mut object, "output", &self.output)?;
-        put_field(alloc, &mut object, "result", &self.result)?;
-        put_field(alloc, &mut object, "start-time", &self.start_time)?;
-        put_field(alloc, &mut object, "time-taken", &self.time_taken)?;
-        put_field(alloc, &mut object, "is-slow", &self.is_slow)?;
-        put_optional(alloc, &mut object, "env-map", &self.env_map)?;
-        put_optional(alloc, &mut object, "error-summary", &self.error_summary)?;
-        Ok(Value::from(object))
+    fn write(&self, alloc: Global, text: &mut JsonText) -> Result<(), ToValueError> {
+        text.begin_object()?;
+        write_optional(alloc, text, "env-map", &self.env_map)?;
+        write_optional(alloc, text, "error-summary", &self.error_summary)?;
+        write_field(alloc, text, "is-slow", &self.is_slow)?;
+        write_loaded(alloc, text, "output", &self.output)?;
+        write_field(alloc, text, "result", &self.result)?;
+        write_field(alloc, text, "start-time", &self.start_time)?;
+        write_field(alloc, text, "time-taken", &self.time_taken)?;
+        text.end_struct()?;
+        Ok(())
     }
 
     #[tactic(auto, unfolding(crate::specs::ScriptStatus::script_status_form))]

@@ -1,43 +1,64 @@
 //! The attempts of a test, with their outputs.
-ghost use Rattle.std.specs.Prelude.{◌≡◌, OnOk};
-ghost use Rattle.serde_json.specs.View.{members_view as value_members};
+ghost use Rattle.std.specs.Prelude.{◌≡◌, ◌++◌, OnOk, Some};
 ghost use Rattle.rec_json.specs.Nodes.{members_view, view};
+ghost use Rattle.rec_json.specs.Tokens.{value_tokens, with_field, with_fields};
 ghost use Rattle.rec_events.specs.declared.outputs.ChildExecutionOutputDescription.TheVariants.{Output};
 ghost use Rattle.rec_forms.specs.Gives.{Gives};
-ghost use Rattle.rec_forms.specs.Shape.{with_members, required};
-ghost use Rattle.rec_codec.specs.Status.{description_value, IsDescription, output_case_form, course_fields, course_form, IsCourse, attempts_form};
-ghost use Rattle.rec_codec.specs.Writes.{Writes};
+ghost use Rattle.rec_forms.specs.Shape.{required};
+ghost use Rattle.rec_codec.specs.Status.{description_value, IsDescription, output_case_form, before_output, before_output_fields, before_output_form, IsBeforeOutput, after_output, after_output_fields, after_output_form, IsAfterOutput, attempts_form};
+ghost use Rattle.rec_codec.specs.Writes.{PutsLoaded};
 
-use crate::loaded_form::{LoadedForm, each_to_value, put_loaded, required_loaded, required_some};
+use crate::loaded_form::{LoadedForm, required_loaded, required_some, write_each, write_loaded};
 use crate::{OutputForm, ToValueError};
 use rec_events::{
-    ChildExecutionOutputDescription, Duration, ExecuteStatus, ExecutionResultDescription,
-    ExecutionStatuses, Items, NonEmpty, Stamp, Text,
+    ChildExecutionOutputDescription, Duration, ErrorSummary, ExecuteStatus,
+    ExecutionResultDescription, ExecutionStatuses, Items, NonEmpty, OutputErrorSlice, RetryData,
+    Stamp, Text,
 };
 use rec_forms::{
-    Form, FromValueError, Object, optional_field, put_field, put_optional, required_field, tagged,
+    Form, FromValueError, optional_field, required_field, write_field, write_optional, write_tagged,
 };
-use rec_json::{Node, member, only_member};
-use serde_json::{Map, Value};
+use rec_json::{JsonText, Node, member, only_member};
 use std::alloc::{AllocError, Global};
 
-/// The value of the outputs of a process that was started.
-#[tactic(auto, unfolding(rec_forms::specs::Shape::members_of))]
-fn output_value<S: OutputForm>(
+/// Writes the outputs of a process that was started.
+fn write_outputs<S: OutputForm>(
     alloc: Global,
     ended: &Option<ExecutionResultDescription>,
     output: &S::ChildOutput,
     errors: &Option<Items<Text>>,
-) -> Result<Value, ToValueError>
-    ensures written { Writes result (description_value {S = S} S.output_value (Output ended.now output.now errors.now)) (S.loaded output.now) }
-    ensures known { OnOk result (IsDescription {S = S} S.output_well_formed (Output ended.now output.now errors.now)) }
+    text: &mut JsonText,
+) -> Result<(), ToValueError>
+    ensures written { OnOk result (text.new ≡ text.old ++ value_tokens
+        (description_value {S = S} S.output_value (Output ended.now output.now errors.now))) }
+    ensures loaded { PutsLoaded result (S.loaded output.now) }
+    ensures known { OnOk result
+        (IsDescription {S = S} S.output_well_formed (Output ended.now output.now errors.now)) }
 {
-    let mut object = Map::new(alloc);
-    put_optional(alloc, &mut object, "result", ended)?;
-    let output = S::output_to_value(alloc, output)?;
-    serde_json::put(&mut object, alloc, "output", output)?;
-    put_optional(alloc, &mut object, "errors", errors)?;
-    Ok(tagged(alloc, "output", Value::from(object))?)
+    text.begin_tagged("output")?;
+    text.begin_object()?;
+    write_optional(alloc, text, "errors", errors)?;
+    write_output_field::<S>(alloc, text, "output", output)?;
+    write_optional(alloc, text, "result", ended)?;
+    text.end_struct()?;
+    text.end_tagged()?;
+    Ok(())
+}
+
+/// Writes an output as a field.
+fn write_output_field<S: OutputForm>(
+    alloc: Global,
+    text: &mut JsonText,
+    key: &str,
+    output: &S::ChildOutput,
+) -> Result<(), ToValueError>
+    ensures written { OnOk result
+        (text.new ≡ with_field key.now (Some (S.output_value output.now)) text.old) }
+    ensures loaded { PutsLoaded result (S.loaded output.now) }
+    ensures known { OnOk result (S.output_well_formed output.now) }
+{
+    text.key(key)?;
+    S::output_write(alloc, output, text)
 }
 
 /// Reads an output that has to be there.
@@ -93,16 +114,15 @@ impl<S: OutputForm> LoadedForm for ChildExecutionOutputDescription<S> {
 
     ghost writable = { description_writable S.output_well_formed S.output_levels S.output_value S.output_writable };
 
-    #[tactic(auto, unfolding(rec_forms::specs::Shape::members_of))]
-    fn to_value(&self, alloc: Global) -> Result<Value, ToValueError> {
+    fn write(&self, alloc: Global, text: &mut JsonText) -> Result<(), ToValueError> {
         match self {
             ChildExecutionOutputDescription::Output {
                 result,
                 output,
                 errors,
-            } => output_value::<S>(alloc, result, output, errors),
+            } => write_outputs::<S>(alloc, result, output, errors, text),
             ChildExecutionOutputDescription::StartError { message } => {
-                Ok(tagged(alloc, "start-error", message.to_value(alloc)?)?)
+                Ok(write_tagged(alloc, text, "start-error", message)?)
             }
         }
     }
@@ -125,47 +145,105 @@ impl<S: OutputForm> LoadedForm for ChildExecutionOutputDescription<S> {
     }
 }
 
-/// When an attempt ran, and how long.
+/// Holds what stands before the output of an attempt, in the order of the keys.
 #[derive(Drop)]
-struct Course {
-    start_time: Stamp,
-    time_taken: Duration,
-    is_slow: bool,
-    delay_before_start: Duration,
+struct BeforeOutput {
     cpu_time: Option<Duration>,
+    delay_before_start: Duration,
+    error_summary: Option<ErrorSummary>,
+    is_slow: bool,
 }
 
-impl Course {
-    fn put(&self, alloc: Global, object: &mut Object) -> Result<(), AllocError>
-        ensures written { OnOk result (value_members object.new.entries
-            ≡ with_members (value_members object.old.entries) (course_fields self.now)) }
-        ensures known { OnOk result (IsCourse self.now) }
+impl BeforeOutput {
+    /// Reads the fields, the small ones first.
+    #[tactic(auto, unfolding(crate::specs::Status::before_output_form))]
+    fn read<'a>(
+        alloc: Global,
+        object: &[(&'a str, Node<'a>)],
+    ) -> Result<BeforeOutput, FromValueError>
+        ensures { Gives result (before_output_form (members_view object.now)) }
     {
-        put_field(alloc, object, "start-time", &self.start_time)?;
-        put_field(alloc, object, "time-taken", &self.time_taken)?;
-        put_field(alloc, object, "is-slow", &self.is_slow)?;
-        put_field(
-            alloc,
-            object,
-            "delay-before-start",
-            &self.delay_before_start,
-        )?;
-        put_optional(alloc, object, "cpu-time", &self.cpu_time)?;
-        Ok(())
-    }
-
-    #[tactic(auto, unfolding(crate::specs::Status::course_form))]
-    fn read<'a>(alloc: Global, object: &[(&'a str, Node<'a>)]) -> Result<Course, FromValueError>
-        ensures { Gives result (course_form (members_view object.now)) }
-    {
-        Ok(Course {
-            start_time: required_field(alloc, object, "start-time")?,
-            time_taken: required_field(alloc, object, "time-taken")?,
-            is_slow: required_field(alloc, object, "is-slow")?,
-            delay_before_start: required_field(alloc, object, "delay-before-start")?,
+        Ok(BeforeOutput {
             cpu_time: optional_field(alloc, object, "cpu-time")?,
+            delay_before_start: required_field(alloc, object, "delay-before-start")?,
+            is_slow: required_field(alloc, object, "is-slow")?,
+            error_summary: optional_field(alloc, object, "error-summary")?,
         })
     }
+}
+
+/// Writes what stands before the output of an attempt.
+fn write_before_output<S: OutputForm>(
+    alloc: Global,
+    status: &ExecuteStatus<S>,
+    text: &mut JsonText,
+) -> Result<(), AllocError>
+    ensures written { OnOk result
+        (text.new ≡ with_fields text.old (before_output_fields (before_output status.now))) }
+    ensures known { OnOk result (IsBeforeOutput (before_output status.now)) }
+{
+    write_optional(alloc, text, "cpu-time", &status.cpu_time)?;
+    write_field(
+        alloc,
+        text,
+        "delay-before-start",
+        &status.delay_before_start,
+    )?;
+    write_optional(alloc, text, "error-summary", &status.error_summary)?;
+    write_field(alloc, text, "is-slow", &status.is_slow)?;
+    Ok(())
+}
+
+/// Holds what stands after the output of an attempt, in the order of the keys.
+#[derive(Drop)]
+struct AfterOutput {
+    output_error_slice: Option<OutputErrorSlice>,
+    result: ExecutionResultDescription,
+    retry_data: RetryData,
+    start_time: Stamp,
+    time_taken: Duration,
+}
+
+impl AfterOutput {
+    /// Reads the fields, the small ones first.
+    #[tactic(auto, unfolding(crate::specs::Status::after_output_form))]
+    fn read<'a>(
+        alloc: Global,
+        object: &[(&'a str, Node<'a>)],
+    ) -> Result<AfterOutput, FromValueError>
+        ensures { Gives result (after_output_form (members_view object.now)) }
+    {
+        Ok(AfterOutput {
+            retry_data: required_field(alloc, object, "retry-data")?,
+            start_time: required_field(alloc, object, "start-time")?,
+            time_taken: required_field(alloc, object, "time-taken")?,
+            output_error_slice: optional_field(alloc, object, "output-error-slice")?,
+            result: required_field(alloc, object, "result")?,
+        })
+    }
+}
+
+/// Writes what stands after the output of an attempt.
+fn write_after_output<S: OutputForm>(
+    alloc: Global,
+    status: &ExecuteStatus<S>,
+    text: &mut JsonText,
+) -> Result<(), AllocError>
+    ensures written { OnOk result
+        (text.new ≡ with_fields text.old (after_output_fields (after_output status.now))) }
+    ensures known { OnOk result (IsAfterOutput (after_output status.now)) }
+{
+    write_optional(
+        alloc,
+        text,
+        "output-error-slice",
+        &status.output_error_slice,
+    )?;
+    write_field(alloc, text, "result", &status.result)?;
+    write_field(alloc, text, "retry-data", &status.retry_data)?;
+    write_field(alloc, text, "start-time", &status.start_time)?;
+    write_field(alloc, text, "time-taken", &status.time_taken)?;
+    Ok(())
 }
 
 impl<S: OutputForm> LoadedForm for ExecuteStatus<S> {
@@ -189,28 +267,13 @@ impl<S: OutputForm> LoadedForm for ExecuteStatus<S> {
 
     ghost writable = { status_writable S.output_well_formed S.output_levels S.output_value S.output_writable };
 
-    #[tactic(auto, unfolding(rec_forms::specs::Shape::members_of))]
-    fn to_value(&self, alloc: Global) -> Result<Value, ToValueError> {
-        let mut object = Map::new(alloc);
-        put_field(alloc, &mut object, "retry-data", &self.retry_data)?;
-        put_loaded(alloc, &mut object, "output", &self.output)?;
-        put_field(alloc, &mut object, "result", &self.result)?;
-        let course = Course {
-            start_time: self.start_time,
-            time_taken: self.time_taken,
-            is_slow: self.is_slow,
-            delay_before_start: self.delay_before_start,
-            cpu_time: self.cpu_time,
-        };
-        course.put(alloc, &mut object)?;
-        put_optional(alloc, &mut object, "error-summary", &self.error_summary)?;
-        put_optional(
-            alloc,
-            &mut object,
-            "output-error-slice",
-            &self.output_error_slice,
-        )?;
-        Ok(Value::from(object))
+    fn write(&self, alloc: Global, text: &mut JsonText) -> Result<(), ToValueError> {
+        text.begin_object()?;
+        write_before_output(alloc, self, text)?;
+        write_loaded(alloc, text, "output", &self.output)?;
+        write_after_output(alloc, self, text)?;
+        text.end_struct()?;
+        Ok(())
     }
 
     #[tactic(auto, unfolding(crate::specs::Status::status_form))]
@@ -218,30 +281,27 @@ impl<S: OutputForm> LoadedForm for ExecuteStatus<S> {
         let Some(object) = node.as_object() else {
             return Err(FromValueError::NotAValue);
         };
-        let course = Course::read(alloc, object)?;
-        let retry_data = required_field(alloc, object, "retry-data")?;
-        let error_summary = optional_field(alloc, object, "error-summary")?;
-        let output_error_slice = optional_field(alloc, object, "output-error-slice")?;
-        let result = required_field(alloc, object, "result")?;
+        let before = BeforeOutput::read(alloc, object)?;
+        let after = AfterOutput::read(alloc, object)?;
         let output = match required_loaded(alloc, object, "output") {
             Ok(output) => output,
             Err(error) => {
                 // by a call: in place, each case of what is let go is one of the proof
-                drop((error_summary, output_error_slice, result));
+                drop((before, after));
                 return Err(error);
             }
         };
         Ok(ExecuteStatus {
-            retry_data,
+            retry_data: after.retry_data,
             output,
-            result,
-            start_time: course.start_time,
-            time_taken: course.time_taken,
-            is_slow: course.is_slow,
-            delay_before_start: course.delay_before_start,
-            error_summary,
-            output_error_slice,
-            cpu_time: course.cpu_time,
+            result: after.result,
+            start_time: after.start_time,
+            time_taken: after.time_taken,
+            is_slow: before.is_slow,
+            delay_before_start: before.delay_before_start,
+            error_summary: before.error_summary,
+            output_error_slice: after.output_error_slice,
+            cpu_time: before.cpu_time,
         })
     }
 }
@@ -279,13 +339,13 @@ impl<S: OutputForm> LoadedForm for ExecutionStatuses<S> {
 
     ghost writable = { statuses_writable S.output_well_formed S.output_levels S.output_value S.output_writable };
 
-    #[tactic(auto, unfolding(rec_forms::specs::Shape::members_of))]
-    fn to_value(&self, alloc: Global) -> Result<Value, ToValueError> {
-        let mut object = Map::new(alloc);
-        let each = each_to_value(alloc, self.statuses.as_slice())?;
-        serde_json::put(&mut object, alloc, "statuses", each)?;
-        put_field(alloc, &mut object, "flaky-result", &self.flaky_result)?;
-        Ok(Value::from(object))
+    fn write(&self, alloc: Global, text: &mut JsonText) -> Result<(), ToValueError> {
+        text.begin_object()?;
+        write_field(alloc, text, "flaky-result", &self.flaky_result)?;
+        text.key("statuses")?;
+        write_each(alloc, text, self.statuses.as_slice())?;
+        text.end_struct()?;
+        Ok(())
     }
 
     #[tactic(auto, unfolding(crate::specs::Status::statuses_form))]

@@ -1,27 +1,30 @@
 //! The kinds of events of tests that hold no outputs.
 ghost use Rattle.std.specs.Prelude.{◌≡◌, OnOk, codes};
-ghost use Rattle.serde_json.specs.View.{members_view as value_members};
 ghost use Rattle.rec_json.specs.Nodes.{members_view};
+ghost use Rattle.rec_json.specs.Tokens.{with_fields};
 ghost use Rattle.rec_forms.specs.Gives.{Gives};
-ghost use Rattle.rec_forms.specs.Shape.{with_members};
 ghost use Rattle.rec_codec.specs.CoreKindForms.{test_started_form, test_slow_form, test_retry_started_form, test_skipped_form};
-ghost use Rattle.rec_codec.specs.CoreKinds.{core_name, core_members, IsCore};
+ghost use Rattle.rec_codec.specs.CoreKinds.{core_name};
+ghost use Rattle.rec_codec.specs.EventParts.{core_event_fields, IsCoreEvent};
 
-use rec_events::CoreEventKind;
-use rec_forms::{FromValueError, Object, optional_field, put_field, put_optional, required_field};
-use rec_json::Node;
+use crate::event_parts::{write_head, write_test};
+use rec_events::{CoreEventKind, Duration, Stamp};
+use rec_forms::{FromValueError, optional_field, required_field, write_field};
+use rec_json::{JsonText, Node};
 use std::alloc::{AllocError, Global};
 
 /// Writes the members of a test's start.
-pub fn put_test_started(
+pub fn write_test_started(
     alloc: Global,
-    object: &mut Object,
+    text: &mut JsonText,
+    timestamp: &Stamp,
+    elapsed: &Duration,
     kind: &CoreEventKind,
 ) -> Result<(), AllocError>
     requires named { core_name kind.now ≡ codes "test-started" }
-    ensures written { OnOk result (value_members object.new.entries
-        ≡ with_members (value_members object.old.entries) (core_members kind.now)) }
-    ensures known { OnOk result (IsCore kind.now) }
+    ensures written { OnOk result (text.new
+        ≡ with_fields text.old (core_event_fields timestamp.now elapsed.now kind.now)) }
+    ensures known { OnOk result (IsCoreEvent timestamp.now elapsed.now kind.now) }
 {
     let CoreEventKind::TestStarted {
         stress_index,
@@ -34,12 +37,12 @@ pub fn put_test_started(
     else {
         unreachable!()
     };
-    put_optional(alloc, object, "stress-index", stress_index)?;
-    put_field(alloc, object, "test-instance", test_instance)?;
-    put_field(alloc, object, "slot-assignment", slot_assignment)?;
-    put_field(alloc, object, "current-stats", current_stats)?;
-    put_field(alloc, object, "running", running)?;
-    put_field(alloc, object, "command-line", command_line)?;
+    write_field(alloc, text, "command-line", command_line)?;
+    write_field(alloc, text, "current-stats", current_stats)?;
+    write_head(alloc, text, elapsed, "test-started")?;
+    write_field(alloc, text, "running", running)?;
+    write_field(alloc, text, "slot-assignment", slot_assignment)?;
+    write_test(alloc, text, stress_index, test_instance, timestamp)?;
     Ok(())
 }
 
@@ -62,31 +65,33 @@ pub fn test_started_from<'a>(
 }
 
 /// Writes the members of a slow test.
-pub fn put_test_slow(
+pub fn write_test_slow(
     alloc: Global,
-    object: &mut Object,
+    text: &mut JsonText,
+    timestamp: &Stamp,
+    elapsed: &Duration,
     kind: &CoreEventKind,
 ) -> Result<(), AllocError>
     requires named { core_name kind.now ≡ codes "test-slow" }
-    ensures written { OnOk result (value_members object.new.entries
-        ≡ with_members (value_members object.old.entries) (core_members kind.now)) }
-    ensures known { OnOk result (IsCore kind.now) }
+    ensures written { OnOk result (text.new
+        ≡ with_fields text.old (core_event_fields timestamp.now elapsed.now kind.now)) }
+    ensures known { OnOk result (IsCoreEvent timestamp.now elapsed.now kind.now) }
 {
     let CoreEventKind::TestSlow {
         stress_index,
         test_instance,
         retry_data,
-        elapsed,
+        elapsed: slow_elapsed,
         will_terminate,
     } = kind
     else {
         unreachable!()
     };
-    put_optional(alloc, object, "stress-index", stress_index)?;
-    put_field(alloc, object, "test-instance", test_instance)?;
-    put_field(alloc, object, "retry-data", retry_data)?;
-    put_field(alloc, object, "slow-elapsed", elapsed)?;
-    put_field(alloc, object, "will-terminate", will_terminate)?;
+    write_head(alloc, text, elapsed, "test-slow")?;
+    write_field(alloc, text, "retry-data", retry_data)?;
+    write_field(alloc, text, "slow-elapsed", slow_elapsed)?;
+    write_test(alloc, text, stress_index, test_instance, timestamp)?;
+    write_field(alloc, text, "will-terminate", will_terminate)?;
     Ok(())
 }
 
@@ -108,15 +113,17 @@ pub fn test_slow_from<'a>(
 }
 
 /// Writes the members of the start of a further attempt.
-pub fn put_test_retry_started(
+pub fn write_test_retry_started(
     alloc: Global,
-    object: &mut Object,
+    text: &mut JsonText,
+    timestamp: &Stamp,
+    elapsed: &Duration,
     kind: &CoreEventKind,
 ) -> Result<(), AllocError>
     requires named { core_name kind.now ≡ codes "test-retry-started" }
-    ensures written { OnOk result (value_members object.new.entries
-        ≡ with_members (value_members object.old.entries) (core_members kind.now)) }
-    ensures known { OnOk result (IsCore kind.now) }
+    ensures written { OnOk result (text.new
+        ≡ with_fields text.old (core_event_fields timestamp.now elapsed.now kind.now)) }
+    ensures known { OnOk result (IsCoreEvent timestamp.now elapsed.now kind.now) }
 {
     let CoreEventKind::TestRetryStarted {
         stress_index,
@@ -129,12 +136,12 @@ pub fn put_test_retry_started(
     else {
         unreachable!()
     };
-    put_optional(alloc, object, "stress-index", stress_index)?;
-    put_field(alloc, object, "test-instance", test_instance)?;
-    put_field(alloc, object, "slot-assignment", slot_assignment)?;
-    put_field(alloc, object, "retry-data", retry_data)?;
-    put_field(alloc, object, "running", running)?;
-    put_field(alloc, object, "command-line", command_line)?;
+    write_field(alloc, text, "command-line", command_line)?;
+    write_head(alloc, text, elapsed, "test-retry-started")?;
+    write_field(alloc, text, "retry-data", retry_data)?;
+    write_field(alloc, text, "running", running)?;
+    write_field(alloc, text, "slot-assignment", slot_assignment)?;
+    write_test(alloc, text, stress_index, test_instance, timestamp)?;
     Ok(())
 }
 
@@ -157,15 +164,17 @@ pub fn test_retry_started_from<'a>(
 }
 
 /// Writes the members of a skipped test.
-pub fn put_test_skipped(
+pub fn write_test_skipped(
     alloc: Global,
-    object: &mut Object,
+    text: &mut JsonText,
+    timestamp: &Stamp,
+    elapsed: &Duration,
     kind: &CoreEventKind,
 ) -> Result<(), AllocError>
     requires named { core_name kind.now ≡ codes "test-skipped" }
-    ensures written { OnOk result (value_members object.new.entries
-        ≡ with_members (value_members object.old.entries) (core_members kind.now)) }
-    ensures known { OnOk result (IsCore kind.now) }
+    ensures written { OnOk result (text.new
+        ≡ with_fields text.old (core_event_fields timestamp.now elapsed.now kind.now)) }
+    ensures known { OnOk result (IsCoreEvent timestamp.now elapsed.now kind.now) }
 {
     let CoreEventKind::TestSkipped {
         stress_index,
@@ -176,10 +185,11 @@ pub fn put_test_skipped(
     else {
         unreachable!()
     };
-    put_optional(alloc, object, "stress-index", stress_index)?;
-    put_field(alloc, object, "test-instance", test_instance)?;
-    put_field(alloc, object, "reason", reason)?;
-    put_field(alloc, object, "junit-report-skipped", junit_report_skipped)?;
+    write_field(alloc, text, "elapsed", elapsed)?;
+    write_field(alloc, text, "junit-report-skipped", junit_report_skipped)?;
+    text.string_field("kind", "test-skipped")?;
+    write_field(alloc, text, "reason", reason)?;
+    write_test(alloc, text, stress_index, test_instance, timestamp)?;
     Ok(())
 }
 

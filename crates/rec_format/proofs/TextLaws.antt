@@ -58,11 +58,11 @@ if_rerun_info (Some r) is = rerun_info_text r is
 
 pub head_texts : (h : SessionHead) → IsHead h → AreTextsRead h
 head_texts h is = record {
-  build_scope = recorded_scope_text h.build_scope is.contents.build_scope;
+  build_scope = recorded_scope_text h.build_scope is.build_scope;
   rerun_info = if_rerun_info h.rerun_info is.contents.rerun_info;
   test_list = test_list_text h.test_list is.contents.test_list;
   record_opts = record_opts_text h.record_opts;
-  cargo_metadata = is.contents.cargo_metadata;
+  cargo_metadata = is.cargo_metadata;
 }
 
 -- ---- the manifest of its run
@@ -72,12 +72,15 @@ pub IsManifest-recorded : (h : SessionHead) (sizes : RecordedSizes) → IsHead h
 IsManifest-recorded h sizes is sizes_are = record {
   format_version = record { major = omega arith; minor = omega arith };
   run = record {
-    identity = is.identity;
     invocation = is.invocation;
+    outcome = record {
+      run_id = is.contents.run_id;
+      sizes = sizes_are;
+      started_at = is.contents.started_at;
+      status = rw (of-format h.status) is.contents.status;
+    };
     store_format_version = omega arith;
     store_format_minor_version = omega arith;
-    sizes = sizes_are;
-    status = rw (of-format h.status) is.contents.status;
   };
 }
 

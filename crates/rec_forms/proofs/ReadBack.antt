@@ -15,6 +15,7 @@ use Rattle.json.proofs.Printed.Utf8.{IsUtf8-are_ascii, IsUtf8-boolean, IsUtf8-qu
 use Rattle.json.specs.Json as json
 use Rattle.json.specs.Lex.{tokens}
 use Rattle.json.specs.Print.{IsNumber, quoted}
+use Rattle.json.specs.Token.{Token}
 use Rattle.json.specs.Tree as tree
 use Rattle.serde_json.proofs.Numbers.{number_of-decimal, number_of-negative}
 use Rattle.serde_json.proofs.Texts.{print-outline}
@@ -22,6 +23,7 @@ use Rattle.serde_json.specs.Data.{Num, unsigned, negative, float, Data, null, bo
 use Rattle.serde_json.specs.Find.{is_float}
 use Rattle.serde_json.specs.Read.{number_of, of_json, of_items, of_members, max_depth, read}
 use Rattle.serde_json.specs.Written.{number_text, outline, items_outline, members_outline, has_float, items_have_float, members_have_float, comma_if, compact_text, items_text, members_text}
+use Rattle.rec_json.specs.Tokens.{value_tokens}
 use Rattle.rec_events.specs.Names.{AreTexts, Rise}
 use Rattle.rec_forms.specs.Canonical.{IsInRange, IsCanonical, AreCanonical, ValuesAreCanonical, member_keys}
 use Rattle.rec_forms.specs.TextLaws.{decimal_ascii}
@@ -178,3 +180,9 @@ mutual
 pub IsWritable-read_back : (n : ℕ) (d : Data) → IsWritable n d → n ≤ max_depth → (read (compact_text d) ≡ Some d) × IsTrue (is_utf8 (compact_text d))
 IsWritable-read_back n d w deep =
     (read-compact_text d w.canonical w.whole (omega (arith, w.shallow, deep)), is_utf8-from_IsUtf8 _ (text_utf8 d w.canonical))
+
+-- what is written of a writable value, as the tokens of a text that was empty, is read as this value
+pub written_back : {n : ℕ} {d : Data} {before ts : List Token} (text : List ℕ) → before ≡ [] → ts ≡ before ++ value_tokens d
+    → ((e : Data) → ts ≡ value_tokens e → text ≡ compact_text e) → IsWritable n d → n ≤ max_depth → read text ≡ Some d
+written_back {n} {d} text empty written compact writable shallow =
+    ap read (compact d (written ∙ ap (λ us. us ++ value_tokens d) empty)) ∙ (IsWritable-read_back n d writable shallow).0

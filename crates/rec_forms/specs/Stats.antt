@@ -10,116 +10,116 @@ use Rattle.rec_forms.specs.Numbers.{u64_form}
 use Rattle.rec_forms.specs.Reporting.{cancel_reason_value, cancel_reason_form}
 use Rattle.rec_forms.specs.Shape.{◌>>=◌, Field, natural, field, optional, struct, required, maybe}
 
--- Setup
-abbrev pub setup_fields : RunStats → List Field
-setup_fields s =
-    field (codes "setup-scripts-initial-count") (natural s.setup_scripts_initial_count)
-    ∷ field (codes "setup-scripts-finished-count") (natural s.setup_scripts_finished_count)
-    ∷ field (codes "setup-scripts-passed") (natural s.setup_scripts_passed)
-    ∷ field (codes "setup-scripts-failed") (natural s.setup_scripts_failed)
-    ∷ field (codes "setup-scripts-exec-failed") (natural s.setup_scripts_exec_failed)
-    ∷ field (codes "setup-scripts-timed-out") (natural s.setup_scripts_timed_out)
+-- Failures
+abbrev pub failures_fields : RunStats → List Field
+failures_fields s =
+    field (codes "exec-failed") (natural s.exec_failed)
+    ∷ field (codes "failed") (natural s.failed)
+    ∷ field (codes "failed-slow") (natural s.failed_slow)
+    ∷ field (codes "failed-timed-out") (natural s.failed_timed_out)
+    ∷ field (codes "finished-count") (natural s.finished_count)
+    ∷ field (codes "flaky") (natural s.flaky)
     ∷ []
 
-unfoldable pub setup_form : Members → Option Setup
-setup_form ms = do
-  setup_scripts_initial_count ← required u64_form (codes "setup-scripts-initial-count") ms
-  setup_scripts_finished_count ← required u64_form (codes "setup-scripts-finished-count") ms
-  setup_scripts_passed ← required u64_form (codes "setup-scripts-passed") ms
-  setup_scripts_failed ← required u64_form (codes "setup-scripts-failed") ms
-  setup_scripts_exec_failed ← required u64_form (codes "setup-scripts-exec-failed") ms
-  setup_scripts_timed_out ← required u64_form (codes "setup-scripts-timed-out") ms
+unfoldable pub failures_form : Members → Option Failures
+failures_form ms = do
+  exec_failed ← required u64_form (codes "exec-failed") ms
+  failed ← required u64_form (codes "failed") ms
+  failed_slow ← required u64_form (codes "failed-slow") ms
+  failed_timed_out ← required u64_form (codes "failed-timed-out") ms
+  finished_count ← required u64_form (codes "finished-count") ms
+  flaky ← required u64_form (codes "flaky") ms
   Some (record {
-    setup_scripts_initial_count = setup_scripts_initial_count;
-    setup_scripts_finished_count = setup_scripts_finished_count;
-    setup_scripts_passed = setup_scripts_passed;
-    setup_scripts_failed = setup_scripts_failed;
-    setup_scripts_exec_failed = setup_scripts_exec_failed;
-    setup_scripts_timed_out = setup_scripts_timed_out;
+    exec_failed = exec_failed;
+    failed = failed;
+    failed_slow = failed_slow;
+    failed_timed_out = failed_timed_out;
+    finished_count = finished_count;
+    flaky = flaky;
   })
 
-pub record AreSetup (s : RunStats) : Type 0 where
-  pub setup_scripts_initial_count : s.setup_scripts_initial_count < 2 ^ 64
-  pub setup_scripts_finished_count : s.setup_scripts_finished_count < 2 ^ 64
-  pub setup_scripts_passed : s.setup_scripts_passed < 2 ^ 64
-  pub setup_scripts_failed : s.setup_scripts_failed < 2 ^ 64
-  pub setup_scripts_exec_failed : s.setup_scripts_exec_failed < 2 ^ 64
-  pub setup_scripts_timed_out : s.setup_scripts_timed_out < 2 ^ 64
+pub record AreFailures (s : RunStats) : Type 0 where
+  pub exec_failed : s.exec_failed < 2 ^ 64
+  pub failed : s.failed < 2 ^ 64
+  pub failed_slow : s.failed_slow < 2 ^ 64
+  pub failed_timed_out : s.failed_timed_out < 2 ^ 64
+  pub finished_count : s.finished_count < 2 ^ 64
+  pub flaky : s.flaky < 2 ^ 64
 
 -- Passes
 abbrev pub passes_fields : RunStats → List Field
 passes_fields s =
     field (codes "initial-run-count") (natural s.initial_run_count)
-    ∷ field (codes "finished-count") (natural s.finished_count)
+    ∷ field (codes "leaky") (natural s.leaky)
+    ∷ field (codes "leaky-failed") (natural s.leaky_failed)
     ∷ field (codes "passed") (natural s.passed)
     ∷ field (codes "passed-slow") (natural s.passed_slow)
     ∷ field (codes "passed-timed-out") (natural s.passed_timed_out)
-    ∷ field (codes "flaky") (natural s.flaky)
     ∷ []
 
 unfoldable pub passes_form : Members → Option Passes
 passes_form ms = do
   initial_run_count ← required u64_form (codes "initial-run-count") ms
-  finished_count ← required u64_form (codes "finished-count") ms
+  leaky ← required u64_form (codes "leaky") ms
+  leaky_failed ← required u64_form (codes "leaky-failed") ms
   passed ← required u64_form (codes "passed") ms
   passed_slow ← required u64_form (codes "passed-slow") ms
   passed_timed_out ← required u64_form (codes "passed-timed-out") ms
-  flaky ← required u64_form (codes "flaky") ms
   Some (record {
     initial_run_count = initial_run_count;
-    finished_count = finished_count;
+    leaky = leaky;
+    leaky_failed = leaky_failed;
     passed = passed;
     passed_slow = passed_slow;
     passed_timed_out = passed_timed_out;
-    flaky = flaky;
   })
 
 pub record ArePasses (s : RunStats) : Type 0 where
   pub initial_run_count : s.initial_run_count < 2 ^ 64
-  pub finished_count : s.finished_count < 2 ^ 64
+  pub leaky : s.leaky < 2 ^ 64
+  pub leaky_failed : s.leaky_failed < 2 ^ 64
   pub passed : s.passed < 2 ^ 64
   pub passed_slow : s.passed_slow < 2 ^ 64
   pub passed_timed_out : s.passed_timed_out < 2 ^ 64
-  pub flaky : s.flaky < 2 ^ 64
 
--- Failures
-abbrev pub failures_fields : RunStats → List Field
-failures_fields s =
-    field (codes "failed") (natural s.failed)
-    ∷ field (codes "failed-slow") (natural s.failed_slow)
-    ∷ field (codes "failed-timed-out") (natural s.failed_timed_out)
-    ∷ field (codes "leaky") (natural s.leaky)
-    ∷ field (codes "leaky-failed") (natural s.leaky_failed)
-    ∷ field (codes "exec-failed") (natural s.exec_failed)
+-- Setup
+abbrev pub setup_fields : RunStats → List Field
+setup_fields s =
+    field (codes "setup-scripts-exec-failed") (natural s.setup_scripts_exec_failed)
+    ∷ field (codes "setup-scripts-failed") (natural s.setup_scripts_failed)
+    ∷ field (codes "setup-scripts-finished-count") (natural s.setup_scripts_finished_count)
+    ∷ field (codes "setup-scripts-initial-count") (natural s.setup_scripts_initial_count)
+    ∷ field (codes "setup-scripts-passed") (natural s.setup_scripts_passed)
+    ∷ field (codes "setup-scripts-timed-out") (natural s.setup_scripts_timed_out)
     ∷ field (codes "skipped") (natural s.skipped)
     ∷ []
 
-unfoldable pub failures_form : Members → Option Failures
-failures_form ms = do
-  failed ← required u64_form (codes "failed") ms
-  failed_slow ← required u64_form (codes "failed-slow") ms
-  failed_timed_out ← required u64_form (codes "failed-timed-out") ms
-  leaky ← required u64_form (codes "leaky") ms
-  leaky_failed ← required u64_form (codes "leaky-failed") ms
-  exec_failed ← required u64_form (codes "exec-failed") ms
+unfoldable pub setup_form : Members → Option Setup
+setup_form ms = do
+  setup_scripts_exec_failed ← required u64_form (codes "setup-scripts-exec-failed") ms
+  setup_scripts_failed ← required u64_form (codes "setup-scripts-failed") ms
+  setup_scripts_finished_count ← required u64_form (codes "setup-scripts-finished-count") ms
+  setup_scripts_initial_count ← required u64_form (codes "setup-scripts-initial-count") ms
+  setup_scripts_passed ← required u64_form (codes "setup-scripts-passed") ms
+  setup_scripts_timed_out ← required u64_form (codes "setup-scripts-timed-out") ms
   skipped ← required u64_form (codes "skipped") ms
   Some (record {
-    failed = failed;
-    failed_slow = failed_slow;
-    failed_timed_out = failed_timed_out;
-    leaky = leaky;
-    leaky_failed = leaky_failed;
-    exec_failed = exec_failed;
+    setup_scripts_exec_failed = setup_scripts_exec_failed;
+    setup_scripts_failed = setup_scripts_failed;
+    setup_scripts_finished_count = setup_scripts_finished_count;
+    setup_scripts_initial_count = setup_scripts_initial_count;
+    setup_scripts_passed = setup_scripts_passed;
+    setup_scripts_timed_out = setup_scripts_timed_out;
     skipped = skipped;
   })
 
-pub record AreFailures (s : RunStats) : Type 0 where
-  pub failed : s.failed < 2 ^ 64
-  pub failed_slow : s.failed_slow < 2 ^ 64
-  pub failed_timed_out : s.failed_timed_out < 2 ^ 64
-  pub leaky : s.leaky < 2 ^ 64
-  pub leaky_failed : s.leaky_failed < 2 ^ 64
-  pub exec_failed : s.exec_failed < 2 ^ 64
+pub record AreSetup (s : RunStats) : Type 0 where
+  pub setup_scripts_exec_failed : s.setup_scripts_exec_failed < 2 ^ 64
+  pub setup_scripts_failed : s.setup_scripts_failed < 2 ^ 64
+  pub setup_scripts_finished_count : s.setup_scripts_finished_count < 2 ^ 64
+  pub setup_scripts_initial_count : s.setup_scripts_initial_count < 2 ^ 64
+  pub setup_scripts_passed : s.setup_scripts_passed < 2 ^ 64
+  pub setup_scripts_timed_out : s.setup_scripts_timed_out < 2 ^ 64
   pub skipped : s.skipped < 2 ^ 64
 
 -- RunStats
@@ -127,14 +127,14 @@ abbrev pub reason_fields : RunStats → List Field
 reason_fields s = optional (codes "cancel-reason") cancel_reason_value s.cancel_reason ∷ []
 
 abbrev pub run_stats_value : RunStats → Data
-run_stats_value s = struct (setup_fields s ++ passes_fields s ++ failures_fields s ++ reason_fields s)
+run_stats_value s = struct (reason_fields s ++ failures_fields s ++ passes_fields s ++ setup_fields s)
 
 unfoldable pub run_stats_form : Data → Option RunStats
 run_stats_form d = do
   ms ← as_object d
-  s ← setup_form ms
-  p ← passes_form ms
   f ← failures_form ms
+  p ← passes_form ms
+  s ← setup_form ms
   cancel_reason ← maybe cancel_reason_form (codes "cancel-reason") ms
   Some (record {
     setup_scripts_initial_count = s.setup_scripts_initial_count;
@@ -144,22 +144,22 @@ run_stats_form d = do
     setup_scripts_exec_failed = s.setup_scripts_exec_failed;
     setup_scripts_timed_out = s.setup_scripts_timed_out;
     initial_run_count = p.initial_run_count;
-    finished_count = p.finished_count;
+    finished_count = f.finished_count;
     passed = p.passed;
     passed_slow = p.passed_slow;
     passed_timed_out = p.passed_timed_out;
-    flaky = p.flaky;
+    flaky = f.flaky;
     failed = f.failed;
     failed_slow = f.failed_slow;
     failed_timed_out = f.failed_timed_out;
-    leaky = f.leaky;
-    leaky_failed = f.leaky_failed;
+    leaky = p.leaky;
+    leaky_failed = p.leaky_failed;
     exec_failed = f.exec_failed;
-    skipped = f.skipped;
+    skipped = s.skipped;
     cancel_reason = cancel_reason;
   })
 
 pub record IsRunStats (s : RunStats) : Type 0 where
-  pub setup : AreSetup s
-  pub passes : ArePasses s
   pub failures : AreFailures s
+  pub passes : ArePasses s
+  pub setup : AreSetup s

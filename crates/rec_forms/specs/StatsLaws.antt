@@ -26,25 +26,25 @@ unfolding run_stats_form setup_form passes_form failures_form
 run_stats_back s h =
     simp (
       get_member-members_of,
-      u64_back s.setup_scripts_initial_count h.setup.setup_scripts_initial_count,
-      u64_back s.setup_scripts_finished_count h.setup.setup_scripts_finished_count,
-      u64_back s.setup_scripts_passed h.setup.setup_scripts_passed,
-      u64_back s.setup_scripts_failed h.setup.setup_scripts_failed,
-      u64_back s.setup_scripts_exec_failed h.setup.setup_scripts_exec_failed,
-      u64_back s.setup_scripts_timed_out h.setup.setup_scripts_timed_out,
-      u64_back s.initial_run_count h.passes.initial_run_count,
-      u64_back s.finished_count h.passes.finished_count,
-      u64_back s.passed h.passes.passed,
-      u64_back s.passed_slow h.passes.passed_slow,
-      u64_back s.passed_timed_out h.passes.passed_timed_out,
-      u64_back s.flaky h.passes.flaky,
+      u64_back s.exec_failed h.failures.exec_failed,
       u64_back s.failed h.failures.failed,
       u64_back s.failed_slow h.failures.failed_slow,
       u64_back s.failed_timed_out h.failures.failed_timed_out,
-      u64_back s.leaky h.failures.leaky,
-      u64_back s.leaky_failed h.failures.leaky_failed,
-      u64_back s.exec_failed h.failures.exec_failed,
-      u64_back s.skipped h.failures.skipped,
+      u64_back s.finished_count h.failures.finished_count,
+      u64_back s.flaky h.failures.flaky,
+      u64_back s.initial_run_count h.passes.initial_run_count,
+      u64_back s.leaky h.passes.leaky,
+      u64_back s.leaky_failed h.passes.leaky_failed,
+      u64_back s.passed h.passes.passed,
+      u64_back s.passed_slow h.passes.passed_slow,
+      u64_back s.passed_timed_out h.passes.passed_timed_out,
+      u64_back s.setup_scripts_exec_failed h.setup.setup_scripts_exec_failed,
+      u64_back s.setup_scripts_failed h.setup.setup_scripts_failed,
+      u64_back s.setup_scripts_finished_count h.setup.setup_scripts_finished_count,
+      u64_back s.setup_scripts_initial_count h.setup.setup_scripts_initial_count,
+      u64_back s.setup_scripts_passed h.setup.setup_scripts_passed,
+      u64_back s.setup_scripts_timed_out h.setup.setup_scripts_timed_out,
+      u64_back s.skipped h.setup.skipped,
       maybe_reason_back s.cancel_reason,
     )
 
@@ -52,17 +52,17 @@ appended : (fs gs : List Field) → EachWritten 0 fs → EachWritten 0 gs → Ea
 appended [] gs w v = v
 appended (f ∷ fs) gs w v = (w.0, appended fs gs w.1 v)
 
-setup_written : (s : RunStats) → AreSetup s → EachWritten 0 (setup_fields s)
-setup_written s h =
-    (natural_writable s.setup_scripts_initial_count h.setup_scripts_initial_count, (natural_writable s.setup_scripts_finished_count h.setup_scripts_finished_count, (natural_writable s.setup_scripts_passed h.setup_scripts_passed, (natural_writable s.setup_scripts_failed h.setup_scripts_failed, (natural_writable s.setup_scripts_exec_failed h.setup_scripts_exec_failed, (natural_writable s.setup_scripts_timed_out h.setup_scripts_timed_out, tt))))))
+failures_written : (s : RunStats) → AreFailures s → EachWritten 0 (failures_fields s)
+failures_written s h =
+    (natural_writable s.exec_failed h.exec_failed, (natural_writable s.failed h.failed, (natural_writable s.failed_slow h.failed_slow, (natural_writable s.failed_timed_out h.failed_timed_out, (natural_writable s.finished_count h.finished_count, (natural_writable s.flaky h.flaky, tt))))))
 
 passes_written : (s : RunStats) → ArePasses s → EachWritten 0 (passes_fields s)
 passes_written s h =
-    (natural_writable s.initial_run_count h.initial_run_count, (natural_writable s.finished_count h.finished_count, (natural_writable s.passed h.passed, (natural_writable s.passed_slow h.passed_slow, (natural_writable s.passed_timed_out h.passed_timed_out, (natural_writable s.flaky h.flaky, tt))))))
+    (natural_writable s.initial_run_count h.initial_run_count, (natural_writable s.leaky h.leaky, (natural_writable s.leaky_failed h.leaky_failed, (natural_writable s.passed h.passed, (natural_writable s.passed_slow h.passed_slow, (natural_writable s.passed_timed_out h.passed_timed_out, tt))))))
 
-failures_written : (s : RunStats) → AreFailures s → EachWritten 0 (failures_fields s)
-failures_written s h =
-    (natural_writable s.failed h.failed, (natural_writable s.failed_slow h.failed_slow, (natural_writable s.failed_timed_out h.failed_timed_out, (natural_writable s.leaky h.leaky, (natural_writable s.leaky_failed h.leaky_failed, (natural_writable s.exec_failed h.exec_failed, (natural_writable s.skipped h.skipped, tt)))))))
+setup_written : (s : RunStats) → AreSetup s → EachWritten 0 (setup_fields s)
+setup_written s h =
+    (natural_writable s.setup_scripts_exec_failed h.setup_scripts_exec_failed, (natural_writable s.setup_scripts_failed h.setup_scripts_failed, (natural_writable s.setup_scripts_finished_count h.setup_scripts_finished_count, (natural_writable s.setup_scripts_initial_count h.setup_scripts_initial_count, (natural_writable s.setup_scripts_passed h.setup_scripts_passed, (natural_writable s.setup_scripts_timed_out h.setup_scripts_timed_out, (natural_writable s.skipped h.skipped, tt)))))))
 
 if_reason_written : (o : Option CancelReason) → IfWritten 0 (option_map cancel_reason_value o)
 if_reason_written None = tt
@@ -73,69 +73,69 @@ reason_written s = (if_reason_written s.cancel_reason, tt)
 
 pub run_stats_writable : (s : RunStats) → IsRunStats s → IsWritable 1 (run_stats_value s)
 run_stats_writable s h =
-    let last : EachWritten 0 (failures_fields s ++ reason_fields s) = appended (failures_fields s) (reason_fields s) (failures_written s h.failures) (reason_written s) in
-    let rest : EachWritten 0 (passes_fields s ++ failures_fields s ++ reason_fields s) = appended (passes_fields s) (failures_fields s ++ reason_fields s) (passes_written s h.passes) last in
-    struct_writable _ refl (appended (setup_fields s) (passes_fields s ++ failures_fields s ++ reason_fields s) (setup_written s h.setup) rest)
+    let last : EachWritten 0 (passes_fields s ++ setup_fields s) = appended (passes_fields s) (setup_fields s) (passes_written s h.passes) (setup_written s h.setup) in
+    let rest : EachWritten 0 (failures_fields s ++ passes_fields s ++ setup_fields s) = appended (failures_fields s) (passes_fields s ++ setup_fields s) (failures_written s h.failures) last in
+    struct_writable _ refl (appended (reason_fields s) (failures_fields s ++ passes_fields s ++ setup_fields s) (reason_written s) rest)
 
 -- ---- what is read is well-formed
 
-abbrev SetupFits : Setup → Type 0
-SetupFits p = (p.setup_scripts_initial_count < 2 ^ 64) × (p.setup_scripts_finished_count < 2 ^ 64) × (p.setup_scripts_passed < 2 ^ 64) × (p.setup_scripts_failed < 2 ^ 64) × (p.setup_scripts_exec_failed < 2 ^ 64) × (p.setup_scripts_timed_out < 2 ^ 64)
+abbrev FailuresFit : Failures → Type 0
+FailuresFit p = (p.exec_failed < 2 ^ 64) × (p.failed < 2 ^ 64) × (p.failed_slow < 2 ^ 64) × (p.failed_timed_out < 2 ^ 64) × (p.finished_count < 2 ^ 64) × (p.flaky < 2 ^ 64)
 
-setup_well_formed : (ms : Members) → Holds SetupFits (setup_form ms)
-unfolding setup_form
-setup_well_formed ms =
-    required_then u64_form (codes "setup-scripts-initial-count") ms _ u64_well_formed (λ setup_scripts_initial_count setup_scripts_initial_count_is.
-    required_then u64_form (codes "setup-scripts-finished-count") ms _ u64_well_formed (λ setup_scripts_finished_count setup_scripts_finished_count_is.
-    required_then u64_form (codes "setup-scripts-passed") ms _ u64_well_formed (λ setup_scripts_passed setup_scripts_passed_is.
-    required_then u64_form (codes "setup-scripts-failed") ms _ u64_well_formed (λ setup_scripts_failed setup_scripts_failed_is.
-    required_then u64_form (codes "setup-scripts-exec-failed") ms _ u64_well_formed (λ setup_scripts_exec_failed setup_scripts_exec_failed_is.
-    required_then u64_form (codes "setup-scripts-timed-out") ms _ u64_well_formed (λ setup_scripts_timed_out setup_scripts_timed_out_is.
-    record { is = (setup_scripts_initial_count_is, setup_scripts_finished_count_is, setup_scripts_passed_is, setup_scripts_failed_is, setup_scripts_exec_failed_is, setup_scripts_timed_out_is) }))))))
+failures_well_formed : (ms : Members) → Holds FailuresFit (failures_form ms)
+unfolding failures_form
+failures_well_formed ms =
+    required_then u64_form (codes "exec-failed") ms _ u64_well_formed (λ exec_failed exec_failed_is.
+    required_then u64_form (codes "failed") ms _ u64_well_formed (λ failed failed_is.
+    required_then u64_form (codes "failed-slow") ms _ u64_well_formed (λ failed_slow failed_slow_is.
+    required_then u64_form (codes "failed-timed-out") ms _ u64_well_formed (λ failed_timed_out failed_timed_out_is.
+    required_then u64_form (codes "finished-count") ms _ u64_well_formed (λ finished_count finished_count_is.
+    required_then u64_form (codes "flaky") ms _ u64_well_formed (λ flaky flaky_is.
+    record { is = (exec_failed_is, failed_is, failed_slow_is, failed_timed_out_is, finished_count_is, flaky_is) }))))))
 
 abbrev PassesFit : Passes → Type 0
-PassesFit p = (p.initial_run_count < 2 ^ 64) × (p.finished_count < 2 ^ 64) × (p.passed < 2 ^ 64) × (p.passed_slow < 2 ^ 64) × (p.passed_timed_out < 2 ^ 64) × (p.flaky < 2 ^ 64)
+PassesFit p = (p.initial_run_count < 2 ^ 64) × (p.leaky < 2 ^ 64) × (p.leaky_failed < 2 ^ 64) × (p.passed < 2 ^ 64) × (p.passed_slow < 2 ^ 64) × (p.passed_timed_out < 2 ^ 64)
 
 passes_well_formed : (ms : Members) → Holds PassesFit (passes_form ms)
 unfolding passes_form
 passes_well_formed ms =
     required_then u64_form (codes "initial-run-count") ms _ u64_well_formed (λ initial_run_count initial_run_count_is.
-    required_then u64_form (codes "finished-count") ms _ u64_well_formed (λ finished_count finished_count_is.
+    required_then u64_form (codes "leaky") ms _ u64_well_formed (λ leaky leaky_is.
+    required_then u64_form (codes "leaky-failed") ms _ u64_well_formed (λ leaky_failed leaky_failed_is.
     required_then u64_form (codes "passed") ms _ u64_well_formed (λ passed passed_is.
     required_then u64_form (codes "passed-slow") ms _ u64_well_formed (λ passed_slow passed_slow_is.
     required_then u64_form (codes "passed-timed-out") ms _ u64_well_formed (λ passed_timed_out passed_timed_out_is.
-    required_then u64_form (codes "flaky") ms _ u64_well_formed (λ flaky flaky_is.
-    record { is = (initial_run_count_is, finished_count_is, passed_is, passed_slow_is, passed_timed_out_is, flaky_is) }))))))
+    record { is = (initial_run_count_is, leaky_is, leaky_failed_is, passed_is, passed_slow_is, passed_timed_out_is) }))))))
 
-abbrev FailuresFit : Failures → Type 0
-FailuresFit p = (p.failed < 2 ^ 64) × (p.failed_slow < 2 ^ 64) × (p.failed_timed_out < 2 ^ 64) × (p.leaky < 2 ^ 64) × (p.leaky_failed < 2 ^ 64) × (p.exec_failed < 2 ^ 64) × (p.skipped < 2 ^ 64)
+abbrev SetupFits : Setup → Type 0
+SetupFits p = (p.setup_scripts_exec_failed < 2 ^ 64) × (p.setup_scripts_failed < 2 ^ 64) × (p.setup_scripts_finished_count < 2 ^ 64) × (p.setup_scripts_initial_count < 2 ^ 64) × (p.setup_scripts_passed < 2 ^ 64) × (p.setup_scripts_timed_out < 2 ^ 64) × (p.skipped < 2 ^ 64)
 
-failures_well_formed : (ms : Members) → Holds FailuresFit (failures_form ms)
-unfolding failures_form
-failures_well_formed ms =
-    required_then u64_form (codes "failed") ms _ u64_well_formed (λ failed failed_is.
-    required_then u64_form (codes "failed-slow") ms _ u64_well_formed (λ failed_slow failed_slow_is.
-    required_then u64_form (codes "failed-timed-out") ms _ u64_well_formed (λ failed_timed_out failed_timed_out_is.
-    required_then u64_form (codes "leaky") ms _ u64_well_formed (λ leaky leaky_is.
-    required_then u64_form (codes "leaky-failed") ms _ u64_well_formed (λ leaky_failed leaky_failed_is.
-    required_then u64_form (codes "exec-failed") ms _ u64_well_formed (λ exec_failed exec_failed_is.
+setup_well_formed : (ms : Members) → Holds SetupFits (setup_form ms)
+unfolding setup_form
+setup_well_formed ms =
+    required_then u64_form (codes "setup-scripts-exec-failed") ms _ u64_well_formed (λ setup_scripts_exec_failed setup_scripts_exec_failed_is.
+    required_then u64_form (codes "setup-scripts-failed") ms _ u64_well_formed (λ setup_scripts_failed setup_scripts_failed_is.
+    required_then u64_form (codes "setup-scripts-finished-count") ms _ u64_well_formed (λ setup_scripts_finished_count setup_scripts_finished_count_is.
+    required_then u64_form (codes "setup-scripts-initial-count") ms _ u64_well_formed (λ setup_scripts_initial_count setup_scripts_initial_count_is.
+    required_then u64_form (codes "setup-scripts-passed") ms _ u64_well_formed (λ setup_scripts_passed setup_scripts_passed_is.
+    required_then u64_form (codes "setup-scripts-timed-out") ms _ u64_well_formed (λ setup_scripts_timed_out setup_scripts_timed_out_is.
     required_then u64_form (codes "skipped") ms _ u64_well_formed (λ skipped skipped_is.
-    record { is = (failed_is, failed_slow_is, failed_timed_out_is, leaky_is, leaky_failed_is, exec_failed_is, skipped_is) })))))))
+    record { is = (setup_scripts_exec_failed_is, setup_scripts_failed_is, setup_scripts_finished_count_is, setup_scripts_initial_count_is, setup_scripts_passed_is, setup_scripts_timed_out_is, skipped_is) })))))))
 
 pub run_stats_well_formed : GivesWellFormed IsRunStats run_stats_form
 unfolding run_stats_form
 run_stats_well_formed = record {
   each = λ d.
       object_then d _ (λ ms.
-      then_holds (setup_form ms) _ (setup_well_formed ms) (λ s s_is.
-      then_holds (passes_form ms) _ (passes_well_formed ms) (λ p p_is.
       then_holds (failures_form ms) _ (failures_well_formed ms) (λ f f_is.
+      then_holds (passes_form ms) _ (passes_well_formed ms) (λ p p_is.
+      then_holds (setup_form ms) _ (setup_well_formed ms) (λ s s_is.
       maybe_then cancel_reason_form (codes "cancel-reason") ms _ (any_well_formed cancel_reason_form) (λ cancel_reason cancel_reason_is.
       record {
         is = record {
-          setup = record { setup_scripts_initial_count = s_is.0; setup_scripts_finished_count = s_is.1; setup_scripts_passed = s_is.2; setup_scripts_failed = s_is.3; setup_scripts_exec_failed = s_is.4; setup_scripts_timed_out = s_is.5 };
-          passes = record { initial_run_count = p_is.0; finished_count = p_is.1; passed = p_is.2; passed_slow = p_is.3; passed_timed_out = p_is.4; flaky = p_is.5 };
-          failures = record { failed = f_is.0; failed_slow = f_is.1; failed_timed_out = f_is.2; leaky = f_is.3; leaky_failed = f_is.4; exec_failed = f_is.5; skipped = f_is.6 };
+          failures = record { exec_failed = f_is.0; failed = f_is.1; failed_slow = f_is.2; failed_timed_out = f_is.3; finished_count = f_is.4; flaky = f_is.5 };
+          passes = record { initial_run_count = p_is.0; leaky = p_is.1; leaky_failed = p_is.2; passed = p_is.3; passed_slow = p_is.4; passed_timed_out = p_is.5 };
+          setup = record { setup_scripts_exec_failed = s_is.0; setup_scripts_failed = s_is.1; setup_scripts_finished_count = s_is.2; setup_scripts_initial_count = s_is.3; setup_scripts_passed = s_is.4; setup_scripts_timed_out = s_is.5; skipped = s_is.6 };
         };
       })))));
 }

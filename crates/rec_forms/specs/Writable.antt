@@ -1,5 +1,6 @@
 -- What is said of each value that is written: it is no null, its text gives it back, it has no float, and nests only so deep.
 use Rattle.std.proofs.Common.{Ordering, Less, Equal, Greater, arith, true, ◌∙◌}
+use Rattle.std.proofs.lemmas.Bool.Decides.{nat_tests}
 use Rattle.std.proofs.lemmas.Bool.{and_parts, or_parts}
 use Rattle.std.proofs.lemmas.Int.{ints}
 use Rattle.std.specs.Cmp.Lexicographic.{slice_cmp}
@@ -7,9 +8,10 @@ use Rattle.std.specs.Int.{w64}
 use Rattle.std.specs.List.Sorted.{IsStrictlySortedBy}
 use Rattle.std.specs.List.{AllByRecursion}
 use Rattle.std.specs.Ordering.{nat_cmp, match_ordering}
-use Rattle.std.specs.Prelude.{◌≡◌, ◌≢◌, ◌<◌, ◌^◌, ◌&&◌, ℕ, suc, ◌≤◌, ℤ, pos, negsuc, FitsSigned, List, [], ◌∷◌, map, Bool, false, Option, Some, None, IfSome, option_map, ⊤, refl}
+use Rattle.std.specs.Prelude.{◌≡◌, ◌≢◌, ◌<◌, ◌^◌, ◌&&◌, ℕ, nat_lt, suc, ◌≤◌, ℤ, pos, negsuc, FitsSigned, List, [], ◌∷◌, map, Bool, false, Option, Some, None, IfSome, option_map, ⊤, refl}
 use Rattle.json.proofs.Printed.Utf8.{are_ascii}
 use Rattle.serde_json.specs.Data.{Data, null, boolean, string, Members, no_members, member, put, depth, items_depth, members_depth}
+use Rattle.serde_json.specs.Read.{max_depth}
 use Rattle.serde_json.specs.View.{items_of}
 use Rattle.serde_json.specs.Written.{has_float, items_have_float, members_have_float}
 use Rattle.rec_events.specs.Names.{IsText, AreTexts, Rise, with_name}
@@ -24,6 +26,14 @@ pub record IsWritable (levels : ℕ) (d : Data) : Type 0 where
   pub canonical : IsCanonical d
   pub whole : has_float d ≡ false
   pub shallow : depth d ≤ levels
+
+-- of a literal number of levels the test is `refl`
+pub within_depth : {n : ℕ} → nat_lt max_depth n ≡ false → n ≤ max_depth
+within_depth {n} h = grind (arith, nat_tests)
+
+-- what is within a bound with one level more is within it
+pub less_deep : {n m : ℕ} → suc n ≤ m → n ≤ m
+less_deep h = omega (arith, h)
 
 -- ---- numbers, truth values and texts
 

@@ -1,14 +1,15 @@
 //! What is said of errors.
-use crate::fields::{put_field, required_field};
+use crate::fields::{required_field, write_field};
 use crate::{Form, FromValueError};
 use rec_events::{ErrorSummary, OutputErrorSlice};
-use rec_json::Node;
-use serde_json::{Map, Value};
+use rec_json::{JsonText, Node};
 use std::alloc::{AllocError, Global};
 
 impl Form for ErrorSummary {
+    ghost use Rattle.std.specs.Prelude.{refl};
     ghost use Rattle.rec_forms.specs.ErrorTextLaws.{error_summary_back, error_summary_writable, error_summary_well_formed};
     ghost use Rattle.rec_forms.specs.ErrorTexts.{error_summary_value, error_summary_form, IsErrorSummary};
+    ghost use Rattle.rec_forms.specs.Writable.{within_depth};
 
     ghost well_formed = { IsErrorSummary };
 
@@ -24,12 +25,14 @@ impl Form for ErrorSummary {
 
     ghost writable = { error_summary_writable };
 
-    #[tactic(auto, unfolding(crate::specs::Shape::members_of))]
-    fn to_value(&self, alloc: Global) -> Result<Value, AllocError> {
-        let mut object = Map::new(alloc);
-        put_field(alloc, &mut object, "short-message", &self.short_message)?;
-        put_field(alloc, &mut object, "description", &self.description)?;
-        Ok(Value::from(object))
+    ghost shallow = { within_depth refl };
+
+    fn write(&self, alloc: Global, text: &mut JsonText) -> Result<(), AllocError> {
+        text.begin_object()?;
+        write_field(alloc, text, "description", &self.description)?;
+        write_field(alloc, text, "short-message", &self.short_message)?;
+        text.end_struct()?;
+        Ok(())
     }
 
     #[tactic(auto, unfolding(crate::specs::ErrorTexts::error_summary_form))]
@@ -45,8 +48,10 @@ impl Form for ErrorSummary {
 }
 
 impl Form for OutputErrorSlice {
+    ghost use Rattle.std.specs.Prelude.{refl};
     ghost use Rattle.rec_forms.specs.ErrorTextLaws.{error_slice_back, error_slice_writable, error_slice_well_formed};
     ghost use Rattle.rec_forms.specs.ErrorTexts.{error_slice_value, error_slice_form, IsErrorSlice};
+    ghost use Rattle.rec_forms.specs.Writable.{within_depth};
 
     ghost well_formed = { IsErrorSlice };
 
@@ -62,12 +67,14 @@ impl Form for OutputErrorSlice {
 
     ghost writable = { error_slice_writable };
 
-    #[tactic(auto, unfolding(crate::specs::Shape::members_of))]
-    fn to_value(&self, alloc: Global) -> Result<Value, AllocError> {
-        let mut object = Map::new(alloc);
-        put_field(alloc, &mut object, "slice", &self.slice)?;
-        put_field(alloc, &mut object, "start", &self.start)?;
-        Ok(Value::from(object))
+    ghost shallow = { within_depth refl };
+
+    fn write(&self, alloc: Global, text: &mut JsonText) -> Result<(), AllocError> {
+        text.begin_object()?;
+        write_field(alloc, text, "slice", &self.slice)?;
+        write_field(alloc, text, "start", &self.start)?;
+        text.end_struct()?;
+        Ok(())
     }
 
     #[tactic(auto, unfolding(crate::specs::ErrorTexts::error_slice_form))]

@@ -1,70 +1,71 @@
-//! The members of an object, written and read one at a time.
-ghost use Rattle.std.specs.Prelude.{◌≡◌, OnOk, Some, option_map, IfSome, IfOk};
-ghost use Rattle.serde_json.specs.Data.{string};
-ghost use Rattle.serde_json.specs.View.{view, members_view as value_members};
+//! The fields of an object, written and read one at a time.
+ghost use Rattle.std.specs.Prelude.{◌≡◌, ◌++◌, OnOk, Some, option_map, IfSome};
+ghost use Rattle.rec_json.specs.Fields.{tagged};
 ghost use Rattle.rec_json.specs.Nodes.{members_view};
+ghost use Rattle.rec_json.specs.Tokens.{value_tokens, with_field};
 ghost use Rattle.rec_forms.specs.Gives.{Gives};
-ghost use Rattle.rec_forms.specs.Shape.{with_member, required, maybe, defaulted, tagged as with_tag};
+ghost use Rattle.rec_forms.specs.Shape.{required, maybe, defaulted};
 
 use crate::{Form, FromValueError};
-use rec_json::{Node, member};
-use serde_json::{Map, Value};
+use rec_json::{JsonText, Node, member};
 use std::alloc::{AllocError, Global};
 
-/// Holds the members of a JSON object that is written.
-pub type Object = Map<String, Value>;
-
-/// Writes a field: puts the value of `item` at `key`.
+/// Writes a field: the value of `item` at `key`.
 ///
 /// # Errors
 ///
-/// `AllocError` if memory runs out; then `object` may lack the field.
-pub fn put_field<T: Form>(
+/// `AllocError` if memory runs out; then `text` may hold a part of the field.
+pub fn write_field<T: Form>(
     alloc: Global,
-    object: &mut Object,
+    text: &mut JsonText,
     key: &str,
     item: &T,
 ) -> Result<(), AllocError>
-    ensures written { OnOk result (value_members object.new.entries
-        ≡ with_member key.now (Some (T.value_of item.now)) (value_members object.old.entries)) }
+    ensures written { OnOk result (text.new ≡ with_field key.now (Some (T.value_of item.now)) text.old) }
     ensures known { OnOk result (T.well_formed item.now) }
 {
-    let value = item.to_value(alloc)?;
-    serde_json::put(object, alloc, key, value)
+    text.key(key)?;
+    item.write(alloc, text)
 }
 
 /// Writes a field that is left out where there is no item.
 ///
 /// # Errors
 ///
-/// `AllocError` if memory runs out; then `object` may lack the field.
-pub fn put_optional<T: Form>(
+/// `AllocError` if memory runs out; then `text` may hold a part of the field.
+pub fn write_optional<T: Form>(
     alloc: Global,
-    object: &mut Object,
+    text: &mut JsonText,
     key: &str,
     item: &Option<T>,
 ) -> Result<(), AllocError>
-    ensures written { OnOk result (value_members object.new.entries
-        ≡ with_member key.now (option_map T.value_of item.now) (value_members object.old.entries)) }
+    ensures written { OnOk result (text.new ≡ with_field key.now (option_map T.value_of item.now) text.old) }
     ensures known { OnOk result (IfSome item.now T.well_formed) }
 {
     match item {
-        Some(item) => put_field(alloc, object, key, item),
+        Some(item) => write_field(alloc, text, key, item),
         None => Ok(()),
     }
 }
 
-/// Writes a field that is a text.
+/// Writes the object with `item` at `tag`, as a variant with fields is written.
 ///
 /// # Errors
 ///
-/// `AllocError` if memory runs out; then `object` may lack the field.
-pub fn put_text(alloc: Global, object: &mut Object, key: &str, text: &str) -> Result<(), AllocError>
-    ensures { OnOk result (value_members object.new.entries
-        ≡ with_member key.now (Some (string text.now)) (value_members object.old.entries)) }
+/// `AllocError` if memory runs out; then `text` may hold a part of the object.
+pub fn write_tagged<T: Form>(
+    alloc: Global,
+    text: &mut JsonText,
+    tag: &str,
+    item: &T,
+) -> Result<(), AllocError>
+    ensures written { OnOk result (text.new ≡ text.old ++ value_tokens (tagged tag.now (T.value_of item.now))) }
+    ensures known { OnOk result (T.well_formed item.now) }
 {
-    let value = Value::try_from_str(alloc, text)?;
-    serde_json::put(object, alloc, key, value)
+    text.begin_object()?;
+    write_field(alloc, text, tag, item)?;
+    text.end_tagged()?;
+    Ok(())
 }
 
 /// Reads a field that has to be there.
@@ -124,17 +125,4 @@ pub fn defaulted_field<'a, T: Form + Drop>(
         None => Ok(missing),
         Some(node) => T::from_node(alloc, node),
     }
-}
-
-/// Makes the object with `content` at `tag`, as a variant with fields is written.
-///
-/// # Errors
-///
-/// `AllocError` if memory runs out.
-pub fn tagged(alloc: Global, tag: &str, content: Value) -> Result<Value, AllocError>
-    ensures { IfOk result (λ v. view v ≡ with_tag tag.now (view content)) }
-{
-    let mut object = Map::new(alloc);
-    serde_json::put(&mut object, alloc, tag, content)?;
-    Ok(Value::from(object))
 }

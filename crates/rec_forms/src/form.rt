@@ -1,14 +1,17 @@
 //! What is written and read as a JSON value.
-ghost use Rattle.std.specs.Prelude.{◌≡◌, ℕ, Option, Some, IfOk};
+ghost use Rattle.std.specs.Prelude.{◌≡◌, ◌≤◌, ◌++◌, ℕ, suc, Option, Some, IfOk, OnOk};
 ghost use Rattle.serde_json.specs.Data.{Data};
+ghost use Rattle.serde_json.specs.Read.{max_depth};
 ghost use Rattle.serde_json.specs.View.{view};
 ghost use Rattle.rec_json.specs.Nodes.{view as node_view};
+ghost use Rattle.rec_json.specs.Tokens.{value_tokens};
 ghost use Rattle.rec_forms.specs.Gives.{Gives};
 ghost use Rattle.rec_forms.specs.GivesWellFormed.{GivesWellFormed};
 ghost use Rattle.rec_forms.specs.Writable.{IsWritable};
 
 use crate::FromValueError;
-use rec_json::Node;
+use crate::values::value_of_text;
+use rec_json::{JsonText, Node};
 use serde_json::Value;
 use std::alloc::{AllocError, Global};
 
@@ -27,14 +30,30 @@ pub trait Form: Sized {
     // How deep the arrays and objects of a written value nest at most.
     ghost levels: { ℕ };
 
-    /// Makes the value of the item.
+    /// Writes the item at the end of `text`.
+    ///
+    /// # Errors
+    ///
+    /// `AllocError` if memory runs out; then `text` may hold a part of the item.
+    fn write(&self, alloc: Global, text: &mut JsonText) -> Result<(), AllocError>
+        ensures written { OnOk result (text.new ≡ text.old ++ value_tokens (value_of self.now)) }
+        ensures known { OnOk result (well_formed self.now) };
+
+    /// Makes the value of the item, which is the value of its text. Where only the text is wanted, `write`
+    /// does without a value.
     ///
     /// # Errors
     ///
     /// `AllocError` if memory runs out.
     fn to_value(&self, alloc: Global) -> Result<Value, AllocError>
-        ensures written { IfOk result (λ v. view v ≡ value_of self.now) }
-        ensures known { IfOk result (λ _. well_formed self.now) };
+        ensures value { IfOk result (λ v. view v ≡ value_of self.now) }
+        ensures value_known { IfOk result (λ _. well_formed self.now) }
+    {
+        let mut text = JsonText::new(alloc);
+        self.write(alloc, &mut text)?;
+        let text = text.into_text();
+        value_of_text(alloc, &text)
+    }
 
     /// Reads the item for which `node` stands.
     ///
@@ -68,4 +87,19 @@ pub trait Form: Sized {
     // What is written is no null, is given back by its text, has no float, and nests no deeper than
     // `levels`.
     ghost writable: { (x : Self) → well_formed x → IsWritable levels (value_of x) };
+
+    // What is written is no deeper than what is read as JSON.
+    ghost shallow: { levels ≤ max_depth };
+}
+
+/// Says of a type that its items can stand in a list, and such a list in a map.
+pub trait ItemForm: Form {
+    // Two levels more are no deeper than what is read as JSON.
+    ghost nested: { suc (suc Self.levels) ≤ max_depth };
+}
+
+/// Says of a type that its items can be the values of a map.
+pub trait EntryForm: Form {
+    // One level more is no deeper than what is read as JSON.
+    ghost nested: { suc Self.levels ≤ max_depth };
 }

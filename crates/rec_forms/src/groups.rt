@@ -1,13 +1,14 @@
 //! Test groups.
 use crate::{Form, FromValueError};
 use rec_events::TestGroup;
-use rec_json::Node;
-use serde_json::Value;
+use rec_json::{JsonText, Node};
 use std::alloc::{AllocError, Global};
 
 impl Form for TestGroup {
+    ghost use Rattle.std.specs.Prelude.{refl};
     ghost use Rattle.rec_forms.specs.GroupLaws.{test_group_back, test_group_writable, test_group_well_formed};
     ghost use Rattle.rec_forms.specs.Groups.{test_group_value, test_group_form, IsTestGroup};
+    ghost use Rattle.rec_forms.specs.Writable.{within_depth};
 
     ghost well_formed = { IsTestGroup };
 
@@ -23,10 +24,12 @@ impl Form for TestGroup {
 
     ghost writable = { test_group_writable };
 
-    fn to_value(&self, alloc: Global) -> Result<Value, AllocError> {
+    ghost shallow = { within_depth refl };
+
+    fn write(&self, _alloc: Global, text: &mut JsonText) -> Result<(), AllocError> {
         match self {
-            TestGroup::Global => Value::try_from_str(alloc, self.text()),
-            TestGroup::Custom(name) => Value::try_from_str(alloc, name.as_str()),
+            TestGroup::Global => text.string(self.text()),
+            TestGroup::Custom(name) => text.string(name.as_str()),
         }
     }
 

@@ -2,19 +2,20 @@
 ghost use Rattle.std.specs.Prelude.{◌≡◌};
 ghost use Rattle.uuid.specs.Text.{parsed};
 
-use crate::{Form, FromValueError, Held};
+use crate::{Form, FromValueError, Held, ItemForm};
 use rec_events::{ReportUuid, RustBinaryId, ScriptId, TestCaseName, Text, Version, VersionError};
-use rec_json::Node;
+use rec_json::{JsonText, Node};
 use serde_json::Value;
 use std::alloc::{AllocError, Global};
 use uuid::Uuid;
 
 impl Form for RustBinaryId {
+    ghost use Rattle.std.specs.Prelude.{refl};
     ghost use Rattle.serde_json.specs.Data.{string};
     ghost use Rattle.rec_events.specs.Names.{IsText};
     ghost use Rattle.rec_forms.specs.NumberLaws.{text_back, text_well_formed};
     ghost use Rattle.rec_forms.specs.Shape.{text_of};
-    ghost use Rattle.rec_forms.specs.Writable.{string_writable};
+    ghost use Rattle.rec_forms.specs.Writable.{string_writable, within_depth};
 
     ghost well_formed = { IsText };
 
@@ -29,6 +30,12 @@ impl Form for RustBinaryId {
     ghost reads_well_formed = { text_well_formed };
 
     ghost writable = { string_writable };
+
+    ghost shallow = { within_depth refl };
+
+    fn write(&self, _alloc: Global, text: &mut JsonText) -> Result<(), AllocError> {
+        text.string(self.as_str())
+    }
 
     fn to_value(&self, alloc: Global) -> Result<Value, AllocError> {
         Value::try_from_str(alloc, self.as_str())
@@ -41,11 +48,12 @@ impl Form for RustBinaryId {
 }
 
 impl Form for TestCaseName {
+    ghost use Rattle.std.specs.Prelude.{refl};
     ghost use Rattle.serde_json.specs.Data.{string};
     ghost use Rattle.rec_events.specs.Names.{IsText};
     ghost use Rattle.rec_forms.specs.NumberLaws.{text_back, text_well_formed};
     ghost use Rattle.rec_forms.specs.Shape.{text_of};
-    ghost use Rattle.rec_forms.specs.Writable.{string_writable};
+    ghost use Rattle.rec_forms.specs.Writable.{string_writable, within_depth};
 
     ghost well_formed = { IsText };
 
@@ -60,6 +68,12 @@ impl Form for TestCaseName {
     ghost reads_well_formed = { text_well_formed };
 
     ghost writable = { string_writable };
+
+    ghost shallow = { within_depth refl };
+
+    fn write(&self, _alloc: Global, text: &mut JsonText) -> Result<(), AllocError> {
+        text.string(self.as_str())
+    }
 
     fn to_value(&self, alloc: Global) -> Result<Value, AllocError> {
         Value::try_from_str(alloc, self.as_str())
@@ -71,12 +85,20 @@ impl Form for TestCaseName {
     }
 }
 
+impl ItemForm for TestCaseName {
+    ghost use Rattle.std.specs.Prelude.{refl};
+    ghost use Rattle.rec_forms.specs.Writable.{within_depth};
+
+    ghost nested = { within_depth refl };
+}
+
 impl Form for ScriptId {
+    ghost use Rattle.std.specs.Prelude.{refl};
     ghost use Rattle.serde_json.specs.Data.{string};
     ghost use Rattle.rec_events.specs.Names.{IsText};
     ghost use Rattle.rec_forms.specs.NumberLaws.{text_back, text_well_formed};
     ghost use Rattle.rec_forms.specs.Shape.{text_of};
-    ghost use Rattle.rec_forms.specs.Writable.{string_writable};
+    ghost use Rattle.rec_forms.specs.Writable.{string_writable, within_depth};
 
     ghost well_formed = { IsText };
 
@@ -91,6 +113,12 @@ impl Form for ScriptId {
     ghost reads_well_formed = { text_well_formed };
 
     ghost writable = { string_writable };
+
+    ghost shallow = { within_depth refl };
+
+    fn write(&self, _alloc: Global, text: &mut JsonText) -> Result<(), AllocError> {
+        text.string(self.as_str())
+    }
 
     fn to_value(&self, alloc: Global) -> Result<Value, AllocError> {
         Value::try_from_str(alloc, self.as_str())
@@ -113,10 +141,11 @@ fn read_uuid(text: &str) -> Option<Uuid>
 }
 
 impl Form for ReportUuid {
-    ghost use Rattle.std.specs.Prelude.{List, ℕ};
+    ghost use Rattle.std.specs.Prelude.{List, ℕ, refl};
     ghost use Rattle.uuid.specs.Text.{lower, hyphenated_text};
     ghost use Rattle.rec_forms.specs.IdLaws.{uuid_back, uuid_well_formed, uuid_writable};
     ghost use Rattle.rec_forms.specs.Ids.{uuid_value, uuid_form, IsUuid};
+    ghost use Rattle.rec_forms.specs.Writable.{within_depth};
 
     ghost well_formed = { IsUuid };
 
@@ -132,10 +161,12 @@ impl Form for ReportUuid {
 
     ghost writable = { uuid_writable };
 
-    fn to_value(&self, alloc: Global) -> Result<Value, AllocError> {
+    ghost shallow = { within_depth refl };
+
+    fn write(&self, _alloc: Global, text: &mut JsonText) -> Result<(), AllocError> {
         let mut buffer = Uuid::encode_buffer();
-        let text = self.uuid().hyphenated().encode_lower(&mut buffer);
-        Value::try_from_str(alloc, text)
+        let id = self.uuid().hyphenated().encode_lower(&mut buffer);
+        text.string(id)
     }
 
     #[tactic(auto, unfolding(crate::specs::Ids::uuid_form))]
@@ -156,10 +187,12 @@ impl Held for ReportUuid {
 }
 
 impl Form for Version {
+    ghost use Rattle.std.specs.Prelude.{refl};
     ghost use Rattle.semver.specs.Identifiers.{parts_text};
     ghost use Rattle.rec_events.specs.Versions.{IsVersion};
     ghost use Rattle.rec_forms.specs.IdLaws.{version_back, version_well_formed, version_writable};
     ghost use Rattle.rec_forms.specs.Ids.{version_value, version_form};
+    ghost use Rattle.rec_forms.specs.Writable.{within_depth};
 
     ghost well_formed = { IsVersion };
 
@@ -175,9 +208,11 @@ impl Form for Version {
 
     ghost writable = { version_writable };
 
-    fn to_value(&self, alloc: Global) -> Result<Value, AllocError> {
-        let text = self.to_text(alloc)?;
-        Ok(Value::from(text.into_string()))
+    ghost shallow = { within_depth refl };
+
+    fn write(&self, alloc: Global, text: &mut JsonText) -> Result<(), AllocError> {
+        let version = self.to_text(alloc)?;
+        text.string(version.as_str())
     }
 
     #[tactic(auto, unfolding(crate::specs::Ids::version_form))]

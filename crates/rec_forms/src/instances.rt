@@ -1,14 +1,15 @@
 //! Which test ran, where, and which time.
-use crate::fields::{optional_field, put_field, put_optional, required_field};
-use crate::{Form, FromValueError};
+use crate::fields::{optional_field, required_field, write_field, write_optional};
+use crate::{Form, FromValueError, ItemForm};
 use rec_events::{OwnedTestInstanceId, RetryData, StressIndexSummary, TestSlotAssignment};
-use rec_json::Node;
-use serde_json::{Map, Value};
+use rec_json::{JsonText, Node};
 use std::alloc::{AllocError, Global};
 
 impl Form for OwnedTestInstanceId {
+    ghost use Rattle.std.specs.Prelude.{refl};
     ghost use Rattle.rec_forms.specs.InstanceLaws.{test_instance_back, test_instance_writable, test_instance_well_formed};
     ghost use Rattle.rec_forms.specs.Instances.{test_instance_value, test_instance_form, IsTestInstance};
+    ghost use Rattle.rec_forms.specs.Writable.{within_depth};
 
     ghost well_formed = { IsTestInstance };
 
@@ -24,12 +25,14 @@ impl Form for OwnedTestInstanceId {
 
     ghost writable = { test_instance_writable };
 
-    #[tactic(auto, unfolding(crate::specs::Shape::members_of))]
-    fn to_value(&self, alloc: Global) -> Result<Value, AllocError> {
-        let mut object = Map::new(alloc);
-        put_field(alloc, &mut object, "binary-id", &self.binary_id)?;
-        put_field(alloc, &mut object, "test-name", &self.test_name)?;
-        Ok(Value::from(object))
+    ghost shallow = { within_depth refl };
+
+    fn write(&self, alloc: Global, text: &mut JsonText) -> Result<(), AllocError> {
+        text.begin_object()?;
+        write_field(alloc, text, "binary-id", &self.binary_id)?;
+        write_field(alloc, text, "test-name", &self.test_name)?;
+        text.end_struct()?;
+        Ok(())
     }
 
     #[tactic(auto, unfolding(crate::specs::Instances::test_instance_form))]
@@ -44,9 +47,18 @@ impl Form for OwnedTestInstanceId {
     }
 }
 
+impl ItemForm for OwnedTestInstanceId {
+    ghost use Rattle.std.specs.Prelude.{refl};
+    ghost use Rattle.rec_forms.specs.Writable.{within_depth};
+
+    ghost nested = { within_depth refl };
+}
+
 impl Form for TestSlotAssignment {
+    ghost use Rattle.std.specs.Prelude.{refl};
     ghost use Rattle.rec_forms.specs.InstanceLaws.{slot_assignment_back, slot_assignment_writable, slot_assignment_well_formed};
     ghost use Rattle.rec_forms.specs.Instances.{slot_assignment_value, slot_assignment_form, IsSlotAssignment};
+    ghost use Rattle.rec_forms.specs.Writable.{within_depth};
 
     ghost well_formed = { IsSlotAssignment };
 
@@ -62,13 +74,15 @@ impl Form for TestSlotAssignment {
 
     ghost writable = { slot_assignment_writable };
 
-    #[tactic(auto, unfolding(crate::specs::Shape::members_of))]
-    fn to_value(&self, alloc: Global) -> Result<Value, AllocError> {
-        let mut object = Map::new(alloc);
-        put_field(alloc, &mut object, "global-slot", &self.global_slot)?;
-        put_optional(alloc, &mut object, "group-slot", &self.group_slot)?;
-        put_field(alloc, &mut object, "test-group", &self.test_group)?;
-        Ok(Value::from(object))
+    ghost shallow = { within_depth refl };
+
+    fn write(&self, alloc: Global, text: &mut JsonText) -> Result<(), AllocError> {
+        text.begin_object()?;
+        write_field(alloc, text, "global-slot", &self.global_slot)?;
+        write_optional(alloc, text, "group-slot", &self.group_slot)?;
+        write_field(alloc, text, "test-group", &self.test_group)?;
+        text.end_struct()?;
+        Ok(())
     }
 
     #[tactic(auto, unfolding(crate::specs::Instances::slot_assignment_form))]
@@ -85,8 +99,10 @@ impl Form for TestSlotAssignment {
 }
 
 impl Form for RetryData {
+    ghost use Rattle.std.specs.Prelude.{refl};
     ghost use Rattle.rec_forms.specs.InstanceLaws.{retry_data_back, retry_data_writable, retry_data_well_formed};
     ghost use Rattle.rec_forms.specs.Instances.{retry_data_value, retry_data_form, IsRetryData};
+    ghost use Rattle.rec_forms.specs.Writable.{within_depth};
 
     ghost well_formed = { IsRetryData };
 
@@ -102,12 +118,14 @@ impl Form for RetryData {
 
     ghost writable = { retry_data_writable };
 
-    #[tactic(auto, unfolding(crate::specs::Shape::members_of))]
-    fn to_value(&self, alloc: Global) -> Result<Value, AllocError> {
-        let mut object = Map::new(alloc);
-        put_field(alloc, &mut object, "attempt", &self.attempt)?;
-        put_field(alloc, &mut object, "total-attempts", &self.total_attempts)?;
-        Ok(Value::from(object))
+    ghost shallow = { within_depth refl };
+
+    fn write(&self, alloc: Global, text: &mut JsonText) -> Result<(), AllocError> {
+        text.begin_object()?;
+        write_field(alloc, text, "attempt", &self.attempt)?;
+        write_field(alloc, text, "total-attempts", &self.total_attempts)?;
+        text.end_struct()?;
+        Ok(())
     }
 
     #[tactic(auto, unfolding(crate::specs::Instances::retry_data_form))]
@@ -123,8 +141,10 @@ impl Form for RetryData {
 }
 
 impl Form for StressIndexSummary {
+    ghost use Rattle.std.specs.Prelude.{refl};
     ghost use Rattle.rec_forms.specs.InstanceLaws.{stress_index_back, stress_index_writable, stress_index_well_formed};
     ghost use Rattle.rec_forms.specs.Instances.{stress_index_value, stress_index_form, IsStressIndex};
+    ghost use Rattle.rec_forms.specs.Writable.{within_depth};
 
     ghost well_formed = { IsStressIndex };
 
@@ -140,12 +160,14 @@ impl Form for StressIndexSummary {
 
     ghost writable = { stress_index_writable };
 
-    #[tactic(auto, unfolding(crate::specs::Shape::members_of))]
-    fn to_value(&self, alloc: Global) -> Result<Value, AllocError> {
-        let mut object = Map::new(alloc);
-        put_field(alloc, &mut object, "current", &self.current)?;
-        put_optional(alloc, &mut object, "total", &self.total)?;
-        Ok(Value::from(object))
+    ghost shallow = { within_depth refl };
+
+    fn write(&self, alloc: Global, text: &mut JsonText) -> Result<(), AllocError> {
+        text.begin_object()?;
+        write_field(alloc, text, "current", &self.current)?;
+        write_optional(alloc, text, "total", &self.total)?;
+        text.end_struct()?;
+        Ok(())
     }
 
     #[tactic(auto, unfolding(crate::specs::Instances::stress_index_form))]

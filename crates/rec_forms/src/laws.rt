@@ -17,7 +17,7 @@ pub fn writable_values_read_back()
 
 /// States that the text of a well-formed item is UTF-8, and is read as this item.
 pub fn well_formed_items_read_back<T: Form>()
-    ensures { T.levels ≤ max_depth → (x : T) → T.well_formed x → bytes_form T.form_of (compact_text (T.value_of x)) ≡ Some x }
+    ensures { (x : T) → T.well_formed x → bytes_form T.form_of (compact_text (T.value_of x)) ≡ Some x }
 {}
 
 /// States that an item for which a value stands is well-formed, whatever the value.

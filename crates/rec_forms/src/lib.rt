@@ -27,15 +27,16 @@ mod test_names;
 mod text_form;
 mod texts;
 mod times;
+mod values;
 
 pub use errors::FromValueError;
 pub use fields::{
-    Object, defaulted_field, optional_field, put_field, put_optional, put_text, required_field,
-    tagged,
+    defaulted_field, optional_field, required_field, write_field, write_optional, write_tagged,
 };
-pub use form::Form;
+pub use form::{EntryForm, Form, ItemForm};
 pub use held::{Held, held_optional};
 pub use laws::{
     read_items_are_well_formed, well_formed_items_read_back, writable_values_read_back,
 };
 pub use text_form::{parse_node, read_text, write_text};
+pub use values::{Object, put_field, put_optional, put_text, value_of_text};

@@ -3,17 +3,16 @@ ghost use Rattle.std.specs.List.{AllByRecursion};
 ghost use Rattle.std.specs.Prelude.{◌≡◌, Some, map};
 ghost use Rattle.rec_forms.specs.Lists.{list_value, list_form};
 
-use crate::{Form, FromValueError, Held};
+use crate::{EntryForm, Form, FromValueError, Held, ItemForm};
 use rec_events::Items;
-use rec_json::Node;
-use serde_json::Value;
+use rec_json::{JsonText, Node};
 use std::alloc::{AllocError, Global};
 
-impl<T: Form + Drop> Form for Items<T> {
+impl<T: ItemForm + Drop> Form for Items<T> {
     ghost use Rattle.std.specs.Prelude.{suc};
     ghost use Rattle.rec_forms.specs.ListLaws.{list_back};
     ghost use Rattle.rec_forms.specs.WellFormedLaws.{list_well_formed};
-    ghost use Rattle.rec_forms.specs.Writable.{list_writable};
+    ghost use Rattle.rec_forms.specs.Writable.{less_deep, list_writable};
 
     ghost well_formed = { AllByRecursion T.well_formed };
 
@@ -29,12 +28,15 @@ impl<T: Form + Drop> Form for Items<T> {
 
     ghost writable = { list_writable T.value_of T.writable };
 
-    fn to_value(&self, alloc: Global) -> Result<Value, AllocError> {
-        let mut values = Vec::new(alloc);
+    ghost shallow = { less_deep T.nested };
+
+    fn write(&self, alloc: Global, text: &mut JsonText) -> Result<(), AllocError> {
+        text.begin_array()?;
         for item in self.as_slice() {
-            values.push(item.to_value(alloc)?)?;
+            item.write(alloc, text)?;
         }
-        Ok(Value::from(values))
+        text.end_list()?;
+        Ok(())
     }
 
     fn from_node(alloc: Global, node: &Node<'_>) -> Result<Items<T>, FromValueError> {
@@ -50,7 +52,11 @@ impl<T: Form + Drop> Form for Items<T> {
     }
 }
 
-impl<T: Held + Drop> Held for Items<T> {
+impl<T: ItemForm + Drop> EntryForm for Items<T> {
+    ghost nested = { T.nested };
+}
+
+impl<T: Held + ItemForm + Drop> Held for Items<T> {
     fn held(&self) {
         for item in self.as_slice() {
             item.held();

@@ -4,15 +4,14 @@ ghost use Rattle.rec_json.specs.Nodes.{sorted_view};
 ghost use Rattle.rec_forms.specs.Gives.{Gives};
 ghost use Rattle.rec_forms.specs.Maps.{pairs_form};
 
-use crate::fields::put_field;
-use crate::{Form, FromValueError, Held};
+use crate::fields::write_field;
+use crate::{EntryForm, Form, FromValueError, Held};
 use rec_events::{Text, TextMap};
-use rec_json::{Node, sorted};
-use serde_json::{Map, Value};
+use rec_json::{JsonText, Node, sorted};
 use std::alloc::{AllocError, Global};
 use std::collections::BTreeMap;
 
-impl<V: Form + Drop> Form for TextMap<V> {
+impl<V: EntryForm + Drop> Form for TextMap<V> {
     ghost use Rattle.std.specs.Prelude.{suc};
     ghost use Rattle.rec_forms.specs.MapLaws.{map_back, map_writable};
     ghost use Rattle.rec_forms.specs.MapLaws.{map_well_formed};
@@ -32,13 +31,15 @@ impl<V: Form + Drop> Form for TextMap<V> {
 
     ghost writable = { map_writable V.value_of V.writable };
 
-    #[tactic(auto, unfolding(crate::specs::Shape::members_of))]
-    fn to_value(&self, alloc: Global) -> Result<Value, AllocError> {
-        let mut object = Map::new(alloc);
+    ghost shallow = { V.nested };
+
+    fn write(&self, alloc: Global, text: &mut JsonText) -> Result<(), AllocError> {
+        text.begin_object()?;
         for (key, item) in self.as_map() {
-            put_field(alloc, &mut object, key.as_str(), item)?;
+            write_field(alloc, text, key.as_str(), item)?;
         }
-        Ok(Value::from(object))
+        text.end_map()?;
+        Ok(())
     }
 
     fn from_node(alloc: Global, node: &Node<'_>) -> Result<TextMap<V>, FromValueError> {
@@ -65,7 +66,7 @@ fn map_from<'n, 'a, V: Form + Drop>(
     Ok(map)
 }
 
-impl<V: Held + Drop> Held for TextMap<V> {
+impl<V: Held + EntryForm + Drop> Held for TextMap<V> {
     fn held(&self) {
         for (_, item) in self.as_map() {
             item.held();

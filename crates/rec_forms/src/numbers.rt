@@ -4,15 +4,17 @@ ghost use Rattle.std.specs.Prelude.{◌≡◌, ◌^◌, ◌<◌, ℕ, FitsSigned
 
 use crate::{Form, FromValueError, Held};
 use rec_events::NonZeroCount;
-use rec_json::Node;
+use rec_json::{JsonText, Node};
 use serde_json::Value;
 use std::alloc::{AllocError, Global};
 
 impl Form for u32 {
+    ghost use Rattle.std.specs.Prelude.{refl};
     ghost use Rattle.rec_forms.specs.NumberLaws.{u32_back, u32_well_formed};
     ghost use Rattle.rec_forms.specs.NumberLaws.{u32_writable};
     ghost use Rattle.rec_forms.specs.Numbers.{u32_form};
     ghost use Rattle.rec_forms.specs.Shape.{natural};
+    ghost use Rattle.rec_forms.specs.Writable.{within_depth};
 
     ghost well_formed = { λ n. n < 2 ^ 32 };
 
@@ -27,6 +29,12 @@ impl Form for u32 {
     ghost reads_well_formed = { u32_well_formed };
 
     ghost writable = { u32_writable };
+
+    ghost shallow = { within_depth refl };
+
+    fn write(&self, _alloc: Global, text: &mut JsonText) -> Result<(), AllocError> {
+        text.natural(u64::from(*self))
+    }
 
     fn to_value(&self, _alloc: Global) -> Result<Value, AllocError> {
         Ok(Value::from(*self))
@@ -47,10 +55,11 @@ impl Held for u32 {
 }
 
 impl Form for u64 {
+    ghost use Rattle.std.specs.Prelude.{refl};
     ghost use Rattle.rec_forms.specs.NumberLaws.{u64_back, u64_well_formed};
     ghost use Rattle.rec_forms.specs.Numbers.{u64_form};
     ghost use Rattle.rec_forms.specs.Shape.{natural};
-    ghost use Rattle.rec_forms.specs.Writable.{natural_writable};
+    ghost use Rattle.rec_forms.specs.Writable.{natural_writable, within_depth};
 
     ghost well_formed = { λ n. n < 2 ^ 64 };
 
@@ -65,6 +74,12 @@ impl Form for u64 {
     ghost reads_well_formed = { u64_well_formed };
 
     ghost writable = { natural_writable };
+
+    ghost shallow = { within_depth refl };
+
+    fn write(&self, _alloc: Global, text: &mut JsonText) -> Result<(), AllocError> {
+        text.natural(*self)
+    }
 
     fn to_value(&self, _alloc: Global) -> Result<Value, AllocError> {
         Ok(Value::from(*self))
@@ -85,10 +100,11 @@ impl Held for u64 {
 }
 
 impl Form for usize {
+    ghost use Rattle.std.specs.Prelude.{refl};
     ghost use Rattle.rec_forms.specs.NumberLaws.{u64_back, u64_well_formed};
     ghost use Rattle.rec_forms.specs.Numbers.{u64_form};
     ghost use Rattle.rec_forms.specs.Shape.{natural};
-    ghost use Rattle.rec_forms.specs.Writable.{natural_writable};
+    ghost use Rattle.rec_forms.specs.Writable.{natural_writable, within_depth};
 
     ghost well_formed = { λ n. n < 2 ^ 64 };
 
@@ -103,6 +119,12 @@ impl Form for usize {
     ghost reads_well_formed = { u64_well_formed };
 
     ghost writable = { natural_writable };
+
+    ghost shallow = { within_depth refl };
+
+    fn write(&self, _alloc: Global, text: &mut JsonText) -> Result<(), AllocError> {
+        text.natural(*self as u64)
+    }
 
     fn to_value(&self, _alloc: Global) -> Result<Value, AllocError> {
         Ok(Value::from(*self))
@@ -123,10 +145,11 @@ impl Held for usize {
 }
 
 impl Form for i64 {
+    ghost use Rattle.std.specs.Prelude.{refl};
     ghost use Rattle.rec_forms.specs.NumberLaws.{i64_back, i64_well_formed};
     ghost use Rattle.rec_forms.specs.Numbers.{i64_form};
     ghost use Rattle.rec_forms.specs.Shape.{integer};
-    ghost use Rattle.rec_forms.specs.Writable.{integer_writable};
+    ghost use Rattle.rec_forms.specs.Writable.{integer_writable, within_depth};
 
     ghost well_formed = { FitsSigned w64 };
 
@@ -141,6 +164,12 @@ impl Form for i64 {
     ghost reads_well_formed = { i64_well_formed };
 
     ghost writable = { integer_writable };
+
+    ghost shallow = { within_depth refl };
+
+    fn write(&self, _alloc: Global, text: &mut JsonText) -> Result<(), AllocError> {
+        text.integer(*self)
+    }
 
     fn to_value(&self, _alloc: Global) -> Result<Value, AllocError> {
         Ok(Value::from(*self))
@@ -161,10 +190,12 @@ impl Held for i64 {
 }
 
 impl Form for i32 {
+    ghost use Rattle.std.specs.Prelude.{refl};
     ghost use Rattle.rec_forms.specs.NumberLaws.{i32_back, i32_well_formed};
     ghost use Rattle.rec_forms.specs.NumberLaws.{i32_writable};
     ghost use Rattle.rec_forms.specs.Numbers.{i32_form};
     ghost use Rattle.rec_forms.specs.Shape.{integer};
+    ghost use Rattle.rec_forms.specs.Writable.{within_depth};
 
     ghost well_formed = { FitsSigned w32 };
 
@@ -179,6 +210,12 @@ impl Form for i32 {
     ghost reads_well_formed = { i32_well_formed };
 
     ghost writable = { i32_writable };
+
+    ghost shallow = { within_depth refl };
+
+    fn write(&self, _alloc: Global, text: &mut JsonText) -> Result<(), AllocError> {
+        text.integer(i64::from(*self))
+    }
 
     fn to_value(&self, _alloc: Global) -> Result<Value, AllocError> {
         Ok(Value::from(*self))
@@ -203,7 +240,7 @@ impl Form for bool {
     ghost use Rattle.serde_json.specs.Data.{boolean};
     ghost use Rattle.serde_json.specs.Find.{as_bool};
     ghost use Rattle.rec_forms.specs.WellFormedLaws.{any_well_formed};
-    ghost use Rattle.rec_forms.specs.Writable.{boolean_writable};
+    ghost use Rattle.rec_forms.specs.Writable.{boolean_writable, within_depth};
 
     ghost well_formed = { λ _. Unit {0} };
 
@@ -219,6 +256,12 @@ impl Form for bool {
 
     ghost writable = { λ b _. boolean_writable b };
 
+    ghost shallow = { within_depth refl };
+
+    fn write(&self, _alloc: Global, text: &mut JsonText) -> Result<(), AllocError> {
+        text.boolean(*self)
+    }
+
     fn to_value(&self, _alloc: Global) -> Result<Value, AllocError> {
         Ok(Value::from(*self))
     }
@@ -232,10 +275,12 @@ impl Form for bool {
 }
 
 impl Form for NonZeroCount {
+    ghost use Rattle.std.specs.Prelude.{refl};
     ghost use Rattle.rec_forms.specs.NumberLaws.{count_back, count_well_formed};
     ghost use Rattle.rec_forms.specs.NumberLaws.{count_writable};
     ghost use Rattle.rec_forms.specs.Numbers.{count_form, IsCount};
     ghost use Rattle.rec_forms.specs.Shape.{natural};
+    ghost use Rattle.rec_forms.specs.Writable.{within_depth};
 
     ghost well_formed = { IsCount };
 
@@ -251,8 +296,10 @@ impl Form for NonZeroCount {
 
     ghost writable = { count_writable };
 
-    fn to_value(&self, alloc: Global) -> Result<Value, AllocError> {
-        self.get().to_value(alloc)
+    ghost shallow = { within_depth refl };
+
+    fn write(&self, alloc: Global, text: &mut JsonText) -> Result<(), AllocError> {
+        self.get().write(alloc, text)
     }
 
     fn from_node(alloc: Global, node: &Node<'_>) -> Result<NonZeroCount, FromValueError> {

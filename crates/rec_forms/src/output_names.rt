@@ -1,14 +1,15 @@
 //! Kinds of outputs, and the names of their files.
 use crate::{Form, FromValueError};
 use rec_events::{OutputFileName, OutputKind};
-use rec_json::Node;
-use serde_json::Value;
+use rec_json::{JsonText, Node};
 use std::alloc::{AllocError, Global};
 
 impl Form for OutputKind {
+    ghost use Rattle.std.specs.Prelude.{refl};
     ghost use Rattle.rec_forms.specs.OutputNameLaws.{output_kind_back, output_kind_writable};
     ghost use Rattle.rec_forms.specs.OutputNames.{output_kind_value, output_kind_form};
     ghost use Rattle.rec_forms.specs.WellFormedLaws.{any_well_formed};
+    ghost use Rattle.rec_forms.specs.Writable.{within_depth};
 
     ghost well_formed = { λ _. Unit {0} };
 
@@ -24,13 +25,15 @@ impl Form for OutputKind {
 
     ghost writable = { λ x _. output_kind_writable x };
 
-    fn to_value(&self, alloc: Global) -> Result<Value, AllocError> {
+    ghost shallow = { within_depth refl };
+
+    fn write(&self, _alloc: Global, text: &mut JsonText) -> Result<(), AllocError> {
         let name = match self {
             OutputKind::Stdout => "stdout",
             OutputKind::Stderr => "stderr",
             OutputKind::Combined => "combined",
         };
-        Value::try_from_str(alloc, name)
+        text.string(name)
     }
 
     #[tactic(auto, unfolding(crate::specs::OutputNames::output_kind_form))]
@@ -45,8 +48,10 @@ impl Form for OutputKind {
 }
 
 impl Form for OutputFileName {
+    ghost use Rattle.std.specs.Prelude.{refl};
     ghost use Rattle.rec_forms.specs.OutputNameLaws.{file_name_back, file_name_writable, file_name_well_formed};
     ghost use Rattle.rec_forms.specs.OutputNames.{file_name_value, file_name_form, IsFileName};
+    ghost use Rattle.rec_forms.specs.Writable.{within_depth};
 
     ghost well_formed = { IsFileName };
 
@@ -62,8 +67,11 @@ impl Form for OutputFileName {
 
     ghost writable = { file_name_writable };
 
-    fn to_value(&self, alloc: Global) -> Result<Value, AllocError> {
-        Ok(Value::from(self.text(alloc)?))
+    ghost shallow = { within_depth refl };
+
+    fn write(&self, alloc: Global, text: &mut JsonText) -> Result<(), AllocError> {
+        let name = self.text(alloc)?;
+        text.string(&name)
     }
 
     #[tactic(auto, unfolding(crate::specs::OutputNames::file_name_form))]

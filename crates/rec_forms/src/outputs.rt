@@ -1,21 +1,24 @@
 //! Outputs: the bytes of one, and those in a store.
-ghost use Rattle.std.specs.Prelude.{◌≡◌};
+ghost use Rattle.std.specs.Prelude.{◌≡◌, ◌++◌, OnOk};
 ghost use Rattle.rec_json.specs.Nodes.{view};
+ghost use Rattle.rec_json.specs.Tokens.{value_tokens};
+ghost use Rattle.rec_events.specs.declared.outputs.ZipStoreOutput.TheVariants.{Truncated};
 ghost use Rattle.rec_forms.specs.Gives.{Gives};
-ghost use Rattle.rec_forms.specs.Outputs.{truncated_form, split_form};
+ghost use Rattle.rec_forms.specs.Outputs.{stored_output_value, truncated_form, split_form, IsStoredOutput};
 
-use crate::fields::{optional_field, put_field, put_optional, required_field, tagged};
+use crate::fields::{optional_field, required_field, write_field, write_optional, write_tagged};
 use crate::{Form, FromValueError};
 use hex::FromHexError;
 use rec_events::{ChildSingleOutput, OutputFileName, ZipStoreOutput, ZipStoreOutputDescription};
-use rec_json::{Node, only_member};
-use serde_json::{Map, Value};
+use rec_json::{JsonText, Node, only_member};
 use std::alloc::{AllocError, Global};
 
 impl Form for ChildSingleOutput {
+    ghost use Rattle.std.specs.Prelude.{refl};
     ghost use Rattle.hex.specs.Hex.{IsBytes};
     ghost use Rattle.rec_forms.specs.OutputLaws.{output_bytes_back, output_bytes_writable, output_bytes_well_formed};
     ghost use Rattle.rec_forms.specs.Outputs.{output_bytes_value, output_bytes_form};
+    ghost use Rattle.rec_forms.specs.Writable.{within_depth};
 
     ghost well_formed = { IsBytes };
 
@@ -31,8 +34,11 @@ impl Form for ChildSingleOutput {
 
     ghost writable = { output_bytes_writable };
 
-    fn to_value(&self, alloc: Global) -> Result<Value, AllocError> {
-        Ok(Value::from(hex::encode(alloc, self.as_bytes())?))
+    ghost shallow = { within_depth refl };
+
+    fn write(&self, alloc: Global, text: &mut JsonText) -> Result<(), AllocError> {
+        let digits = hex::encode(alloc, self.as_bytes())?;
+        text.string(&digits)
     }
 
     #[tactic(auto, unfolding(crate::specs::Outputs::output_bytes_form))]
@@ -76,9 +82,31 @@ fn split_from(alloc: Global, node: &Node<'_>) -> Result<ZipStoreOutputDescriptio
     })
 }
 
+/// Writes an output that was cut.
+fn write_truncated(
+    alloc: Global,
+    text: &mut JsonText,
+    file_name: &OutputFileName,
+    original_size: &u64,
+) -> Result<(), AllocError>
+    ensures written { OnOk result (text.new ≡ text.old
+        ++ value_tokens (stored_output_value (Truncated file_name.now original_size.now))) }
+    ensures known { OnOk result (IsStoredOutput (Truncated file_name.now original_size.now)) }
+{
+    text.begin_tagged("truncated")?;
+    text.begin_object()?;
+    write_field(alloc, text, "file-name", file_name)?;
+    write_field(alloc, text, "original-size", original_size)?;
+    text.end_struct()?;
+    text.end_tagged()?;
+    Ok(())
+}
+
 impl Form for ZipStoreOutput {
+    ghost use Rattle.std.specs.Prelude.{refl};
     ghost use Rattle.rec_forms.specs.OutputLaws.{stored_output_back, stored_output_writable, stored_output_well_formed};
     ghost use Rattle.rec_forms.specs.Outputs.{stored_output_value, stored_output_form, IsStoredOutput};
+    ghost use Rattle.rec_forms.specs.Writable.{within_depth};
 
     ghost well_formed = { IsStoredOutput };
 
@@ -94,20 +122,16 @@ impl Form for ZipStoreOutput {
 
     ghost writable = { stored_output_writable };
 
-    #[tactic(auto, unfolding(crate::specs::Shape::members_of))]
-    fn to_value(&self, alloc: Global) -> Result<Value, AllocError> {
+    ghost shallow = { within_depth refl };
+
+    fn write(&self, alloc: Global, text: &mut JsonText) -> Result<(), AllocError> {
         match self {
-            ZipStoreOutput::Empty => Value::try_from_str(alloc, "empty"),
-            ZipStoreOutput::Full { file_name } => tagged(alloc, "full", file_name.to_value(alloc)?),
+            ZipStoreOutput::Empty => text.string("empty"),
+            ZipStoreOutput::Full { file_name } => write_tagged(alloc, text, "full", file_name),
             ZipStoreOutput::Truncated {
                 file_name,
                 original_size,
-            } => {
-                let mut object = Map::new(alloc);
-                put_field(alloc, &mut object, "file-name", file_name)?;
-                put_field(alloc, &mut object, "original-size", original_size)?;
-                tagged(alloc, "truncated", Value::from(object))
-            }
+            } => write_truncated(alloc, text, file_name, original_size),
         }
     }
 
@@ -133,8 +157,10 @@ impl Form for ZipStoreOutput {
 }
 
 impl Form for ZipStoreOutputDescription {
+    ghost use Rattle.std.specs.Prelude.{refl};
     ghost use Rattle.rec_forms.specs.OutputLaws.{stored_outputs_back, stored_outputs_writable, stored_outputs_well_formed};
     ghost use Rattle.rec_forms.specs.Outputs.{stored_outputs_value, stored_outputs_form, IsStoredOutputs};
+    ghost use Rattle.rec_forms.specs.Writable.{within_depth};
 
     ghost well_formed = { IsStoredOutputs };
 
@@ -150,17 +176,21 @@ impl Form for ZipStoreOutputDescription {
 
     ghost writable = { stored_outputs_writable };
 
-    #[tactic(auto, unfolding(crate::specs::Shape::members_of))]
-    fn to_value(&self, alloc: Global) -> Result<Value, AllocError> {
+    ghost shallow = { within_depth refl };
+
+    fn write(&self, alloc: Global, text: &mut JsonText) -> Result<(), AllocError> {
         match self {
             ZipStoreOutputDescription::Split { stdout, stderr } => {
-                let mut object = Map::new(alloc);
-                put_optional(alloc, &mut object, "stdout", stdout)?;
-                put_optional(alloc, &mut object, "stderr", stderr)?;
-                tagged(alloc, "split", Value::from(object))
+                text.begin_tagged("split")?;
+                text.begin_object()?;
+                write_optional(alloc, text, "stderr", stderr)?;
+                write_optional(alloc, text, "stdout", stdout)?;
+                text.end_struct()?;
+                text.end_tagged()?;
+                Ok(())
             }
             ZipStoreOutputDescription::Combined { output } => {
-                tagged(alloc, "combined", output.to_value(alloc)?)
+                write_tagged(alloc, text, "combined", output)
             }
         }
     }

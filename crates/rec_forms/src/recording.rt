@@ -1,15 +1,16 @@
 //! What a recording says of the whole run.
-use crate::fields::{put_field, required_field};
+use crate::fields::{required_field, write_field};
 use crate::{Form, FromValueError};
 use rec_events::{NextestRunMode, RecordOpts, TestListSummary};
-use rec_json::Node;
-use serde_json::{Map, Value};
+use rec_json::{JsonText, Node};
 use std::alloc::{AllocError, Global};
 
 impl Form for NextestRunMode {
+    ghost use Rattle.std.specs.Prelude.{refl};
     ghost use Rattle.rec_forms.specs.Recording.{run_mode_value, run_mode_form};
     ghost use Rattle.rec_forms.specs.RecordingLaws.{run_mode_back, run_mode_writable};
     ghost use Rattle.rec_forms.specs.WellFormedLaws.{any_well_formed};
+    ghost use Rattle.rec_forms.specs.Writable.{within_depth};
 
     ghost well_formed = { λ _. Unit {0} };
 
@@ -25,12 +26,14 @@ impl Form for NextestRunMode {
 
     ghost writable = { λ x _. run_mode_writable x };
 
-    fn to_value(&self, alloc: Global) -> Result<Value, AllocError> {
+    ghost shallow = { within_depth refl };
+
+    fn write(&self, _alloc: Global, text: &mut JsonText) -> Result<(), AllocError> {
         let name = match self {
             NextestRunMode::Test => "test",
             NextestRunMode::Benchmark => "benchmark",
         };
-        Value::try_from_str(alloc, name)
+        text.string(name)
     }
 
     #[tactic(auto, unfolding(crate::specs::Recording::run_mode_form))]
@@ -44,9 +47,11 @@ impl Form for NextestRunMode {
 }
 
 impl Form for RecordOpts {
+    ghost use Rattle.std.specs.Prelude.{refl};
     ghost use Rattle.rec_forms.specs.Recording.{record_opts_value, record_opts_form};
     ghost use Rattle.rec_forms.specs.RecordingLaws.{record_opts_back, record_opts_writable};
     ghost use Rattle.rec_forms.specs.WellFormedLaws.{any_well_formed};
+    ghost use Rattle.rec_forms.specs.Writable.{within_depth};
 
     ghost well_formed = { λ _. Unit {0} };
 
@@ -62,11 +67,13 @@ impl Form for RecordOpts {
 
     ghost writable = { λ x _. record_opts_writable x };
 
-    #[tactic(auto, unfolding(crate::specs::Shape::members_of))]
-    fn to_value(&self, alloc: Global) -> Result<Value, AllocError> {
-        let mut object = Map::new(alloc);
-        put_field(alloc, &mut object, "run-mode", &self.run_mode)?;
-        Ok(Value::from(object))
+    ghost shallow = { within_depth refl };
+
+    fn write(&self, alloc: Global, text: &mut JsonText) -> Result<(), AllocError> {
+        text.begin_object()?;
+        write_field(alloc, text, "run-mode", &self.run_mode)?;
+        text.end_struct()?;
+        Ok(())
     }
 
     #[tactic(auto, unfolding(crate::specs::Recording::record_opts_form))]
@@ -81,8 +88,10 @@ impl Form for RecordOpts {
 }
 
 impl Form for TestListSummary {
+    ghost use Rattle.std.specs.Prelude.{refl};
     ghost use Rattle.rec_forms.specs.Recording.{test_list_value, test_list_form, IsTestList};
     ghost use Rattle.rec_forms.specs.RecordingLaws.{test_list_back, test_list_writable, test_list_well_formed};
+    ghost use Rattle.rec_forms.specs.Writable.{within_depth};
 
     ghost well_formed = { IsTestList };
 
@@ -98,11 +107,13 @@ impl Form for TestListSummary {
 
     ghost writable = { test_list_writable };
 
-    #[tactic(auto, unfolding(crate::specs::Shape::members_of))]
-    fn to_value(&self, alloc: Global) -> Result<Value, AllocError> {
-        let mut object = Map::new(alloc);
-        put_field(alloc, &mut object, "suites", &self.suites)?;
-        Ok(Value::from(object))
+    ghost shallow = { within_depth refl };
+
+    fn write(&self, alloc: Global, text: &mut JsonText) -> Result<(), AllocError> {
+        text.begin_object()?;
+        write_field(alloc, text, "suites", &self.suites)?;
+        text.end_struct()?;
+        Ok(())
     }
 
     #[tactic(auto, unfolding(crate::specs::Recording::test_list_form))]

@@ -1,14 +1,15 @@
 //! How the outcome of a test is shown and reported.
 use crate::{Form, FromValueError};
 use rec_events::{CancelReason, JunitFlakyFailStatus, TestOutputDisplay};
-use rec_json::Node;
-use serde_json::Value;
+use rec_json::{JsonText, Node};
 use std::alloc::{AllocError, Global};
 
 impl Form for TestOutputDisplay {
+    ghost use Rattle.std.specs.Prelude.{refl};
     ghost use Rattle.rec_forms.specs.Reporting.{output_display_value, output_display_form};
     ghost use Rattle.rec_forms.specs.ReportingLaws.{output_display_back, output_display_writable};
     ghost use Rattle.rec_forms.specs.WellFormedLaws.{any_well_formed};
+    ghost use Rattle.rec_forms.specs.Writable.{within_depth};
 
     ghost well_formed = { λ _. Unit {0} };
 
@@ -24,14 +25,16 @@ impl Form for TestOutputDisplay {
 
     ghost writable = { λ x _. output_display_writable x };
 
-    fn to_value(&self, alloc: Global) -> Result<Value, AllocError> {
+    ghost shallow = { within_depth refl };
+
+    fn write(&self, _alloc: Global, text: &mut JsonText) -> Result<(), AllocError> {
         let name = match self {
             TestOutputDisplay::Immediate => "immediate",
             TestOutputDisplay::Final => "final",
             TestOutputDisplay::ImmediateFinal => "immediate-final",
             TestOutputDisplay::Never => "never",
         };
-        Value::try_from_str(alloc, name)
+        text.string(name)
     }
 
     #[tactic(auto, unfolding(crate::specs::Reporting::output_display_form))]
@@ -47,9 +50,11 @@ impl Form for TestOutputDisplay {
 }
 
 impl Form for JunitFlakyFailStatus {
+    ghost use Rattle.std.specs.Prelude.{refl};
     ghost use Rattle.rec_forms.specs.Reporting.{flaky_fail_status_value, flaky_fail_status_form};
     ghost use Rattle.rec_forms.specs.ReportingLaws.{flaky_fail_status_back, flaky_fail_status_writable};
     ghost use Rattle.rec_forms.specs.WellFormedLaws.{any_well_formed};
+    ghost use Rattle.rec_forms.specs.Writable.{within_depth};
 
     ghost well_formed = { λ _. Unit {0} };
 
@@ -65,12 +70,14 @@ impl Form for JunitFlakyFailStatus {
 
     ghost writable = { λ x _. flaky_fail_status_writable x };
 
-    fn to_value(&self, alloc: Global) -> Result<Value, AllocError> {
+    ghost shallow = { within_depth refl };
+
+    fn write(&self, _alloc: Global, text: &mut JsonText) -> Result<(), AllocError> {
         let name = match self {
             JunitFlakyFailStatus::Failure => "failure",
             JunitFlakyFailStatus::Success => "success",
         };
-        Value::try_from_str(alloc, name)
+        text.string(name)
     }
 
     #[tactic(auto, unfolding(crate::specs::Reporting::flaky_fail_status_form))]
@@ -84,9 +91,11 @@ impl Form for JunitFlakyFailStatus {
 }
 
 impl Form for CancelReason {
+    ghost use Rattle.std.specs.Prelude.{refl};
     ghost use Rattle.rec_forms.specs.Reporting.{cancel_reason_value, cancel_reason_form};
     ghost use Rattle.rec_forms.specs.ReportingLaws.{cancel_reason_back, cancel_reason_writable};
     ghost use Rattle.rec_forms.specs.WellFormedLaws.{any_well_formed};
+    ghost use Rattle.rec_forms.specs.Writable.{within_depth};
 
     ghost well_formed = { λ _. Unit {0} };
 
@@ -102,7 +111,9 @@ impl Form for CancelReason {
 
     ghost writable = { λ x _. cancel_reason_writable x };
 
-    fn to_value(&self, alloc: Global) -> Result<Value, AllocError> {
+    ghost shallow = { within_depth refl };
+
+    fn write(&self, _alloc: Global, text: &mut JsonText) -> Result<(), AllocError> {
         let name = match self {
             CancelReason::SetupScriptFailure => "setup-script-failure",
             CancelReason::TestFailure => "test-failure",
@@ -113,7 +124,7 @@ impl Form for CancelReason {
             CancelReason::Interrupt => "interrupt",
             CancelReason::SecondSignal => "second-signal",
         };
-        Value::try_from_str(alloc, name)
+        text.string(name)
     }
 
     #[tactic(auto, unfolding(crate::specs::Reporting::cancel_reason_form))]

@@ -4,20 +4,21 @@ ghost use Rattle.rec_json.specs.Nodes.{view};
 ghost use Rattle.rec_forms.specs.Gives.{Gives};
 ghost use Rattle.rec_forms.specs.Results.{abort_form, fail_form};
 
-use crate::fields::{optional_field, put_field, put_optional, required_field, tagged};
+use crate::fields::{optional_field, required_field, write_field, write_optional, write_tagged};
 use crate::{Form, FromValueError};
 use rec_events::{
     ExecutionResultDescription, FailureDescription, FlakyResult, LeakTimeoutResult,
     SlowTimeoutResult,
 };
-use rec_json::{Node, only_member};
-use serde_json::{Map, Value};
+use rec_json::{JsonText, Node, only_member};
 use std::alloc::{AllocError, Global};
 
 impl Form for FlakyResult {
+    ghost use Rattle.std.specs.Prelude.{refl};
     ghost use Rattle.rec_forms.specs.ResultLaws.{flaky_result_back, flaky_result_writable};
     ghost use Rattle.rec_forms.specs.Results.{flaky_result_value, flaky_result_form};
     ghost use Rattle.rec_forms.specs.WellFormedLaws.{any_well_formed};
+    ghost use Rattle.rec_forms.specs.Writable.{within_depth};
 
     ghost well_formed = { λ _. Unit {0} };
 
@@ -33,12 +34,14 @@ impl Form for FlakyResult {
 
     ghost writable = { λ x _. flaky_result_writable x };
 
-    fn to_value(&self, alloc: Global) -> Result<Value, AllocError> {
+    ghost shallow = { within_depth refl };
+
+    fn write(&self, _alloc: Global, text: &mut JsonText) -> Result<(), AllocError> {
         let name = match self {
             FlakyResult::Pass => "pass",
             FlakyResult::Fail => "fail",
         };
-        Value::try_from_str(alloc, name)
+        text.string(name)
     }
 
     #[tactic(auto, unfolding(crate::specs::Results::flaky_result_form))]
@@ -52,9 +55,11 @@ impl Form for FlakyResult {
 }
 
 impl Form for LeakTimeoutResult {
+    ghost use Rattle.std.specs.Prelude.{refl};
     ghost use Rattle.rec_forms.specs.ResultLaws.{leak_result_back, leak_result_writable};
     ghost use Rattle.rec_forms.specs.Results.{leak_result_value, leak_result_form};
     ghost use Rattle.rec_forms.specs.WellFormedLaws.{any_well_formed};
+    ghost use Rattle.rec_forms.specs.Writable.{within_depth};
 
     ghost well_formed = { λ _. Unit {0} };
 
@@ -70,12 +75,14 @@ impl Form for LeakTimeoutResult {
 
     ghost writable = { λ x _. leak_result_writable x };
 
-    fn to_value(&self, alloc: Global) -> Result<Value, AllocError> {
+    ghost shallow = { within_depth refl };
+
+    fn write(&self, _alloc: Global, text: &mut JsonText) -> Result<(), AllocError> {
         let name = match self {
             LeakTimeoutResult::Pass => "pass",
             LeakTimeoutResult::Fail => "fail",
         };
-        Value::try_from_str(alloc, name)
+        text.string(name)
     }
 
     #[tactic(auto, unfolding(crate::specs::Results::leak_result_form))]
@@ -89,9 +96,11 @@ impl Form for LeakTimeoutResult {
 }
 
 impl Form for SlowTimeoutResult {
+    ghost use Rattle.std.specs.Prelude.{refl};
     ghost use Rattle.rec_forms.specs.ResultLaws.{slow_result_back, slow_result_writable};
     ghost use Rattle.rec_forms.specs.Results.{slow_result_value, slow_result_form};
     ghost use Rattle.rec_forms.specs.WellFormedLaws.{any_well_formed};
+    ghost use Rattle.rec_forms.specs.Writable.{within_depth};
 
     ghost well_formed = { λ _. Unit {0} };
 
@@ -107,12 +116,14 @@ impl Form for SlowTimeoutResult {
 
     ghost writable = { λ x _. slow_result_writable x };
 
-    fn to_value(&self, alloc: Global) -> Result<Value, AllocError> {
+    ghost shallow = { within_depth refl };
+
+    fn write(&self, _alloc: Global, text: &mut JsonText) -> Result<(), AllocError> {
         let name = match self {
             SlowTimeoutResult::Pass => "pass",
             SlowTimeoutResult::Fail => "fail",
         };
-        Value::try_from_str(alloc, name)
+        text.string(name)
     }
 
     #[tactic(auto, unfolding(crate::specs::Results::slow_result_form))]
@@ -126,8 +137,10 @@ impl Form for SlowTimeoutResult {
 }
 
 impl Form for FailureDescription {
+    ghost use Rattle.std.specs.Prelude.{refl};
     ghost use Rattle.rec_forms.specs.ResultLaws.{failure_back, failure_writable, failure_well_formed};
     ghost use Rattle.rec_forms.specs.Results.{failure_value, failure_form, IsFailure};
+    ghost use Rattle.rec_forms.specs.Writable.{within_depth};
 
     ghost well_formed = { IsFailure };
 
@@ -143,17 +156,21 @@ impl Form for FailureDescription {
 
     ghost writable = { failure_writable };
 
-    #[tactic(auto, unfolding(crate::specs::Shape::members_of))]
-    fn to_value(&self, alloc: Global) -> Result<Value, AllocError> {
+    ghost shallow = { within_depth refl };
+
+    fn write(&self, alloc: Global, text: &mut JsonText) -> Result<(), AllocError> {
         match self {
             FailureDescription::ExitCode { code } => {
-                tagged(alloc, "exit-code", code.to_value(alloc)?)
+                write_tagged(alloc, text, "exit-code", code)
             }
             FailureDescription::Abort { signal, name } => {
-                let mut object = Map::new(alloc);
-                put_field(alloc, &mut object, "signal", signal)?;
-                put_optional(alloc, &mut object, "name", name)?;
-                tagged(alloc, "abort", Value::from(object))
+                text.begin_tagged("abort")?;
+                text.begin_object()?;
+                write_optional(alloc, text, "name", name)?;
+                write_field(alloc, text, "signal", signal)?;
+                text.end_struct()?;
+                text.end_tagged()?;
+                Ok(())
             }
         }
     }
@@ -188,8 +205,10 @@ fn abort_from(alloc: Global, node: &Node<'_>) -> Result<FailureDescription, From
 }
 
 impl Form for ExecutionResultDescription {
+    ghost use Rattle.std.specs.Prelude.{refl};
     ghost use Rattle.rec_forms.specs.ResultLaws.{execution_result_back, execution_result_writable, execution_result_well_formed};
     ghost use Rattle.rec_forms.specs.Results.{execution_result_value, execution_result_form, IsExecutionResult};
+    ghost use Rattle.rec_forms.specs.Writable.{within_depth};
 
     ghost well_formed = { IsExecutionResult };
 
@@ -205,22 +224,26 @@ impl Form for ExecutionResultDescription {
 
     ghost writable = { execution_result_writable };
 
-    #[tactic(auto, unfolding(crate::specs::Shape::members_of))]
-    fn to_value(&self, alloc: Global) -> Result<Value, AllocError> {
+    ghost shallow = { within_depth refl };
+
+    fn write(&self, alloc: Global, text: &mut JsonText) -> Result<(), AllocError> {
         match self {
-            ExecutionResultDescription::Pass => Value::try_from_str(alloc, "pass"),
+            ExecutionResultDescription::Pass => text.string("pass"),
             ExecutionResultDescription::Leak { result } => {
-                tagged(alloc, "leak", result.to_value(alloc)?)
+                write_tagged(alloc, text, "leak", result)
             }
             ExecutionResultDescription::Fail { failure, leaked } => {
-                let mut object = Map::new(alloc);
-                put_field(alloc, &mut object, "failure", failure)?;
-                put_field(alloc, &mut object, "leaked", leaked)?;
-                tagged(alloc, "fail", Value::from(object))
+                text.begin_tagged("fail")?;
+                text.begin_object()?;
+                write_field(alloc, text, "failure", failure)?;
+                write_field(alloc, text, "leaked", leaked)?;
+                text.end_struct()?;
+                text.end_tagged()?;
+                Ok(())
             }
-            ExecutionResultDescription::ExecFail => Value::try_from_str(alloc, "exec-fail"),
+            ExecutionResultDescription::ExecFail => text.string("exec-fail"),
             ExecutionResultDescription::Timeout { result } => {
-                tagged(alloc, "timeout", result.to_value(alloc)?)
+                write_tagged(alloc, text, "timeout", result)
             }
         }
     }

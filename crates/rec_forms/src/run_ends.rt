@@ -1,18 +1,19 @@
 //! How a run ended.
-use crate::fields::{put_field, required_field, tagged};
+use crate::fields::{required_field, write_field, write_tagged};
 use crate::{Form, FromValueError};
 use rec_events::{
     FinalRunStats, RunFinishedStats, RunStats, StressFinalRunStats, StressRunStats,
     TestsNotSeenSummary,
 };
-use rec_json::{Node, only_member};
-use serde_json::{Map, Value};
+use rec_json::{JsonText, Node, only_member};
 use std::alloc::{AllocError, Global};
 
 impl Form for FinalRunStats {
+    ghost use Rattle.std.specs.Prelude.{refl};
     ghost use Rattle.rec_forms.specs.RunEndLaws.{final_stats_back, final_stats_writable};
     ghost use Rattle.rec_forms.specs.RunEnds.{final_stats_value, final_stats_form};
     ghost use Rattle.rec_forms.specs.WellFormedLaws.{any_well_formed};
+    ghost use Rattle.rec_forms.specs.Writable.{within_depth};
 
     ghost well_formed = { λ _. Unit {0} };
 
@@ -28,14 +29,16 @@ impl Form for FinalRunStats {
 
     ghost writable = { λ x _. final_stats_writable x };
 
-    fn to_value(&self, alloc: Global) -> Result<Value, AllocError> {
+    ghost shallow = { within_depth refl };
+
+    fn write(&self, _alloc: Global, text: &mut JsonText) -> Result<(), AllocError> {
         let name = match self {
             FinalRunStats::Success => "success",
             FinalRunStats::NoTestsRun => "no-tests-run",
             FinalRunStats::Failed => "failed",
             FinalRunStats::Cancelled => "cancelled",
         };
-        Value::try_from_str(alloc, name)
+        text.string(name)
     }
 
     #[tactic(auto, unfolding(crate::specs::RunEnds::final_stats_form))]
@@ -51,9 +54,11 @@ impl Form for FinalRunStats {
 }
 
 impl Form for StressFinalRunStats {
+    ghost use Rattle.std.specs.Prelude.{refl};
     ghost use Rattle.rec_forms.specs.RunEndLaws.{stress_final_stats_back, stress_final_stats_writable};
     ghost use Rattle.rec_forms.specs.RunEnds.{stress_final_stats_value, stress_final_stats_form};
     ghost use Rattle.rec_forms.specs.WellFormedLaws.{any_well_formed};
+    ghost use Rattle.rec_forms.specs.Writable.{within_depth};
 
     ghost well_formed = { λ _. Unit {0} };
 
@@ -69,14 +74,16 @@ impl Form for StressFinalRunStats {
 
     ghost writable = { λ x _. stress_final_stats_writable x };
 
-    fn to_value(&self, alloc: Global) -> Result<Value, AllocError> {
+    ghost shallow = { within_depth refl };
+
+    fn write(&self, _alloc: Global, text: &mut JsonText) -> Result<(), AllocError> {
         let name = match self {
             StressFinalRunStats::Success => "success",
             StressFinalRunStats::NoTestsRun => "no-tests-run",
             StressFinalRunStats::Failed => "failed",
             StressFinalRunStats::Cancelled => "cancelled",
         };
-        Value::try_from_str(alloc, name)
+        text.string(name)
     }
 
     #[tactic(auto, unfolding(crate::specs::RunEnds::stress_final_stats_form))]
@@ -92,8 +99,10 @@ impl Form for StressFinalRunStats {
 }
 
 impl Form for StressRunStats {
+    ghost use Rattle.std.specs.Prelude.{refl};
     ghost use Rattle.rec_forms.specs.RunEndLaws.{stress_run_stats_back, stress_run_stats_writable, stress_run_stats_well_formed};
     ghost use Rattle.rec_forms.specs.RunEnds.{stress_run_stats_value, stress_run_stats_form, IsStressRunStats};
+    ghost use Rattle.rec_forms.specs.Writable.{within_depth};
 
     ghost well_formed = { IsStressRunStats };
 
@@ -109,19 +118,16 @@ impl Form for StressRunStats {
 
     ghost writable = { stress_run_stats_writable };
 
-    #[tactic(auto, unfolding(crate::specs::Shape::members_of))]
-    fn to_value(&self, alloc: Global) -> Result<Value, AllocError> {
-        let mut object = Map::new(alloc);
-        put_field(alloc, &mut object, "completed", &self.completed)?;
-        put_field(alloc, &mut object, "success-count", &self.success_count)?;
-        put_field(alloc, &mut object, "failed-count", &self.failed_count)?;
-        put_field(
-            alloc,
-            &mut object,
-            "last-final-stats",
-            &self.last_final_stats,
-        )?;
-        Ok(Value::from(object))
+    ghost shallow = { within_depth refl };
+
+    fn write(&self, alloc: Global, text: &mut JsonText) -> Result<(), AllocError> {
+        text.begin_object()?;
+        write_field(alloc, text, "completed", &self.completed)?;
+        write_field(alloc, text, "failed-count", &self.failed_count)?;
+        write_field(alloc, text, "last-final-stats", &self.last_final_stats)?;
+        write_field(alloc, text, "success-count", &self.success_count)?;
+        text.end_struct()?;
+        Ok(())
     }
 
     #[tactic(auto, unfolding(crate::specs::RunEnds::stress_run_stats_form))]
@@ -139,8 +145,10 @@ impl Form for StressRunStats {
 }
 
 impl Form for RunFinishedStats {
+    ghost use Rattle.std.specs.Prelude.{refl};
     ghost use Rattle.rec_forms.specs.RunEndLaws.{run_finished_stats_back, run_finished_stats_writable, run_finished_stats_well_formed};
     ghost use Rattle.rec_forms.specs.RunEnds.{run_finished_stats_value, run_finished_stats_form, IsRunFinishedStats};
+    ghost use Rattle.rec_forms.specs.Writable.{within_depth};
 
     ghost well_formed = { IsRunFinishedStats };
 
@@ -156,10 +164,12 @@ impl Form for RunFinishedStats {
 
     ghost writable = { run_finished_stats_writable };
 
-    fn to_value(&self, alloc: Global) -> Result<Value, AllocError> {
+    ghost shallow = { within_depth refl };
+
+    fn write(&self, alloc: Global, text: &mut JsonText) -> Result<(), AllocError> {
         match self {
-            RunFinishedStats::Single(stats) => tagged(alloc, "single", stats.to_value(alloc)?),
-            RunFinishedStats::Stress(stats) => tagged(alloc, "stress", stats.to_value(alloc)?),
+            RunFinishedStats::Single(stats) => write_tagged(alloc, text, "single", stats),
+            RunFinishedStats::Stress(stats) => write_tagged(alloc, text, "stress", stats),
         }
     }
 
@@ -181,8 +191,10 @@ impl Form for RunFinishedStats {
 }
 
 impl Form for TestsNotSeenSummary {
+    ghost use Rattle.std.specs.Prelude.{refl};
     ghost use Rattle.rec_forms.specs.RunEndLaws.{tests_not_seen_back, tests_not_seen_writable, tests_not_seen_well_formed};
     ghost use Rattle.rec_forms.specs.RunEnds.{tests_not_seen_value, tests_not_seen_form, IsTestsNotSeen};
+    ghost use Rattle.rec_forms.specs.Writable.{within_depth};
 
     ghost well_formed = { IsTestsNotSeen };
 
@@ -198,12 +210,14 @@ impl Form for TestsNotSeenSummary {
 
     ghost writable = { tests_not_seen_writable };
 
-    #[tactic(auto, unfolding(crate::specs::Shape::members_of))]
-    fn to_value(&self, alloc: Global) -> Result<Value, AllocError> {
-        let mut object = Map::new(alloc);
-        put_field(alloc, &mut object, "not-seen", &self.not_seen)?;
-        put_field(alloc, &mut object, "total-not-seen", &self.total_not_seen)?;
-        Ok(Value::from(object))
+    ghost shallow = { within_depth refl };
+
+    fn write(&self, alloc: Global, text: &mut JsonText) -> Result<(), AllocError> {
+        text.begin_object()?;
+        write_field(alloc, text, "not-seen", &self.not_seen)?;
+        write_field(alloc, text, "total-not-seen", &self.total_not_seen)?;
+        text.end_struct()?;
+        Ok(())
     }
 
     #[tactic(auto, unfolding(crate::specs::RunEnds::tests_not_seen_form))]

@@ -1,16 +1,17 @@
 //! What of a workspace is built.
-use crate::fields::{defaulted_field, put_field};
+use crate::fields::{defaulted_field, write_field};
 use crate::{Form, FromValueError};
 use rec_events::{
     BuildScope, FeatureSelection, Items, NamedTargets, PackageSelection, TargetSelection,
 };
-use rec_json::Node;
-use serde_json::{Map, Value};
+use rec_json::{JsonText, Node};
 use std::alloc::{AllocError, Global};
 
 impl Form for NamedTargets {
+    ghost use Rattle.std.specs.Prelude.{refl};
     ghost use Rattle.rec_forms.specs.SelectionLaws.{named_targets_back, named_targets_writable, named_targets_well_formed};
     ghost use Rattle.rec_forms.specs.Selections.{named_targets_value, named_targets_form, IsNamedTargets};
+    ghost use Rattle.rec_forms.specs.Writable.{within_depth};
 
     ghost well_formed = { IsNamedTargets };
 
@@ -26,12 +27,14 @@ impl Form for NamedTargets {
 
     ghost writable = { named_targets_writable };
 
-    #[tactic(auto, unfolding(crate::specs::Shape::members_of))]
-    fn to_value(&self, alloc: Global) -> Result<Value, AllocError> {
-        let mut object = Map::new(alloc);
-        put_field(alloc, &mut object, "names", &self.names)?;
-        put_field(alloc, &mut object, "all", &self.all)?;
-        Ok(Value::from(object))
+    ghost shallow = { within_depth refl };
+
+    fn write(&self, alloc: Global, text: &mut JsonText) -> Result<(), AllocError> {
+        text.begin_object()?;
+        write_field(alloc, text, "all", &self.all)?;
+        write_field(alloc, text, "names", &self.names)?;
+        text.end_struct()?;
+        Ok(())
     }
 
     #[tactic(auto, unfolding(crate::specs::Selections::named_targets_form))]
@@ -47,8 +50,10 @@ impl Form for NamedTargets {
 }
 
 impl Form for PackageSelection {
+    ghost use Rattle.std.specs.Prelude.{refl};
     ghost use Rattle.rec_forms.specs.SelectionLaws.{package_selection_back, package_selection_writable, package_selection_well_formed};
     ghost use Rattle.rec_forms.specs.Selections.{package_selection_value, package_selection_form, IsPackageSelection};
+    ghost use Rattle.rec_forms.specs.Writable.{within_depth};
 
     ghost well_formed = { IsPackageSelection };
 
@@ -64,13 +69,15 @@ impl Form for PackageSelection {
 
     ghost writable = { package_selection_writable };
 
-    #[tactic(auto, unfolding(crate::specs::Shape::members_of))]
-    fn to_value(&self, alloc: Global) -> Result<Value, AllocError> {
-        let mut object = Map::new(alloc);
-        put_field(alloc, &mut object, "specs", &self.specs)?;
-        put_field(alloc, &mut object, "workspace", &self.workspace)?;
-        put_field(alloc, &mut object, "exclude", &self.exclude)?;
-        Ok(Value::from(object))
+    ghost shallow = { within_depth refl };
+
+    fn write(&self, alloc: Global, text: &mut JsonText) -> Result<(), AllocError> {
+        text.begin_object()?;
+        write_field(alloc, text, "exclude", &self.exclude)?;
+        write_field(alloc, text, "specs", &self.specs)?;
+        write_field(alloc, text, "workspace", &self.workspace)?;
+        text.end_struct()?;
+        Ok(())
     }
 
     #[tactic(auto, unfolding(crate::specs::Selections::package_selection_form))]
@@ -87,8 +94,10 @@ impl Form for PackageSelection {
 }
 
 impl Form for TargetSelection {
+    ghost use Rattle.std.specs.Prelude.{refl};
     ghost use Rattle.rec_forms.specs.SelectionLaws.{target_selection_back, target_selection_writable, target_selection_well_formed};
     ghost use Rattle.rec_forms.specs.Selections.{target_selection_value, target_selection_form, IsTargetSelection};
+    ghost use Rattle.rec_forms.specs.Writable.{within_depth};
 
     ghost well_formed = { IsTargetSelection };
 
@@ -104,16 +113,18 @@ impl Form for TargetSelection {
 
     ghost writable = { target_selection_writable };
 
-    #[tactic(auto, unfolding(crate::specs::Shape::members_of))]
-    fn to_value(&self, alloc: Global) -> Result<Value, AllocError> {
-        let mut object = Map::new(alloc);
-        put_field(alloc, &mut object, "lib", &self.lib)?;
-        put_field(alloc, &mut object, "bins", &self.bins)?;
-        put_field(alloc, &mut object, "examples", &self.examples)?;
-        put_field(alloc, &mut object, "tests", &self.tests)?;
-        put_field(alloc, &mut object, "benches", &self.benches)?;
-        put_field(alloc, &mut object, "all-targets", &self.all_targets)?;
-        Ok(Value::from(object))
+    ghost shallow = { within_depth refl };
+
+    fn write(&self, alloc: Global, text: &mut JsonText) -> Result<(), AllocError> {
+        text.begin_object()?;
+        write_field(alloc, text, "all-targets", &self.all_targets)?;
+        write_field(alloc, text, "benches", &self.benches)?;
+        write_field(alloc, text, "bins", &self.bins)?;
+        write_field(alloc, text, "examples", &self.examples)?;
+        write_field(alloc, text, "lib", &self.lib)?;
+        write_field(alloc, text, "tests", &self.tests)?;
+        text.end_struct()?;
+        Ok(())
     }
 
     #[tactic(auto, unfolding(crate::specs::Selections::target_selection_form))]
@@ -133,8 +144,10 @@ impl Form for TargetSelection {
 }
 
 impl Form for FeatureSelection {
+    ghost use Rattle.std.specs.Prelude.{refl};
     ghost use Rattle.rec_forms.specs.SelectionLaws.{feature_selection_back, feature_selection_writable, feature_selection_well_formed};
     ghost use Rattle.rec_forms.specs.Selections.{feature_selection_value, feature_selection_form, IsFeatureSelection};
+    ghost use Rattle.rec_forms.specs.Writable.{within_depth};
 
     ghost well_formed = { IsFeatureSelection };
 
@@ -150,18 +163,20 @@ impl Form for FeatureSelection {
 
     ghost writable = { feature_selection_writable };
 
-    #[tactic(auto, unfolding(crate::specs::Shape::members_of))]
-    fn to_value(&self, alloc: Global) -> Result<Value, AllocError> {
-        let mut object = Map::new(alloc);
-        put_field(alloc, &mut object, "features", &self.features)?;
-        put_field(alloc, &mut object, "all-features", &self.all_features)?;
-        put_field(
+    ghost shallow = { within_depth refl };
+
+    fn write(&self, alloc: Global, text: &mut JsonText) -> Result<(), AllocError> {
+        text.begin_object()?;
+        write_field(alloc, text, "all-features", &self.all_features)?;
+        write_field(alloc, text, "features", &self.features)?;
+        write_field(
             alloc,
-            &mut object,
+            text,
             "no-default-features",
             &self.no_default_features,
         )?;
-        Ok(Value::from(object))
+        text.end_struct()?;
+        Ok(())
     }
 
     #[tactic(auto, unfolding(crate::specs::Selections::feature_selection_form))]
@@ -178,8 +193,10 @@ impl Form for FeatureSelection {
 }
 
 impl Form for BuildScope {
+    ghost use Rattle.std.specs.Prelude.{refl};
     ghost use Rattle.rec_forms.specs.SelectionLaws.{build_scope_back, build_scope_writable, build_scope_well_formed};
     ghost use Rattle.rec_forms.specs.Selections.{build_scope_value, build_scope_form, IsBuildScope};
+    ghost use Rattle.rec_forms.specs.Writable.{within_depth};
 
     ghost well_formed = { IsBuildScope };
 
@@ -195,13 +212,15 @@ impl Form for BuildScope {
 
     ghost writable = { build_scope_writable };
 
-    #[tactic(auto, unfolding(crate::specs::Shape::members_of))]
-    fn to_value(&self, alloc: Global) -> Result<Value, AllocError> {
-        let mut object = Map::new(alloc);
-        put_field(alloc, &mut object, "packages", &self.packages)?;
-        put_field(alloc, &mut object, "targets", &self.targets)?;
-        put_field(alloc, &mut object, "features", &self.features)?;
-        Ok(Value::from(object))
+    ghost shallow = { within_depth refl };
+
+    fn write(&self, alloc: Global, text: &mut JsonText) -> Result<(), AllocError> {
+        text.begin_object()?;
+        write_field(alloc, text, "features", &self.features)?;
+        write_field(alloc, text, "packages", &self.packages)?;
+        write_field(alloc, text, "targets", &self.targets)?;
+        text.end_struct()?;
+        Ok(())
     }
 
     #[tactic(auto, unfolding(crate::specs::Selections::build_scope_form))]

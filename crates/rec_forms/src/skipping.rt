@@ -1,14 +1,15 @@
 //! Why tests are skipped, and which of these a report names.
 use crate::{Form, FromValueError};
 use rec_events::{MismatchReason, ReportSkipPolicy};
-use rec_json::Node;
-use serde_json::Value;
+use rec_json::{JsonText, Node};
 use std::alloc::{AllocError, Global};
 
 impl Form for MismatchReason {
+    ghost use Rattle.std.specs.Prelude.{refl};
     ghost use Rattle.rec_forms.specs.Skipping.{mismatch_reason_value, mismatch_reason_form};
     ghost use Rattle.rec_forms.specs.SkippingLaws.{mismatch_reason_back, mismatch_reason_writable};
     ghost use Rattle.rec_forms.specs.WellFormedLaws.{any_well_formed};
+    ghost use Rattle.rec_forms.specs.Writable.{within_depth};
 
     ghost well_formed = { λ _. Unit {0} };
 
@@ -24,7 +25,9 @@ impl Form for MismatchReason {
 
     ghost writable = { λ x _. mismatch_reason_writable x };
 
-    fn to_value(&self, alloc: Global) -> Result<Value, AllocError> {
+    ghost shallow = { within_depth refl };
+
+    fn write(&self, _alloc: Global, text: &mut JsonText) -> Result<(), AllocError> {
         let name = match self {
             MismatchReason::NotBenchmark => "not-benchmark",
             MismatchReason::Ignored => "ignored",
@@ -34,7 +37,7 @@ impl Form for MismatchReason {
             MismatchReason::RerunAlreadyPassed => "rerun-already-passed",
             MismatchReason::DefaultFilter => "default-filter",
         };
-        Value::try_from_str(alloc, name)
+        text.string(name)
     }
 
     #[tactic(auto, unfolding(crate::specs::Skipping::mismatch_reason_form))]
@@ -53,9 +56,11 @@ impl Form for MismatchReason {
 }
 
 impl Form for ReportSkipPolicy {
+    ghost use Rattle.std.specs.Prelude.{refl};
     ghost use Rattle.rec_forms.specs.Skipping.{skip_policy_value, skip_policy_form};
     ghost use Rattle.rec_forms.specs.SkippingLaws.{skip_policy_back, skip_policy_writable};
     ghost use Rattle.rec_forms.specs.WellFormedLaws.{any_well_formed};
+    ghost use Rattle.rec_forms.specs.Writable.{within_depth};
 
     ghost well_formed = { λ _. Unit {0} };
 
@@ -71,13 +76,15 @@ impl Form for ReportSkipPolicy {
 
     ghost writable = { λ x _. skip_policy_writable x };
 
-    fn to_value(&self, alloc: Global) -> Result<Value, AllocError> {
+    ghost shallow = { within_depth refl };
+
+    fn write(&self, _alloc: Global, text: &mut JsonText) -> Result<(), AllocError> {
         let name = match self {
             ReportSkipPolicy::None => "none",
             ReportSkipPolicy::Ignored => "ignored",
             ReportSkipPolicy::All => "all",
         };
-        Value::try_from_str(alloc, name)
+        text.string(name)
     }
 
     #[tactic(auto, unfolding(crate::specs::Skipping::skip_policy_form))]

@@ -1,19 +1,22 @@
 //! What ends a stress run, and how far it got.
-ghost use Rattle.std.specs.Prelude.{◌≡◌};
+ghost use Rattle.std.specs.Prelude.{◌≡◌, ◌++◌, OnOk};
 ghost use Rattle.rec_json.specs.Nodes.{view};
+ghost use Rattle.rec_json.specs.Tokens.{value_tokens};
+ghost use Rattle.rec_events.specs.declared.stress.StressProgress.TheVariants.{Count, Time};
 ghost use Rattle.rec_forms.specs.Gives.{Gives};
-ghost use Rattle.rec_forms.specs.Stress.{count_progress_form, time_progress_form};
+ghost use Rattle.rec_forms.specs.Stress.{count_progress_form, time_progress_form, stress_progress_value, IsStressProgress};
 
-use crate::fields::{optional_field, put_field, put_optional, required_field, tagged};
+use crate::fields::{optional_field, required_field, write_field, write_optional, write_tagged};
 use crate::{Form, FromValueError};
 use rec_events::{Duration, StressConditionSummary, StressProgress};
-use rec_json::{Node, only_member};
-use serde_json::{Map, Value};
+use rec_json::{JsonText, Node, only_member};
 use std::alloc::{AllocError, Global};
 
 impl Form for StressConditionSummary {
+    ghost use Rattle.std.specs.Prelude.{refl};
     ghost use Rattle.rec_forms.specs.Stress.{stress_condition_value, stress_condition_form, IsStressCondition};
     ghost use Rattle.rec_forms.specs.StressLaws.{stress_condition_back, stress_condition_writable, stress_condition_well_formed};
+    ghost use Rattle.rec_forms.specs.Writable.{within_depth};
 
     ghost well_formed = { IsStressCondition };
 
@@ -29,14 +32,21 @@ impl Form for StressConditionSummary {
 
     ghost writable = { stress_condition_writable };
 
-    fn to_value(&self, alloc: Global) -> Result<Value, AllocError> {
+    ghost shallow = { within_depth refl };
+
+    fn write(&self, alloc: Global, text: &mut JsonText) -> Result<(), AllocError> {
         match self {
-            StressConditionSummary::Count { count: None } => tagged(alloc, "count", Value::Null),
+            StressConditionSummary::Count { count: None } => {
+                text.begin_tagged("count")?;
+                text.null()?;
+                text.end_tagged()?;
+                Ok(())
+            }
             StressConditionSummary::Count { count: Some(count) } => {
-                tagged(alloc, "count", count.to_value(alloc)?)
+                write_tagged(alloc, text, "count", count)
             }
             StressConditionSummary::Duration { duration } => {
-                tagged(alloc, "duration", duration.to_value(alloc)?)
+                write_tagged(alloc, text, "duration", duration)
             }
         }
     }
@@ -59,9 +69,55 @@ impl Form for StressConditionSummary {
     }
 }
 
+/// Writes how far a stress run of some number of sub-runs has come.
+fn write_count(
+    alloc: Global,
+    text: &mut JsonText,
+    total: &Option<u32>,
+    elapsed: &Duration,
+    completed: &u32,
+) -> Result<(), AllocError>
+    ensures written { OnOk result (text.new ≡ text.old
+        ++ value_tokens (stress_progress_value (Count total.now elapsed.now completed.now))) }
+    ensures known { OnOk result (IsStressProgress (Count total.now elapsed.now completed.now)) }
+{
+    text.begin_tagged("count")?;
+    text.begin_object()?;
+    write_field(alloc, text, "completed", completed)?;
+    write_field(alloc, text, "elapsed", elapsed)?;
+    write_optional(alloc, text, "total", total)?;
+    text.end_struct()?;
+    text.end_tagged()?;
+    Ok(())
+}
+
+/// Writes how far a stress run of some length has come.
+fn write_time(
+    alloc: Global,
+    text: &mut JsonText,
+    total: &Duration,
+    elapsed: &Duration,
+    completed: &u32,
+) -> Result<(), AllocError>
+    ensures written { OnOk result (text.new ≡ text.old
+        ++ value_tokens (stress_progress_value (Time total.now elapsed.now completed.now))) }
+    ensures known { OnOk result (IsStressProgress (Time total.now elapsed.now completed.now)) }
+{
+    text.begin_tagged("time")?;
+    text.begin_object()?;
+    write_field(alloc, text, "completed", completed)?;
+    write_field(alloc, text, "elapsed", elapsed)?;
+    write_field(alloc, text, "total", total)?;
+    text.end_struct()?;
+    text.end_tagged()?;
+    Ok(())
+}
+
 impl Form for StressProgress {
+    ghost use Rattle.std.specs.Prelude.{refl};
     ghost use Rattle.rec_forms.specs.Stress.{stress_progress_value, stress_progress_form, IsStressProgress};
     ghost use Rattle.rec_forms.specs.StressLaws.{stress_progress_back, stress_progress_writable, stress_progress_well_formed};
+    ghost use Rattle.rec_forms.specs.Writable.{within_depth};
 
     ghost well_formed = { IsStressProgress };
 
@@ -77,31 +133,20 @@ impl Form for StressProgress {
 
     ghost writable = { stress_progress_writable };
 
-    #[tactic(auto, unfolding(crate::specs::Shape::members_of))]
-    fn to_value(&self, alloc: Global) -> Result<Value, AllocError> {
+    ghost shallow = { within_depth refl };
+
+    fn write(&self, alloc: Global, text: &mut JsonText) -> Result<(), AllocError> {
         match self {
             StressProgress::Count {
                 total,
                 elapsed,
                 completed,
-            } => {
-                let mut object = Map::new(alloc);
-                put_optional(alloc, &mut object, "total", total)?;
-                put_field(alloc, &mut object, "elapsed", elapsed)?;
-                put_field(alloc, &mut object, "completed", completed)?;
-                tagged(alloc, "count", Value::from(object))
-            }
+            } => write_count(alloc, text, total, elapsed, completed),
             StressProgress::Time {
                 total,
                 elapsed,
                 completed,
-            } => {
-                let mut object = Map::new(alloc);
-                put_field(alloc, &mut object, "total", total)?;
-                put_field(alloc, &mut object, "elapsed", elapsed)?;
-                put_field(alloc, &mut object, "completed", completed)?;
-                tagged(alloc, "time", Value::from(object))
-            }
+            } => write_time(alloc, text, total, elapsed, completed),
         }
     }
 

@@ -1,13 +1,14 @@
 //! Sets of test names.
 use crate::{Form, FromValueError};
 use rec_events::{Items, TestCaseName, TestNames};
-use rec_json::Node;
-use serde_json::Value;
+use rec_json::{JsonText, Node};
 use std::alloc::{AllocError, Global};
 
 impl Form for TestNames {
+    ghost use Rattle.std.specs.Prelude.{refl};
     ghost use Rattle.rec_forms.specs.NameLaws.{names_back, names_writable, names_well_formed};
     ghost use Rattle.rec_forms.specs.Names.{names_value, names_form, AreNames};
+    ghost use Rattle.rec_forms.specs.Writable.{within_depth};
 
     ghost well_formed = { AreNames };
 
@@ -23,12 +24,15 @@ impl Form for TestNames {
 
     ghost writable = { names_writable };
 
-    fn to_value(&self, alloc: Global) -> Result<Value, AllocError> {
-        let mut values = Vec::new(alloc);
+    ghost shallow = { within_depth refl };
+
+    fn write(&self, _alloc: Global, text: &mut JsonText) -> Result<(), AllocError> {
+        text.begin_array()?;
         for name in self.as_set() {
-            values.push(Value::try_from_str(alloc, name.as_str())?)?;
+            text.string(name.as_str())?;
         }
-        Ok(Value::from(values))
+        text.end_list()?;
+        Ok(())
     }
 
     #[tactic(auto, unfolding(crate::specs::Names::names_form))]

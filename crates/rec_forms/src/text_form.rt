@@ -1,14 +1,14 @@
 //! Items as the bytes of their JSON text.
-ghost use Rattle.std.specs.Prelude.{◌≡◌, ◌≤◌, Some, IfOk, IsTrue};
+ghost use Rattle.std.specs.Prelude.{◌≡◌, Some, IfOk, IsTrue};
 ghost use Rattle.std.specs.Str.{is_utf8};
-ghost use Rattle.serde_json.specs.Read.{max_depth, read};
+ghost use Rattle.serde_json.specs.Read.{read};
 ghost use Rattle.serde_json.specs.Written.{compact_text};
 ghost use Rattle.rec_json.specs.Nodes.{view};
 ghost use Rattle.rec_forms.specs.Gives.{Gives, GivesBy};
 ghost use Rattle.rec_forms.specs.TextForm.{text_form, bytes_form};
 
 use crate::{Form, FromValueError};
-use rec_json::{Node, ReadError, Scratch};
+use rec_json::{JsonText, Node, ReadError, Scratch};
 use std::alloc::{AllocError, Global};
 
 /// Reads an item from its JSON text.
@@ -70,9 +70,9 @@ pub fn write_text<T: Form>(alloc: Global, item: &T) -> Result<Vec<u8>, AllocErro
     ensures text { IfOk result (λ b. b.items ≡ compact_text (T.value_of item.now)) }
     ensures utf8 { IfOk result (λ b. IsTrue (is_utf8 b.items)) }
     ensures known { IfOk result (λ _. T.well_formed item.now) }
-    ensures reads_back { T.levels ≤ max_depth → IfOk result (λ b. text_form T.form_of b.items ≡ Some item.now) }
+    ensures reads_back { IfOk result (λ b. text_form T.form_of b.items ≡ Some item.now) }
 {
-    let value = item.to_value(alloc)?;
-    let text = value.to_string(alloc)?;
+    let mut text = JsonText::new(alloc);
+    item.write(alloc, &mut text)?;
     Ok(text.into_bytes())
 }

@@ -2,16 +2,17 @@
 ghost use Rattle.serde_json.specs.Data.{string};
 ghost use Rattle.rec_forms.specs.Shape.{text_of};
 
-use crate::{Form, FromValueError, Held};
+use crate::{EntryForm, Form, FromValueError, Held, ItemForm};
 use rec_events::Text;
-use rec_json::Node;
+use rec_json::{JsonText, Node};
 use serde_json::Value;
 use std::alloc::{AllocError, Global};
 
 impl Form for Text {
+    ghost use Rattle.std.specs.Prelude.{refl};
     ghost use Rattle.rec_events.specs.Names.{IsText};
     ghost use Rattle.rec_forms.specs.NumberLaws.{text_back, text_well_formed};
-    ghost use Rattle.rec_forms.specs.Writable.{string_writable};
+    ghost use Rattle.rec_forms.specs.Writable.{string_writable, within_depth};
 
     ghost well_formed = { IsText };
 
@@ -27,6 +28,12 @@ impl Form for Text {
 
     ghost writable = { string_writable };
 
+    ghost shallow = { within_depth refl };
+
+    fn write(&self, _alloc: Global, text: &mut JsonText) -> Result<(), AllocError> {
+        text.string(self.as_str())
+    }
+
     fn to_value(&self, alloc: Global) -> Result<Value, AllocError> {
         Value::try_from_str(alloc, self.as_str())
     }
@@ -37,6 +44,20 @@ impl Form for Text {
             None => Err(FromValueError::NotAValue),
         }
     }
+}
+
+impl ItemForm for Text {
+    ghost use Rattle.std.specs.Prelude.{refl};
+    ghost use Rattle.rec_forms.specs.Writable.{within_depth};
+
+    ghost nested = { within_depth refl };
+}
+
+impl EntryForm for Text {
+    ghost use Rattle.std.specs.Prelude.{refl};
+    ghost use Rattle.rec_forms.specs.Writable.{within_depth};
+
+    ghost nested = { within_depth refl };
 }
 
 impl Held for Text {

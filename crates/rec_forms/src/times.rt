@@ -1,14 +1,15 @@
 //! Instants and spans of time.
-use crate::fields::{put_field, required_field};
+use crate::fields::{required_field, write_field};
 use crate::{Form, FromValueError, Held};
 use rec_events::{Duration, Stamp};
-use rec_json::Node;
-use serde_json::{Map, Value};
+use rec_json::{JsonText, Node};
 use std::alloc::{AllocError, Global};
 
 impl Form for Stamp {
+    ghost use Rattle.std.specs.Prelude.{refl};
     ghost use Rattle.rec_forms.specs.TimeLaws.{stamp_back, stamp_writable, stamp_well_formed};
     ghost use Rattle.rec_forms.specs.Times.{stamp_value, stamp_form, IsStamp};
+    ghost use Rattle.rec_forms.specs.Writable.{within_depth};
 
     ghost well_formed = { IsStamp };
 
@@ -24,13 +25,15 @@ impl Form for Stamp {
 
     ghost writable = { stamp_writable };
 
-    #[tactic(auto, unfolding(crate::specs::Shape::members_of))]
-    fn to_value(&self, alloc: Global) -> Result<Value, AllocError> {
-        let mut object = Map::new(alloc);
-        put_field(alloc, &mut object, "secs", &self.secs)?;
-        put_field(alloc, &mut object, "nanos", &self.nanos)?;
-        put_field(alloc, &mut object, "offset", &self.offset)?;
-        Ok(Value::from(object))
+    ghost shallow = { within_depth refl };
+
+    fn write(&self, alloc: Global, text: &mut JsonText) -> Result<(), AllocError> {
+        text.begin_object()?;
+        write_field(alloc, text, "nanos", &self.nanos)?;
+        write_field(alloc, text, "offset", &self.offset)?;
+        write_field(alloc, text, "secs", &self.secs)?;
+        text.end_struct()?;
+        Ok(())
     }
 
     #[tactic(auto, unfolding(crate::specs::Times::stamp_form))]
@@ -54,8 +57,10 @@ impl Held for Stamp {
 }
 
 impl Form for Duration {
+    ghost use Rattle.std.specs.Prelude.{refl};
     ghost use Rattle.rec_forms.specs.TimeLaws.{duration_back, duration_writable, duration_well_formed};
     ghost use Rattle.rec_forms.specs.Times.{duration_value, duration_form, IsDuration};
+    ghost use Rattle.rec_forms.specs.Writable.{within_depth};
 
     ghost well_formed = { IsDuration };
 
@@ -71,12 +76,14 @@ impl Form for Duration {
 
     ghost writable = { duration_writable };
 
-    #[tactic(auto, unfolding(crate::specs::Shape::members_of))]
-    fn to_value(&self, alloc: Global) -> Result<Value, AllocError> {
-        let mut object = Map::new(alloc);
-        put_field(alloc, &mut object, "secs", &self.secs)?;
-        put_field(alloc, &mut object, "nanos", &self.nanos)?;
-        Ok(Value::from(object))
+    ghost shallow = { within_depth refl };
+
+    fn write(&self, alloc: Global, text: &mut JsonText) -> Result<(), AllocError> {
+        text.begin_object()?;
+        write_field(alloc, text, "nanos", &self.nanos)?;
+        write_field(alloc, text, "secs", &self.secs)?;
+        text.end_struct()?;
+        Ok(())
     }
 
     #[tactic(auto, unfolding(crate::specs::Times::duration_form))]

@@ -1,12 +1,12 @@
 //! Counts, lists and members of objects, as JSON.
 
-use rec_events::{Items, NonZeroCount, TextMap};
+use rec_events::{Items, NonZeroCount, Text, TextMap};
 use rec_forms::{
-    Form, FromValueError, optional_field, parse_node, put_field, put_optional, read_text, tagged,
+    Form, FromValueError, optional_field, parse_node, read_text, write_field, write_optional,
     write_text,
 };
-use rec_json::{Node, Scratch};
-use serde_json::{Map, Value};
+use rec_json::{JsonText, Node, Scratch};
+use serde_json::Value;
 use std::alloc::Global;
 use std::process::Abort;
 use std::test::Fail;
@@ -44,13 +44,13 @@ fn no_count(rt: HostRuntime) -> Result<(), Fail> {
 
 #[test]
 fn lists(rt: HostRuntime) -> Result<(), Fail> {
-    check::<Items<u32>>(
+    check::<Items<Text>>(
         &rt,
         rt.alloc(),
         &[
             ("[]", "[]"),
-            ("[2, 1, 2]", "[2,1,2]"),
-            ("[2,null]", "refused"),
+            (r#"["b", "a", "b"]"#, r#"["b","a","b"]"#),
+            (r#"["b",null]"#, "refused"),
             ("{}", "refused"),
         ],
     )
@@ -78,42 +78,52 @@ fn optional_fields(rt: HostRuntime) -> Result<(), Fail> {
     Ok(())
 }
 
-// Of equal keys the last counts, also where an earlier one has a value that would be refused.
+// Of equal keys the last counts, also where an earlier one has a value that would be refused. Keys are
+// written in the order of their bytes.
 #[test]
 fn maps(rt: HostRuntime) -> Result<(), Fail> {
-    check::<TextMap<u32>>(
+    check::<TextMap<Text>>(
         &rt,
         rt.alloc(),
         &[
             ("{}", "{}"),
-            (r#"{"b":1,"a":2}"#, r#"{"a":2,"b":1}"#),
-            (r#"{"a":null,"b":1,"a":3}"#, r#"{"a":3,"b":1}"#),
-            (r#"{"a":3,"b":1,"a":null}"#, "refused"),
+            (r#"{"b":"1","a":"2"}"#, r#"{"a":"2","b":"1"}"#),
+            (r#"{"a":null,"b":"1","a":"3"}"#, r#"{"a":"3","b":"1"}"#),
+            (r#"{"a":"3","b":"1","a":null}"#, "refused"),
+            (
+                r#"{"ab":"1","a_":"2","a1":"3","a-":"4","a":"5","B":"6"}"#,
+                r#"{"B":"6","a":"5","a-":"4","a1":"3","a_":"2","ab":"1"}"#,
+            ),
             ("[]", "refused"),
         ],
     )
 }
 
-// A value that is there already is read as its text is.
+// A value that is there already is read as its text is, and the value of an item has the same text.
 #[test]
 fn values(rt: HostRuntime) -> Result<(), Fail> {
     let alloc = rt.alloc();
-    let value = Value::from_str(alloc, r#"{"b":[1,2],"a":[]}"#)?;
-    let map: TextMap<Items<u32>> = Form::from_value(alloc, &value)?;
+    let value = Value::from_str(alloc, r#"{"b":["1","2"],"a":[]}"#)?;
+    let map: TextMap<Items<Text>> = Form::from_value(alloc, &value)?;
     let written = String::from_utf8(write_text(alloc, &map)?)?;
-    assert!(rt; written.as_str() == r#"{"a":[],"b":[1,2]}"#);
+    assert!(rt; written.as_str() == r#"{"a":[],"b":["1","2"]}"#);
+    let text = map.to_value(alloc)?.to_string(alloc)?;
+    assert!(rt; text.as_str() == r#"{"a":[],"b":["1","2"]}"#);
     Ok(())
 }
 
 #[test]
 fn tagged_fields(rt: HostRuntime) -> Result<(), Fail> {
     let alloc = rt.alloc();
-    let mut fields = Map::new(alloc);
-    put_field(alloc, &mut fields, "b", &true)?;
-    put_optional(alloc, &mut fields, "a", &Some(7u32))?;
-    put_optional::<u32>(alloc, &mut fields, "c", &None)?;
-    let variant = tagged(alloc, "fail", Value::from(fields))?;
-    let text = variant.to_string(alloc)?;
-    assert!(rt; text.as_str() == "{\"fail\":{\"a\":7,\"b\":true}}");
+    let mut text = JsonText::new(alloc);
+    text.begin_tagged("fail")?;
+    text.begin_object()?;
+    write_optional(alloc, &mut text, "a", &Some(7u32))?;
+    write_field(alloc, &mut text, "b", &true)?;
+    write_optional::<u32>(alloc, &mut text, "c", &None)?;
+    text.end_struct()?;
+    text.end_tagged()?;
+    let text = text.into_text();
+    assert!(rt; text.as_str() == r#"{"fail":{"a":7,"b":true}}"#);
     Ok(())
 }

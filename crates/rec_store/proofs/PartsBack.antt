@@ -110,12 +110,15 @@ settled_manifest : (run : RecordedRun) (sizes : RecordedSizes) → IsRun run →
 settled_manifest run sizes is sizes_are = record {
   format_version = record { major = omega arith; minor = omega arith };
   run = record {
-    identity = is.identity;
     invocation = is.invocation;
+    outcome = record {
+      run_id = is.outcome.run_id;
+      sizes = sizes_are;
+      started_at = is.outcome.started_at;
+      status = rw (of-format (status_of run.status)) is.outcome.status;
+    };
     store_format_version = omega arith;
     store_format_minor_version = omega arith;
-    sizes = sizes_are;
-    status = rw (of-format (status_of run.status)) is.status;
   };
 }
 

@@ -38,14 +38,7 @@ module _ (T : Type 0) {S O Q A : Type 0} (P : O → Type 0) (R : Q → Type 0) (
   execution_is (StartError message) is all = is
 
   status_is : (s : ExecuteStatus S O) → IsStatus P s → AllByRecursion F (of_status g s) → IsStatus R (status_with {T = T} f s)
-  status_is s is all = record {
-    course = is.course;
-    retry_data = is.retry_data;
-    output = execution_is s.output is.output all;
-    result = is.result;
-    error_summary = is.error_summary;
-    output_error_slice = is.output_error_slice;
-  }
+  status_is s is all = record { before = is.before; output = execution_is s.output is.output all; after = is.after }
 
   statuses_are : (l : List (ExecuteStatus S O)) → AllByRecursion (IsStatus P) l → AllByRecursion F (flat_map (of_status g) l) → AllByRecursion (IsStatus R) (map (status_with {T = T} f) l)
   statuses_are [] are all = tt

@@ -1,7 +1,6 @@
 //! The recorder of one run.
 ghost use Rattle.std.specs.Io.KnownBytes.{Appends};
 ghost use Rattle.std.specs.Prelude.{◌≡◌, ◌<◌, ◌≤◌, List, Some, [], ◌∷◌, length, false, true, IfErr, OnOk, IfOk};
-ghost use Rattle.serde_json.specs.Read.{max_depth};
 ghost use Rattle.serde_json.specs.Written.{compact_text};
 ghost use Rattle.rec_container.specs.Container.{AreFrom};
 ghost use Rattle.rec_container.specs.Container.{ending};
@@ -395,7 +394,6 @@ impl<'n, S: Sink, L: Sink, N: OutputNamer> RunRecorder<'n, S, L, N> {
     /// Stores an item as its JSON text.
     fn store_item<T: Form>(&mut self, path: &str, item: &T) -> Result<(), RunStoreError>
         requires name { has_name_length path.now ≡ true }
-        requires levels { T.levels ≤ max_depth }
         ensures ok { OnOk result (Stores S.taken S.faults self.old self.new (json_entry path.now (T.value_of item.now) ∷ [])) }
         ensures read { OnOk result (bytes_form T.form_of (compact_text (T.value_of item.now)) ≡ Some item.now) }
         ensures err { IfErr result (Unstored S.taken S.faults self.old self.new (json_entry path.now (T.value_of item.now) ∷ [])) }

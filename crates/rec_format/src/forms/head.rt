@@ -1,44 +1,44 @@
-//! The head of a session, in three parts.
+//! The head of a session: what was built, and two parts.
 ghost use Rattle.std.specs.Prelude.{◌≡◌, OnOk};
-ghost use Rattle.serde_json.specs.View.{members_view as value_members};
 ghost use Rattle.rec_json.specs.Nodes.{members_view};
+ghost use Rattle.rec_json.specs.Tokens.{with_fields};
 ghost use Rattle.rec_forms.specs.Gives.{Gives};
-ghost use Rattle.rec_forms.specs.Shape.{with_members};
 
-use super::parts::{Identity, Invocation};
-use crate::{RecordedBuildScope, RecordedRunStatus, RerunInfo, SessionHead};
-use rec_events::{RecordOpts, TestListSummary, Text};
+use super::parts::Invocation;
+use crate::{RecordedRunStatus, RerunInfo, SessionHead};
+use rec_events::{RecordOpts, ReportUuid, Stamp, TestListSummary};
 use rec_forms::{
-    Form, FromValueError, Object, optional_field, put_field, put_optional, required_field,
+    Form, FromValueError, optional_field, required_field, write_field, write_optional,
 };
-use rec_json::Node;
-use serde_json::{Map, Value};
+use rec_json::{JsonText, Node};
 use std::alloc::{AllocError, Global};
 
-/// How the run ended, and what is kept of it beside its events.
+/// Which run it is, when it began, what was run and how it ended.
 #[derive(Drop)]
 struct Contents {
-    status: RecordedRunStatus,
-    cargo_metadata: Text,
-    test_list: TestListSummary,
     record_opts: RecordOpts,
-    build_scope: RecordedBuildScope,
     rerun_info: Option<RerunInfo>,
+    run_id: ReportUuid,
+    started_at: Stamp,
+    status: RecordedRunStatus,
+    test_list: TestListSummary,
 }
 
 impl Contents {
     ghost use Rattle.rec_format.specs.HeadForms.{contents_fields, contents_form, AreContents, head_contents};
 
-    fn put(alloc: Global, object: &mut Object, head: &SessionHead) -> Result<(), AllocError>
-        ensures written { OnOk result (value_members object.new.entries ≡ with_members (value_members object.old.entries) (contents_fields (head_contents head.now))) }
+    fn write(alloc: Global, text: &mut JsonText, head: &SessionHead) -> Result<(), AllocError>
+        ensures written { OnOk result
+            (text.new ≡ with_fields text.old (contents_fields (head_contents head.now))) }
         ensures known { OnOk result (AreContents (head_contents head.now)) }
     {
-        put_field(alloc, object, "status", &head.status)?;
-        put_field(alloc, object, "cargo-metadata", &head.cargo_metadata)?;
-        put_field(alloc, object, "test-list", &head.test_list)?;
-        put_field(alloc, object, "record-opts", &head.record_opts)?;
-        put_field(alloc, object, "build-scope", &head.build_scope)?;
-        put_optional(alloc, object, "rerun-info", &head.rerun_info)
+        write_field(alloc, text, "record-opts", &head.record_opts)?;
+        write_optional(alloc, text, "rerun-info", &head.rerun_info)?;
+        write_field(alloc, text, "run-id", &head.run_id)?;
+        write_field(alloc, text, "started-at", &head.started_at)?;
+        write_field(alloc, text, "status", &head.status)?;
+        write_field(alloc, text, "test-list", &head.test_list)?;
+        Ok(())
     }
 
     #[tactic(auto, unfolding(crate::specs::HeadForms::contents_form))]
@@ -46,17 +46,19 @@ impl Contents {
         ensures { Gives result (contents_form (members_view object.now)) }
     {
         Ok(Contents {
-            status: required_field(alloc, object, "status")?,
+            run_id: required_field(alloc, object, "run-id")?,
+            started_at: required_field(alloc, object, "started-at")?,
             record_opts: required_field(alloc, object, "record-opts")?,
-            cargo_metadata: required_field(alloc, object, "cargo-metadata")?,
+            status: required_field(alloc, object, "status")?,
             test_list: required_field(alloc, object, "test-list")?,
-            build_scope: required_field(alloc, object, "build-scope")?,
             rerun_info: optional_field(alloc, object, "rerun-info")?,
         })
     }
 }
 
 impl Form for SessionHead {
+    ghost use Rattle.std.specs.Prelude.{refl};
+    ghost use Rattle.rec_forms.specs.Writable.{within_depth};
     ghost use Rattle.rec_format.specs.HeadFormLaws.{head_back, head_writable, head_well_formed};
     ghost use Rattle.rec_format.specs.HeadForms.{head_value, head_form, IsHead};
 
@@ -74,27 +76,25 @@ impl Form for SessionHead {
 
     ghost writable = { head_writable };
 
-    #[tactic(auto, unfolding(rec_forms::specs::Shape::members_of))]
-    fn to_value(&self, alloc: Global) -> Result<Value, AllocError> {
-        let mut object = Map::new(alloc);
-        Identity::put(
+    ghost shallow = { within_depth refl };
+
+    fn write(&self, alloc: Global, text: &mut JsonText) -> Result<(), AllocError> {
+        text.begin_object()?;
+        write_field(alloc, text, "build-scope", &self.build_scope)?;
+        write_field(alloc, text, "cargo-metadata", &self.cargo_metadata)?;
+        Invocation::write(
             alloc,
-            &mut object,
-            &self.run_id,
-            &self.nextest_version,
-            &self.started_at,
-            &self.last_written_at,
-            &self.duration,
-        )?;
-        Invocation::put(
-            alloc,
-            &mut object,
+            text,
             &self.cli_args,
+            &self.duration,
             &self.env_vars,
+            &self.last_written_at,
+            &self.nextest_version,
             &self.parent_run_id,
         )?;
-        Contents::put(alloc, &mut object, self)?;
-        Ok(Value::from(object))
+        Contents::write(alloc, text, self)?;
+        text.end_struct()?;
+        Ok(())
     }
 
     #[tactic(auto, unfolding(crate::specs::HeadForms::head_form))]
@@ -102,23 +102,24 @@ impl Form for SessionHead {
         let Some(object) = node.as_object() else {
             return Err(FromValueError::NotAValue);
         };
-        let identity = Identity::read(alloc, object)?;
+        let cargo_metadata = required_field(alloc, object, "cargo-metadata")?;
         let invocation = Invocation::read(alloc, object)?;
         let contents = Contents::read(alloc, object)?;
+        let build_scope = required_field(alloc, object, "build-scope")?;
         Ok(SessionHead {
-            run_id: identity.run_id,
-            nextest_version: identity.nextest_version,
-            started_at: identity.started_at,
-            last_written_at: identity.last_written_at,
-            duration: identity.duration,
+            run_id: contents.run_id,
+            nextest_version: invocation.nextest_version,
+            started_at: contents.started_at,
+            last_written_at: invocation.last_written_at,
+            duration: invocation.duration,
             cli_args: invocation.cli_args,
             env_vars: invocation.env_vars,
             parent_run_id: invocation.parent_run_id,
             status: contents.status,
-            cargo_metadata: contents.cargo_metadata,
+            cargo_metadata,
             test_list: contents.test_list,
             record_opts: contents.record_opts,
-            build_scope: contents.build_scope,
+            build_scope,
             rerun_info: contents.rerun_info,
         })
     }

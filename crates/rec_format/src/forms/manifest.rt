@@ -1,11 +1,12 @@
 //! The manifest of a bundle.
 use crate::PortableManifest;
-use rec_forms::{Form, FromValueError, Held, put_field, required_field};
-use rec_json::Node;
-use serde_json::{Map, Value};
+use rec_forms::{Form, FromValueError, Held, required_field, write_field};
+use rec_json::{JsonText, Node};
 use std::alloc::{AllocError, Global};
 
 impl Form for PortableManifest {
+    ghost use Rattle.std.specs.Prelude.{refl};
+    ghost use Rattle.rec_forms.specs.Writable.{within_depth};
     ghost use Rattle.rec_format.specs.RunFormLaws.{manifest_back, manifest_writable, manifest_well_formed};
     ghost use Rattle.rec_format.specs.RunForms.{manifest_value, manifest_form, IsManifest};
 
@@ -23,12 +24,14 @@ impl Form for PortableManifest {
 
     ghost writable = { manifest_writable };
 
-    #[tactic(auto, unfolding(rec_forms::specs::Shape::members_of))]
-    fn to_value(&self, alloc: Global) -> Result<Value, AllocError> {
-        let mut object = Map::new(alloc);
-        put_field(alloc, &mut object, "format-version", &self.format_version)?;
-        put_field(alloc, &mut object, "run", &self.run)?;
-        Ok(Value::from(object))
+    ghost shallow = { within_depth refl };
+
+    fn write(&self, alloc: Global, text: &mut JsonText) -> Result<(), AllocError> {
+        text.begin_object()?;
+        write_field(alloc, text, "format-version", &self.format_version)?;
+        write_field(alloc, text, "run", &self.run)?;
+        text.end_struct()?;
+        Ok(())
     }
 
     #[tactic(auto, unfolding(crate::specs::RunForms::manifest_form))]

@@ -1,94 +1,66 @@
-//! The fields that a head and a run's metadata share, in two parts.
+//! The fields that a head and a run's metadata share, and those that both kinds of a run's metadata
+//! share. Each part stands in JSON without a gap: its fields follow each other in the order of all keys.
 ghost use Rattle.std.specs.Prelude.{◌≡◌, OnOk};
-ghost use Rattle.serde_json.specs.View.{members_view as value_members};
 ghost use Rattle.rec_json.specs.Nodes.{members_view};
+ghost use Rattle.rec_json.specs.Tokens.{with_fields};
 ghost use Rattle.rec_forms.specs.Gives.{Gives};
-ghost use Rattle.rec_forms.specs.Shape.{with_members};
 
+use crate::{RecordedRunStatusFormat, RecordedSizesFormat};
 use rec_events::{Duration, Items, ReportUuid, Stamp, Text, TextMap, Version};
 use rec_forms::{
-    FromValueError, Object, defaulted_field, optional_field, put_field, put_optional,
-    required_field,
+    FromValueError, defaulted_field, optional_field, required_field, write_field, write_optional,
 };
-use rec_json::Node;
+use rec_json::{JsonText, Node};
 use std::alloc::{AllocError, Global};
 
-/// Which run it is, and when it ran.
-#[derive(Drop)]
-pub(crate) struct Identity {
-    pub run_id: ReportUuid,
-    pub nextest_version: Version,
-    pub started_at: Stamp,
-    pub last_written_at: Stamp,
-    pub duration: Option<Duration>,
-}
-
-impl Identity {
-    ghost use Rattle.rec_format.specs.PartForms.{identity_fields, identity_form, IsIdentity};
-
-    pub(crate) fn put(
-        alloc: Global,
-        object: &mut Object,
-        run_id: &ReportUuid,
-        nextest_version: &Version,
-        started_at: &Stamp,
-        last_written_at: &Stamp,
-        duration: &Option<Duration>,
-    ) -> Result<(), AllocError>
-        ensures written { OnOk result (value_members object.new.entries ≡ with_members (value_members object.old.entries)
-            (identity_fields (record { run_id = run_id.now; nextest_version = nextest_version.now; started_at = started_at.now; last_written_at = last_written_at.now; duration = duration.now }))) }
-        ensures known { OnOk result
-            (IsIdentity (record { run_id = run_id.now; nextest_version = nextest_version.now; started_at = started_at.now; last_written_at = last_written_at.now; duration = duration.now })) }
-    {
-        put_field(alloc, object, "run-id", run_id)?;
-        put_field(alloc, object, "nextest-version", nextest_version)?;
-        put_field(alloc, object, "started-at", started_at)?;
-        put_field(alloc, object, "last-written-at", last_written_at)?;
-        put_optional(alloc, object, "duration", duration)
-    }
-
-    #[tactic(auto, unfolding(crate::specs::PartForms::identity_form))]
-    pub(crate) fn read<'a>(
-        alloc: Global,
-        object: &[(&'a str, Node<'a>)],
-    ) -> Result<Identity, FromValueError>
-        ensures { Gives result (identity_form (members_view object.now)) }
-    {
-        Ok(Identity {
-            run_id: required_field(alloc, object, "run-id")?,
-            started_at: required_field(alloc, object, "started-at")?,
-            last_written_at: required_field(alloc, object, "last-written-at")?,
-            duration: optional_field(alloc, object, "duration")?,
-            nextest_version: required_field(alloc, object, "nextest-version")?,
-        })
-    }
-}
-
-/// How the run was started.
+/// How the run was started, and how long it took.
 #[derive(Drop)]
 pub(crate) struct Invocation {
     pub cli_args: Items<Text>,
+    pub duration: Option<Duration>,
     pub env_vars: TextMap<Text>,
+    pub last_written_at: Stamp,
+    pub nextest_version: Version,
     pub parent_run_id: Option<ReportUuid>,
 }
 
 impl Invocation {
     ghost use Rattle.rec_format.specs.PartForms.{invocation_fields, invocation_form, IsInvocation};
 
-    pub(crate) fn put(
+    pub(crate) fn write(
         alloc: Global,
-        object: &mut Object,
+        text: &mut JsonText,
         cli_args: &Items<Text>,
+        duration: &Option<Duration>,
         env_vars: &TextMap<Text>,
+        last_written_at: &Stamp,
+        nextest_version: &Version,
         parent_run_id: &Option<ReportUuid>,
     ) -> Result<(), AllocError>
-        ensures written { OnOk result (value_members object.new.entries ≡ with_members (value_members object.old.entries)
-            (invocation_fields (record { cli_args = cli_args.now; env_vars = env_vars.now; parent_run_id = parent_run_id.now }))) }
-        ensures known { OnOk result (IsInvocation (record { cli_args = cli_args.now; env_vars = env_vars.now; parent_run_id = parent_run_id.now })) }
+        ensures written { OnOk result (text.new ≡ with_fields text.old (invocation_fields (record {
+          cli_args = cli_args.now;
+          duration = duration.now;
+          env_vars = env_vars.now;
+          last_written_at = last_written_at.now;
+          nextest_version = nextest_version.now;
+          parent_run_id = parent_run_id.now;
+        }))) }
+        ensures known { OnOk result (IsInvocation (record {
+          cli_args = cli_args.now;
+          duration = duration.now;
+          env_vars = env_vars.now;
+          last_written_at = last_written_at.now;
+          nextest_version = nextest_version.now;
+          parent_run_id = parent_run_id.now;
+        })) }
     {
-        put_field(alloc, object, "cli-args", cli_args)?;
-        put_field(alloc, object, "env-vars", env_vars)?;
-        put_optional(alloc, object, "parent-run-id", parent_run_id)
+        write_field(alloc, text, "cli-args", cli_args)?;
+        write_optional(alloc, text, "duration", duration)?;
+        write_field(alloc, text, "env-vars", env_vars)?;
+        write_field(alloc, text, "last-written-at", last_written_at)?;
+        write_field(alloc, text, "nextest-version", nextest_version)?;
+        write_optional(alloc, text, "parent-run-id", parent_run_id)?;
+        Ok(())
     }
 
     #[tactic(auto, unfolding(crate::specs::PartForms::invocation_form))]
@@ -99,9 +71,68 @@ impl Invocation {
         ensures { Gives result (invocation_form (members_view object.now)) }
     {
         Ok(Invocation {
+            duration: optional_field(alloc, object, "duration")?,
+            last_written_at: required_field(alloc, object, "last-written-at")?,
+            parent_run_id: optional_field(alloc, object, "parent-run-id")?,
             cli_args: defaulted_field(alloc, object, "cli-args", Items::empty(alloc))?,
             env_vars: defaulted_field(alloc, object, "env-vars", TextMap::empty(alloc))?,
-            parent_run_id: optional_field(alloc, object, "parent-run-id")?,
+            nextest_version: required_field(alloc, object, "nextest-version")?,
+        })
+    }
+}
+
+/// Which run it is, when it began, how large its recording is and how it ended.
+#[derive(Drop)]
+pub(crate) struct Outcome {
+    pub run_id: ReportUuid,
+    pub sizes: RecordedSizesFormat,
+    pub started_at: Stamp,
+    pub status: RecordedRunStatusFormat,
+}
+
+impl Outcome {
+    ghost use Rattle.rec_format.specs.PartForms.{outcome_fields, outcome_form, IsOutcome};
+
+    pub(crate) fn write(
+        alloc: Global,
+        text: &mut JsonText,
+        run_id: &ReportUuid,
+        sizes: &RecordedSizesFormat,
+        started_at: &Stamp,
+        status: &RecordedRunStatusFormat,
+    ) -> Result<(), AllocError>
+        ensures written { OnOk result (text.new ≡ with_fields text.old (outcome_fields (record {
+          run_id = run_id.now;
+          sizes = sizes.now;
+          started_at = started_at.now;
+          status = status.now;
+        }))) }
+        ensures known { OnOk result (IsOutcome (record {
+          run_id = run_id.now;
+          sizes = sizes.now;
+          started_at = started_at.now;
+          status = status.now;
+        })) }
+    {
+        write_field(alloc, text, "run-id", run_id)?;
+        write_field(alloc, text, "sizes", sizes)?;
+        write_field(alloc, text, "started-at", started_at)?;
+        write_field(alloc, text, "status", status)?;
+        Ok(())
+    }
+
+    #[tactic(auto, unfolding(crate::specs::PartForms::outcome_form))]
+    pub(crate) fn read<'a>(
+        alloc: Global,
+        object: &[(&'a str, Node<'a>)],
+    ) -> Result<Outcome, FromValueError>
+        ensures { Gives result (outcome_form (members_view object.now)) }
+    {
+        Ok(Outcome {
+            run_id: required_field(alloc, object, "run-id")?,
+            started_at: required_field(alloc, object, "started-at")?,
+            sizes: required_field(alloc, object, "sizes")?,
+            status: required_field(alloc, object, "status")?,
         })
     }
 }

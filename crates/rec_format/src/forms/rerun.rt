@@ -1,11 +1,12 @@
 //! What a rerun is a rerun of.
 use crate::{RerunInfo, RerunRootInfo};
-use rec_forms::{Form, FromValueError, put_field, required_field};
-use rec_json::Node;
-use serde_json::{Map, Value};
+use rec_forms::{Form, FromValueError, required_field, write_field};
+use rec_json::{JsonText, Node};
 use std::alloc::{AllocError, Global};
 
 impl Form for RerunRootInfo {
+    ghost use Rattle.std.specs.Prelude.{refl};
+    ghost use Rattle.rec_forms.specs.Writable.{within_depth};
     ghost use Rattle.rec_format.specs.RerunFormLaws.{rerun_root_back, rerun_root_writable, rerun_root_well_formed};
     ghost use Rattle.rec_format.specs.RerunForms.{rerun_root_value, rerun_root_form, IsRerunRoot};
 
@@ -23,12 +24,14 @@ impl Form for RerunRootInfo {
 
     ghost writable = { rerun_root_writable };
 
-    #[tactic(auto, unfolding(rec_forms::specs::Shape::members_of))]
-    fn to_value(&self, alloc: Global) -> Result<Value, AllocError> {
-        let mut object = Map::new(alloc);
-        put_field(alloc, &mut object, "run-id", &self.run_id)?;
-        put_field(alloc, &mut object, "build-scope", &self.build_scope)?;
-        Ok(Value::from(object))
+    ghost shallow = { within_depth refl };
+
+    fn write(&self, alloc: Global, text: &mut JsonText) -> Result<(), AllocError> {
+        text.begin_object()?;
+        write_field(alloc, text, "build-scope", &self.build_scope)?;
+        write_field(alloc, text, "run-id", &self.run_id)?;
+        text.end_struct()?;
+        Ok(())
     }
 
     #[tactic(auto, unfolding(crate::specs::RerunForms::rerun_root_form))]
@@ -44,6 +47,8 @@ impl Form for RerunRootInfo {
 }
 
 impl Form for RerunInfo {
+    ghost use Rattle.std.specs.Prelude.{refl};
+    ghost use Rattle.rec_forms.specs.Writable.{within_depth};
     ghost use Rattle.rec_format.specs.RerunFormLaws.{rerun_info_back, rerun_info_writable, rerun_info_well_formed};
     ghost use Rattle.rec_format.specs.RerunForms.{rerun_info_value, rerun_info_form, IsRerunInfo};
 
@@ -61,13 +66,15 @@ impl Form for RerunInfo {
 
     ghost writable = { rerun_info_writable };
 
-    #[tactic(auto, unfolding(rec_forms::specs::Shape::members_of))]
-    fn to_value(&self, alloc: Global) -> Result<Value, AllocError> {
-        let mut object = Map::new(alloc);
-        put_field(alloc, &mut object, "parent-run-id", &self.parent_run_id)?;
-        put_field(alloc, &mut object, "root-info", &self.root_info)?;
-        put_field(alloc, &mut object, "test-suites", &self.test_suites)?;
-        Ok(Value::from(object))
+    ghost shallow = { within_depth refl };
+
+    fn write(&self, alloc: Global, text: &mut JsonText) -> Result<(), AllocError> {
+        text.begin_object()?;
+        write_field(alloc, text, "parent-run-id", &self.parent_run_id)?;
+        write_field(alloc, text, "root-info", &self.root_info)?;
+        write_field(alloc, text, "test-suites", &self.test_suites)?;
+        text.end_struct()?;
+        Ok(())
     }
 
     #[tactic(auto, unfolding(crate::specs::RerunForms::rerun_info_form))]

@@ -1,14 +1,19 @@
 //! The metadata of a run, with the two numbers of its store's version apart or together.
-use super::parts::{Identity, Invocation};
-use crate::{RecordedRun, RecordedRunInfo, StoreFormatMinorVersion};
-use rec_forms::{
-    Form, FromValueError, Held, defaulted_field, held_optional, put_field, required_field,
+use super::parts::{Invocation, Outcome};
+use crate::{
+    RecordedRun, RecordedRunInfo, RecordedRunStatusFormat, RecordedSizesFormat,
+    StoreFormatMinorVersion,
 };
-use rec_json::Node;
-use serde_json::{Map, Value};
+use rec_forms::{
+    Form, FromValueError, Held, ItemForm, defaulted_field, held_optional, required_field,
+    write_field,
+};
+use rec_json::{JsonText, Node};
 use std::alloc::{AllocError, Global};
 
 impl Form for RecordedRun {
+    ghost use Rattle.std.specs.Prelude.{refl};
+    ghost use Rattle.rec_forms.specs.Writable.{within_depth};
     ghost use Rattle.rec_format.specs.RunFormLaws.{run_back, run_writable, run_well_formed};
     ghost use Rattle.rec_format.specs.RunForms.{run_value, run_form, IsRun};
 
@@ -26,40 +31,42 @@ impl Form for RecordedRun {
 
     ghost writable = { run_writable };
 
-    #[tactic(auto, unfolding(rec_forms::specs::Shape::members_of))]
-    fn to_value(&self, alloc: Global) -> Result<Value, AllocError> {
-        let mut object = Map::new(alloc);
-        Identity::put(
+    ghost shallow = { within_depth refl };
+
+    fn write(&self, alloc: Global, text: &mut JsonText) -> Result<(), AllocError> {
+        text.begin_object()?;
+        Invocation::write(
             alloc,
-            &mut object,
-            &self.run_id,
-            &self.nextest_version,
-            &self.started_at,
-            &self.last_written_at,
-            &self.duration,
-        )?;
-        Invocation::put(
-            alloc,
-            &mut object,
+            text,
             &self.cli_args,
+            &self.duration,
             &self.env_vars,
+            &self.last_written_at,
+            &self.nextest_version,
             &self.parent_run_id,
         )?;
-        put_field(
+        Outcome::write(
             alloc,
-            &mut object,
-            "store-format-version",
-            &self.store_format_version,
+            text,
+            &self.run_id,
+            &self.sizes,
+            &self.started_at,
+            &self.status,
         )?;
-        put_field(
+        write_field(
             alloc,
-            &mut object,
+            text,
             "store-format-minor-version",
             &self.store_format_minor_version,
         )?;
-        put_field(alloc, &mut object, "sizes", &self.sizes)?;
-        put_field(alloc, &mut object, "status", &self.status)?;
-        Ok(Value::from(object))
+        write_field(
+            alloc,
+            text,
+            "store-format-version",
+            &self.store_format_version,
+        )?;
+        text.end_struct()?;
+        Ok(())
     }
 
     #[tactic(auto, unfolding(crate::specs::RunForms::run_form))]
@@ -74,25 +81,30 @@ impl Form for RecordedRun {
             "store-format-minor-version",
             StoreFormatMinorVersion::new(0),
         )?;
-        let sizes = required_field(alloc, object, "sizes")?;
-        let status = required_field(alloc, object, "status")?;
-        let identity = Identity::read(alloc, object)?;
+        let outcome = Outcome::read(alloc, object)?;
         let invocation = Invocation::read(alloc, object)?;
         Ok(RecordedRun {
-            run_id: identity.run_id,
+            run_id: outcome.run_id,
             store_format_version,
             store_format_minor_version,
-            nextest_version: identity.nextest_version,
-            started_at: identity.started_at,
-            last_written_at: identity.last_written_at,
-            duration: identity.duration,
+            nextest_version: invocation.nextest_version,
+            started_at: outcome.started_at,
+            last_written_at: invocation.last_written_at,
+            duration: invocation.duration,
             cli_args: invocation.cli_args,
             env_vars: invocation.env_vars,
             parent_run_id: invocation.parent_run_id,
-            sizes,
-            status,
+            sizes: outcome.sizes,
+            status: outcome.status,
         })
     }
+}
+
+impl ItemForm for RecordedRun {
+    ghost use Rattle.std.specs.Prelude.{refl};
+    ghost use Rattle.rec_forms.specs.Writable.{within_depth};
+
+    ghost nested = { within_depth refl };
 }
 
 impl Held for RecordedRun {
@@ -113,6 +125,8 @@ impl Held for RecordedRun {
 }
 
 impl Form for RecordedRunInfo {
+    ghost use Rattle.std.specs.Prelude.{refl};
+    ghost use Rattle.rec_forms.specs.Writable.{within_depth};
     ghost use Rattle.rec_format.specs.RunFormLaws.{info_back, info_writable, info_well_formed};
     ghost use Rattle.rec_format.specs.RunForms.{info_value, info_form, IsInfo};
 
@@ -130,34 +144,31 @@ impl Form for RecordedRunInfo {
 
     ghost writable = { info_writable };
 
-    #[tactic(auto, unfolding(rec_forms::specs::Shape::members_of))]
-    fn to_value(&self, alloc: Global) -> Result<Value, AllocError> {
-        let mut object = Map::new(alloc);
-        Identity::put(
+    ghost shallow = { within_depth refl };
+
+    fn write(&self, alloc: Global, text: &mut JsonText) -> Result<(), AllocError> {
+        let sizes = RecordedSizesFormat::from(self.sizes);
+        let status = RecordedRunStatusFormat::from(self.status);
+        text.begin_object()?;
+        Invocation::write(
             alloc,
-            &mut object,
-            &self.run_id,
-            &self.nextest_version,
-            &self.started_at,
-            &self.last_written_at,
-            &self.duration,
-        )?;
-        Invocation::put(
-            alloc,
-            &mut object,
+            text,
             &self.cli_args,
+            &self.duration,
             &self.env_vars,
+            &self.last_written_at,
+            &self.nextest_version,
             &self.parent_run_id,
         )?;
-        put_field(
+        Outcome::write(alloc, text, &self.run_id, &sizes, &self.started_at, &status)?;
+        write_field(
             alloc,
-            &mut object,
+            text,
             "store-format-version",
             &self.store_format_version,
         )?;
-        put_field(alloc, &mut object, "sizes", &self.sizes)?;
-        put_field(alloc, &mut object, "status", &self.status)?;
-        Ok(Value::from(object))
+        text.end_struct()?;
+        Ok(())
     }
 
     #[tactic(auto, unfolding(crate::specs::RunForms::info_form))]
@@ -166,22 +177,20 @@ impl Form for RecordedRunInfo {
             return Err(FromValueError::NotAValue);
         };
         let store_format_version = required_field(alloc, object, "store-format-version")?;
-        let sizes = required_field(alloc, object, "sizes")?;
-        let status = required_field(alloc, object, "status")?;
-        let identity = Identity::read(alloc, object)?;
+        let outcome = Outcome::read(alloc, object)?;
         let invocation = Invocation::read(alloc, object)?;
         Ok(RecordedRunInfo {
-            run_id: identity.run_id,
+            run_id: outcome.run_id,
             store_format_version,
-            nextest_version: identity.nextest_version,
-            started_at: identity.started_at,
-            last_written_at: identity.last_written_at,
-            duration: identity.duration,
+            nextest_version: invocation.nextest_version,
+            started_at: outcome.started_at,
+            last_written_at: invocation.last_written_at,
+            duration: invocation.duration,
             cli_args: invocation.cli_args,
             env_vars: invocation.env_vars,
             parent_run_id: invocation.parent_run_id,
-            sizes,
-            status,
+            sizes: outcome.sizes.into(),
+            status: outcome.status.into(),
         })
     }
 }

@@ -2,13 +2,15 @@
 use crate::RecordedRunList;
 use rec_events::Items;
 use rec_forms::{
-    Form, FromValueError, defaulted_field, optional_field, put_field, put_optional, required_field,
+    Form, FromValueError, defaulted_field, optional_field, required_field, write_field,
+    write_optional,
 };
-use rec_json::Node;
-use serde_json::{Map, Value};
+use rec_json::{JsonText, Node};
 use std::alloc::{AllocError, Global};
 
 impl Form for RecordedRunList {
+    ghost use Rattle.std.specs.Prelude.{refl};
+    ghost use Rattle.rec_forms.specs.Writable.{within_depth};
     ghost use Rattle.rec_format.specs.RunListFormLaws.{run_list_back, run_list_writable, run_list_well_formed};
     ghost use Rattle.rec_format.specs.RunListForms.{run_list_value, run_list_form, IsRunList};
 
@@ -26,13 +28,15 @@ impl Form for RecordedRunList {
 
     ghost writable = { run_list_writable };
 
-    #[tactic(auto, unfolding(rec_forms::specs::Shape::members_of))]
-    fn to_value(&self, alloc: Global) -> Result<Value, AllocError> {
-        let mut object = Map::new(alloc);
-        put_field(alloc, &mut object, "format-version", &self.format_version)?;
-        put_optional(alloc, &mut object, "last-pruned-at", &self.last_pruned_at)?;
-        put_field(alloc, &mut object, "runs", &self.runs)?;
-        Ok(Value::from(object))
+    ghost shallow = { within_depth refl };
+
+    fn write(&self, alloc: Global, text: &mut JsonText) -> Result<(), AllocError> {
+        text.begin_object()?;
+        write_field(alloc, text, "format-version", &self.format_version)?;
+        write_optional(alloc, text, "last-pruned-at", &self.last_pruned_at)?;
+        write_field(alloc, text, "runs", &self.runs)?;
+        text.end_struct()?;
+        Ok(())
     }
 
     #[tactic(auto, unfolding(crate::specs::RunListForms::run_list_form))]

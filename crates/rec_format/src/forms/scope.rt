@@ -1,12 +1,13 @@
 //! What was built.
 use crate::{BuildKind, RecordedBuildScope};
-use rec_forms::{Form, FromValueError, put_field, required_field};
-use rec_json::Node;
-use serde_json::{Map, Value};
+use rec_forms::{Form, FromValueError, required_field, write_field};
+use rec_json::{JsonText, Node};
 use std::alloc::{AllocError, Global};
 
 impl Form for BuildKind {
+    ghost use Rattle.std.specs.Prelude.{refl};
     ghost use Rattle.rec_forms.specs.WellFormedLaws.{any_well_formed};
+    ghost use Rattle.rec_forms.specs.Writable.{within_depth};
     ghost use Rattle.rec_format.specs.ScopeFormLaws.{build_kind_back, build_kind_writable};
     ghost use Rattle.rec_format.specs.ScopeForms.{build_kind_value, build_kind_form};
 
@@ -24,12 +25,14 @@ impl Form for BuildKind {
 
     ghost writable = { λ x _. build_kind_writable x };
 
-    fn to_value(&self, alloc: Global) -> Result<Value, AllocError> {
+    ghost shallow = { within_depth refl };
+
+    fn write(&self, _alloc: Global, text: &mut JsonText) -> Result<(), AllocError> {
         let name = match self {
             BuildKind::Cargo => "cargo",
             BuildKind::Reused => "reused",
         };
-        Value::try_from_str(alloc, name)
+        text.string(name)
     }
 
     #[tactic(auto, unfolding(crate::specs::ScopeForms::build_kind_form))]
@@ -43,6 +46,8 @@ impl Form for BuildKind {
 }
 
 impl Form for RecordedBuildScope {
+    ghost use Rattle.std.specs.Prelude.{refl};
+    ghost use Rattle.rec_forms.specs.Writable.{within_depth};
     ghost use Rattle.rec_format.specs.ScopeFormLaws.{recorded_scope_back, recorded_scope_writable, recorded_scope_well_formed};
     ghost use Rattle.rec_format.specs.ScopeForms.{recorded_scope_value, recorded_scope_form, IsRecordedScope};
 
@@ -60,12 +65,14 @@ impl Form for RecordedBuildScope {
 
     ghost writable = { recorded_scope_writable };
 
-    #[tactic(auto, unfolding(rec_forms::specs::Shape::members_of))]
-    fn to_value(&self, alloc: Global) -> Result<Value, AllocError> {
-        let mut object = Map::new(alloc);
-        put_field(alloc, &mut object, "build-kind", &self.build_kind)?;
-        put_field(alloc, &mut object, "scope", &self.scope)?;
-        Ok(Value::from(object))
+    ghost shallow = { within_depth refl };
+
+    fn write(&self, alloc: Global, text: &mut JsonText) -> Result<(), AllocError> {
+        text.begin_object()?;
+        write_field(alloc, text, "build-kind", &self.build_kind)?;
+        write_field(alloc, text, "scope", &self.scope)?;
+        text.end_struct()?;
+        Ok(())
     }
 
     #[tactic(auto, unfolding(crate::specs::ScopeForms::recorded_scope_form))]

@@ -1,11 +1,12 @@
 //! Sizes, which are written as their formats.
 use crate::{ComponentSizes, ComponentSizesFormat, RecordedSizes, RecordedSizesFormat};
-use rec_forms::{Form, FromValueError, Held, defaulted_field, put_field, required_field};
-use rec_json::Node;
-use serde_json::{Map, Value};
+use rec_forms::{Form, FromValueError, Held, defaulted_field, required_field, write_field};
+use rec_json::{JsonText, Node};
 use std::alloc::{AllocError, Global};
 
 impl Form for ComponentSizesFormat {
+    ghost use Rattle.std.specs.Prelude.{refl};
+    ghost use Rattle.rec_forms.specs.Writable.{within_depth};
     ghost use Rattle.rec_format.specs.SizeFormLaws.{component_format_back, component_format_writable, component_format_well_formed};
     ghost use Rattle.rec_format.specs.SizeForms.{component_format_value, component_format_form, IsComponentFormat};
 
@@ -23,13 +24,15 @@ impl Form for ComponentSizesFormat {
 
     ghost writable = { component_format_writable };
 
-    #[tactic(auto, unfolding(rec_forms::specs::Shape::members_of))]
-    fn to_value(&self, alloc: Global) -> Result<Value, AllocError> {
-        let mut object = Map::new(alloc);
-        put_field(alloc, &mut object, "compressed", &self.compressed)?;
-        put_field(alloc, &mut object, "uncompressed", &self.uncompressed)?;
-        put_field(alloc, &mut object, "entries", &self.entries)?;
-        Ok(Value::from(object))
+    ghost shallow = { within_depth refl };
+
+    fn write(&self, alloc: Global, text: &mut JsonText) -> Result<(), AllocError> {
+        text.begin_object()?;
+        write_field(alloc, text, "compressed", &self.compressed)?;
+        write_field(alloc, text, "entries", &self.entries)?;
+        write_field(alloc, text, "uncompressed", &self.uncompressed)?;
+        text.end_struct()?;
+        Ok(())
     }
 
     #[tactic(auto, unfolding(crate::specs::SizeForms::component_format_form))]
@@ -54,6 +57,8 @@ impl Held for ComponentSizesFormat {
 }
 
 impl Form for RecordedSizesFormat {
+    ghost use Rattle.std.specs.Prelude.{refl};
+    ghost use Rattle.rec_forms.specs.Writable.{within_depth};
     ghost use Rattle.rec_format.specs.SizeFormLaws.{sizes_format_back, sizes_format_writable, sizes_format_well_formed};
     ghost use Rattle.rec_format.specs.SizeForms.{sizes_format_value, sizes_format_form, IsSizesFormat};
 
@@ -71,12 +76,14 @@ impl Form for RecordedSizesFormat {
 
     ghost writable = { sizes_format_writable };
 
-    #[tactic(auto, unfolding(rec_forms::specs::Shape::members_of))]
-    fn to_value(&self, alloc: Global) -> Result<Value, AllocError> {
-        let mut object = Map::new(alloc);
-        put_field(alloc, &mut object, "log", &self.log)?;
-        put_field(alloc, &mut object, "store", &self.store)?;
-        Ok(Value::from(object))
+    ghost shallow = { within_depth refl };
+
+    fn write(&self, alloc: Global, text: &mut JsonText) -> Result<(), AllocError> {
+        text.begin_object()?;
+        write_field(alloc, text, "log", &self.log)?;
+        write_field(alloc, text, "store", &self.store)?;
+        text.end_struct()?;
+        Ok(())
     }
 
     #[tactic(auto, unfolding(crate::specs::SizeForms::sizes_format_form))]
@@ -99,6 +106,8 @@ impl Held for RecordedSizesFormat {
 }
 
 impl Form for ComponentSizes {
+    ghost use Rattle.std.specs.Prelude.{refl};
+    ghost use Rattle.rec_forms.specs.Writable.{within_depth};
     ghost use Rattle.rec_format.specs.SizeFormLaws.{component_back, component_writable, component_well_formed};
     ghost use Rattle.rec_format.specs.SizeForms.{component_value, component_form, IsComponent};
 
@@ -116,8 +125,10 @@ impl Form for ComponentSizes {
 
     ghost writable = { component_writable };
 
-    fn to_value(&self, alloc: Global) -> Result<Value, AllocError> {
-        ComponentSizesFormat::from(*self).to_value(alloc)
+    ghost shallow = { within_depth refl };
+
+    fn write(&self, alloc: Global, text: &mut JsonText) -> Result<(), AllocError> {
+        ComponentSizesFormat::from(*self).write(alloc, text)
     }
 
     fn from_node(alloc: Global, node: &Node<'_>) -> Result<ComponentSizes, FromValueError> {
@@ -126,6 +137,8 @@ impl Form for ComponentSizes {
 }
 
 impl Form for RecordedSizes {
+    ghost use Rattle.std.specs.Prelude.{refl};
+    ghost use Rattle.rec_forms.specs.Writable.{within_depth};
     ghost use Rattle.rec_format.specs.SizeFormLaws.{sizes_back, sizes_writable, sizes_well_formed};
     ghost use Rattle.rec_format.specs.SizeForms.{sizes_value, sizes_form, AreSizes};
 
@@ -143,8 +156,10 @@ impl Form for RecordedSizes {
 
     ghost writable = { sizes_writable };
 
-    fn to_value(&self, alloc: Global) -> Result<Value, AllocError> {
-        RecordedSizesFormat::from(*self).to_value(alloc)
+    ghost shallow = { within_depth refl };
+
+    fn write(&self, alloc: Global, text: &mut JsonText) -> Result<(), AllocError> {
+        RecordedSizesFormat::from(*self).write(alloc, text)
     }
 
     fn from_node(alloc: Global, node: &Node<'_>) -> Result<RecordedSizes, FromValueError> {

@@ -1,32 +1,41 @@
 //! The statistics of runs that ended: by themselves they are an object, and in a status they stand
 //! beside its name.
-ghost use Rattle.std.specs.Prelude.{◌≡◌, OnOk};
-ghost use Rattle.serde_json.specs.View.{members_view as value_members};
+ghost use Rattle.std.specs.Prelude.{◌≡◌, ◌∷◌, OnOk, codes, option_map};
+ghost use Rattle.serde_json.specs.Data.{string};
+ghost use Rattle.rec_json.specs.Fields.{in_order};
 ghost use Rattle.rec_json.specs.Nodes.{members_view};
+ghost use Rattle.rec_json.specs.Tokens.{with_fields};
 ghost use Rattle.rec_forms.specs.Gives.{Gives};
-ghost use Rattle.rec_forms.specs.Shape.{with_members};
 
 use crate::{CompletedRunStats, StressCompletedRunStats};
 use rec_forms::{
-    Form, FromValueError, Held, Object, held_optional, optional_field, put_field, put_optional,
-    required_field,
+    Form, FromValueError, Held, held_optional, optional_field, required_field, write_field,
+    write_optional,
 };
-use rec_json::Node;
-use serde_json::{Map, Value};
+use rec_json::{JsonText, Node};
 use std::alloc::{AllocError, Global};
 
 impl CompletedRunStats {
     ghost use Rattle.rec_format.specs.StatsForms.{completed_fields, completed_form, AreCompleted};
 
-    /// Puts the statistics into an object.
-    pub(crate) fn put(&self, alloc: Global, object: &mut Object) -> Result<(), AllocError>
-        ensures written { OnOk result (value_members object.new.entries ≡ with_members (value_members object.old.entries) (completed_fields self.now)) }
+    /// Writes the statistics and the status, if any, as fields of an object.
+    pub(crate) fn write_fields(
+        &self,
+        alloc: Global,
+        text: &mut JsonText,
+        status: Option<&str>,
+    ) -> Result<(), AllocError>
+        ensures written { OnOk result (text.new ≡ with_fields text.old (in_order (
+            (codes "status", option_map (λ s. string s.now) status.entry)
+            ∷ completed_fields self.now))) }
         ensures known { OnOk result (AreCompleted self.now) }
     {
-        put_field(alloc, object, "initial-run-count", &self.initial_run_count)?;
-        put_field(alloc, object, "passed", &self.passed)?;
-        put_field(alloc, object, "failed", &self.failed)?;
-        put_field(alloc, object, "exit-code", &self.exit_code)
+        write_field(alloc, text, "exit-code", &self.exit_code)?;
+        write_field(alloc, text, "failed", &self.failed)?;
+        write_field(alloc, text, "initial-run-count", &self.initial_run_count)?;
+        write_field(alloc, text, "passed", &self.passed)?;
+        text.optional_string_field("status", status)?;
+        Ok(())
     }
 
     /// Reads the statistics that an object has.
@@ -47,6 +56,8 @@ impl CompletedRunStats {
 }
 
 impl Form for CompletedRunStats {
+    ghost use Rattle.std.specs.Prelude.{refl};
+    ghost use Rattle.rec_forms.specs.Writable.{within_depth};
     ghost use Rattle.rec_format.specs.StatsFormLaws.{completed_stats_back, completed_stats_writable, completed_stats_well_formed};
     ghost use Rattle.rec_format.specs.StatsForms.{completed_stats_value, completed_stats_form, AreCompleted};
 
@@ -64,11 +75,13 @@ impl Form for CompletedRunStats {
 
     ghost writable = { completed_stats_writable };
 
-    #[tactic(auto, unfolding(rec_forms::specs::Shape::members_of))]
-    fn to_value(&self, alloc: Global) -> Result<Value, AllocError> {
-        let mut object = Map::new(alloc);
-        self.put(alloc, &mut object)?;
-        Ok(Value::from(object))
+    ghost shallow = { within_depth refl };
+
+    fn write(&self, alloc: Global, text: &mut JsonText) -> Result<(), AllocError> {
+        text.begin_object()?;
+        self.write_fields(alloc, text, None)?;
+        text.end_struct()?;
+        Ok(())
     }
 
     #[tactic(auto, unfolding(crate::specs::StatsForms::completed_stats_form))]
@@ -92,20 +105,29 @@ impl Held for CompletedRunStats {
 impl StressCompletedRunStats {
     ghost use Rattle.rec_format.specs.StatsForms.{stress_fields, stress_form, AreStress};
 
-    /// Puts the statistics into an object.
-    pub(crate) fn put(&self, alloc: Global, object: &mut Object) -> Result<(), AllocError>
-        ensures written { OnOk result (value_members object.new.entries ≡ with_members (value_members object.old.entries) (stress_fields self.now)) }
+    /// Writes the statistics and the status, if any, as fields of an object.
+    pub(crate) fn write_fields(
+        &self,
+        alloc: Global,
+        text: &mut JsonText,
+        status: Option<&str>,
+    ) -> Result<(), AllocError>
+        ensures written { OnOk result (text.new ≡ with_fields text.old (in_order (
+            (codes "status", option_map (λ s. string s.now) status.entry)
+            ∷ stress_fields self.now))) }
         ensures known { OnOk result (AreStress self.now) }
     {
-        put_optional(
+        write_field(alloc, text, "exit-code", &self.exit_code)?;
+        write_field(alloc, text, "failed-count", &self.failed_count)?;
+        write_optional(
             alloc,
-            object,
+            text,
             "initial-iteration-count",
             &self.initial_iteration_count,
         )?;
-        put_field(alloc, object, "success-count", &self.success_count)?;
-        put_field(alloc, object, "failed-count", &self.failed_count)?;
-        put_field(alloc, object, "exit-code", &self.exit_code)
+        text.optional_string_field("status", status)?;
+        write_field(alloc, text, "success-count", &self.success_count)?;
+        Ok(())
     }
 
     /// Reads the statistics that an object has.
@@ -126,6 +148,8 @@ impl StressCompletedRunStats {
 }
 
 impl Form for StressCompletedRunStats {
+    ghost use Rattle.std.specs.Prelude.{refl};
+    ghost use Rattle.rec_forms.specs.Writable.{within_depth};
     ghost use Rattle.rec_format.specs.StatsFormLaws.{stress_stats_back, stress_stats_writable, stress_stats_well_formed};
     ghost use Rattle.rec_format.specs.StatsForms.{stress_stats_value, stress_stats_form, AreStress};
 
@@ -143,11 +167,13 @@ impl Form for StressCompletedRunStats {
 
     ghost writable = { stress_stats_writable };
 
-    #[tactic(auto, unfolding(rec_forms::specs::Shape::members_of))]
-    fn to_value(&self, alloc: Global) -> Result<Value, AllocError> {
-        let mut object = Map::new(alloc);
-        self.put(alloc, &mut object)?;
-        Ok(Value::from(object))
+    ghost shallow = { within_depth refl };
+
+    fn write(&self, alloc: Global, text: &mut JsonText) -> Result<(), AllocError> {
+        text.begin_object()?;
+        self.write_fields(alloc, text, None)?;
+        text.end_struct()?;
+        Ok(())
     }
 
     #[tactic(auto, unfolding(crate::specs::StatsForms::stress_stats_form))]

@@ -1,30 +1,19 @@
 //! Statuses: an object with the name of the status, and the statistics beside it.
-ghost use Rattle.std.specs.Prelude.{◌≡◌, [], ◌∷◌, IfOk, option_map, codes};
-ghost use Rattle.serde_json.specs.Data.{string, no_members};
+ghost use Rattle.std.specs.Prelude.{◌≡◌, ◌++◌, OnOk, option_map, codes};
 ghost use Rattle.serde_json.specs.Find.{as_str};
-ghost use Rattle.serde_json.specs.View.{view, members_view as value_members};
 ghost use Rattle.rec_json.specs.Nodes.{members_view};
+ghost use Rattle.rec_json.specs.Tokens.{value_tokens};
 ghost use Rattle.rec_forms.specs.Gives.{Gives};
-ghost use Rattle.rec_forms.specs.Shape.{field, required, with_members};
+ghost use Rattle.rec_forms.specs.Shape.{required};
 ghost use Rattle.rec_format.specs.StatsForms.{AreCompleted, AreStress};
 ghost use Rattle.rec_format.specs.StatusForms.{bare_value, completed_value, stress_value, status_with};
 
 use crate::{
     CompletedRunStats, RecordedRunStatus, RecordedRunStatusFormat, StressCompletedRunStats,
 };
-use rec_forms::{Form, FromValueError, Held, Object, put_text};
-use rec_json::{Node, member};
-use serde_json::{Map, Value};
+use rec_forms::{Form, FromValueError, Held};
+use rec_json::{JsonText, Node, member};
 use std::alloc::{AllocError, Global};
-
-/// An object with the name of a status.
-fn named(alloc: Global, name: &str) -> Result<Object, AllocError>
-    ensures { IfOk result (λ object. value_members object.entries ≡ with_members no_members (field (codes "status") (string name.now) ∷ [])) }
-{
-    let mut object = Map::new(alloc);
-    put_text(alloc, &mut object, "status", name)?;
-    Ok(object)
-}
 
 /// The name of the status that an object has.
 fn name_in<'a>(object: &[(&'a str, Node<'a>)]) -> Option<&'a str>
@@ -33,34 +22,48 @@ fn name_in<'a>(object: &[(&'a str, Node<'a>)]) -> Option<&'a str>
     member(object, "status")?.as_str()
 }
 
-/// A status alone.
-#[tactic(auto, unfolding(rec_forms::specs::Shape::members_of))]
-fn bare(alloc: Global, name: &str) -> Result<Value, AllocError>
-    ensures { IfOk result (λ v. view v ≡ bare_value name.now) }
+/// Writes a status alone.
+fn write_bare(text: &mut JsonText, name: &str) -> Result<(), AllocError>
+    ensures { OnOk result (text.new ≡ text.old ++ value_tokens (bare_value name.now)) }
 {
-    Ok(Value::from(named(alloc, name)?))
+    text.begin_object()?;
+    text.string_field("status", name)?;
+    text.end_struct()?;
+    Ok(())
 }
 
-/// A status with the statistics of a run beside it.
-#[tactic(auto, unfolding(rec_forms::specs::Shape::members_of))]
-fn completed(alloc: Global, name: &str, stats: &CompletedRunStats) -> Result<Value, AllocError>
-    ensures written { IfOk result (λ v. view v ≡ completed_value name.now stats.now) }
-    ensures known { IfOk result (λ _. AreCompleted stats.now) }
+/// Writes a status with the statistics of a run beside it.
+fn write_completed(
+    alloc: Global,
+    text: &mut JsonText,
+    name: &str,
+    stats: &CompletedRunStats,
+) -> Result<(), AllocError>
+    ensures written { OnOk result
+        (text.new ≡ text.old ++ value_tokens (completed_value name.now stats.now)) }
+    ensures known { OnOk result (AreCompleted stats.now) }
 {
-    let mut object = named(alloc, name)?;
-    stats.put(alloc, &mut object)?;
-    Ok(Value::from(object))
+    text.begin_object()?;
+    stats.write_fields(alloc, text, Some(name))?;
+    text.end_struct()?;
+    Ok(())
 }
 
-/// A status with the statistics of a stress run beside it.
-#[tactic(auto, unfolding(rec_forms::specs::Shape::members_of))]
-fn stress(alloc: Global, name: &str, stats: &StressCompletedRunStats) -> Result<Value, AllocError>
-    ensures written { IfOk result (λ v. view v ≡ stress_value name.now stats.now) }
-    ensures known { IfOk result (λ _. AreStress stats.now) }
+/// Writes a status with the statistics of a stress run beside it.
+fn write_stress(
+    alloc: Global,
+    text: &mut JsonText,
+    name: &str,
+    stats: &StressCompletedRunStats,
+) -> Result<(), AllocError>
+    ensures written { OnOk result
+        (text.new ≡ text.old ++ value_tokens (stress_value name.now stats.now)) }
+    ensures known { OnOk result (AreStress stats.now) }
 {
-    let mut object = named(alloc, name)?;
-    stats.put(alloc, &mut object)?;
-    Ok(Value::from(object))
+    text.begin_object()?;
+    stats.write_fields(alloc, text, Some(name))?;
+    text.end_struct()?;
+    Ok(())
 }
 
 /// The status of a name, with what an object has beside it.
@@ -86,6 +89,8 @@ fn status_in<'a>(
 }
 
 impl Form for RecordedRunStatus {
+    ghost use Rattle.std.specs.Prelude.{refl};
+    ghost use Rattle.rec_forms.specs.Writable.{within_depth};
     ghost use Rattle.rec_format.specs.StatusFormLaws.{status_back, status_writable, status_well_formed};
     ghost use Rattle.rec_format.specs.StatusForms.{status_value, status_form, IsStatus};
 
@@ -103,14 +108,26 @@ impl Form for RecordedRunStatus {
 
     ghost writable = { status_writable };
 
-    fn to_value(&self, alloc: Global) -> Result<Value, AllocError> {
+    ghost shallow = { within_depth refl };
+
+    fn write(&self, alloc: Global, text: &mut JsonText) -> Result<(), AllocError> {
         match self {
-            RecordedRunStatus::Incomplete => bare(alloc, "incomplete"),
-            RecordedRunStatus::Completed(stats) => completed(alloc, "completed", stats),
-            RecordedRunStatus::Cancelled(stats) => completed(alloc, "cancelled", stats),
-            RecordedRunStatus::StressCompleted(stats) => stress(alloc, "stress-completed", stats),
-            RecordedRunStatus::StressCancelled(stats) => stress(alloc, "stress-cancelled", stats),
-            RecordedRunStatus::Unknown => bare(alloc, "unknown"),
+            RecordedRunStatus::Incomplete => write_bare(text, "incomplete"),
+            RecordedRunStatus::Completed(stats) => write_completed(alloc, text, "completed", stats),
+            RecordedRunStatus::Cancelled(stats) => write_completed(alloc, text, "cancelled", stats),
+            RecordedRunStatus::StressCompleted(stats) => write_stress(
+                alloc,
+                text,
+                "stress-completed",
+                stats,
+            ),
+            RecordedRunStatus::StressCancelled(stats) => write_stress(
+                alloc,
+                text,
+                "stress-cancelled",
+                stats,
+            ),
+            RecordedRunStatus::Unknown => write_bare(text, "unknown"),
         }
     }
 
@@ -139,6 +156,8 @@ impl Held for RecordedRunStatus {
 }
 
 impl Form for RecordedRunStatusFormat {
+    ghost use Rattle.std.specs.Prelude.{refl};
+    ghost use Rattle.rec_forms.specs.Writable.{within_depth};
     ghost use Rattle.rec_format.specs.StatusFormLaws.{status_format_back, status_format_writable, status_format_well_formed};
     ghost use Rattle.rec_format.specs.StatusForms.{status_format_value, status_format_form, IsStatusFormat};
 
@@ -156,8 +175,10 @@ impl Form for RecordedRunStatusFormat {
 
     ghost writable = { status_format_writable };
 
-    fn to_value(&self, alloc: Global) -> Result<Value, AllocError> {
-        RecordedRunStatus::from(*self).to_value(alloc)
+    ghost shallow = { within_depth refl };
+
+    fn write(&self, alloc: Global, text: &mut JsonText) -> Result<(), AllocError> {
+        RecordedRunStatus::from(*self).write(alloc, text)
     }
 
     fn from_node(

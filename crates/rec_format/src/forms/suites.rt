@@ -1,11 +1,12 @@
 //! Test suites: an array in the order of binary ids, which is read in any order.
 use crate::{RerunSuites, RerunTestSuiteInfo};
-use rec_forms::{Form, FromValueError, put_field, required_field};
-use rec_json::Node;
-use serde_json::{Map, Value};
+use rec_forms::{Form, FromValueError, required_field, write_field};
+use rec_json::{JsonText, Node};
 use std::alloc::{AllocError, Global};
 
 impl Form for RerunTestSuiteInfo {
+    ghost use Rattle.std.specs.Prelude.{refl};
+    ghost use Rattle.rec_forms.specs.Writable.{within_depth};
     ghost use Rattle.rec_format.specs.SuiteFormLaws.{suite_back, suite_writable, suite_well_formed};
     ghost use Rattle.rec_format.specs.SuiteForms.{suite_value, suite_form, IsSuite};
 
@@ -23,13 +24,15 @@ impl Form for RerunTestSuiteInfo {
 
     ghost writable = { suite_writable };
 
-    #[tactic(auto, unfolding(rec_forms::specs::Shape::members_of))]
-    fn to_value(&self, alloc: Global) -> Result<Value, AllocError> {
-        let mut object = Map::new(alloc);
-        put_field(alloc, &mut object, "binary_id", &self.binary_id)?;
-        put_field(alloc, &mut object, "passing", &self.passing)?;
-        put_field(alloc, &mut object, "outstanding", &self.outstanding)?;
-        Ok(Value::from(object))
+    ghost shallow = { within_depth refl };
+
+    fn write(&self, alloc: Global, text: &mut JsonText) -> Result<(), AllocError> {
+        text.begin_object()?;
+        write_field(alloc, text, "binary_id", &self.binary_id)?;
+        write_field(alloc, text, "outstanding", &self.outstanding)?;
+        write_field(alloc, text, "passing", &self.passing)?;
+        text.end_struct()?;
+        Ok(())
     }
 
     #[tactic(auto, unfolding(crate::specs::SuiteForms::suite_form))]
@@ -46,6 +49,8 @@ impl Form for RerunTestSuiteInfo {
 }
 
 impl Form for RerunSuites {
+    ghost use Rattle.std.specs.Prelude.{refl};
+    ghost use Rattle.rec_forms.specs.Writable.{within_depth};
     ghost use Rattle.rec_format.specs.SuiteFormLaws.{suites_back, suites_writable, suites_well_formed};
     ghost use Rattle.rec_format.specs.SuiteForms.{suites_value, suites_form, AreSuites};
 
@@ -63,12 +68,15 @@ impl Form for RerunSuites {
 
     ghost writable = { suites_writable };
 
-    fn to_value(&self, alloc: Global) -> Result<Value, AllocError> {
-        let mut values = Vec::new(alloc);
+    ghost shallow = { within_depth refl };
+
+    fn write(&self, alloc: Global, text: &mut JsonText) -> Result<(), AllocError> {
+        text.begin_array()?;
         for suite in self.as_map().values() {
-            values.push(suite.to_value(alloc)?)?;
+            suite.write(alloc, text)?;
         }
-        Ok(Value::from(values))
+        text.end_list()?;
+        Ok(())
     }
 
     #[tactic(auto, unfolding(crate::specs::SuiteForms::suites_form))]

@@ -4,15 +4,16 @@ use crate::{
     PortableRecordingFormatVersion, RunsJsonFormatVersion, StoreFormatMajorVersion,
     StoreFormatMinorVersion, StoreFormatVersion,
 };
-use rec_forms::{Form, FromValueError, Held, put_field, required_field};
-use rec_json::Node;
-use serde_json::{Map, Value};
+use rec_forms::{Form, FromValueError, Held, required_field, write_field};
+use rec_json::{JsonText, Node};
 use std::alloc::{AllocError, Global};
 
 impl Form for StoreFormatMajorVersion {
+    ghost use Rattle.std.specs.Prelude.{refl};
     ghost use Rattle.rec_forms.specs.NumberLaws.{u32_back, u32_well_formed, u32_writable};
     ghost use Rattle.rec_forms.specs.Numbers.{u32_form};
     ghost use Rattle.rec_forms.specs.Shape.{natural};
+    ghost use Rattle.rec_forms.specs.Writable.{within_depth};
     ghost use Rattle.rec_format.specs.VersionForms.{IsNumber};
 
     ghost well_formed = { IsNumber };
@@ -29,8 +30,10 @@ impl Form for StoreFormatMajorVersion {
 
     ghost writable = { u32_writable };
 
-    fn to_value(&self, alloc: Global) -> Result<Value, AllocError> {
-        self.number().to_value(alloc)
+    ghost shallow = { within_depth refl };
+
+    fn write(&self, alloc: Global, text: &mut JsonText) -> Result<(), AllocError> {
+        self.number().write(alloc, text)
     }
 
     fn from_node(
@@ -48,9 +51,11 @@ impl Held for StoreFormatMajorVersion {
 }
 
 impl Form for StoreFormatMinorVersion {
+    ghost use Rattle.std.specs.Prelude.{refl};
     ghost use Rattle.rec_forms.specs.NumberLaws.{u32_back, u32_well_formed, u32_writable};
     ghost use Rattle.rec_forms.specs.Numbers.{u32_form};
     ghost use Rattle.rec_forms.specs.Shape.{natural};
+    ghost use Rattle.rec_forms.specs.Writable.{within_depth};
     ghost use Rattle.rec_format.specs.VersionForms.{IsNumber};
 
     ghost well_formed = { IsNumber };
@@ -67,8 +72,10 @@ impl Form for StoreFormatMinorVersion {
 
     ghost writable = { u32_writable };
 
-    fn to_value(&self, alloc: Global) -> Result<Value, AllocError> {
-        self.number().to_value(alloc)
+    ghost shallow = { within_depth refl };
+
+    fn write(&self, alloc: Global, text: &mut JsonText) -> Result<(), AllocError> {
+        self.number().write(alloc, text)
     }
 
     fn from_node(
@@ -86,9 +93,11 @@ impl Held for StoreFormatMinorVersion {
 }
 
 impl Form for PortableRecordingFormatMajorVersion {
+    ghost use Rattle.std.specs.Prelude.{refl};
     ghost use Rattle.rec_forms.specs.NumberLaws.{u32_back, u32_well_formed, u32_writable};
     ghost use Rattle.rec_forms.specs.Numbers.{u32_form};
     ghost use Rattle.rec_forms.specs.Shape.{natural};
+    ghost use Rattle.rec_forms.specs.Writable.{within_depth};
     ghost use Rattle.rec_format.specs.VersionForms.{IsNumber};
 
     ghost well_formed = { IsNumber };
@@ -105,8 +114,10 @@ impl Form for PortableRecordingFormatMajorVersion {
 
     ghost writable = { u32_writable };
 
-    fn to_value(&self, alloc: Global) -> Result<Value, AllocError> {
-        self.number().to_value(alloc)
+    ghost shallow = { within_depth refl };
+
+    fn write(&self, alloc: Global, text: &mut JsonText) -> Result<(), AllocError> {
+        self.number().write(alloc, text)
     }
 
     fn from_node(
@@ -124,9 +135,11 @@ impl Held for PortableRecordingFormatMajorVersion {
 }
 
 impl Form for PortableRecordingFormatMinorVersion {
+    ghost use Rattle.std.specs.Prelude.{refl};
     ghost use Rattle.rec_forms.specs.NumberLaws.{u32_back, u32_well_formed, u32_writable};
     ghost use Rattle.rec_forms.specs.Numbers.{u32_form};
     ghost use Rattle.rec_forms.specs.Shape.{natural};
+    ghost use Rattle.rec_forms.specs.Writable.{within_depth};
     ghost use Rattle.rec_format.specs.VersionForms.{IsNumber};
 
     ghost well_formed = { IsNumber };
@@ -143,8 +156,10 @@ impl Form for PortableRecordingFormatMinorVersion {
 
     ghost writable = { u32_writable };
 
-    fn to_value(&self, alloc: Global) -> Result<Value, AllocError> {
-        self.number().to_value(alloc)
+    ghost shallow = { within_depth refl };
+
+    fn write(&self, alloc: Global, text: &mut JsonText) -> Result<(), AllocError> {
+        self.number().write(alloc, text)
     }
 
     fn from_node(
@@ -162,9 +177,11 @@ impl Held for PortableRecordingFormatMinorVersion {
 }
 
 impl Form for RunsJsonFormatVersion {
+    ghost use Rattle.std.specs.Prelude.{refl};
     ghost use Rattle.rec_forms.specs.NumberLaws.{u32_back, u32_well_formed, u32_writable};
     ghost use Rattle.rec_forms.specs.Numbers.{u32_form};
     ghost use Rattle.rec_forms.specs.Shape.{natural};
+    ghost use Rattle.rec_forms.specs.Writable.{within_depth};
     ghost use Rattle.rec_format.specs.VersionForms.{IsNumber};
 
     ghost well_formed = { IsNumber };
@@ -181,8 +198,10 @@ impl Form for RunsJsonFormatVersion {
 
     ghost writable = { u32_writable };
 
-    fn to_value(&self, alloc: Global) -> Result<Value, AllocError> {
-        self.number().to_value(alloc)
+    ghost shallow = { within_depth refl };
+
+    fn write(&self, alloc: Global, text: &mut JsonText) -> Result<(), AllocError> {
+        self.number().write(alloc, text)
     }
 
     fn from_node(alloc: Global, node: &Node<'_>) -> Result<RunsJsonFormatVersion, FromValueError> {
@@ -191,6 +210,8 @@ impl Form for RunsJsonFormatVersion {
 }
 
 impl Form for StoreFormatVersion {
+    ghost use Rattle.std.specs.Prelude.{refl};
+    ghost use Rattle.rec_forms.specs.Writable.{within_depth};
     ghost use Rattle.rec_format.specs.VersionFormLaws.{store_version_back, store_version_writable, store_version_well_formed};
     ghost use Rattle.rec_format.specs.VersionForms.{store_version_value, store_version_form, IsStoreVersion};
 
@@ -208,12 +229,14 @@ impl Form for StoreFormatVersion {
 
     ghost writable = { store_version_writable };
 
-    #[tactic(auto, unfolding(rec_forms::specs::Shape::members_of))]
-    fn to_value(&self, alloc: Global) -> Result<Value, AllocError> {
-        let mut object = Map::new(alloc);
-        put_field(alloc, &mut object, "major", &self.major)?;
-        put_field(alloc, &mut object, "minor", &self.minor)?;
-        Ok(Value::from(object))
+    ghost shallow = { within_depth refl };
+
+    fn write(&self, alloc: Global, text: &mut JsonText) -> Result<(), AllocError> {
+        text.begin_object()?;
+        write_field(alloc, text, "major", &self.major)?;
+        write_field(alloc, text, "minor", &self.minor)?;
+        text.end_struct()?;
+        Ok(())
     }
 
     #[tactic(auto, unfolding(crate::specs::VersionForms::store_version_form))]
@@ -229,6 +252,8 @@ impl Form for StoreFormatVersion {
 }
 
 impl Form for PortableRecordingFormatVersion {
+    ghost use Rattle.std.specs.Prelude.{refl};
+    ghost use Rattle.rec_forms.specs.Writable.{within_depth};
     ghost use Rattle.rec_format.specs.VersionFormLaws.{portable_version_back, portable_version_writable, portable_version_well_formed};
     ghost use Rattle.rec_format.specs.VersionForms.{portable_version_value, portable_version_form, IsPortableVersion};
 
@@ -246,12 +271,14 @@ impl Form for PortableRecordingFormatVersion {
 
     ghost writable = { portable_version_writable };
 
-    #[tactic(auto, unfolding(rec_forms::specs::Shape::members_of))]
-    fn to_value(&self, alloc: Global) -> Result<Value, AllocError> {
-        let mut object = Map::new(alloc);
-        put_field(alloc, &mut object, "major", &self.major)?;
-        put_field(alloc, &mut object, "minor", &self.minor)?;
-        Ok(Value::from(object))
+    ghost shallow = { within_depth refl };
+
+    fn write(&self, alloc: Global, text: &mut JsonText) -> Result<(), AllocError> {
+        text.begin_object()?;
+        write_field(alloc, text, "major", &self.major)?;
+        write_field(alloc, text, "minor", &self.minor)?;
+        text.end_struct()?;
+        Ok(())
     }
 
     #[tactic(auto, unfolding(crate::specs::VersionForms::portable_version_form))]

@@ -1,5 +1,9 @@
-use Rattle.std.proofs.lemmas.Str.{is_utf8-from_IsUtf8, IsUtf8-string_bytes}
+use Rattle.rec_forms.proofs.ReadBack.{written_back}
 use Rattle.rec_forms.proofs.text_form.write_text.Goals as goal
 
-pub returns-clause-utf8 : goal.returns-clause-utf8
-returns-clause-utf8 g c = rw c.into_bytes.ensures.value (is_utf8-from_IsUtf8 _ (IsUtf8-string_bytes c.in_ok-text.text))
+pub returns-clause-reads_back : goal.returns-clause-reads_back
+returns-clause-reads_back g c =
+    let item = c.args.item.now in
+    let write = c.in_ok-write.ensures in
+    let writable = g.met.T.Form.writable item write.known in
+    rw (written_back _ c.new-text.ensures write.written c.into_bytes.ensures.compact writable g.met.T.Form.shallow) (g.met.T.Form.reads_back item write.known)

@@ -58,9 +58,9 @@ pub returns-clause-accepted : goal.returns-clause-accepted
 returns-clause-accepted g c =
     let list = c.in_ok-test_list.ensures in
     let opts = c.in_ok-opts.ensures in
-    let list_read = subst (λ b. IsTrue (is_some (bytes_form test_list_form b))) (sym c.deref.ensures.value) (some_read test_list_form _ _ list.utf8 (list.reads_back (omega arith))) in
+    let list_read = subst (λ b. IsTrue (is_some (bytes_form test_list_form b))) (sym c.deref.ensures.value) (some_read test_list_form _ _ list.utf8 list.reads_back) in
     let utf8 = subst (λ b. IsTrue (is_utf8 b)) (sym c.as_bytes.ensures.value) (is_utf8-from_IsUtf8 c.args.cargo_metadata_json.now c.utf8.cargo_metadata_json) in
-    let opts_read = subst (λ b. IsTrue (is_some (bytes_form record_opts_form b))) (sym c.deref-2.ensures.value) (some_read record_opts_form _ _ opts.utf8 (opts.reads_back (omega arith))) in
+    let opts_read = subst (λ b. IsTrue (is_some (bytes_form record_opts_form b))) (sym c.deref-2.ensures.value) (some_read record_opts_form _ _ opts.utf8 opts.reads_back) in
     entries_accepted g.S.Sink.taken g.S.Sink.faults g.L.Sink.taken g.N.OutputNamer.number c.args.self.now c.store_three.new.self (three_entries c.deref.result.now c.as_bytes.result.now c.deref-2.result.now)
     c.store_three.result (c.is_failed.ensures.store c.if-is_failed.false) ((test_list_is, list_read), ((cargo_metadata_is, utf8), ((record_opts_is, opts_read), tt)))
     c.store_three.ensures.kept c.store_three.ensures.ok c.store_three.ensures.err

@@ -1,0 +1,21 @@
+use Rattle.std.proofs.Common.{refl}
+use Rattle.rec_codec.proofs.output_kinds.write_test_finished.Goals as goal
+
+-- which kind it is, and then what each call wrote, from the last one back
+pub returns-clause-written : goal.returns-clause-written
+returns-clause-written g c =
+    rw (
+      c.in-TestFinished.is,
+      c.in_ok-write_finished.ensures.written,
+      c.in_ok-write_field-3.ensures.written,
+      c.in_ok-write_loaded.ensures.written,
+      c.in_ok-string_field.ensures,
+      c.in_ok-write_reporting.ensures,
+      c.in_ok-write_field-2.ensures.written,
+      c.in_ok-write_field.ensures.written,
+    ) refl
+
+pub returns-clause-known : goal.returns-clause-known
+returns-clause-known g c =
+    let test = c.in_ok-write_finished.ensures.known in
+    rw c.in-TestFinished.is (test.2, c.in_ok-write_field-2.ensures.known, (test.0, test.1, c.in_ok-write_loaded.ensures.known, c.in_ok-write_field.ensures.known, c.in_ok-write_field-3.ensures.known))

@@ -1,0 +1,11 @@
+use Rattle.std.proofs.Common.{refl}
+use Rattle.rec_codec.proofs.run_kinds.write_run_continued.Goals as goal
+
+-- which kind it is, and then what each call wrote, from the last one back
+pub returns-clause-written : goal.returns-clause-written
+returns-clause-written c =
+    rw (
+      c.in-RunContinued.is,
+      c.in_ok-write_running.ensures.written,
+      c.in_ok-write_head.ensures.written,
+    ) refl

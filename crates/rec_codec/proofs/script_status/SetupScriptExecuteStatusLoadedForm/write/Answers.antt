@@ -1,0 +1,16 @@
+use Rattle.std.specs.Prelude.{refl}
+use Rattle.rec_codec.proofs.script_status.SetupScriptExecuteStatusLoadedForm.write.Goals as goal
+
+-- what each call wrote, from the last one back
+pub returns-clause-written : goal.returns-clause-written
+returns-clause-written g c =
+    c.in_ok-end_struct.ensures _ _ (rw (
+      c.in_ok-write_field-4.ensures.written,
+      c.in_ok-write_field-3.ensures.written,
+      c.in_ok-write_field-2.ensures.written,
+      c.in_ok-write_loaded.ensures.written,
+      c.in_ok-write_field.ensures.written,
+      c.in_ok-write_optional-2.ensures.written,
+      c.in_ok-write_optional.ensures.written,
+      c.in_ok-begin_object.ensures,
+    ) refl)
