@@ -1,4 +1,4 @@
 pub mod Keys
 pub mod Attempts
 pub mod Judged
-pub mod Whole
+pub mod Writable

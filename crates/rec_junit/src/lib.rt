@@ -24,4 +24,4 @@ pub use report::{
     JunitSuite,
 };
 pub use shell::shell_join;
-pub use values::report_to_value;
+pub use values::{report_text, report_to_value};

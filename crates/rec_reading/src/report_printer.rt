@@ -8,7 +8,7 @@ ghost use Rattle.rec_reading.specs.ReportLaws.{report_prints_blind};
 use crate::errors::ReadingError;
 use crate::printer::EventPrinter;
 use rec_events::{NextestRunMode, TestEvent};
-use rec_junit::{JunitBuilder, JunitReport, PlainDescriber, report_to_value};
+use rec_junit::{JunitBuilder, JunitReport, PlainDescriber, report_text};
 use std::alloc::{AllocError, Global};
 
 /// Prints a report where a run ends.
@@ -65,8 +65,7 @@ impl<'d> EventPrinter for ReportPrinter<'d> {
 fn add_report(alloc: Global, report: &JunitReport, text: &mut Vec<u8>) -> Result<(), AllocError>
     ensures { OnOk result (text.new.items ≡ text.old.items ++ report_line (Some report.now)) }
 {
-    let value = report_to_value(alloc, report)?;
-    let line = value.to_string(alloc)?;
+    let line = report_text(alloc, report)?;
     text.extend_from_slice(line.as_bytes())?;
     text.push(b'\n')?;
     Ok(())
