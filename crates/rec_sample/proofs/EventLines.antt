@@ -1,24 +1,14 @@
 -- The lines of a session's events, one or a batch longer.
-use Rattle.std.proofs.Common.{◌≡◌, false, ℕ, ◌+◌, List, ◌∷◌, ◌++◌, map, refl, ◌∙◌, append_assoc, arith}
+use Rattle.std.proofs.Common.{◌≡◌, ℕ, ◌+◌, List, ◌∷◌, ◌++◌, map, refl, ◌∙◌, append_assoc, arith}
 use Rattle.std.proofs.lemmas.Grind.{flat_map-append}
 use Rattle.std.proofs.lemmas.List.FromFn.{map-range_with_len_more}
 use Rattle.std.proofs.lemmas.List.{append-nil, flat_map_more}
 use Rattle.std.specs.List.{range_with_len}
-use Rattle.serde_json.specs.Written.{has_float}
-use Rattle.rec_events.specs.declared.outputs.LiveSpec.{LiveSpec}
 use Rattle.rec_codec.specs.Event.{LiveEvent}
-use Rattle.rec_codec.specs.EventFormLaws.{event_writable}
-use Rattle.rec_codec.specs.EventForms.{event_value, IsEvent}
-use Rattle.rec_codec.specs.Live.{IsLive, live_value}
-use Rattle.rec_codec.specs.LiveLaws.{live_writable}
 use Rattle.rec_sample.proofs.Ranges.{flat_map-range_more}
 use Rattle.rec_sample.specs.Batches.{batch_count}
 use Rattle.rec_sample.specs.Events.{run_started_event, run_finished_event, test_starts, pause, test_ends, batch_events, batches_events}
 use Rattle.rec_sample.specs.Session.{head_line, event_line, event_lines, sample_session}
-
--- the value of a well-formed event has no float
-pub event_whole : (e : LiveEvent) → IsEvent IsLive e → has_float (event_value live_value e) ≡ false
-event_whole e h = (event_writable {S = LiveSpec} IsLive 2 live_value live_writable e h).whole
 
 -- the lines of events that are counted up, and of one more
 pub counted_more : (event : ℕ → LiveEvent) (a k : ℕ) (old text more : List ℕ) (e : LiveEvent) → text ≡ old ++ event_lines (map event (range_with_len a k)) → e ≡ event (a + k)

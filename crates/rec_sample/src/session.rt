@@ -1,8 +1,8 @@
 //! The text of a session.
 ghost use Rattle.std.specs.Prelude.{◌≡◌, ◌≤◌, ◌<◌, ◌*◌, ◌++◌, true, IfOk, OnOk, string_bytes};
-ghost use Rattle.serde_json.specs.View.{view};
-ghost use Rattle.rec_codec.specs.EventForms.{event_value, kind_loaded, IsEvent};
-ghost use Rattle.rec_codec.specs.Live.{is_loaded, live_value, IsLive};
+ghost use Rattle.rec_json.specs.Tokens.{value_tokens};
+ghost use Rattle.rec_codec.specs.EventForms.{event_value, kind_loaded};
+ghost use Rattle.rec_codec.specs.Live.{is_loaded, live_value};
 ghost use Rattle.rec_sample.specs.Events.{test_starts, pause, test_ends, batch_events};
 ghost use Rattle.rec_sample.specs.Session.{head_line, event_text, event_line, event_lines, sample_session};
 
@@ -11,10 +11,10 @@ use crate::events::{
     run_continued, run_finished, run_paused, run_started, test_finished, test_started,
 };
 use crate::head::sample_head;
-use rec_codec::{ToValueError, event_to_value};
+use rec_codec::{ToValueError, write_event};
 use rec_events::{LiveSpec, TestEventSummary};
 use rec_forms::write_text;
-use serde_json::Value;
+use rec_json::JsonText;
 use std::alloc::{AllocError, Global};
 
 /// Bounds the number of tests of a generated session.
@@ -143,23 +143,27 @@ fn append_event(
     Ok(())
 }
 
-/// Makes the text of an event.
+/// Writes the text of an event.
 fn event_text(alloc: Global, event: &TestEventSummary<LiveSpec>) -> Result<String, AllocError>
     requires loaded { kind_loaded is_loaded event.now.kind ≡ true }
     ensures { IfOk result (λ text. string_bytes text ≡ event_text event.now) }
 {
-    let value = event_value(alloc, event)?;
-    value.to_string(alloc)
+    let mut text = JsonText::new(alloc);
+    write_loaded(alloc, event, &mut text)?;
+    Ok(text.into_text())
 }
 
-/// Makes the value of an event. Its outputs are loaded, so only memory can be short.
-fn event_value(alloc: Global, event: &TestEventSummary<LiveSpec>) -> Result<Value, AllocError>
+/// Writes an event. Its outputs are loaded, so only memory can be short.
+fn write_loaded(
+    alloc: Global,
+    event: &TestEventSummary<LiveSpec>,
+    text: &mut JsonText,
+) -> Result<(), AllocError>
     requires loaded { kind_loaded is_loaded event.now.kind ≡ true }
-    ensures value { IfOk result (λ v. view v ≡ event_value live_value event.now) }
-    ensures known { OnOk result (IsEvent IsLive event.now) }
+    ensures { OnOk result (text.new ≡ text.old ++ value_tokens (event_value live_value event.now)) }
 {
-    match event_to_value::<LiveSpec>(alloc, event) {
-        Ok(value) => Ok(value),
+    match write_event::<LiveSpec>(alloc, event, text) {
+        Ok(()) => Ok(()),
         Err(ToValueError::OutOfMemory) => Err(AllocError),
         Err(ToValueError::NotLoaded) => unreachable!(),
     }

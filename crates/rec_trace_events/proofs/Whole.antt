@@ -152,10 +152,9 @@ progress_whole (progress.Time total elapsed completed) =
 
 stats_whole : (s : RunStats) → IsWhole (run_stats_value s)
 stats_whole s =
-    struct_whole _ (appended_whole (setup_fields s) (passes_fields s ++ failures_fields s ++ reason_fields s) (refl, (refl, (refl, (refl, (refl, (refl, tt))))))
-    (appended_whole (passes_fields s) (failures_fields s ++ reason_fields s) (refl, (refl, (refl, (refl, (refl, (refl, tt))))))
-    (appended_whole (failures_fields s) (reason_fields s) (refl, (refl, (refl, (refl, (refl, (refl, (refl, tt)))))))
-    (optional_whole cancel_reason_value (λ r. refl) s.cancel_reason, tt))))
+    struct_whole _ (appended_whole (reason_fields s) (failures_fields s ++ passes_fields s ++ setup_fields s) (optional_whole cancel_reason_value (λ r. refl) s.cancel_reason, tt)
+    (appended_whole (failures_fields s) (passes_fields s ++ setup_fields s) (refl, (refl, (refl, (refl, (refl, (refl, tt))))))
+    (appended_whole (passes_fields s) (setup_fields s) (refl, (refl, (refl, (refl, (refl, (refl, tt)))))) (refl, (refl, (refl, (refl, (refl, (refl, (refl, tt))))))))))
 
 index_whole : (s : StressIndexSummary) → IsWhole (stress_index_value s)
 index_whole s = struct_whole _ (refl, (optional_whole natural natural_whole s.total, tt))

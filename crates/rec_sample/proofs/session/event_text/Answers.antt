@@ -1,13 +1,12 @@
-use Rattle.std.proofs.Common.{◌≡◌, false, ◌∙◌, sym, ap, subst}
-use Rattle.std.proofs.lemmas.Result.{IfOk-weaker}
-use Rattle.serde_json.specs.Written.{compact_text, has_float}
-use Rattle.rec_sample.proofs.EventLines.{event_whole}
+use Rattle.std.proofs.Common.{◌++◌, ◌∙◌, ap}
+use Rattle.rec_json.specs.Tokens.{value_tokens}
+use Rattle.rec_codec.specs.EventForms.{event_value}
+use Rattle.rec_codec.specs.Live.{live_value}
 use Rattle.rec_sample.proofs.session.event_text.Goals as goal
 use Rattle.rec_sample.specs.Session.{event_text}
 
 pub returns : goal.returns
 unfolding event_text
 returns c =
-    let value = c.in_ok-value.ensures in
-    let whole = subst (λ d. has_float d ≡ false) (sym value.value) (event_whole c.args.event.now value.known) in
-    IfOk-weaker c.to_string.result _ _ (λ text h. h whole ∙ ap compact_text value.value) c.to_string.ensures.text
+    let value = event_value live_value c.args.event.now in
+    c.into_text.ensures.compact value (c.in_ok-write_loaded.ensures ∙ ap (λ ts. ts ++ value_tokens value) c.new-text.ensures)
