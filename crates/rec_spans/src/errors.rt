@@ -10,6 +10,9 @@ use std::alloc::AllocError;
 use std::fmt;
 use thiserror::Error;
 
+/// Says why a history can't be read: the first error of the iterator that gives it.
+pub type RecordReadErrorText = LineError;
+
 /// Says why there is no trace of a history. Events are numbered from 1. Of the first event that is refused,
 /// the first cause is answered in the order number, instant, start that is missing, span that is open,
 /// slot that is busy, row or flow number, count; but want of memory may come at any time.
@@ -17,7 +20,7 @@ use thiserror::Error;
 pub enum ChromeTraceError {
     /// The history could not be read.
     #[error("the events can't be read: {0}")]
-    ReadError(LineError),
+    ReadError(RecordReadErrorText),
     /// The event finishes a test of which no attempt is open, or says that it failed or is slow.
     #[error("event {event} is of {} {}, which isn't running", .binary_id.as_str(), .test_name.as_str())]
     MissingTestStart {

@@ -16,7 +16,7 @@ mod span_tracker;
 mod spans;
 mod starts;
 
-pub use errors::ChromeTraceError;
+pub use errors::{ChromeTraceError, RecordReadErrorText};
 pub use judged::JudgedEvent;
 pub use open_spans::OpenSpans;
 pub use opened::OpenedEvent;

@@ -28,10 +28,10 @@ use Rattle.rec_spans.specs.Past.Change.{Start, Stop, Pause, Resume, Other}
 use Rattle.rec_spans.specs.Past.{Change, TraceInput, binaries, flow_after, next_flow, of_key, open_after, open_spans, without}
 use Rattle.rec_spans.specs.Plain.{PlainEvent, PlainKind, PlainOutputKind}
 use Rattle.rec_spans.specs.Refusals.{act_refusal, attempt_missing, events_refusal, history_refusal_after, instant_refusal, is_none_open, missing_refusal, next_refusal, number_refusal}
-use Rattle.rec_trace.proofs.ArrowsDrawn.{ends-of-drawn, event_ends}
+use Rattle.rec_trace.proofs.ArrowsDrawn.{ends-of-drawn}
 use Rattle.rec_trace.proofs.ArrowsPaired.{Paired, paired-finish, paired-none, paired-start, paired-without}
 use Rattle.rec_trace.specs.Arrows.ArrowEnd.{Starts, Finishes}
-use Rattle.rec_trace.specs.Arrows.{ArrowEnd, ArrowsPair, arrow_end, arrow_ends}
+use Rattle.rec_trace.specs.Arrows.{ArrowEnd, ArrowsPair, arrow_end, arrow_ends, event_ends}
 use Rattle.rec_trace.specs.Histories.{drawn_after, known_after_event, trace_drawn}
 use Rattle.rec_trace.specs.Known.{Known, arrow_after, core_arrow, nothing_known, of_test, output_arrow}
 use Rattle.rec_trace.specs.Table.{drawn}

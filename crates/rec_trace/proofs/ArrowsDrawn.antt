@@ -28,29 +28,11 @@ use Rattle.rec_spans.specs.Plain.{PlainEvent, PlainKind, PlainOutputKind}
 use Rattle.rec_spans.specs.Refusals.{scripts_in, under}
 use Rattle.rec_trace.proofs.Marks.{parts-first, parts-of_each, parts-of_naming, parts-second}
 use Rattle.rec_trace.specs.Arrows.ArrowEnd.{Starts, Finishes}
-use Rattle.rec_trace.specs.Arrows.{ArrowEnd, arrow_end, arrow_ends}
+use Rattle.rec_trace.specs.Arrows.{ArrowEnd, arrow_end, arrow_ends, core_ends, event_ends, output_ends}
 use Rattle.rec_trace.specs.Drawn.Drawn.{Slice, Results, RunMarked, Slow, ArrowStarts, ArrowFinishes}
 use Rattle.rec_trace.specs.Drawn.{Drawn}
 use Rattle.rec_trace.specs.Known.{Known}
 use Rattle.rec_trace.specs.Table.{arrow_to, bare, closes, counter, drawn, drawn_core, drawn_kind, drawn_output, group_of, naming, opens, run_marked, run_process, test_process}
-
--- ---- the ends of arrows of an event
-
--- an attempt that starts as a retry finishes the pending arrow of its test
-abbrev pub core_ends : (OwnedTestInstanceId → Option ℕ) → CoreEventKind → List ArrowEnd
-core_ends arrow (TestRetryStarted stress_index test slot_assignment retry_data running command_line) = option_to_list (option_map (Finishes test) (arrow test))
-core_ends arrow _ = []
-
--- a failed attempt starts an arrow
-abbrev pub output_ends : List Span → ℕ → PlainOutputKind → List ArrowEnd
-output_ends spans flow (SetupScriptFinished stress index total script program args no_capture status) = []
-output_ends spans flow (TestAttemptFailedWillRetry stress test status delay failure running) = map (λ s. Starts test flow) (of_key (keys.Test test) spans)
-output_ends spans flow (TestFinished stress test success failure store_success store_failure flaky statuses current_stats running) = []
-
--- the starts and finishes of an event, where these spans are open, this flow number is the next and these arrows are pending
-abbrev pub event_ends : List Span → ℕ → (OwnedTestInstanceId → Option ℕ) → PlainKind → List ArrowEnd
-event_ends spans flow arrow (Core kind) = core_ends arrow kind
-event_ends spans flow arrow (Output kind) = output_ends spans flow kind
 
 -- each of these spans starts an arrow
 ends-of_starts : (test : OwnedTestInstanceId) (t : ℤ) (flow : ℕ) (spans : List Span) → arrow_ends (map (λ s. ArrowStarts test s.row t flow) spans) ≡ map (λ s. Starts test flow) spans

@@ -14,15 +14,20 @@ use Rattle.rec_spans.specs.declared.errors.ChromeTraceError.TheVariants.{OutOfMe
 use Rattle.rec_spans.specs.declared.errors.ChromeTraceError.{ChromeTraceError}
 use Rattle.rec_spans.specs.declared.settings.ChromeTraceGroupBy.{ChromeTraceGroupBy}
 use Rattle.rec_spans.specs.Faults.{fault_error}
+use Rattle.rec_spans.specs.History.{after, state_after}
+use Rattle.rec_spans.specs.Kinds.{history}
 use Rattle.rec_spans.specs.Plain.{PlainEvent, plain}
 use Rattle.rec_spans.specs.Refusals.{events_refusal}
 use Rattle.rec_trace.proofs.Arrows.{arrows-pair}
 use Rattle.rec_trace.proofs.Groupings.{groupings-draw_alike}
-use Rattle.rec_trace.proofs.Marks.{marks-of-trace}
+use Rattle.rec_trace.proofs.KnownByPlaces.{known-by_places}
+use Rattle.rec_trace.proofs.Marks.{marks-of-drawn, marks-of-trace}
+use Rattle.rec_trace.proofs.NamedOnce.{named-once}
 use Rattle.rec_trace.proofs.Prefixes.{keeps-drawn}
 use Rattle.rec_trace.specs.Converting.{AddsItem, Converts, HasNoTrace}
 use Rattle.rec_trace.specs.declared.printed_trace.PrintedTrace.{PrintedTrace}
 use Rattle.rec_trace.specs.declared.settings.ChromeTraceMessageFormat.{ChromeTraceMessageFormat}
+use Rattle.rec_trace.specs.Histories.{known_of}
 use Rattle.rec_trace.specs.Traces.{HasTraced, trace_text}
 
 -- the builder has traced the events that these items hold
@@ -139,4 +144,7 @@ module _ (format : ChromeTraceMessageFormat) (g : ChromeTraceGroupBy) (version :
           drawn_alike = groupings-draw_alike version (map plain events);
           prefixes = keeps-drawn version g (map plain events) has.tracer.accepted;
           arrows = arrows-pair version g (map plain events) has.tracer.accepted;
+          marks_of_each = λ before event later is. marks-of-drawn version g (state_after (after [] (history g before))) (known_of g before) event;
+          by_places = λ before later is. known-by_places g before;
+          named_once = named-once version g (map plain events);
         }

@@ -11,9 +11,10 @@ use Rattle.rec_spans.specs.declared.settings.ChromeTraceGroupBy.TheVariants.{Bin
 use Rattle.rec_spans.specs.declared.settings.ChromeTraceGroupBy.{ChromeTraceGroupBy}
 use Rattle.rec_spans.specs.Faults.{fault_error}
 use Rattle.rec_spans.specs.Groupings.{GroupingsAgree}
-use Rattle.rec_spans.specs.History.{trace_marks}
-use Rattle.rec_spans.specs.Kinds.{history}
+use Rattle.rec_spans.specs.History.{after, next_marks, state_after, trace_marks}
+use Rattle.rec_spans.specs.Kinds.{history, next_input}
 use Rattle.rec_spans.specs.Plain.{PlainEvent, plain}
+use Rattle.rec_spans.specs.Positions.{IsOnce}
 use Rattle.rec_spans.specs.Refusals.{events_refusal}
 use Rattle.rec_spans.specs.Timeline.{IsTimeline}
 use Rattle.rec_spans.specs.Times.{TimesAddUp}
@@ -22,7 +23,10 @@ use Rattle.rec_trace.specs.declared.printed_trace.PrintedTrace.{PrintedTrace}
 use Rattle.rec_trace.specs.declared.settings.ChromeTraceMessageFormat.{ChromeTraceMessageFormat}
 use Rattle.rec_trace.specs.Drawn.{Drawn, marks_of}
 use Rattle.rec_trace.specs.Groupings.{all_ungrouped}
-use Rattle.rec_trace.specs.Histories.{trace_drawn}
+use Rattle.rec_trace.specs.Histories.{known_of, trace_drawn}
+use Rattle.rec_trace.specs.Naming.{all_named}
+use Rattle.rec_trace.specs.Places.{IsKnownByPlaces}
+use Rattle.rec_trace.specs.Table.{drawn}
 use Rattle.rec_trace.specs.Traces.{HasTraced, Traces, trace_text}
 
 -- each prefix of these events has a trace, and draws the first of what they draw
@@ -30,9 +34,16 @@ abbrev pub KeepsDrawn : Parts → ChromeTraceGroupBy → List PlainEvent → Typ
 KeepsDrawn version g events = (xs ys : List PlainEvent) → events ≡ xs ++ ys →
     (events_refusal g xs ≡ None) × ((more : List Drawn) × (trace_drawn version g events ≡ trace_drawn version g xs ++ more))
 
+-- event by event, what is drawn has the marks of its spans
+abbrev pub MarksOfEach : Parts → ChromeTraceGroupBy → List PlainEvent → Type 0
+MarksOfEach version g events = (before : List PlainEvent) (event : PlainEvent) (later : List PlainEvent) → events ≡ before ++ event ∷ later →
+    marks_of (drawn version g (state_after (after [] (history g before))) (known_of g before) event)
+    ≡ next_marks (state_after (after [] (history g before))) (next_input g (history g before) event)
+
 -- The iterator gave events and ended, and the text is that of their trace. Its begins and ends are the marks of the events, which are their
 -- timeline and add up. Both groupings accept the same events, and draw the same but for the names of processes and rows, the pids of the rows of
--- tests, and the names of their slices. Its arrows pair
+-- tests, and the names of their slices. Its arrows pair. Each event draws the marks of its spans; what it draws beside them is decided by the positions
+-- of the events before it; and each process and each row is named once
 pub record Converts {S : Type 0} (steps : S → Option (Result RecordedEvent LineError) → S → Type 0) (s : S) (g : ChromeTraceGroupBy) (format : ChromeTraceMessageFormat) (version : Parts) (text : List ℕ) : Type 0 where
   pub events : List RecordedEvent
   pub drained : Drains steps s (map Ok events)
@@ -45,6 +56,9 @@ pub record Converts {S : Type 0} (steps : S → Option (Result RecordedEvent Lin
   pub drawn_alike : all_ungrouped (trace_drawn version Binary (map plain events)) ≡ all_ungrouped (trace_drawn version Slot (map plain events))
   pub prefixes : KeepsDrawn version g (map plain events)
   pub arrows : ArrowsPair (arrow_ends (trace_drawn version g (map plain events)))
+  pub marks_of_each : MarksOfEach version g (map plain events)
+  pub by_places : (before after : List PlainEvent) → map plain events ≡ before ++ after → IsKnownByPlaces g before (known_of g before)
+  pub named_once : IsOnce (all_named (trace_drawn version g (map plain events)))
 
 -- an item of the iterator is traced after others, or it is a fault
 abbrev pub AddsItem : PrintedTrace → PrintedTrace → Result RecordedEvent LineError → Result ⊤ ChromeTraceError → Type 0

@@ -22,7 +22,7 @@ pub use build_error::TraceBuildError;
 pub use builder::TraceBuilder;
 pub use convert::convert_to_chrome_trace;
 pub use printed_trace::PrintedTrace;
-pub use rec_spans::{ChromeTraceError, ChromeTraceGroupBy, SpanKey};
+pub use rec_spans::{ChromeTraceError, ChromeTraceGroupBy, RecordReadErrorText, SpanKey};
 pub use settings::ChromeTraceMessageFormat;
 pub use target::{TargetFailed, TraceEvent, TraceTarget};
 pub use vec_target::VecTarget;
