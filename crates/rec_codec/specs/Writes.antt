@@ -17,9 +17,9 @@ Writes (Ok v) d loaded = (view v ≡ d) × (loaded ≡ true)
 Writes (Err e) d loaded = FailsUnloaded e loaded
 
 -- what a call that writes to a text answers, by whether the outputs in what it writes are all loaded
-abbrev pub PutsLoaded : Result ⊤ ToValueError → Bool → Type 0
-PutsLoaded (Ok u) loaded = loaded ≡ true
-PutsLoaded (Err e) loaded = FailsUnloaded e loaded
+abbrev pub WritesLoaded : Result ⊤ ToValueError → Bool → Type 0
+WritesLoaded (Ok u) loaded = loaded ≡ true
+WritesLoaded (Err e) loaded = FailsUnloaded e loaded
 
 -- whether all items pass a test
 abbrev pub every : {T : Type 0} → (T → Bool) → List T → Bool

@@ -7,7 +7,7 @@ ghost use Rattle.rec_json.specs.Tokens.{value_tokens, with_fields};
 ghost use Rattle.rec_forms.specs.Gives.{Gives};
 ghost use Rattle.rec_forms.specs.Shape.{required};
 ghost use Rattle.rec_codec.specs.EventForms.{kind_named, kind_form, kind_loaded, event_fields, event_value, event_form, IsEvent};
-ghost use Rattle.rec_codec.specs.Writes.{Writes, PutsLoaded};
+ghost use Rattle.rec_codec.specs.Writes.{Writes, WritesLoaded};
 
 use crate::core_kinds::{core_from, write_core};
 use crate::output_kinds::{
@@ -27,7 +27,7 @@ fn write_members<S: OutputForm>(
     text: &mut JsonText,
 ) -> Result<(), ToValueError>
     ensures written { OnOk result (text.new ≡ with_fields text.old (event_fields S.output_value event.now)) }
-    ensures loaded { PutsLoaded result (kind_loaded S.loaded event.now.kind) }
+    ensures loaded { WritesLoaded result (kind_loaded S.loaded event.now.kind) }
     ensures known { OnOk result (IsEvent S.output_well_formed event.now) }
 {
     match &event.kind {
@@ -61,7 +61,7 @@ pub fn write_event<S: OutputForm>(
     text: &mut JsonText,
 ) -> Result<(), ToValueError>
     ensures written { OnOk result (text.new ≡ text.old ++ value_tokens (event_value S.output_value event.now)) }
-    ensures loaded { PutsLoaded result (kind_loaded S.loaded event.now.kind) }
+    ensures loaded { WritesLoaded result (kind_loaded S.loaded event.now.kind) }
     ensures known { OnOk result (IsEvent S.output_well_formed event.now) }
 {
     text.begin_object()?;

@@ -13,7 +13,7 @@ use rec_json::JsonText;
 use std::alloc::{AllocError, Global};
 
 /// Writes how long the run had lasted, and the name of the kind.
-pub fn write_head(
+pub fn write_elapsed_and_kind(
     alloc: Global,
     text: &mut JsonText,
     elapsed: &Duration,
@@ -66,7 +66,7 @@ pub fn write_test(
 }
 
 /// Writes the members of a setup script's start or end from `args` to `index`.
-pub fn write_args(
+pub fn write_args_to_index(
     alloc: Global,
     text: &mut JsonText,
     args: &Items<Text>,

@@ -9,7 +9,7 @@ ghost use Rattle.rec_forms.specs.GivesWellFormed.{GivesWellFormed};
 ghost use Rattle.rec_forms.specs.Lists.{list_value, list_form, some_form};
 ghost use Rattle.rec_forms.specs.Shape.{required};
 ghost use Rattle.rec_forms.specs.Writable.{IsWritable};
-ghost use Rattle.rec_codec.specs.Writes.{PutsLoaded, every};
+ghost use Rattle.rec_codec.specs.Writes.{WritesLoaded, every};
 
 use crate::ToValueError;
 use rec_events::{Items, NonEmpty};
@@ -42,7 +42,7 @@ pub trait LoadedForm: Sized {
     /// runs out; then `text` may hold a part of the item.
     fn write(&self, alloc: Global, text: &mut JsonText) -> Result<(), ToValueError>
         ensures written { OnOk result (text.new ≡ text.old ++ value_tokens (value_of self.now)) }
-        ensures loaded { PutsLoaded result (loaded self.now) }
+        ensures loaded { WritesLoaded result (loaded self.now) }
         ensures known { OnOk result (well_formed self.now) };
 
     /// Reads the item for which `node` stands.
@@ -74,7 +74,7 @@ pub fn write_loaded<T: LoadedForm>(
 ) -> Result<(), ToValueError>
     ensures written { OnOk result
         (text.new ≡ with_field key.now (Some (T.value_of item.now)) text.old) }
-    ensures loaded { PutsLoaded result (T.loaded item.now) }
+    ensures loaded { WritesLoaded result (T.loaded item.now) }
     ensures known { OnOk result (T.well_formed item.now) }
 {
     text.key(key)?;
@@ -103,7 +103,7 @@ pub fn write_each<T: LoadedForm>(
 ) -> Result<(), ToValueError>
     ensures written { OnOk result
         (text.new ≡ text.old ++ value_tokens (list_value T.value_of items.now)) }
-    ensures loaded { PutsLoaded result (every T.loaded items.now) }
+    ensures loaded { WritesLoaded result (every T.loaded items.now) }
     ensures known { OnOk result (AllByRecursion T.well_formed items.now) }
 {
     text.begin_array()?;

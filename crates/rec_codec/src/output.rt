@@ -8,7 +8,7 @@ ghost use Rattle.rec_json.specs.Tokens.{value_tokens};
 ghost use Rattle.rec_forms.specs.Gives.{Gives};
 ghost use Rattle.rec_forms.specs.GivesWellFormed.{GivesWellFormed};
 ghost use Rattle.rec_forms.specs.Writable.{IsWritable};
-ghost use Rattle.rec_codec.specs.Writes.{PutsLoaded, Writes};
+ghost use Rattle.rec_codec.specs.Writes.{WritesLoaded, Writes};
 
 use crate::ToValueError;
 use rec_events::{OutputSpec, RecordingSpec, ZipStoreOutputDescription};
@@ -47,7 +47,7 @@ pub trait OutputForm: OutputSpec {
     ) -> Result<(), ToValueError>
         ensures text_written { OnOk result
             (text.new ≡ text.old ++ value_tokens (output_value output.now)) }
-        ensures text_loaded { PutsLoaded result (loaded output.now) }
+        ensures text_loaded { WritesLoaded result (loaded output.now) }
         ensures text_known { OnOk result (output_well_formed output.now) };
 
     /// Makes the value of the output, which is the value of its text. It is read as this output again.

@@ -6,9 +6,9 @@ ghost use Rattle.rec_forms.specs.Gives.{Gives};
 ghost use Rattle.rec_forms.specs.Instances.{IsStressIndex, IsTestInstance};
 ghost use Rattle.rec_forms.specs.Times.{IsStamp};
 ghost use Rattle.rec_codec.specs.OutputKinds.{output_name, reporting_part, reporting_form, finished_part, output_event_fields, output_loaded, IsOutputEvent, script_finished_form, attempt_failed_form, test_finished_form};
-ghost use Rattle.rec_codec.specs.Writes.{PutsLoaded};
+ghost use Rattle.rec_codec.specs.Writes.{WritesLoaded};
 
-use crate::event_parts::{write_args, write_script, write_test};
+use crate::event_parts::{write_args_to_index, write_script, write_test};
 use crate::loaded_form::{required_loaded, write_loaded};
 use crate::script_kinds::{Command, Place};
 use crate::{OutputForm, ToValueError};
@@ -64,7 +64,7 @@ fn write_script_finished<S: OutputForm>(
     requires named { output_name kind.now ≡ codes "setup-script-finished" }
     ensures written { OnOk result (text.new
         ≡ with_fields text.old (output_event_fields S.output_value timestamp.now elapsed.now kind.now)) }
-    ensures loaded { PutsLoaded result (output_loaded S.loaded kind.now) }
+    ensures loaded { WritesLoaded result (output_loaded S.loaded kind.now) }
     ensures known { OnOk result (IsOutputEvent S.output_well_formed timestamp.now elapsed.now kind.now) }
 {
     let OutputEventKind::SetupScriptFinished {
@@ -80,7 +80,7 @@ fn write_script_finished<S: OutputForm>(
     else {
         unreachable!()
     };
-    write_args(alloc, text, args, elapsed, *index)?;
+    write_args_to_index(alloc, text, args, elapsed, *index)?;
     text.string_field("kind", "setup-script-finished")?;
     write_field(alloc, text, "no-capture", no_capture)?;
     write_field(alloc, text, "program", program)?;
@@ -100,7 +100,7 @@ fn write_attempt_failed<S: OutputForm>(
     requires named { output_name kind.now ≡ codes "test-attempt-failed-will-retry" }
     ensures written { OnOk result (text.new
         ≡ with_fields text.old (output_event_fields S.output_value timestamp.now elapsed.now kind.now)) }
-    ensures loaded { PutsLoaded result (output_loaded S.loaded kind.now) }
+    ensures loaded { WritesLoaded result (output_loaded S.loaded kind.now) }
     ensures known { OnOk result (IsOutputEvent S.output_well_formed timestamp.now elapsed.now kind.now) }
 {
     let OutputEventKind::TestAttemptFailedWillRetry {
@@ -182,7 +182,7 @@ fn write_test_finished<S: OutputForm>(
     requires named { output_name kind.now ≡ codes "test-finished" }
     ensures written { OnOk result (text.new
         ≡ with_fields text.old (output_event_fields S.output_value timestamp.now elapsed.now kind.now)) }
-    ensures loaded { PutsLoaded result (output_loaded S.loaded kind.now) }
+    ensures loaded { WritesLoaded result (output_loaded S.loaded kind.now) }
     ensures known { OnOk result (IsOutputEvent S.output_well_formed timestamp.now elapsed.now kind.now) }
 {
     let OutputEventKind::TestFinished {
@@ -234,7 +234,7 @@ pub fn write_output<S: OutputForm>(
 ) -> Result<(), ToValueError>
     ensures written { OnOk result (text.new
         ≡ with_fields text.old (output_event_fields S.output_value timestamp.now elapsed.now kind.now)) }
-    ensures loaded { PutsLoaded result (output_loaded S.loaded kind.now) }
+    ensures loaded { WritesLoaded result (output_loaded S.loaded kind.now) }
     ensures known { OnOk result (IsOutputEvent S.output_well_formed timestamp.now elapsed.now kind.now) }
 {
     match kind {

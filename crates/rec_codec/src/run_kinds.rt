@@ -7,7 +7,7 @@ ghost use Rattle.rec_codec.specs.CoreKindForms.{run_started_form, stress_sub_run
 ghost use Rattle.rec_codec.specs.CoreKinds.{core_name};
 ghost use Rattle.rec_codec.specs.EventParts.{core_event_fields, IsCoreEvent};
 
-use crate::event_parts::{write_head, write_running};
+use crate::event_parts::{write_elapsed_and_kind, write_running};
 use rec_events::{CoreEventKind, Duration, Stamp};
 use rec_forms::{FromValueError, optional_field, required_field, write_field, write_optional};
 use rec_json::{JsonText, Node};
@@ -36,7 +36,7 @@ pub fn write_run_started(
         unreachable!()
     };
     write_field(alloc, text, "cli-args", cli_args)?;
-    write_head(alloc, text, elapsed, "run-started")?;
+    write_elapsed_and_kind(alloc, text, elapsed, "run-started")?;
     write_field(alloc, text, "profile-name", profile_name)?;
     write_field(alloc, text, "run-id", run_id)?;
     write_optional(alloc, text, "stress-condition", stress_condition)?;
@@ -76,7 +76,7 @@ pub fn write_stress_sub_run_started(
     let CoreEventKind::StressSubRunStarted { progress } = kind else {
         unreachable!()
     };
-    write_head(alloc, text, elapsed, "stress-sub-run-started")?;
+    write_elapsed_and_kind(alloc, text, elapsed, "stress-sub-run-started")?;
     write_field(alloc, text, "progress", progress)?;
     write_field(alloc, text, "timestamp", timestamp)?;
     Ok(())
@@ -116,7 +116,7 @@ pub fn write_run_begin_cancel(
     else {
         unreachable!()
     };
-    write_head(alloc, text, elapsed, "run-begin-cancel")?;
+    write_elapsed_and_kind(alloc, text, elapsed, "run-begin-cancel")?;
     write_field(alloc, text, "reason", reason)?;
     write_running(alloc, text, *running, *setup_scripts_running, timestamp)?;
     Ok(())
@@ -157,7 +157,7 @@ pub fn write_run_paused(
     else {
         unreachable!()
     };
-    write_head(alloc, text, elapsed, "run-paused")?;
+    write_elapsed_and_kind(alloc, text, elapsed, "run-paused")?;
     write_running(alloc, text, *running, *setup_scripts_running, timestamp)?;
     Ok(())
 }
@@ -196,7 +196,7 @@ pub fn write_run_continued(
     else {
         unreachable!()
     };
-    write_head(alloc, text, elapsed, "run-continued")?;
+    write_elapsed_and_kind(alloc, text, elapsed, "run-continued")?;
     write_running(alloc, text, *running, *setup_scripts_running, timestamp)?;
     Ok(())
 }
@@ -236,7 +236,7 @@ pub fn write_stress_sub_run_finished(
     else {
         unreachable!()
     };
-    write_head(alloc, text, elapsed, "stress-sub-run-finished")?;
+    write_elapsed_and_kind(alloc, text, elapsed, "stress-sub-run-finished")?;
     write_field(alloc, text, "progress", progress)?;
     write_field(alloc, text, "sub-elapsed", sub_elapsed)?;
     write_field(alloc, text, "sub-stats", sub_stats)?;
@@ -282,7 +282,7 @@ pub fn write_run_finished(
     else {
         unreachable!()
     };
-    write_head(alloc, text, elapsed, "run-finished")?;
+    write_elapsed_and_kind(alloc, text, elapsed, "run-finished")?;
     write_optional(alloc, text, "outstanding-not-seen", outstanding_not_seen)?;
     write_field(alloc, text, "run-elapsed", run_elapsed)?;
     write_field(alloc, text, "run-id", run_id)?;

@@ -7,7 +7,7 @@ ghost use Rattle.rec_codec.specs.CoreKindForms.{place_form, command_form, setup_
 ghost use Rattle.rec_codec.specs.CoreKinds.{core_name};
 ghost use Rattle.rec_codec.specs.EventParts.{core_event_fields, IsCoreEvent};
 
-use crate::event_parts::{write_args, write_head, write_script};
+use crate::event_parts::{write_args_to_index, write_elapsed_and_kind, write_script};
 use rec_events::{CoreEventKind, Duration, Items, ScriptId, Stamp, StressIndexSummary, Text};
 use rec_forms::{FromValueError, optional_field, required_field, write_field, write_optional};
 use rec_json::{JsonText, Node};
@@ -83,7 +83,7 @@ pub fn write_setup_script_started(
     else {
         unreachable!()
     };
-    write_args(alloc, text, args, elapsed, *index)?;
+    write_args_to_index(alloc, text, args, elapsed, *index)?;
     text.string_field("kind", "setup-script-started")?;
     write_field(alloc, text, "no-capture", no_capture)?;
     write_field(alloc, text, "program", program)?;
@@ -138,7 +138,7 @@ pub fn write_setup_script_slow(
         unreachable!()
     };
     write_field(alloc, text, "args", args)?;
-    write_head(alloc, text, elapsed, "setup-script-slow")?;
+    write_elapsed_and_kind(alloc, text, elapsed, "setup-script-slow")?;
     write_field(alloc, text, "program", program)?;
     write_field(alloc, text, "script-id", script_id)?;
     write_field(alloc, text, "slow-elapsed", slow_elapsed)?;

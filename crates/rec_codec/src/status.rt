@@ -6,7 +6,7 @@ ghost use Rattle.rec_events.specs.declared.outputs.ChildExecutionOutputDescripti
 ghost use Rattle.rec_forms.specs.Gives.{Gives};
 ghost use Rattle.rec_forms.specs.Shape.{required};
 ghost use Rattle.rec_codec.specs.Status.{description_value, IsDescription, output_case_form, before_output, before_output_fields, before_output_form, IsBeforeOutput, after_output, after_output_fields, after_output_form, IsAfterOutput, attempts_form};
-ghost use Rattle.rec_codec.specs.Writes.{PutsLoaded};
+ghost use Rattle.rec_codec.specs.Writes.{WritesLoaded};
 
 use crate::loaded_form::{LoadedForm, required_loaded, required_some, write_each, write_loaded};
 use crate::{OutputForm, ToValueError};
@@ -31,7 +31,7 @@ fn write_outputs<S: OutputForm>(
 ) -> Result<(), ToValueError>
     ensures written { OnOk result (text.new ≡ text.old ++ value_tokens
         (description_value {S = S} S.output_value (Output ended.now output.now errors.now))) }
-    ensures loaded { PutsLoaded result (S.loaded output.now) }
+    ensures loaded { WritesLoaded result (S.loaded output.now) }
     ensures known { OnOk result
         (IsDescription {S = S} S.output_well_formed (Output ended.now output.now errors.now)) }
 {
@@ -54,7 +54,7 @@ fn write_output_field<S: OutputForm>(
 ) -> Result<(), ToValueError>
     ensures written { OnOk result
         (text.new ≡ with_field key.now (Some (S.output_value output.now)) text.old) }
-    ensures loaded { PutsLoaded result (S.loaded output.now) }
+    ensures loaded { WritesLoaded result (S.loaded output.now) }
     ensures known { OnOk result (S.output_well_formed output.now) }
 {
     text.key(key)?;

@@ -7,7 +7,7 @@ ghost use Rattle.rec_codec.specs.CoreKindForms.{test_started_form, test_slow_for
 ghost use Rattle.rec_codec.specs.CoreKinds.{core_name};
 ghost use Rattle.rec_codec.specs.EventParts.{core_event_fields, IsCoreEvent};
 
-use crate::event_parts::{write_head, write_test};
+use crate::event_parts::{write_elapsed_and_kind, write_test};
 use rec_events::{CoreEventKind, Duration, Stamp};
 use rec_forms::{FromValueError, optional_field, required_field, write_field};
 use rec_json::{JsonText, Node};
@@ -39,7 +39,7 @@ pub fn write_test_started(
     };
     write_field(alloc, text, "command-line", command_line)?;
     write_field(alloc, text, "current-stats", current_stats)?;
-    write_head(alloc, text, elapsed, "test-started")?;
+    write_elapsed_and_kind(alloc, text, elapsed, "test-started")?;
     write_field(alloc, text, "running", running)?;
     write_field(alloc, text, "slot-assignment", slot_assignment)?;
     write_test(alloc, text, stress_index, test_instance, timestamp)?;
@@ -87,7 +87,7 @@ pub fn write_test_slow(
     else {
         unreachable!()
     };
-    write_head(alloc, text, elapsed, "test-slow")?;
+    write_elapsed_and_kind(alloc, text, elapsed, "test-slow")?;
     write_field(alloc, text, "retry-data", retry_data)?;
     write_field(alloc, text, "slow-elapsed", slow_elapsed)?;
     write_test(alloc, text, stress_index, test_instance, timestamp)?;
@@ -137,7 +137,7 @@ pub fn write_test_retry_started(
         unreachable!()
     };
     write_field(alloc, text, "command-line", command_line)?;
-    write_head(alloc, text, elapsed, "test-retry-started")?;
+    write_elapsed_and_kind(alloc, text, elapsed, "test-retry-started")?;
     write_field(alloc, text, "retry-data", retry_data)?;
     write_field(alloc, text, "running", running)?;
     write_field(alloc, text, "slot-assignment", slot_assignment)?;

@@ -60,6 +60,10 @@ mutual
   MembersHaveNumbers-outline no_members c f = tt
   MembersHaveNumbers-outline (member k d ms) c f = let p = or_parts (has_float d) _ f in (HasNumbers-outline d c.0 p.0, MembersHaveNumbers-outline ms c.1 p.1)
 
+-- the text of each number of a writable value is one that JSON reads
+pub IsWritable-has_numbers : {n : ℕ} (d : Data) → IsWritable n d → tree.HasNumbers (outline d)
+IsWritable-has_numbers d w = HasNumbers-outline d w.canonical w.whole
+
 -- ---- members go in one after another
 
 abbrev joined : Members → Members → Members

@@ -3,16 +3,16 @@ use Rattle.std.specs.Prelude.{◌^◌, ◌<◌, List, [], ◌∷◌, ◌++◌, O
 use Rattle.serde_json.specs.Data.{Data, Members}
 use Rattle.serde_json.specs.Find.{as_object}
 use Rattle.rec_events.specs.declared.stats.RunStats.{RunStats}
-use Rattle.rec_forms.specs.declared.stats.Failures.{Failures}
-use Rattle.rec_forms.specs.declared.stats.Passes.{Passes}
-use Rattle.rec_forms.specs.declared.stats.Setup.{Setup}
+use Rattle.rec_forms.specs.declared.stats.FirstCounts.{FirstCounts}
+use Rattle.rec_forms.specs.declared.stats.LastCounts.{LastCounts}
+use Rattle.rec_forms.specs.declared.stats.MiddleCounts.{MiddleCounts}
 use Rattle.rec_forms.specs.Numbers.{u64_form}
 use Rattle.rec_forms.specs.Reporting.{cancel_reason_value, cancel_reason_form}
 use Rattle.rec_forms.specs.Shape.{◌>>=◌, Field, natural, field, optional, struct, required, maybe}
 
--- Failures
-abbrev pub failures_fields : RunStats → List Field
-failures_fields s =
+-- FirstCounts
+abbrev pub first_counts_fields : RunStats → List Field
+first_counts_fields s =
     field (codes "exec-failed") (natural s.exec_failed)
     ∷ field (codes "failed") (natural s.failed)
     ∷ field (codes "failed-slow") (natural s.failed_slow)
@@ -21,8 +21,8 @@ failures_fields s =
     ∷ field (codes "flaky") (natural s.flaky)
     ∷ []
 
-unfoldable pub failures_form : Members → Option Failures
-failures_form ms = do
+unfoldable pub first_counts_form : Members → Option FirstCounts
+first_counts_form ms = do
   exec_failed ← required u64_form (codes "exec-failed") ms
   failed ← required u64_form (codes "failed") ms
   failed_slow ← required u64_form (codes "failed-slow") ms
@@ -38,7 +38,7 @@ failures_form ms = do
     flaky = flaky;
   })
 
-pub record AreFailures (s : RunStats) : Type 0 where
+pub record AreFirstCounts (s : RunStats) : Type 0 where
   pub exec_failed : s.exec_failed < 2 ^ 64
   pub failed : s.failed < 2 ^ 64
   pub failed_slow : s.failed_slow < 2 ^ 64
@@ -46,9 +46,9 @@ pub record AreFailures (s : RunStats) : Type 0 where
   pub finished_count : s.finished_count < 2 ^ 64
   pub flaky : s.flaky < 2 ^ 64
 
--- Passes
-abbrev pub passes_fields : RunStats → List Field
-passes_fields s =
+-- MiddleCounts
+abbrev pub middle_counts_fields : RunStats → List Field
+middle_counts_fields s =
     field (codes "initial-run-count") (natural s.initial_run_count)
     ∷ field (codes "leaky") (natural s.leaky)
     ∷ field (codes "leaky-failed") (natural s.leaky_failed)
@@ -57,8 +57,8 @@ passes_fields s =
     ∷ field (codes "passed-timed-out") (natural s.passed_timed_out)
     ∷ []
 
-unfoldable pub passes_form : Members → Option Passes
-passes_form ms = do
+unfoldable pub middle_counts_form : Members → Option MiddleCounts
+middle_counts_form ms = do
   initial_run_count ← required u64_form (codes "initial-run-count") ms
   leaky ← required u64_form (codes "leaky") ms
   leaky_failed ← required u64_form (codes "leaky-failed") ms
@@ -74,7 +74,7 @@ passes_form ms = do
     passed_timed_out = passed_timed_out;
   })
 
-pub record ArePasses (s : RunStats) : Type 0 where
+pub record AreMiddleCounts (s : RunStats) : Type 0 where
   pub initial_run_count : s.initial_run_count < 2 ^ 64
   pub leaky : s.leaky < 2 ^ 64
   pub leaky_failed : s.leaky_failed < 2 ^ 64
@@ -82,9 +82,9 @@ pub record ArePasses (s : RunStats) : Type 0 where
   pub passed_slow : s.passed_slow < 2 ^ 64
   pub passed_timed_out : s.passed_timed_out < 2 ^ 64
 
--- Setup
-abbrev pub setup_fields : RunStats → List Field
-setup_fields s =
+-- LastCounts
+abbrev pub last_counts_fields : RunStats → List Field
+last_counts_fields s =
     field (codes "setup-scripts-exec-failed") (natural s.setup_scripts_exec_failed)
     ∷ field (codes "setup-scripts-failed") (natural s.setup_scripts_failed)
     ∷ field (codes "setup-scripts-finished-count") (natural s.setup_scripts_finished_count)
@@ -94,8 +94,8 @@ setup_fields s =
     ∷ field (codes "skipped") (natural s.skipped)
     ∷ []
 
-unfoldable pub setup_form : Members → Option Setup
-setup_form ms = do
+unfoldable pub last_counts_form : Members → Option LastCounts
+last_counts_form ms = do
   setup_scripts_exec_failed ← required u64_form (codes "setup-scripts-exec-failed") ms
   setup_scripts_failed ← required u64_form (codes "setup-scripts-failed") ms
   setup_scripts_finished_count ← required u64_form (codes "setup-scripts-finished-count") ms
@@ -113,7 +113,7 @@ setup_form ms = do
     skipped = skipped;
   })
 
-pub record AreSetup (s : RunStats) : Type 0 where
+pub record AreLastCounts (s : RunStats) : Type 0 where
   pub setup_scripts_exec_failed : s.setup_scripts_exec_failed < 2 ^ 64
   pub setup_scripts_failed : s.setup_scripts_failed < 2 ^ 64
   pub setup_scripts_finished_count : s.setup_scripts_finished_count < 2 ^ 64
@@ -127,14 +127,14 @@ abbrev pub reason_fields : RunStats → List Field
 reason_fields s = optional (codes "cancel-reason") cancel_reason_value s.cancel_reason ∷ []
 
 abbrev pub run_stats_value : RunStats → Data
-run_stats_value s = struct (reason_fields s ++ failures_fields s ++ passes_fields s ++ setup_fields s)
+run_stats_value s = struct (reason_fields s ++ first_counts_fields s ++ middle_counts_fields s ++ last_counts_fields s)
 
 unfoldable pub run_stats_form : Data → Option RunStats
 run_stats_form d = do
   ms ← as_object d
-  f ← failures_form ms
-  p ← passes_form ms
-  s ← setup_form ms
+  f ← first_counts_form ms
+  p ← middle_counts_form ms
+  s ← last_counts_form ms
   cancel_reason ← maybe cancel_reason_form (codes "cancel-reason") ms
   Some (record {
     setup_scripts_initial_count = s.setup_scripts_initial_count;
@@ -160,6 +160,6 @@ run_stats_form d = do
   })
 
 pub record IsRunStats (s : RunStats) : Type 0 where
-  pub failures : AreFailures s
-  pub passes : ArePasses s
-  pub setup : AreSetup s
+  pub first_counts : AreFirstCounts s
+  pub middle_counts : AreMiddleCounts s
+  pub last_counts : AreLastCounts s

@@ -12,7 +12,7 @@ use std::alloc::{AllocError, Global};
 
 /// Counts tests, by the keys from `exec-failed` to `flaky`.
 #[derive(Drop)]
-struct Failures {
+struct FirstCounts {
     exec_failed: usize,
     failed: usize,
     failed_slow: usize,
@@ -21,13 +21,13 @@ struct Failures {
     flaky: usize,
 }
 
-impl Failures {
-    ghost use Rattle.rec_forms.specs.Stats.{failures_fields, failures_form, AreFailures};
+impl FirstCounts {
+    ghost use Rattle.rec_forms.specs.Stats.{first_counts_fields, first_counts_form, AreFirstCounts};
 
     /// Writes this part of `stats`.
     fn write(alloc: Global, text: &mut JsonText, stats: &RunStats) -> Result<(), AllocError>
-        ensures written { OnOk result (text.new ≡ with_fields text.old (failures_fields stats.now)) }
-        ensures known { OnOk result (AreFailures stats.now) }
+        ensures written { OnOk result (text.new ≡ with_fields text.old (first_counts_fields stats.now)) }
+        ensures known { OnOk result (AreFirstCounts stats.now) }
     {
         write_field(alloc, text, "exec-failed", &stats.exec_failed)?;
         write_field(alloc, text, "failed", &stats.failed)?;
@@ -39,11 +39,14 @@ impl Failures {
     }
 
     /// Reads this part.
-    #[tactic(auto, unfolding(crate::specs::Stats::failures_form))]
-    fn read<'a>(alloc: Global, object: &[(&'a str, Node<'a>)]) -> Result<Failures, FromValueError>
-        ensures { Gives result (failures_form (members_view object.now)) }
+    #[tactic(auto, unfolding(crate::specs::Stats::first_counts_form))]
+    fn read<'a>(
+        alloc: Global,
+        object: &[(&'a str, Node<'a>)],
+    ) -> Result<FirstCounts, FromValueError>
+        ensures { Gives result (first_counts_form (members_view object.now)) }
     {
-        Ok(Failures {
+        Ok(FirstCounts {
             exec_failed: required_field(alloc, object, "exec-failed")?,
             failed: required_field(alloc, object, "failed")?,
             failed_slow: required_field(alloc, object, "failed-slow")?,
@@ -56,7 +59,7 @@ impl Failures {
 
 /// Counts tests, by the keys from `initial-run-count` to `passed-timed-out`.
 #[derive(Drop)]
-struct Passes {
+struct MiddleCounts {
     initial_run_count: usize,
     leaky: usize,
     leaky_failed: usize,
@@ -65,13 +68,13 @@ struct Passes {
     passed_timed_out: usize,
 }
 
-impl Passes {
-    ghost use Rattle.rec_forms.specs.Stats.{passes_fields, passes_form, ArePasses};
+impl MiddleCounts {
+    ghost use Rattle.rec_forms.specs.Stats.{middle_counts_fields, middle_counts_form, AreMiddleCounts};
 
     /// Writes this part of `stats`.
     fn write(alloc: Global, text: &mut JsonText, stats: &RunStats) -> Result<(), AllocError>
-        ensures written { OnOk result (text.new ≡ with_fields text.old (passes_fields stats.now)) }
-        ensures known { OnOk result (ArePasses stats.now) }
+        ensures written { OnOk result (text.new ≡ with_fields text.old (middle_counts_fields stats.now)) }
+        ensures known { OnOk result (AreMiddleCounts stats.now) }
     {
         write_field(alloc, text, "initial-run-count", &stats.initial_run_count)?;
         write_field(alloc, text, "leaky", &stats.leaky)?;
@@ -83,11 +86,14 @@ impl Passes {
     }
 
     /// Reads this part.
-    #[tactic(auto, unfolding(crate::specs::Stats::passes_form))]
-    fn read<'a>(alloc: Global, object: &[(&'a str, Node<'a>)]) -> Result<Passes, FromValueError>
-        ensures { Gives result (passes_form (members_view object.now)) }
+    #[tactic(auto, unfolding(crate::specs::Stats::middle_counts_form))]
+    fn read<'a>(
+        alloc: Global,
+        object: &[(&'a str, Node<'a>)],
+    ) -> Result<MiddleCounts, FromValueError>
+        ensures { Gives result (middle_counts_form (members_view object.now)) }
     {
-        Ok(Passes {
+        Ok(MiddleCounts {
             initial_run_count: required_field(alloc, object, "initial-run-count")?,
             leaky: required_field(alloc, object, "leaky")?,
             leaky_failed: required_field(alloc, object, "leaky-failed")?,
@@ -100,7 +106,7 @@ impl Passes {
 
 /// Counts setup scripts and skipped tests.
 #[derive(Drop)]
-struct Setup {
+struct LastCounts {
     setup_scripts_exec_failed: usize,
     setup_scripts_failed: usize,
     setup_scripts_finished_count: usize,
@@ -110,13 +116,13 @@ struct Setup {
     skipped: usize,
 }
 
-impl Setup {
-    ghost use Rattle.rec_forms.specs.Stats.{setup_fields, setup_form, AreSetup};
+impl LastCounts {
+    ghost use Rattle.rec_forms.specs.Stats.{last_counts_fields, last_counts_form, AreLastCounts};
 
     /// Writes this part of `stats`.
     fn write(alloc: Global, text: &mut JsonText, stats: &RunStats) -> Result<(), AllocError>
-        ensures written { OnOk result (text.new ≡ with_fields text.old (setup_fields stats.now)) }
-        ensures known { OnOk result (AreSetup stats.now) }
+        ensures written { OnOk result (text.new ≡ with_fields text.old (last_counts_fields stats.now)) }
+        ensures known { OnOk result (AreLastCounts stats.now) }
     {
         write_field(
             alloc,
@@ -159,11 +165,11 @@ impl Setup {
     }
 
     /// Reads this part.
-    #[tactic(auto, unfolding(crate::specs::Stats::setup_form))]
-    fn read<'a>(alloc: Global, object: &[(&'a str, Node<'a>)]) -> Result<Setup, FromValueError>
-        ensures { Gives result (setup_form (members_view object.now)) }
+    #[tactic(auto, unfolding(crate::specs::Stats::last_counts_form))]
+    fn read<'a>(alloc: Global, object: &[(&'a str, Node<'a>)]) -> Result<LastCounts, FromValueError>
+        ensures { Gives result (last_counts_form (members_view object.now)) }
     {
-        Ok(Setup {
+        Ok(LastCounts {
             setup_scripts_exec_failed: required_field(alloc, object, "setup-scripts-exec-failed")?,
             setup_scripts_failed: required_field(alloc, object, "setup-scripts-failed")?,
             setup_scripts_finished_count: required_field(
@@ -208,9 +214,9 @@ impl Form for RunStats {
     fn write(&self, alloc: Global, text: &mut JsonText) -> Result<(), AllocError> {
         text.begin_object()?;
         write_optional(alloc, text, "cancel-reason", &self.cancel_reason)?;
-        Failures::write(alloc, text, self)?;
-        Passes::write(alloc, text, self)?;
-        Setup::write(alloc, text, self)?;
+        FirstCounts::write(alloc, text, self)?;
+        MiddleCounts::write(alloc, text, self)?;
+        LastCounts::write(alloc, text, self)?;
         text.end_struct()?;
         Ok(())
     }
@@ -220,29 +226,29 @@ impl Form for RunStats {
         let Some(object) = node.as_object() else {
             return Err(FromValueError::NotAValue);
         };
-        let failures = Failures::read(alloc, object)?;
-        let passes = Passes::read(alloc, object)?;
-        let setup = Setup::read(alloc, object)?;
+        let first = FirstCounts::read(alloc, object)?;
+        let middle = MiddleCounts::read(alloc, object)?;
+        let last = LastCounts::read(alloc, object)?;
         Ok(RunStats {
-            setup_scripts_initial_count: setup.setup_scripts_initial_count,
-            setup_scripts_finished_count: setup.setup_scripts_finished_count,
-            setup_scripts_passed: setup.setup_scripts_passed,
-            setup_scripts_failed: setup.setup_scripts_failed,
-            setup_scripts_exec_failed: setup.setup_scripts_exec_failed,
-            setup_scripts_timed_out: setup.setup_scripts_timed_out,
-            initial_run_count: passes.initial_run_count,
-            finished_count: failures.finished_count,
-            passed: passes.passed,
-            passed_slow: passes.passed_slow,
-            passed_timed_out: passes.passed_timed_out,
-            flaky: failures.flaky,
-            failed: failures.failed,
-            failed_slow: failures.failed_slow,
-            failed_timed_out: failures.failed_timed_out,
-            leaky: passes.leaky,
-            leaky_failed: passes.leaky_failed,
-            exec_failed: failures.exec_failed,
-            skipped: setup.skipped,
+            setup_scripts_initial_count: last.setup_scripts_initial_count,
+            setup_scripts_finished_count: last.setup_scripts_finished_count,
+            setup_scripts_passed: last.setup_scripts_passed,
+            setup_scripts_failed: last.setup_scripts_failed,
+            setup_scripts_exec_failed: last.setup_scripts_exec_failed,
+            setup_scripts_timed_out: last.setup_scripts_timed_out,
+            initial_run_count: middle.initial_run_count,
+            finished_count: first.finished_count,
+            passed: middle.passed,
+            passed_slow: middle.passed_slow,
+            passed_timed_out: middle.passed_timed_out,
+            flaky: first.flaky,
+            failed: first.failed,
+            failed_slow: first.failed_slow,
+            failed_timed_out: first.failed_timed_out,
+            leaky: middle.leaky,
+            leaky_failed: middle.leaky_failed,
+            exec_failed: first.exec_failed,
+            skipped: last.skipped,
             cancel_reason: optional_field(alloc, object, "cancel-reason")?,
         })
     }

@@ -1,6 +1,6 @@
 //! Values in memory, for those who want more than the text.
 ghost use Rattle.std.specs.Prelude.{◌≡◌, ◌≢◌, None, Some, IfOk, IfSome, OnOk, option_map};
-ghost use Rattle.serde_json.specs.Data.{string};
+ghost use Rattle.serde_json.specs.Data.{Data, string};
 ghost use Rattle.serde_json.specs.Read.{read};
 ghost use Rattle.serde_json.specs.View.{members_view, view};
 ghost use Rattle.rec_forms.specs.Gives.{GivesBy};
@@ -17,7 +17,7 @@ use std::alloc::{AllocError, Global};
 /// `AllocError` if memory runs out.
 pub fn value_of_text(alloc: Global, text: &str) -> Result<Value, AllocError>
     requires { read text.now ≢ None }
-    ensures { IfOk result (λ v. read text.now ≡ Some (view v)) }
+    ensures { (d : Data) → read text.now ≡ Some d → IfOk result (λ v. view v ≡ d) }
 {
     match parse_value(alloc, text) {
         Ok(value) => Ok(value),

@@ -1,14 +1,9 @@
 use Rattle.std.proofs.Common.{◌≡◌, Some, ap, sym, ◌∙◌}
-use Rattle.serde_json.specs.Data.{Data}
 use Rattle.serde_json.specs.Read.{read}
-use Rattle.serde_json.specs.View.{view}
 use Rattle.rec_forms.proofs.ReadBack.{written_back}
 use Rattle.rec_codec.proofs.event.value_from.Goals as goal
 use Rattle.rec_codec.specs.EventFormLaws.{event_writable}
 use Rattle.rec_codec.specs.EventForms.{event_value}
-
-some_same : (d e : Data) → Some d ≡ Some e → d ≡ e
-some_same d e h = cc h
 
 pub value_of_text-requires : goal.value_of_text-requires
 value_of_text-requires g c =
@@ -28,4 +23,4 @@ returns-clause-written g c =
     let writable = event_writable form.output_well_formed form.output_levels form.output_value g.met.S.OutputForm.output_writable event write.known in
     let back = written_back _ c.new-text.ensures write.written c.into_text-text.ensures.compact writable g.met.S.OutputForm.output_shallow in
     let is : read c.deref.result.now ≡ Some (event_value form.output_value event) = ap read c.deref.ensures ∙ back in
-    (some_same (view c.in_ok-value.value) (event_value form.output_value event) (sym c.in_ok-value.ensures ∙ is), write.loaded)
+    (c.in_ok-value.ensures _ is, write.loaded)

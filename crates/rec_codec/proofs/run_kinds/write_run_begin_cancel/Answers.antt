@@ -8,5 +8,5 @@ returns-clause-written c =
       c.in-RunBeginCancel.is,
       c.in_ok-write_running.ensures.written,
       c.in_ok-write_field.ensures.written,
-      c.in_ok-write_head.ensures.written,
+      c.in_ok-write_elapsed_and_kind.ensures.written,
     ) refl

@@ -7,5 +7,5 @@ returns-clause-written c =
     rw (
       c.in-RunContinued.is,
       c.in_ok-write_running.ensures.written,
-      c.in_ok-write_head.ensures.written,
+      c.in_ok-write_elapsed_and_kind.ensures.written,
     ) refl

@@ -10,10 +10,10 @@ returns-clause-written c =
       c.in_ok-write_optional.ensures.written,
       c.in_ok-write_field-3.ensures.written,
       c.in_ok-write_field-2.ensures.written,
-      c.in_ok-write_head.ensures.written,
+      c.in_ok-write_elapsed_and_kind.ensures.written,
       c.in_ok-write_field.ensures.written,
     ) refl
 
 pub returns-clause-known : goal.returns-clause-known
 returns-clause-known c =
-    rw c.in-RunStarted.is (c.in_ok-write_field-4.ensures.known, c.in_ok-write_head.ensures.known, (c.in_ok-write_field-3.ensures.known, c.in_ok-write_field-2.ensures.known, c.in_ok-write_field.ensures.known, c.in_ok-write_optional.ensures.known))
+    rw c.in-RunStarted.is (c.in_ok-write_field-4.ensures.known, c.in_ok-write_elapsed_and_kind.ensures.known, (c.in_ok-write_field-3.ensures.known, c.in_ok-write_field-2.ensures.known, c.in_ok-write_field.ensures.known, c.in_ok-write_optional.ensures.known))

@@ -8,5 +8,5 @@ returns-clause-written c =
       c.in-StressSubRunStarted.is,
       c.in_ok-write_field-2.ensures.written,
       c.in_ok-write_field.ensures.written,
-      c.in_ok-write_head.ensures.written,
+      c.in_ok-write_elapsed_and_kind.ensures.written,
     ) refl

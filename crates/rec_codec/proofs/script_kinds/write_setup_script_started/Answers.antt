@@ -10,11 +10,11 @@ returns-clause-written c =
       c.in_ok-write_field-2.ensures.written,
       c.in_ok-write_field.ensures.written,
       c.in_ok-string_field.ensures,
-      c.in_ok-write_args.ensures.written,
+      c.in_ok-write_args_to_index.ensures.written,
     ) refl
 
 pub returns-clause-known : goal.returns-clause-known
 returns-clause-known c =
-    let args = c.in_ok-write_args.ensures.known in
+    let args = c.in_ok-write_args_to_index.ensures.known in
     let script = c.in_ok-write_script.ensures.known in
     rw c.in-SetupScriptStarted.is (script.2, args.1, (script.1, args.2, script.3, script.0, c.in_ok-write_field-2.ensures.known, args.0))

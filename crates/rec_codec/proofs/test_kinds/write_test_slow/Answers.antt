@@ -10,10 +10,10 @@ returns-clause-written c =
       c.in_ok-write_test.ensures.written,
       c.in_ok-write_field-2.ensures.written,
       c.in_ok-write_field.ensures.written,
-      c.in_ok-write_head.ensures.written,
+      c.in_ok-write_elapsed_and_kind.ensures.written,
     ) refl
 
 pub returns-clause-known : goal.returns-clause-known
 returns-clause-known c =
     let test = c.in_ok-write_test.ensures.known in
-    rw c.in-TestSlow.is (test.2, c.in_ok-write_head.ensures.known, (test.0, test.1, c.in_ok-write_field.ensures.known, c.in_ok-write_field-2.ensures.known))
+    rw c.in-TestSlow.is (test.2, c.in_ok-write_elapsed_and_kind.ensures.known, (test.0, test.1, c.in_ok-write_field.ensures.known, c.in_ok-write_field-2.ensures.known))

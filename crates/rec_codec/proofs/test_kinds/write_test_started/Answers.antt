@@ -9,7 +9,7 @@ returns-clause-written c =
       c.in_ok-write_test.ensures.written,
       c.in_ok-write_field-4.ensures.written,
       c.in_ok-write_field-3.ensures.written,
-      c.in_ok-write_head.ensures.written,
+      c.in_ok-write_elapsed_and_kind.ensures.written,
       c.in_ok-write_field-2.ensures.written,
       c.in_ok-write_field.ensures.written,
     ) refl
@@ -17,4 +17,4 @@ returns-clause-written c =
 pub returns-clause-known : goal.returns-clause-known
 returns-clause-known c =
     let test = c.in_ok-write_test.ensures.known in
-    rw c.in-TestStarted.is (test.2, c.in_ok-write_head.ensures.known, (test.0, test.1, c.in_ok-write_field-4.ensures.known, c.in_ok-write_field-2.ensures.known, c.in_ok-write_field-3.ensures.known, c.in_ok-write_field.ensures.known))
+    rw c.in-TestStarted.is (test.2, c.in_ok-write_elapsed_and_kind.ensures.known, (test.0, test.1, c.in_ok-write_field-4.ensures.known, c.in_ok-write_field-2.ensures.known, c.in_ok-write_field-3.ensures.known, c.in_ok-write_field.ensures.known))
