@@ -1,6 +1,6 @@
 -- The trace of a session's events.
 use Rattle.std.specs.declared.alloc.Global.{Global}
-use Rattle.std.specs.Prelude.{◌≡◌, ◌⊎◌, List, ℕ, map, Option, None, Some, option_map, Result, Ok, Err, String, string_bytes}
+use Rattle.std.specs.Prelude.{◌≡◌, ◌⊎◌, List, ℕ, map, Option, None, Some, option_map, Result, Ok, Err, Vec}
 use Rattle.semver.specs.Parse.{Parts}
 use Rattle.rec_format.specs.declared.head.SessionHead.{SessionHead}
 use Rattle.rec_codec.specs.Event.{LiveEvent}
@@ -35,6 +35,6 @@ abbrev pub IsTraceOf : ChromeTraceMessageFormat → ChromeTraceGroupBy → Parts
 IsTraceOf format g version events t = IsTracedOr format g version events t.trace t.refusal
 
 -- the text of the trace of these events is answered, or why there is none, or memory ran out
-abbrev pub AnswersTrace : ChromeTraceGroupBy → List PlainEvent → List ℕ → Result (String Global) RecordExportError → Type 0
-AnswersTrace g events text (Ok t) = (events_refusal g events ≡ None) × (string_bytes t ≡ text)
+abbrev pub AnswersTrace : ChromeTraceGroupBy → List PlainEvent → List ℕ → Result (Vec ℕ Global) RecordExportError → Type 0
+AnswersTrace g events text (Ok t) = (events_refusal g events ≡ None) × (t.items ≡ text)
 AnswersTrace g events text (Err e) = (e ≡ OutOfMemory) ⊎ (option_map trace_fault (events_refusal g events) ≡ Some e)

@@ -1,6 +1,6 @@
 //! The bundle and the trace, into their sinks.
 ghost use Rattle.std.specs.Io.KnownBytes.{Appends};
-ghost use Rattle.std.specs.Prelude.{OnOk, IfErr, string_bytes};
+ghost use Rattle.std.specs.Prelude.{OnOk, IfErr};
 ghost use Rattle.rec_export.specs.Export.{Undelivered};
 ghost use Rattle.rec_export.specs.Prepared.{prepared_bundle};
 
@@ -21,15 +21,15 @@ pub fn deliver<B: Sink, T: Sink>(
     trace: &mut T,
 ) -> Result<(), RecordExportError>
     ensures ok { OnOk result (Appends (B.taken bundle.old) (B.taken bundle.new) (prepared_bundle prepared.now)
-        × Appends (T.taken trace.old) (T.taken trace.new) (string_bytes prepared.now.trace)) }
+        × Appends (T.taken trace.old) (T.taken trace.new) prepared.now.trace.items) }
     ensures err { IfErr result (Undelivered B.taken B.faults T.taken T.faults bundle.old bundle.new trace.old trace.new
-        (prepared_bundle prepared.now) (string_bytes prepared.now.trace)) }
+        (prepared_bundle prepared.now) prepared.now.trace.items) }
 {
     let log = prepared.log.bytes();
     if write_recorded_bundle(bundle, &prepared.manifest, log, &prepared.store).is_err() {
         return Err(RecordExportError::BundleFault);
     }
-    if write_all(trace, prepared.trace.as_bytes()).is_err() {
+    if write_all(trace, &prepared.trace).is_err() {
         return Err(RecordExportError::TraceFault);
     }
     Ok(())

@@ -1,6 +1,6 @@
 //! The judging of a session, and what is exported of it, in memory.
 ghost use Rattle.std.specs.Option.{option_or};
-ghost use Rattle.std.specs.Prelude.{◌≡◌, ◌⊎◌, ◌<◌, ◌^◌, [], length, map, Some, None, IfOk, IfErr, OnOk, string_bytes, List, ℕ};
+ghost use Rattle.std.specs.Prelude.{◌≡◌, ◌⊎◌, ◌<◌, ◌^◌, [], length, map, Some, None, IfOk, IfErr, OnOk, List, ℕ};
 ghost use Rattle.serde_json.specs.Written.{compact_text};
 ghost use Rattle.rec_container.specs.Container.{spell};
 ghost use Rattle.rec_format.specs.HeadForms.{IsHead};
@@ -42,8 +42,8 @@ pub struct Prepared {
     pub log: GrowingSink,
     /// The writer of the store, with all its entries.
     pub store: ContainerWriter<DiscardingSink>,
-    /// The text of the trace.
-    pub trace: String,
+    /// The text of the trace, in UTF-8.
+    pub trace: Vec<u8>,
     /// What is counted of all this.
     pub exported: Exported,
 }
@@ -60,9 +60,9 @@ pub fn prepare<N: OutputNamer>(
     session: &[u8],
 ) -> Result<Prepared, RecordExportError>
     ensures texts { IfOk result (λ p.
-        AreOf (N.number namer.now) settings.now session.now (prepared_bundle p) (string_bytes p.trace)) }
+        AreOf (N.number namer.now) settings.now session.now (prepared_bundle p) p.trace.items) }
     ensures counts { IfOk result (λ p. CountsOf (N.number namer.now) settings.now.max_output session.now
-        (prepared_bundle p) (string_bytes p.trace) p.exported) }
+        (prepared_bundle p) p.trace.items p.exported) }
     ensures err { IfErr result (λ e. (e ≡ OutOfMemory)
         ⊎ (session_refusal (N.number namer.now) settings.now session.now ≡ Some e)) }
 {
@@ -86,7 +86,7 @@ fn prepare_run<N: OutputNamer>(
         ≡ run_bundle (N.number namer.now) settings.now.max_output head.now (events_of lines.entry)) }
     ensures reads { IsHead head.now → IfOk result (λ p. IsReading (prepared_bundle p)
         (recorded (N.number namer.now) settings.now.max_output head.now (events_of lines.entry))) }
-    ensures trace { IfOk result (λ p. string_bytes p.trace
+    ensures trace { IfOk result (λ p. p.trace.items
         ≡ run_trace settings.now head.now (events_of lines.entry)) }
     ensures accepted { OnOk result (events_refusal settings.now.group_by (map plain (events_of lines.entry)) ≡ None) }
     ensures valid { OnOk result (refusal_after (N.number namer.now) settings.now (Some head.now) lines.entry ≡ None) }
@@ -94,7 +94,7 @@ fn prepare_run<N: OutputNamer>(
     ensures outputs { IfOk result (λ p. p.exported.outputs
         ≡ length (outputs_stored (N.number namer.now) settings.now.max_output (events_of lines.entry))) }
     ensures bundle_bytes { IfOk result (λ p. p.exported.bundle_bytes ≡ length (prepared_bundle p)) }
-    ensures trace_bytes { IfOk result (λ p. p.exported.trace_bytes ≡ length (string_bytes p.trace)) }
+    ensures trace_bytes { IfOk result (λ p. p.exported.trace_bytes ≡ length p.trace.items) }
     ensures err { IfErr result (λ e. (e ≡ OutOfMemory)
         ⊎ (refusal_after (N.number namer.now) settings.now (Some head.now) lines.entry ≡ Some e)) }
 {
@@ -115,12 +115,12 @@ fn prepare_run<N: OutputNamer>(
             return Err(error);
         }
     };
-    let trace = trace.into_text(alloc)?;
+    let trace = trace.into_bytes(alloc)?;
     let exported = Exported {
         events: sizes.log.entries,
         outputs: sizes.store.entries - metadata_count(head),
         bundle_bytes: manifest.bundle_bytes,
-        trace_bytes: trace.len() as u64,
+        trace_bytes: trace.as_slice().len() as u64,
     };
     Ok(Prepared {
         manifest: manifest.text,

@@ -63,19 +63,19 @@ impl SessionTrace {
         }
     }
 
-    /// Writes the text of the trace.
+    /// Writes the text of the trace, in UTF-8.
     ///
     /// # Errors
     ///
     /// Why there is no trace, or `OutOfMemory`.
-    pub fn into_text(self, alloc: Global) -> Result<String, RecordExportError>
+    pub fn into_bytes(self, alloc: Global) -> Result<Vec<u8>, RecordExportError>
         ensures { (format : ChromeTraceMessageFormat) (g : ChromeTraceGroupBy) (version : Parts) (events : List PlainEvent)
             → IsTraceOf format g version events self
             → AnswersTrace g events (trace_text format g version events) result }
     {
         let SessionTrace { trace, refusal } = self;
         match refusal {
-            None => Ok(trace.into_text(alloc)?),
+            None => Ok(trace.into_bytes(alloc)?),
             Some(refusal) => Err(RecordExportError::from(refusal)),
         }
     }

@@ -5,7 +5,6 @@ ghost use Rattle.uuid.specs.Text.{parsed};
 use crate::{Form, FromValueError, Held, ItemForm};
 use rec_events::{ReportUuid, RustBinaryId, ScriptId, TestCaseName, Text, Version, VersionError};
 use rec_json::{JsonText, Node};
-use serde_json::Value;
 use std::alloc::{AllocError, Global};
 use uuid::Uuid;
 
@@ -35,10 +34,6 @@ impl Form for RustBinaryId {
 
     fn write(&self, _alloc: Global, text: &mut JsonText) -> Result<(), AllocError> {
         text.string(self.as_str())
-    }
-
-    fn to_value(&self, alloc: Global) -> Result<Value, AllocError> {
-        Value::try_from_str(alloc, self.as_str())
     }
 
     fn from_node(alloc: Global, node: &Node<'_>) -> Result<RustBinaryId, FromValueError> {
@@ -73,10 +68,6 @@ impl Form for TestCaseName {
 
     fn write(&self, _alloc: Global, text: &mut JsonText) -> Result<(), AllocError> {
         text.string(self.as_str())
-    }
-
-    fn to_value(&self, alloc: Global) -> Result<Value, AllocError> {
-        Value::try_from_str(alloc, self.as_str())
     }
 
     fn from_node(alloc: Global, node: &Node<'_>) -> Result<TestCaseName, FromValueError> {
@@ -118,10 +109,6 @@ impl Form for ScriptId {
 
     fn write(&self, _alloc: Global, text: &mut JsonText) -> Result<(), AllocError> {
         text.string(self.as_str())
-    }
-
-    fn to_value(&self, alloc: Global) -> Result<Value, AllocError> {
-        Value::try_from_str(alloc, self.as_str())
     }
 
     fn from_node(alloc: Global, node: &Node<'_>) -> Result<ScriptId, FromValueError> {

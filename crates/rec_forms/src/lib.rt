@@ -39,4 +39,4 @@ pub use laws::{
     read_items_are_well_formed, well_formed_items_read_back, writable_values_read_back,
 };
 pub use text_form::{parse_node, read_text, write_text};
-pub use values::{Object, put_field, put_optional, put_text, value_of_text};
+pub use values::value_of_text;

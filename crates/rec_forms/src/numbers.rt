@@ -5,7 +5,6 @@ ghost use Rattle.std.specs.Prelude.{◌≡◌, ◌^◌, ◌<◌, ℕ, FitsSigned
 use crate::{Form, FromValueError, Held};
 use rec_events::NonZeroCount;
 use rec_json::{JsonText, Node};
-use serde_json::Value;
 use std::alloc::{AllocError, Global};
 
 impl Form for u32 {
@@ -34,10 +33,6 @@ impl Form for u32 {
 
     fn write(&self, _alloc: Global, text: &mut JsonText) -> Result<(), AllocError> {
         text.natural(u64::from(*self))
-    }
-
-    fn to_value(&self, _alloc: Global) -> Result<Value, AllocError> {
-        Ok(Value::from(*self))
     }
 
     fn from_node(_alloc: Global, node: &Node<'_>) -> Result<u32, FromValueError> {
@@ -81,10 +76,6 @@ impl Form for u64 {
         text.natural(*self)
     }
 
-    fn to_value(&self, _alloc: Global) -> Result<Value, AllocError> {
-        Ok(Value::from(*self))
-    }
-
     fn from_node(_alloc: Global, node: &Node<'_>) -> Result<u64, FromValueError> {
         match node.as_u64() {
             Some(n) => Ok(n),
@@ -126,10 +117,6 @@ impl Form for usize {
         text.natural(*self as u64)
     }
 
-    fn to_value(&self, _alloc: Global) -> Result<Value, AllocError> {
-        Ok(Value::from(*self))
-    }
-
     fn from_node(_alloc: Global, node: &Node<'_>) -> Result<usize, FromValueError> {
         match node.as_u64() {
             Some(n) => Ok(n as usize),
@@ -169,10 +156,6 @@ impl Form for i64 {
 
     fn write(&self, _alloc: Global, text: &mut JsonText) -> Result<(), AllocError> {
         text.integer(*self)
-    }
-
-    fn to_value(&self, _alloc: Global) -> Result<Value, AllocError> {
-        Ok(Value::from(*self))
     }
 
     fn from_node(_alloc: Global, node: &Node<'_>) -> Result<i64, FromValueError> {
@@ -217,10 +200,6 @@ impl Form for i32 {
         text.integer(i64::from(*self))
     }
 
-    fn to_value(&self, _alloc: Global) -> Result<Value, AllocError> {
-        Ok(Value::from(*self))
-    }
-
     fn from_node(_alloc: Global, node: &Node<'_>) -> Result<i32, FromValueError> {
         match node.as_i64() {
             Some(n) if -0x8000_0000 <= n && n <= 0x7fff_ffff => Ok(n as i32),
@@ -260,10 +239,6 @@ impl Form for bool {
 
     fn write(&self, _alloc: Global, text: &mut JsonText) -> Result<(), AllocError> {
         text.boolean(*self)
-    }
-
-    fn to_value(&self, _alloc: Global) -> Result<Value, AllocError> {
-        Ok(Value::from(*self))
     }
 
     fn from_node(_alloc: Global, node: &Node<'_>) -> Result<bool, FromValueError> {

@@ -5,7 +5,6 @@ ghost use Rattle.rec_forms.specs.Shape.{text_of};
 use crate::{EntryForm, Form, FromValueError, Held, ItemForm};
 use rec_events::Text;
 use rec_json::{JsonText, Node};
-use serde_json::Value;
 use std::alloc::{AllocError, Global};
 
 impl Form for Text {
@@ -32,10 +31,6 @@ impl Form for Text {
 
     fn write(&self, _alloc: Global, text: &mut JsonText) -> Result<(), AllocError> {
         text.string(self.as_str())
-    }
-
-    fn to_value(&self, alloc: Global) -> Result<Value, AllocError> {
-        Value::try_from_str(alloc, self.as_str())
     }
 
     fn from_node(alloc: Global, node: &Node<'_>) -> Result<Text, FromValueError> {

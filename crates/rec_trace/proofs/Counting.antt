@@ -5,7 +5,7 @@ use Rattle.std.proofs.lemmas.List.Sums.{length-filter}
 use Rattle.std.proofs.lemmas.Map.Entries.{length-keys_of, lookup-filter-values, option_filter}
 use Rattle.std.proofs.lemmas.Map.Made.{IsDistinct-keys_filter, is_some-lookup}
 use Rattle.std.specs.Cmp.{IsEquivalence}
-use Rattle.std.specs.List.{IsDistinct, count_by, list_any}
+use Rattle.std.specs.List.{IsDistinct, count_by}
 use Rattle.std.specs.Map.{keys_of, lookup, values_of}
 use Rattle.rec_trace.specs.Held.{IsCountOf}
 
@@ -42,6 +42,16 @@ counted eq p es test count laws distinct passes is =
       each = λ k. sym (is_some-lookup (eq k) kept) ∙ ap is_some (lookup-filter-values laws p k es distinct) ∙ passes k;
       many = is ∙ sym (length-filter p (values_of es)) ∙ values-pass p es ∙ sym (length-keys_of kept);
     }
+
+-- the keys of a map are so many
+pub counted-all : {K X : Type 0} (eq : K → K → Bool) (es : List (K × X)) (test : K → Bool) (count : ℕ) → IsDistinct eq (keys_of es)
+    → ((k : K) → is_some (lookup (eq k) es) ≡ test k) → count ≡ length es → IsCountOf eq test count
+counted-all eq es test count distinct passes is = record {
+  listed = keys_of es;
+  once = distinct;
+  each = λ k. sym (is_some-lookup (eq k) es) ∙ passes k;
+  many = is ∙ sym (length-keys_of es);
+}
 
 -- what is added up step by step, each step as far as a number goes, is the whole sum as far as it goes
 pub added-up : (a b c d x y z most : ℕ) → x ≡ min (b + c) most → y ≡ min (a + x) most → z ≡ min (y + d) most → z ≡ min (a + b + c + d) most

@@ -51,12 +51,6 @@ rows_at = λ i a b. same_row a b i
 pub rows-once : (m : BTreeMap Row Bool) → IsOrdered rows.cmp-value.it m → IsDistinct row_eq (keys_of m.entries)
 rows-once m h = subst (λ eq. IsDistinct eq (keys_of m.entries)) rows_at (IsDistinct-from_sorted rows.cmp-value.it (keys_of m.entries) h)
 
--- a row whose entry says so was named
-pub row-passes : (o : Option Bool) → is_some (option_filter (λ b. b) o) ≡ unwrap_or o false
-row-passes None = refl
-row-passes (Some true) = refl
-row-passes (Some false) = refl
-
 -- what a map has at a row
 row-get : (m : BTreeMap Row Bool) (r : Row) → get_by (rows.cmp-value.it r) m ≡ lookup (row_eq r) m.entries
 row-get m r = ap (λ f. lookup (f r) m.entries) rows_at
@@ -65,28 +59,30 @@ row-get m r = ap (λ f. lookup (f r) m.entries) rows_at
 pub row-absent : (m : BTreeMap Row Bool) (r : Row) (b : Bool) → b ≡ is_some (get_by (rows.cmp-value.it r) m) → b ≡ false → lookup (row_eq r) m.entries ≡ None
 row-absent m r b is h = sym (row-get m r) ∙ none_from (get_by (rows.cmp-value.it r) m) (sym is ∙ h)
 
-module _ (r : Row) (m n : BTreeMap Row Bool) (b : Bool) (changed : UpdatesBy rows.cmp-value.it (rows.cmp-value.it r) m n (Some b)) where
-  row-updates : (q : Row) → lookup (row_eq q) n.entries ≡ cond (row_eq r q) (Some b) (lookup (row_eq q) m.entries)
-  row-updates q =
-      sym (row-get n q)
-      ∙ changed.0 q
-      ∙ ap (λ x. cond x (Some b) (get_by (rows.cmp-value.it q) m)) (same_row r q)
-      ∙ ap (cond (row_eq r q) (Some b)) (row-get m q)
+-- what a map has at a row after a change at one
+pub row-updates : (r : Row) (m n : BTreeMap Row Bool) (w : Option Bool) → UpdatesBy rows.cmp-value.it (rows.cmp-value.it r) m n w
+    → (q : Row) → lookup (row_eq q) n.entries ≡ cond (row_eq r q) w (lookup (row_eq q) m.entries)
+row-updates r m n w changed q =
+    sym (row-get n q)
+    ∙ changed.0 q
+    ∙ ap (λ x. cond x w (get_by (rows.cmp-value.it q) m)) (same_row r q)
+    ∙ ap (cond (row_eq r q) w) (row-get m q)
 
+module _ (r : Row) (m n : BTreeMap Row Bool) (b : Bool) (changed : UpdatesBy rows.cmp-value.it (rows.cmp-value.it r) m n (Some b)) where
   -- no entry is lost
   pub rows-kept : (q : Row) → IsSome (lookup (row_eq q) m.entries) → IsSome (lookup (row_eq q) n.entries)
-  rows-kept q some = subst IsSome (sym (row-updates q)) (some-cond (row_eq r q) b (lookup (row_eq q) m.entries) some)
+  rows-kept q some = subst IsSome (sym (row-updates r m n (Some b) changed q)) (some-cond (row_eq r q) b (lookup (row_eq q) m.entries) some)
 
   -- a row that gets an entry isn't named by that
   pub row-unnamed : lookup (row_eq r) m.entries ≡ None → b ≡ false → (q : Row) → unwrap_or (lookup (row_eq q) n.entries) false ≡ unwrap_or (lookup (row_eq q) m.entries) false
-  row-unnamed none is q = ap (λ o. unwrap_or o false) (row-updates q) ∙ go (row_eq r q) refl
+  row-unnamed none is q = ap (λ o. unwrap_or o false) (row-updates r m n (Some b) changed q) ∙ go (row_eq r q) refl
     where
       go : (x : Bool) → row_eq r q ≡ x → unwrap_or (cond x (Some b) (lookup (row_eq q) m.entries)) false ≡ unwrap_or (lookup (row_eq q) m.entries) false
       go true h = is ∙ sym (ap (λ o. unwrap_or o false) (subst (λ v. lookup (row_eq v) m.entries ≡ None) (row_eq-true r q h) none))
       go false h = refl
 
   pub row-named : b ≡ true → (q : Row) → unwrap_or (lookup (row_eq q) n.entries) false ≡ (row_eq r q || unwrap_or (lookup (row_eq q) m.entries) false)
-  row-named is q = ap (λ o. unwrap_or o false) (row-updates q) ∙ go (row_eq r q)
+  row-named is q = ap (λ o. unwrap_or o false) (row-updates r m n (Some b) changed q) ∙ go (row_eq r q)
     where
       go : (x : Bool) → unwrap_or (cond x (Some b) (lookup (row_eq q) m.entries)) false ≡ (x || unwrap_or (lookup (row_eq q) m.entries) false)
       go true = is
@@ -96,8 +92,7 @@ module _ (r : Row) (m n : BTreeMap Row Bool) (b : Bool) (changed : UpdatesBy row
 pub row-forgotten : (r : Row) (m n : BTreeMap Row Bool) → UpdatesBy rows.cmp-value.it (rows.cmp-value.it r) m n None → unwrap_or (lookup (row_eq r) m.entries) false ≡ false
     → (q : Row) → unwrap_or (lookup (row_eq q) n.entries) false ≡ unwrap_or (lookup (row_eq q) m.entries) false
 row-forgotten r m n changed unnamed q =
-    ap (λ o. unwrap_or o false)
-    (sym (row-get n q) ∙ changed.0 q ∙ ap (λ x. cond x None (get_by (rows.cmp-value.it q) m)) (same_row r q) ∙ ap (cond (row_eq r q) None) (row-get m q))
+    ap (λ o. unwrap_or o false) (row-updates r m n None changed q)
     ∙ go (row_eq r q) refl
   where
     go : (x : Bool) → row_eq r q ≡ x → unwrap_or (cond x None (lookup (row_eq q) m.entries)) false ≡ unwrap_or (lookup (row_eq q) m.entries) false
@@ -134,7 +129,7 @@ read f m t = option_and_then f (lookup (test_eq t) m.entries)
 
 module _ (t : OwnedTestInstanceId) (m n : BTreeMap OwnedTestInstanceId TestNotes) (w : Option TestNotes)
     (changed : UpdatesBy tests.cmp-value.it (tests.cmp-value.it t) m n w) where
-  test-updates : (q : OwnedTestInstanceId) → lookup (test_eq q) n.entries ≡ cond (test_eq t q) w (lookup (test_eq q) m.entries)
+  pub test-updates : (q : OwnedTestInstanceId) → lookup (test_eq q) n.entries ≡ cond (test_eq t q) w (lookup (test_eq q) m.entries)
   test-updates q =
       sym (test-get n q)
       ∙ changed.0 q

@@ -31,31 +31,28 @@ module _ (format : ChromeTraceMessageFormat) (g : ChromeTraceGroupBy) (version :
       ∙ ap all_events (sym (drawn-push version g events event))
 
   -- an event that was drawn is printed
-  pub printed : (mid new : PrintedTrace) (values : List Data) (r : Result ⊤ ChromeTraceError) → mid.message_format ≡ old.message_format → mid.printed ≡ old.printed
+  pub printed : (mid new : PrintedTrace) (values : List Data) (r : Result ⊤ ChromeTraceError) → mid.printed ≡ old.printed
       → next_refusal old.tracer.tracker (seen_by old.tracer event) ≡ None → values ≡ draws old.tracer event → Prints values old.tracer event mid new r → Traces format g version events event new r
-  printed mid new values (Ok u) format_is printed_is none are h = record {
+  printed mid new values (Ok u) printed_is none are h = record {
     tracer = advanced g version events event old.tracer has.tracer new.tracer none h.0;
-    format_kept = h.1.0 ∙ format_is ∙ has.format_kept;
-    kept = subst (λ ds. AreKept ds new.printed) (ap (λ ds. all_events (trace_drawn version g events) ++ ds) are ∙ all-drawn)
-        (h.1.1 (all_events (trace_drawn version g events)) (subst (AreKept (all_events (trace_drawn version g events))) (sym printed_is) has.kept));
+    kept = subst (λ ds. AreKept format ds new.printed) (ap (λ ds. all_events (trace_drawn version g events) ++ ds) are ∙ all-drawn)
+        (h.1 format (all_events (trace_drawn version g events)) (subst (AreKept format (all_events (trace_drawn version g events))) (sym printed_is) has.kept));
   }
-  printed mid new values (Err e) format_is printed_is none are h = (
+  printed mid new values (Err e) printed_is none are h = (
     inl h.0,
     record {
       tracer = stays g version events old.tracer new.tracer has.tracer h.1.0;
-      format_kept = h.1.1.0 ∙ format_is ∙ has.format_kept;
-      kept = h.1.1.1 (all_events (trace_drawn version g events)) (subst (AreKept (all_events (trace_drawn version g events))) (sym printed_is) has.kept);
+      kept = h.1.1 format (all_events (trace_drawn version g events)) (subst (AreKept format (all_events (trace_drawn version g events))) (sym printed_is) has.kept);
     },
   )
 
   -- an event that was not drawn is refused, or memory ran out, and what was traced stays
-  pub not-drawn : (new : PrintedTrace) (e : ChromeTraceError) → new.message_format ≡ old.message_format → new.printed ≡ old.printed → StaysSame old.tracer new.tracer
+  pub not-drawn : (new : PrintedTrace) (e : ChromeTraceError) → new.printed ≡ old.printed → StaysSame old.tracer new.tracer
       → ((e ≡ OutOfMemory) ⊎ (next_refusal old.tracer.tracker (seen_by old.tracer event) ≡ Some e)) → Traces format g version events event new (Err e)
-  not-drawn new e format_is printed_is same answer = (
+  not-drawn new e printed_is same answer = (
     elim answer [ inl memory ↦ inl memory | inr cause ↦ inr (refusal-is g version events event old.tracer has.tracer ∙ cause) ],
     record {
       tracer = stays g version events old.tracer new.tracer has.tracer same;
-      format_kept = format_is ∙ has.format_kept;
-      kept = subst (AreKept (all_events (trace_drawn version g events))) (sym printed_is) has.kept;
+      kept = subst (AreKept format (all_events (trace_drawn version g events))) (sym printed_is) has.kept;
     },
   )

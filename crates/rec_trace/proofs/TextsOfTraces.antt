@@ -4,23 +4,22 @@ use Rattle.semver.specs.Parse.{Parts}
 use Rattle.serde_json.specs.Data.{Data}
 use Rattle.rec_spans.specs.declared.settings.ChromeTraceGroupBy.{ChromeTraceGroupBy}
 use Rattle.rec_spans.specs.Plain.{PlainEvent}
-use Rattle.rec_trace.proofs.WholeDrawn.{trace_events_whole}
 use Rattle.rec_trace.specs.declared.printed.Printed.{Printed}
 use Rattle.rec_trace.specs.declared.run_start.RunStart.{RunStart}
 use Rattle.rec_trace.specs.declared.settings.ChromeTraceMessageFormat.{ChromeTraceMessageFormat}
 use Rattle.rec_trace.specs.Drawn.{all_events}
 use Rattle.rec_trace.specs.Histories.{known_of, trace_drawn}
-use Rattle.rec_trace.specs.Kept.{AreKept, EventsAreWhole}
+use Rattle.rec_trace.specs.Kept.{AreKept}
 use Rattle.rec_trace.specs.Texts.{other_data, text_in, trace_value}
 use Rattle.rec_trace.specs.Traces.{trace_text}
 
 pub trace-written : (format : ChromeTraceMessageFormat) (g : ChromeTraceGroupBy) (version : Parts) (events : List PlainEvent)
-    (printed : Printed) (own_format : ChromeTraceMessageFormat) (own : Parts) (run : Option RunStart) (s : List ℕ) → own_format ≡ format → own ≡ version → run ≡ (known_of g events).last_run
-    → ((es : List Data) → AreKept es printed → EventsAreWhole es → s ≡ text_in own_format (trace_value (other_data own run) es))
-    → AreKept (all_events (trace_drawn version g events)) printed → s ≡ trace_text format g version events
+    (printed : Printed) (own : Parts) (run : Option RunStart) (s : List ℕ) → own ≡ version → run ≡ (known_of g events).last_run
+    → ((f : ChromeTraceMessageFormat) (es : List Data) → AreKept f es printed → s ≡ text_in f (trace_value (other_data own run) es))
+    → AreKept format (all_events (trace_drawn version g events)) printed → s ≡ trace_text format g version events
 unfolding trace_text
-trace-written format g version events printed own_format own run s format_is own_is run_is written kept =
+trace-written format g version events printed own run s own_is run_is written kept =
     let es = all_events (trace_drawn version g events) in
-    written es kept (trace_events_whole version g events) ∙ ap (λ f. text_in f (trace_value (other_data own run) es)) format_is
+    written format es kept
     ∙ ap (λ v. text_in format (trace_value (other_data v run) es)) own_is
     ∙ ap (λ r. text_in format (trace_value (other_data version r) es)) run_is

@@ -28,6 +28,7 @@ stays g version events old new has same = record {
   version_kept = same.version ∙ has.version_kept;
   stands = same.stands ∙ has.stands;
   knows = same-is same.knows ∙ has.knows;
+  each_says = same.each_says has.each_says;
   accepted = has.accepted;
 }
 
@@ -77,5 +78,6 @@ module _ (g : ChromeTraceGroupBy) (version : Parts) (events : List PlainEvent) (
         ∙ ap (next_state input) has.stands
         ∙ sym (ap (λ h. state_after (after [] h)) (history-push g events event) ∙ state-push (history g events) input);
     knows = same-is moves.knows ∙ all-known;
+    each_says = moves.each_says has.each_says;
     accepted = refusal-is ∙ none;
   }

@@ -3,6 +3,7 @@ pub mod Building
 pub mod Converting
 pub mod Drawing
 pub mod Drawn
+pub mod Entries
 pub mod Groupings
 pub mod Held
 pub mod Histories

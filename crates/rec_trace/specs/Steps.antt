@@ -9,6 +9,7 @@ use Rattle.rec_spans.specs.Plain.{PlainEvent}
 use Rattle.rec_trace.specs.declared.tracer.PreparedEvent.{PreparedEvent}
 use Rattle.rec_trace.specs.declared.tracer.Tracer.{Tracer}
 use Rattle.rec_trace.specs.Drawn.{all_events}
+use Rattle.rec_trace.specs.Entries.{EachSays, EachSaysBut}
 use Rattle.rec_trace.specs.Known.{SameKnown, next_known}
 use Rattle.rec_trace.specs.KnownNews.{HasRoom, known_in, known_with}
 use Rattle.rec_trace.specs.Table.{drawn}
@@ -27,6 +28,7 @@ pub record StaysSame (old new : Tracer) : Type 0 where
   pub version : new.version ≡ old.version
   pub stands : new.tracker ≡ old.tracker
   pub knows : SameKnown (known_in new.known) (known_in old.known)
+  pub each_says : EachSays old.known → EachSays new.known
 
 -- the event was opened, its news is what it decides, and there is room for that
 pub record IsPrepared (old : Tracer) (event : PlainEvent) (new : Tracer) (p : PreparedEvent) : Type 0 where
@@ -37,6 +39,7 @@ pub record IsPrepared (old : Tracer) (event : PlainEvent) (new : Tracer) (p : Pr
   pub knows : SameKnown (known_in new.known) (known_in old.known)
   pub told : SameKnown (known_with p.news (known_in old.known)) (next_known old.tracker.next_flow (seen_by old event) event.kind (known_in old.known))
   pub has_room : HasRoom p.news new.known
+  pub each_says : EachSays old.known → EachSaysBut p.news new.known
   pub numbered : p.opened.number ≡ suc new.tracker.number
 
 -- the number of the event is the next one
@@ -49,3 +52,4 @@ pub record Advances (old : Tracer) (event : PlainEvent) (new : Tracer) : Type 0 
   pub version : new.version ≡ old.version
   pub stands : new.tracker ≡ next_state (seen_by old event) old.tracker
   pub knows : SameKnown (known_in new.known) (next_known old.tracker.next_flow (seen_by old event) event.kind (known_in old.known))
+  pub each_says : EachSays old.known → EachSays new.known

@@ -1,12 +1,12 @@
 -- What a target of trace events got.
 use Rattle.std.specs.Prelude.{◌≡◌, ◌<◌, ℕ, List, ◌++◌, length, take, map}
 use Rattle.serde_json.specs.Data.{Data}
-use Rattle.serde_json.specs.View.{view}
+use Rattle.rec_trace_events.specs.EventTexts.{event_value}
 use Rattle.rec_trace.specs.declared.vec_target.VecTarget.{VecTarget}
 
 -- a target in memory got these events
 abbrev pub AreIn : VecTarget → List Data → Type 0
-AreIn t events = map (λ e. view e.value) t.events.items ≡ events
+AreIn t events = map event_value t.events.items ≡ events
 
 module _ {T : Type 0} (holds : T → List Data → Type 0) where
   -- behind what it had, these events stand now

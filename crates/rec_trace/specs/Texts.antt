@@ -1,6 +1,8 @@
 -- The text of a trace.
-use Rattle.std.specs.Prelude.{ℕ, Bool, true, List, [], ◌∷◌, ◌++◌, length, nat_lt, Option, None, Some, codes}
-use Rattle.json.specs.Layout.{pretty}
+use Rattle.std.specs.Prelude.{ℕ, Bool, true, false, List, [], ◌∷◌, ◌++◌, length, nat_lt, Option, None, Some, codes}
+use Rattle.json.specs.Layout.{bracket, pretty, pretty_from}
+use Rattle.json.specs.Token.{string as string_token}
+use Rattle.json.specs.Token.{Token, begin_array, begin_object, key}
 use Rattle.json.specs.Tree.{json_tokens}
 use Rattle.semver.specs.Parse.{Parts}
 use Rattle.serde_json.specs.Data.{Data, array, string}
@@ -17,7 +19,7 @@ use Rattle.rec_trace.specs.declared.settings.ChromeTraceMessageFormat.{ChromeTra
 
 -- the words of a command, where there are some
 abbrev pub words_field : List ℕ → List (List ℕ) → Field
-words_field key words = given key (only (nat_lt 0 (length words)) (list_value string words))
+words_field name words = given name (only (nat_lt 0 (length words)) (list_value string words))
 
 -- the run that started last
 abbrev pub run_fields : Option RunStart → List Field
@@ -48,19 +50,38 @@ abbrev pub text_in : ChromeTraceMessageFormat → Data → List ℕ
 text_in Json d = compact_text d
 text_in JsonPretty d = pretty_text d
 
--- ---- parts of the text in one line
+-- ---- parts of the text
 
--- the texts of trace events, each after a comma where something stands before it
-abbrev pub event_texts : Bool → List Data → List ℕ
-event_texts later [] = []
-event_texts later (d ∷ ds) = comma_if later ++ (compact_text d ++ event_texts true ds)
+-- an event, as it stands in the list of a trace: over several lines it is two levels deep, with the end of the line before it
+abbrev pub event_text : ChromeTraceMessageFormat → Data → List ℕ
+event_text Json d = compact_text d
+event_text JsonPretty d = pretty_from (bracket, 2) (json_tokens (outline d))
 
--- what stands before the text of other data, between this and the events, and behind these
-abbrev pub trace_start : List ℕ
-trace_start = codes "{\"displayTimeUnit\":\"ms\",\"otherData\":"
+-- an event in a list that stands in a list
+abbrev pub nested_text : Data → List ℕ
+nested_text d = pretty (begin_array ∷ begin_array ∷ json_tokens (outline d))
 
-abbrev pub events_start : List ℕ
-events_start = codes ",\"traceEvents\":["
+-- trace events, each after a comma where something stands before it
+abbrev pub event_texts : ChromeTraceMessageFormat → Bool → List Data → List ℕ
+event_texts format later [] = []
+event_texts format later (d ∷ ds) = comma_if later ++ (event_text format d ++ event_texts format true ds)
 
-abbrev pub trace_end : List ℕ
-trace_end = codes "]}"
+-- what stands before the events in one line
+unfoldable pub compact_front : Data → List ℕ
+compact_front other = (codes "{\"displayTimeUnit\":\"ms\",\"otherData\":" ++ compact_text other) ++ codes ",\"traceEvents\":["
+
+abbrev pub front_tokens : Data → List Token
+front_tokens other =
+    begin_object ∷ key (codes "displayTimeUnit") ∷ string_token (codes "ms") ∷ key (codes "otherData")
+    ∷ (json_tokens (outline other) ++ key (codes "traceEvents") ∷ begin_array ∷ [])
+
+-- what stands before the events
+abbrev pub trace_front : ChromeTraceMessageFormat → Data → List ℕ
+trace_front Json other = compact_front other
+trace_front JsonPretty other = pretty (front_tokens other)
+
+-- what stands after them, where there are some or none
+abbrev pub trace_end : ChromeTraceMessageFormat → Bool → List ℕ
+trace_end Json has_events = codes "]}"
+trace_end JsonPretty true = codes "\n  ]\n}"
+trace_end JsonPretty false = codes "]\n}"

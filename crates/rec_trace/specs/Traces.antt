@@ -28,8 +28,7 @@ trace_text format g version events =
 -- the trace that is printed is that of these events so far, which have no cause to be refused
 pub record HasTraced (format : ChromeTraceMessageFormat) (g : ChromeTraceGroupBy) (version : Parts) (events : List PlainEvent) (t : PrintedTrace) : Type 0 where
   pub tracer : StandsFor g version events t.tracer
-  pub format_kept : t.message_format ≡ format
-  pub kept : AreKept (all_events (trace_drawn version g events)) t.printed
+  pub kept : AreKept format (all_events (trace_drawn version g events)) t.printed
 
 -- an event is traced after others; or they are refused with it, or memory runs out, and what was traced stays
 abbrev pub Traces : ChromeTraceMessageFormat → ChromeTraceGroupBy → Parts → List PlainEvent → PlainEvent → PrintedTrace → Result ⊤ ChromeTraceError → Type 0
@@ -38,9 +37,11 @@ Traces format g version events event new (Err e) = ((e ≡ OutOfMemory) ⊎ (eve
 
 -- ---- one event
 
--- what an event draws is printed behind what was, and the event is accepted after what was before; or memory runs out, and the event is let go
+-- what an event draws is printed after what was, and the event is accepted after what was before; or memory runs out, and the event is let go
 abbrev pub Prints : List Data → Tracer → PlainEvent → PrintedTrace → PrintedTrace → Result ⊤ ChromeTraceError → Type 0
 Prints drawn before event old new (Ok u) =
-    Advances before event new.tracer × ((new.message_format ≡ old.message_format) × ((kept : List Data) → AreKept kept old.printed → AreKept (kept ++ drawn) new.printed))
+    Advances before event new.tracer
+    × ((format : ChromeTraceMessageFormat) (kept : List Data) → AreKept format kept old.printed → AreKept format (kept ++ drawn) new.printed)
 Prints drawn before event old new (Err e) =
-    (e ≡ OutOfMemory) × (StaysSame before new.tracer × ((new.message_format ≡ old.message_format) × ((kept : List Data) → AreKept kept old.printed → AreKept kept new.printed)))
+    (e ≡ OutOfMemory)
+    × (StaysSame before new.tracer × ((format : ChromeTraceMessageFormat) (kept : List Data) → AreKept format kept old.printed → AreKept format kept new.printed))

@@ -2,6 +2,7 @@
 ghost use Rattle.std.specs.Prelude.{◌≡◌, List, [], map, false, IfOk};
 ghost use Rattle.semver.specs.Parse.{Parts};
 ghost use Rattle.serde_json.specs.View.{view};
+ghost use Rattle.rec_trace_events.specs.EventTexts.{event_value};
 ghost use Rattle.rec_spans.specs.declared.settings.ChromeTraceGroupBy.{ChromeTraceGroupBy};
 ghost use Rattle.rec_spans.specs.Plain.{PlainEvent, plain};
 ghost use Rattle.rec_trace.specs.Building.{HandsOn, HandsOver, Processes, TargetCause};
@@ -62,11 +63,11 @@ impl Handing {
         requires room { HasRoom drawn.prepared.news self.old.tracer.known }
         requires sound { self.old.failed ≡ false }
         ensures handed { (before : Tracer) → IsPrepared before (plain event.now) self.old.tracer drawn.prepared
-            → HandsOver T.holds (map view drawn.values.items) before (plain event.now) target.old self.new target.new result }
+            → HandsOver T.holds (map event_value drawn.events.items) before (plain event.now) target.old self.new target.new result }
         ensures cause { TargetCause (T.faults target.old) (T.faults target.new) result }
     {
-        let DrawnEvent { values, prepared } = drawn;
-        match put_all(target, values) {
+        let DrawnEvent { events, prepared } = drawn;
+        match put_all(target, events) {
             Ok(()) => {
                 self.tracer.accept(event, prepared);
                 Ok(())

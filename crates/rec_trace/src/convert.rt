@@ -63,8 +63,8 @@ where
             return Err(error);
         }
     }
-    let text = trace.into_text(alloc)?;
-    Ok(text.into_bytes())
+    let text = trace.into_bytes(alloc)?;
+    Ok(text)
 }
 
 /// Adds the trace events of an event, or answers the fault that was read in its place. The event is let go here and

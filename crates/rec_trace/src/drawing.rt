@@ -1,6 +1,6 @@
 //! Draws the trace events of an event, as the table of the trace says.
 ghost use Rattle.std.specs.Prelude.{◌≡◌, IfOk, OnOk, map};
-ghost use Rattle.serde_json.specs.View.{view};
+ghost use Rattle.rec_trace_events.specs.EventTexts.{event_value};
 ghost use Rattle.rec_spans.specs.Acts.{act_of, core_act, output_act};
 ghost use Rattle.rec_spans.specs.Judged.{IsJudged};
 ghost use Rattle.rec_spans.specs.Kinds.{trace_input};
@@ -26,9 +26,9 @@ use rec_events::{
     CoreEventKind, OutputEventKind, OutputSpec, TestEventKindSummary, TestEventSummary, Version,
 };
 use rec_spans::{ChromeTraceGroupBy, JudgedEvent, SpanTracker};
+use rec_trace_events::TraceEvent;
 use runs::{draw_run_end, draw_run_start, draw_sub_run_end, draw_sub_run_start};
 use scripts::{draw_script_end, draw_script_start, draw_slow_script};
-use serde_json::Value;
 use sight::Sight;
 use std::alloc::{AllocError, Global};
 
@@ -46,9 +46,9 @@ pub fn draw_event<S: OutputSpec>(
     known: &Known,
     judged: &JudgedEvent,
     event: &TestEventSummary<S>,
-) -> Result<Vec<Value>, AllocError>
+) -> Result<Vec<TraceEvent>, AllocError>
     requires { IsJudged tracker.now (trace_input group_by tracker.now.binaries (plain event.now)) judged.now }
-    ensures { IfOk result (λ values. map view values.items ≡ all_events (drawn version.now group_by tracker.now (known_in known.now) (plain event.now))) }
+    ensures { IfOk result (λ events. map event_value events.items ≡ all_events (drawn version.now group_by tracker.now (known_in known.now) (plain event.now))) }
 {
     let sight = Sight {
         alloc,
@@ -67,7 +67,7 @@ pub fn draw_event<S: OutputSpec>(
 fn draw_kind<S: OutputSpec>(
     sight: &Sight<'_>,
     kind: &TestEventKindSummary<S>,
-    events: &mut Vec<Value>,
+    events: &mut Vec<TraceEvent>,
 ) -> Result<(), AllocError>
     requires { IsJudgedAct sight.now (act_of (plain_kind kind.now)) }
     ensures { OnOk result (Draws (in_sight sight.now drawn_kind (plain_kind kind.now)) events.old.items events.new.items) }
@@ -82,7 +82,7 @@ fn draw_kind<S: OutputSpec>(
 fn draw_core(
     sight: &Sight<'_>,
     kind: &CoreEventKind,
-    events: &mut Vec<Value>,
+    events: &mut Vec<TraceEvent>,
 ) -> Result<(), AllocError>
     requires { IsJudgedAct sight.now (core_act kind.now) }
     ensures { OnOk result (Draws (in_sight sight.now drawn_core kind.now) events.old.items events.new.items) }
@@ -108,7 +108,7 @@ fn draw_core(
 fn draw_output<S: OutputSpec>(
     sight: &Sight<'_>,
     kind: &OutputEventKind<S>,
-    events: &mut Vec<Value>,
+    events: &mut Vec<TraceEvent>,
 ) -> Result<(), AllocError>
     requires { IsJudgedAct sight.now (output_act (plain_output_kind kind.now)) }
     ensures { OnOk result (Draws (in_sight sight.now drawn_output (plain_output_kind kind.now)) events.old.items events.new.items) }

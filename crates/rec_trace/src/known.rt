@@ -1,8 +1,9 @@
 //! What earlier events decide of the trace events of the next one.
-ghost use Rattle.std.specs.Prelude.{◌≡◌, is_some, IfOk, OnOk, option_copied};
+ghost use Rattle.std.specs.Prelude.{◌≡◌, is_some, IfOk, OnErr, OnOk, option_copied};
 ghost use Rattle.rec_events.specs.Tests.{test_eq};
 ghost use Rattle.rec_spans.specs.Keys.{row_eq};
 ghost use Rattle.rec_spans.specs.Plain.{plain_kind};
+ghost use Rattle.rec_trace.specs.Entries.{EachSays, EachSaysBut};
 ghost use Rattle.rec_trace.specs.Held.{IsCountOf};
 ghost use Rattle.rec_trace.specs.Known.{SameKnown, nothing_known};
 ghost use Rattle.rec_trace.specs.KnownNews.{HasRoom, Tells, known_in, known_with};
@@ -34,7 +35,8 @@ pub struct Known {
 impl Known {
     /// Knows of no event so far.
     pub fn new(alloc: Global) -> Known
-        ensures { SameKnown (known_in result) nothing_known }
+        ensures none { SameKnown (known_in result) nothing_known }
+        ensures says { EachSays result }
     {
         Known {
             names: Names::new(alloc),
@@ -81,7 +83,7 @@ impl Known {
 
     /// Counts the rows that were named.
     pub fn named(&self) -> usize
-        ensures { IsCountOf row_eq (known_in self.now).is_named result }
+        ensures { EachSays self.now → IsCountOf row_eq (known_in self.now).is_named result }
     {
         self.names.count()
     }
@@ -109,6 +111,8 @@ impl Known {
         ensures same { SameKnown (known_in self.new) (known_in self.old) }
         ensures room { IfOk result (λ news. HasRoom news self.new) }
         ensures tells { IfOk result (Tells flow started.now (plain_kind event.now.kind)) }
+        ensures says { IfOk result (λ news. EachSays self.old → EachSaysBut news self.new) }
+        ensures err { OnErr result (EachSays self.old → EachSays self.new) }
     {
         let row = row_to_name(started, &event.kind);
         let test = new_test(flow, &event.kind);
@@ -126,6 +130,7 @@ impl Known {
     fn make_room(&mut self, alloc: Global, news: &News) -> Result<(), AllocError>
         ensures same { SameKnown (known_in self.new) (known_in self.old) }
         ensures room { OnOk result (HasRoom news.now self.new) }
+        ensures says { EachSays self.old → EachSaysBut news.now self.new }
     {
         self.names.make_room(news.row)?;
         self.notes.make_room(alloc, &news.test)
@@ -134,7 +139,8 @@ impl Known {
     /// Takes the news of an event for which room was made. It takes no memory.
     pub fn take(&mut self, news: News)
         requires { HasRoom news self.old }
-        ensures { SameKnown (known_in self.new) (known_with news (known_in self.old)) }
+        ensures known { SameKnown (known_in self.new) (known_with news (known_in self.old)) }
+        ensures says { EachSaysBut news self.old → EachSays self.new }
     {
         self.names.name(news.row);
         self.running = news.running.unwrap_or(self.running);
@@ -144,7 +150,8 @@ impl Known {
 
     /// Lets the news of an event go, and the room that was made for it. What is known stays the same.
     pub fn let_go(&mut self, news: News)
-        ensures { SameKnown (known_in self.new) (known_in self.old) }
+        ensures same { SameKnown (known_in self.new) (known_in self.old) }
+        ensures says { EachSaysBut news self.old → EachSays self.new }
     {
         self.names.let_go(news.row);
         self.notes.let_go(&news.test);

@@ -1,61 +1,93 @@
 //! What a trace says of the run beside its events.
-ghost use Rattle.std.specs.Prelude.{◌≡◌, [], ◌∷◌, Some, IfOk, OnOk};
-ghost use Rattle.serde_json.specs.View.{view, members_view};
-ghost use Rattle.rec_forms.specs.Shape.{with_members};
-ghost use Rattle.rec_trace.specs.Texts.{other_data, run_fields, words_field};
+ghost use Rattle.std.specs.Prelude.{◌≡◌, [], ◌∷◌, ◌++◌, None, Some, IfOk, OnOk, string_bytes};
+ghost use Rattle.serde_json.specs.View.{view};
+ghost use Rattle.serde_json.specs.Written.{compact_text};
+ghost use Rattle.rec_json.specs.Tokens.{value_tokens, with_fields};
+ghost use Rattle.rec_forms.specs.Writable.{EachWritten, IsWritable};
+ghost use Rattle.rec_trace.specs.Texts.{other_data, words_field};
 
 use crate::run_start::RunStart;
 use rec_events::{Items, Text, Version};
-use rec_forms::{Object, put_field, put_optional};
-use serde_json::{Map, Value};
+use rec_forms::{value_of_text, write_field, write_optional};
+use rec_json::JsonText;
+use serde_json::Value;
 use std::alloc::{AllocError, Global};
 
 /// Writes the words of a command, where there are some.
-fn put_words(
+fn write_words(
     alloc: Global,
-    object: &mut Object,
+    text: &mut JsonText,
     key: &str,
     words: &Items<Text>,
 ) -> Result<(), AllocError>
-    ensures { OnOk result (members_view object.new.entries
-        ≡ with_members (members_view object.old.entries) (words_field key.now words.now ∷ [])) }
+    ensures written { OnOk result (text.new ≡ with_fields text.old (words_field key.now words.now ∷ [])) }
+    ensures known { OnOk result (EachWritten 7 (words_field key.now words.now ∷ [])) }
 {
     if words.as_slice().len() > 0 {
-        put_field(alloc, object, key, words)
+        write_field(alloc, text, key, words)
     } else {
         Ok(())
     }
 }
 
-/// Writes how a run started.
-fn put_run(alloc: Global, object: &mut Object, run: &RunStart) -> Result<(), AllocError>
-    ensures { OnOk result (members_view object.new.entries
-        ≡ with_members (members_view object.old.entries) (run_fields (Some run.now))) }
+/// Writes what a trace says of runs by this version of the runner, of which this one started last.
+fn write_run(
+    alloc: Global,
+    text: &mut JsonText,
+    version: &Version,
+    run: &RunStart,
+) -> Result<(), AllocError>
+    ensures written { OnOk result (text.new ≡ text.old ++ value_tokens (other_data version.now (Some run.now))) }
+    ensures known { OnOk result (IsWritable 8 (other_data version.now (Some run.now))) }
 {
-    put_field(alloc, object, "run_id", &run.run_id)?;
-    put_field(alloc, object, "profile_name", &run.profile_name)?;
-    put_words(alloc, object, "cli_args", &run.cli_args)?;
-    put_optional(alloc, object, "stress_condition", &run.stress_condition)?;
+    text.begin_object()?;
+    write_words(alloc, text, "cli_args", &run.cli_args)?;
+    write_field(alloc, text, "nextest_version", version)?;
+    write_field(alloc, text, "profile_name", &run.profile_name)?;
+    write_field(alloc, text, "run_id", &run.run_id)?;
+    write_optional(alloc, text, "stress_condition", &run.stress_condition)?;
+    text.end_struct()?;
     Ok(())
 }
 
-/// Writes how a run started, where one did.
-fn put_last_run(
-    alloc: Global,
-    object: &mut Object,
-    run: &Option<RunStart>,
-) -> Result<(), AllocError>
-    ensures { OnOk result (members_view object.new.entries
-        ≡ with_members (members_view object.old.entries) (run_fields run.now)) }
+/// Writes what a trace says of runs by this version of the runner, where none started.
+fn write_version(alloc: Global, text: &mut JsonText, version: &Version) -> Result<(), AllocError>
+    ensures written { OnOk result (text.new ≡ text.old ++ value_tokens (other_data version.now None)) }
+    ensures known { OnOk result (IsWritable 8 (other_data version.now None)) }
 {
-    match run {
-        Some(run) => put_run(alloc, object, run),
-        None => Ok(()),
-    }
+    text.begin_object()?;
+    write_field(alloc, text, "nextest_version", version)?;
+    text.end_struct()?;
+    Ok(())
 }
 
-/// Makes what a trace says of runs by this version of the runner, of which this one started last.
-#[tactic(auto, unfolding(crate::specs::Texts::other_data, rec_forms::specs::Shape::members_of))]
+/// Writes what a trace says of runs by this version of the runner, of which this one started last, as its compact JSON
+/// text.
+///
+/// # Errors
+///
+/// `AllocError` if memory runs out.
+pub fn other_data_text(
+    alloc: Global,
+    version: &Version,
+    last_run: &Option<RunStart>,
+) -> Result<String, AllocError>
+    ensures text { IfOk result (λ s. string_bytes s ≡ compact_text (other_data version.now last_run.now)) }
+    ensures known { IfOk result (λ _. IsWritable 8 (other_data version.now last_run.now)) }
+{
+    let mut text = JsonText::new(alloc);
+    match last_run {
+        Some(run) => write_run(alloc, &mut text, version, run)?,
+        None => write_version(alloc, &mut text, version)?,
+    }
+    Ok(text.into_text())
+}
+
+/// Makes the value of that text.
+///
+/// # Errors
+///
+/// `AllocError` if memory runs out.
 pub fn other_data(
     alloc: Global,
     version: &Version,
@@ -63,8 +95,6 @@ pub fn other_data(
 ) -> Result<Value, AllocError>
     ensures { IfOk result (λ v. view v ≡ other_data version.now last_run.now) }
 {
-    let mut object = Map::new(alloc);
-    put_field(alloc, &mut object, "nextest_version", version)?;
-    put_last_run(alloc, &mut object, last_run)?;
-    Ok(Value::from(object))
+    let text = other_data_text(alloc, version, last_run)?;
+    value_of_text(alloc, &text)
 }

@@ -1,118 +1,98 @@
 //! Keeps the texts of the trace events so far.
-ghost use Rattle.std.specs.Prelude.{◌≡◌, List, [], ◌++◌, map, IfOk, OnOk, OnErr, string_bytes};
+ghost use Rattle.std.specs.Prelude.{◌≡◌, List, [], ◌++◌, map, IfOk, OnOk, OnErr};
 ghost use Rattle.serde_json.specs.Data.{Data};
-ghost use Rattle.serde_json.specs.View.{view};
+ghost use Rattle.rec_trace_events.specs.EventTexts.{event_value};
 ghost use Rattle.rec_trace.specs.declared.settings.ChromeTraceMessageFormat.{ChromeTraceMessageFormat};
-ghost use Rattle.rec_trace.specs.Kept.{AreKept, EventsAreWhole, Continues, HasRoom, IsLineOf};
+ghost use Rattle.rec_trace.specs.Kept.{AreKept};
 ghost use Rattle.rec_trace.specs.Texts.{other_data, text_in, trace_value};
 
-use crate::other_data::other_data;
+use crate::event_texts::write_events;
+use crate::other_data::other_data_text;
 use crate::run_start::RunStart;
 use crate::settings::ChromeTraceMessageFormat;
-use crate::text::{compact_trace, event_texts, lay_out};
+use crate::whole_text::{trace_end, trace_front};
+use bstr::ByteVec;
+use json::Scratch;
 use rec_events::Version;
-use serde_json::Value;
+use rec_trace_events::TraceEvent;
 use std::alloc::{AllocError, Global};
 
-/// Holds the texts of the trace events so far in one line, with commas between them. No value is kept: those of a
-/// long trace would take many times the memory of its text.
+/// Holds the texts of the trace events so far, with commas between them, as they stand in the text of the trace.
 #[derive(Drop)]
 pub struct Printed {
-    text: String,
+    format: ChromeTraceMessageFormat,
+    text: Vec<u8>,
     has_events: bool,
-}
-
-/// Holds the texts of trace events that are to be put behind those so far, with commas between them and before
-/// them where others stand there.
-#[derive(Drop)]
-struct Piece {
-    text: String,
-    /// Whether any events stand there afterwards.
-    has_events: bool,
+    /// Is lent to each event that is laid out, as it is large.
+    scratch: Scratch,
 }
 
 impl Printed {
     /// Keeps no trace events so far.
-    pub fn new(alloc: Global) -> Printed
-        ensures { AreKept [] result }
+    pub fn new(alloc: Global, format: ChromeTraceMessageFormat) -> Printed
+        ensures { AreKept format [] result }
     {
         Printed {
-            text: String::new(alloc),
+            format,
+            text: Vec::new(alloc),
             has_events: false,
+            scratch: Scratch::new(alloc),
         }
     }
 
-    /// Puts the texts of trace events behind those so far.
+    /// Puts the texts of trace events after those so far.
     ///
     /// # Errors
     ///
     /// Fails only where memory ran out. The trace events so far then stay as they are.
-    pub fn put_all(&mut self, alloc: Global, events: Vec<Value>) -> Result<(), AllocError>
-        ensures all { OnOk result ((kept : List Data) → AreKept kept self.old → AreKept (kept ++ map view events.items) self.new) }
-        ensures same { OnErr result ((kept : List Data) → AreKept kept self.old → AreKept kept self.new) }
+    pub fn put_all(&mut self, alloc: Global, events: &[TraceEvent]) -> Result<(), AllocError>
+        ensures all { OnOk result ((format : ChromeTraceMessageFormat) (kept : List Data) → AreKept format kept self.old
+            → AreKept format (kept ++ map event_value events.now) self.new) }
+        ensures same { OnErr result ((format : ChromeTraceMessageFormat) (kept : List Data) → AreKept format kept self.old → AreKept format kept self.new) }
     {
-        let piece = self.prepare(alloc, events)?;
-        self.append(piece);
-        Ok(())
+        let before = self.text.as_slice().len();
+        let scratch = &mut self.scratch;
+        match write_events(
+            alloc,
+            self.format,
+            scratch,
+            &mut self.text,
+            self.has_events,
+            events,
+        ) {
+            Ok(has_events) => {
+                self.has_events = has_events;
+                Ok(())
+            }
+            Err(AllocError) => {
+                self.text.truncate(before);
+                Err(AllocError)
+            }
+        }
     }
 
-    /// Makes what is to be put behind the trace events so far, and room for it. These stay as they are.
-    fn prepare(&mut self, alloc: Global, events: Vec<Value>) -> Result<Piece, AllocError>
-        ensures same { (kept : List Data) → AreKept kept self.old → AreKept kept self.new }
-        ensures piece { IfOk result (Continues self.new (map view events.items)) }
-        ensures room { IfOk result (HasRoom self.new) }
-    {
-        let text = event_texts(alloc, self.has_events, &events)?;
-        self.text.reserve(text.len())?;
-        let has_events = self.has_events || events.len() > 0;
-        Ok(Piece { text, has_events })
-    }
-
-    /// Puts it there. It takes no memory.
-    fn append(&mut self, piece: Piece)
-        requires { HasRoom self.old piece }
-        ensures { (kept events : List Data) → AreKept kept self.old → Continues self.old events piece → AreKept (kept ++ events) self.new }
-    {
-        let Ok(()) = self.text.push_str(&piece.text) else {
-            unreachable!()
-        };
-        self.has_events = piece.has_events;
-    }
-
-    /// Writes the text of the trace in this form, of runs by this version of the runner, of which this one started
-    /// last.
+    /// Writes the text of the trace, of runs by this version of the runner, of which this one started last. The texts
+    /// of the events are moved and not copied, so that a long trace isn't held twice.
     ///
     /// # Errors
     ///
     /// Fails only where memory ran out.
-    pub fn into_text(
-        self,
-        alloc: Global,
-        format: ChromeTraceMessageFormat,
-        version: &Version,
-        last_run: &Option<RunStart>,
-    ) -> Result<String, AllocError>
-        ensures { IfOk result (λ s. (events : List Data) → AreKept events self → EventsAreWhole events
-            → string_bytes s ≡ text_in format (trace_value (other_data version.now last_run.now) events)) }
-    {
-        let text = self.into_line(alloc, version, last_run)?;
-        match format {
-            ChromeTraceMessageFormat::Json => Ok(text),
-            ChromeTraceMessageFormat::JsonPretty => lay_out(alloc, &text),
-        }
-    }
-
-    /// Writes the text of the trace in one line.
-    fn into_line(
+    pub fn into_bytes(
         self,
         alloc: Global,
         version: &Version,
         last_run: &Option<RunStart>,
-    ) -> Result<String, AllocError>
-        ensures { IfOk result (λ s. (events : List Data) → AreKept events self → EventsAreWhole events
-            → IsLineOf (trace_value (other_data version.now last_run.now) events) (string_bytes s)) }
+    ) -> Result<Vec<u8>, AllocError>
+        ensures { IfOk result (λ s. (format : ChromeTraceMessageFormat) (events : List Data) → AreKept format events self
+            → s.items ≡ text_in format (trace_value (other_data version.now last_run.now) events)) }
     {
-        let other_data = other_data(alloc, version, last_run)?;
-        compact_trace(alloc, self.text, &other_data)
+        let other_data = other_data_text(alloc, version, last_run)?;
+        let front = trace_front(alloc, self.format, &other_data)?;
+        let end = trace_end(self.format, self.has_events);
+        let mut text = self.text;
+        text.reserve_exact(front.len().saturating_add(end.len()))?;
+        text.insert_str(0, &front)?;
+        text.extend_from_slice(end.as_bytes())?;
+        Ok(text)
     }
 }

@@ -1,7 +1,7 @@
 //! Builds the text of a trace, event by event.
-ghost use Rattle.std.specs.Prelude.{◌≡◌, List, [], map, IfOk, string_bytes};
+ghost use Rattle.std.specs.Prelude.{◌≡◌, List, [], map, IfOk};
 ghost use Rattle.semver.specs.Parse.{Parts};
-ghost use Rattle.serde_json.specs.View.{view};
+ghost use Rattle.rec_trace_events.specs.EventTexts.{event_value};
 ghost use Rattle.rec_spans.specs.declared.settings.ChromeTraceGroupBy.{ChromeTraceGroupBy};
 ghost use Rattle.rec_spans.specs.Plain.{PlainEvent, plain};
 ghost use Rattle.rec_trace.specs.declared.settings.ChromeTraceMessageFormat.{ChromeTraceMessageFormat};
@@ -22,7 +22,6 @@ use std::alloc::{AllocError, Global};
 #[derive(Drop)]
 pub struct PrintedTrace {
     tracer: Tracer,
-    message_format: ChromeTraceMessageFormat,
     printed: Printed,
 }
 
@@ -39,8 +38,7 @@ impl PrintedTrace {
     {
         PrintedTrace {
             tracer: Tracer::new(alloc, version, group_by),
-            message_format,
-            printed: Printed::new(alloc),
+            printed: Printed::new(alloc, message_format),
         }
     }
 
@@ -72,10 +70,10 @@ impl PrintedTrace {
         requires numbered { IsNumbered drawn.prepared self.old.tracer }
         requires room { HasRoom drawn.prepared.news self.old.tracer.known }
         ensures { (before : Tracer) → IsPrepared before (plain event.now) self.old.tracer drawn.prepared
-            → Prints (map view drawn.values.items) before (plain event.now) self.old self.new result }
+            → Prints (map event_value drawn.events.items) before (plain event.now) self.old self.new result }
     {
-        let DrawnEvent { values, prepared } = drawn;
-        match self.printed.put_all(alloc, values) {
+        let DrawnEvent { events, prepared } = drawn;
+        match self.printed.put_all(alloc, &events) {
             Ok(()) => {
                 self.tracer.accept(event, prepared);
                 Ok(())
@@ -87,20 +85,16 @@ impl PrintedTrace {
         }
     }
 
-    /// Writes the text of the trace.
+    /// Writes the text of the trace, in UTF-8.
     ///
     /// # Errors
     ///
     /// Fails only where memory ran out.
-    pub fn into_text(self, alloc: Global) -> Result<String, AllocError>
+    pub fn into_bytes(self, alloc: Global) -> Result<Vec<u8>, AllocError>
         ensures { IfOk result (λ text. (format : ChromeTraceMessageFormat) (g : ChromeTraceGroupBy) (version : Parts) (events : List PlainEvent)
-            → HasTraced format g version events self → string_bytes text ≡ trace_text format g version events) }
+            → HasTraced format g version events self → text.items ≡ trace_text format g version events) }
     {
-        self.printed.into_text(
-            alloc,
-            self.message_format,
-            self.tracer.version(),
-            self.tracer.last_run(),
-        )
+        self.printed
+            .into_bytes(alloc, self.tracer.version(), self.tracer.last_run())
     }
 }

@@ -1,30 +1,15 @@
 //! What takes the events of a trace, one at a time.
-ghost use Rattle.std.specs.Prelude.{◌≡◌, List, ℕ, [], ◌∷◌, OnOk, OnErr};
+ghost use Rattle.std.specs.Prelude.{List, ℕ, [], ◌∷◌, OnOk, OnErr};
 ghost use Rattle.serde_json.specs.Data.{Data};
-ghost use Rattle.serde_json.specs.View.{view};
 ghost use Rattle.rec_container.specs.Causes.{HasCause};
+ghost use Rattle.rec_trace_events.specs.EventTexts.{event_value};
 ghost use Rattle.rec_trace.specs.Targets.{Stays, Takes};
 
-use serde_json::Value;
+use rec_trace_events::TraceEvent;
 
 /// Says that a target failed.
 #[derive(Clone, Copy, PartialEq, Eq, Debug, Drop)]
 pub struct TargetFailed;
-
-/// Holds an event of a trace, which is a JSON object.
-#[derive(Drop)]
-pub struct TraceEvent {
-    pub(crate) value: Value,
-}
-
-impl TraceEvent {
-    /// Returns the event's JSON.
-    pub fn value(&self) -> &Value
-        ensures { result.now ≡ self.now.value }
-    {
-        &self.value
-    }
-}
 
 /// Takes the events of a trace, one at a time.
 pub trait TraceTarget {
@@ -40,7 +25,7 @@ pub trait TraceTarget {
     ///
     /// `TargetFailed` means that the target failed: its count of faults rose, and it has the events that it had.
     fn put(&mut self, event: TraceEvent) -> Result<(), TargetFailed>
-        ensures taken { OnOk result (Takes holds self.old self.new (view event.value ∷ [])) }
+        ensures taken { OnOk result (Takes holds self.old self.new (event_value event ∷ [])) }
         ensures same { OnErr result (Stays holds self.old self.new) }
         ensures cause { HasCause (faults self.old) (faults self.new) result };
 }

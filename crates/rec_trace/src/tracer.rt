@@ -2,7 +2,7 @@
 //! whether what it draws was taken.
 ghost use Rattle.std.specs.Prelude.{◌≡◌, List, [], suc, map, IfOk, OnErr};
 ghost use Rattle.semver.specs.Parse.{Parts};
-ghost use Rattle.serde_json.specs.View.{view};
+ghost use Rattle.rec_trace_events.specs.EventTexts.{event_value};
 ghost use Rattle.rec_spans.specs.Judged.{IsJudged};
 ghost use Rattle.rec_spans.specs.Kinds.{trace_input};
 ghost use Rattle.rec_spans.specs.Plain.{PlainEvent, plain};
@@ -18,7 +18,7 @@ use crate::known::{Known, News};
 use crate::run_start::RunStart;
 use rec_events::{OutputSpec, TestEventSummary, Version};
 use rec_spans::{ChromeTraceError, ChromeTraceGroupBy, JudgedEvent, OpenedEvent, SpanTracker};
-use serde_json::Value;
+use rec_trace_events::TraceEvent;
 use std::alloc::{AllocError, Global};
 
 /// Keeps what the trace events of the next event are made from. No event is kept.
@@ -40,7 +40,7 @@ pub struct PreparedEvent {
 /// Holds what an event draws, with what it takes to accept it or to let it go.
 #[derive(Drop)]
 pub struct DrawnEvent {
-    pub values: Vec<Value>,
+    pub events: Vec<TraceEvent>,
     pub prepared: PreparedEvent,
 }
 
@@ -72,7 +72,7 @@ impl Tracer {
     }
 
     /// Counts what is kept of the events so far: the open spans, the rows and processes that were named, the pending
-    /// arrows, and where each binary is a process, the binaries. It goes over all of it.
+    /// arrows, and where each binary is a process, the binaries. It goes over the tests of which something is noted.
     pub fn held(&self) -> usize
         ensures { (version : Parts) (events : List PlainEvent) → StandsFor self.now.group_by version events self.now → IsHeld self.now.group_by events result }
     {
@@ -106,14 +106,14 @@ impl Tracer {
         event: &TestEventSummary<S>,
     ) -> Result<DrawnEvent, ChromeTraceError>
         ensures judged { Judges result (next_refusal self.old.tracker (trace_input self.old.group_by self.old.tracker.binaries (plain event.now))) }
-        ensures drawn { IfOk result (λ d. map view d.values.items ≡ draws self.old (plain event.now)) }
+        ensures drawn { IfOk result (λ d. map event_value d.events.items ≡ draws self.old (plain event.now)) }
         ensures prepared { IfOk result (λ d. IsPrepared self.old (plain event.now) self.new d.prepared) }
         ensures err { OnErr result (StaysSame self.old self.new) }
     {
         let judged = self.tracker.judge_event(alloc, self.group_by, event)?;
-        let values = self.draw(alloc, event, &judged)?;
+        let events = self.draw(alloc, event, &judged)?;
         let prepared = self.open(alloc, event, judged)?;
-        Ok(DrawnEvent { values, prepared })
+        Ok(DrawnEvent { events, prepared })
     }
 
     /// Draws an event that was judged.
@@ -122,9 +122,9 @@ impl Tracer {
         alloc: Global,
         event: &TestEventSummary<S>,
         judged: &JudgedEvent,
-    ) -> Result<Vec<Value>, AllocError>
+    ) -> Result<Vec<TraceEvent>, AllocError>
         requires { IsJudged self.now.tracker (trace_input self.now.group_by self.now.tracker.binaries (plain event.now)) judged.now }
-        ensures { IfOk result (λ values. map view values.items ≡ draws self.now (plain event.now)) }
+        ensures { IfOk result (λ events. map event_value events.items ≡ draws self.now (plain event.now)) }
     {
         draw_event(
             alloc,

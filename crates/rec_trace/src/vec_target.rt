@@ -1,10 +1,11 @@
 //! A target in memory, which fails at the calls that it is given.
 ghost use Rattle.std.specs.Prelude.{◌≡◌, ◌≤◌, ◌+◌, ◌⊎◌, [], ◌∷◌, Contains, OnOk, OnErr, vec_len, vec_capacity};
-ghost use Rattle.serde_json.specs.View.{view};
 ghost use Rattle.rec_container.specs.Causes.{HasCause, next_count};
+ghost use Rattle.rec_trace_events.specs.EventTexts.{event_value};
 ghost use Rattle.rec_trace.specs.Targets.{AreIn, Stays, Takes};
 
-use crate::target::{TargetFailed, TraceEvent, TraceTarget};
+use crate::target::{TargetFailed, TraceTarget};
+use rec_trace_events::TraceEvent;
 use std::alloc::{AllocError, Global};
 
 /// Keeps the trace events that it gets. Calls of `put` are numbered from 1.
@@ -62,7 +63,7 @@ impl TraceTarget for VecTarget {
     ghost faults = { λ t. t.faults };
 
     fn put(&mut self, event: TraceEvent) -> Result<(), TargetFailed>
-        ensures taken { OnOk result (Takes AreIn self.old self.new (view event.value ∷ [])) }
+        ensures taken { OnOk result (Takes AreIn self.old self.new (event_value event ∷ [])) }
         ensures same { OnErr result (Stays AreIn self.old self.new) }
         ensures cause { HasCause self.old.faults self.new.faults result }
 

@@ -1,4 +1,5 @@
 pub mod BareSlices
-pub mod Whole
-pub mod WholeEvents
+pub mod EventTexts
 pub mod WithoutOutputs
+pub mod WritableArgs
+pub mod WritableAttempts

@@ -1,3 +1,6 @@
 pub mod Args
+pub mod AttemptEnds
+pub mod EventParts
+pub mod EventTexts
 pub mod TraceEvents
 pub mod RowNames

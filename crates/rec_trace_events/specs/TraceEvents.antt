@@ -56,12 +56,18 @@ end_event name category row at args = slice_event (codes "E") name category row 
 abbrev pub metadata_event : List ℕ → Row → Data → Data
 metadata_event name row args = struct (event_fields (codes "M") name [] row (pos 0) ++ field (codes "args") args ∷ [])
 
+abbrev pub name_args : List ℕ → Data
+name_args name = struct (field (codes "name") (string name) ∷ [])
+
 abbrev pub name_event : List ℕ → Row → List ℕ → Data
-name_event event row name = metadata_event event row (struct (field (codes "name") (string name) ∷ []))
+name_event event row name = metadata_event event row (name_args name)
 
 -- the place of something among others
+abbrev pub place_args : ℕ → Data
+place_args place = struct (field (codes "sort_index") (natural place) ∷ [])
+
 abbrev pub place_event : List ℕ → Row → ℕ → Data
-place_event event row place = metadata_event event row (struct (field (codes "sort_index") (natural place) ∷ []))
+place_event event row place = metadata_event event row (place_args place)
 
 -- the name of a process, and its place, which is that of its number
 abbrev pub process_metadata : ℕ → List ℕ → List Data
@@ -78,19 +84,22 @@ abbrev pub counter_event : List ℕ → ℤ → Data → Data
 counter_event name at counts = struct (event_fields (codes "C") name (category_text Run) (process_row 0) at ++ field (codes "args") counts ∷ [])
 
 -- how many tests and setup scripts run
+abbrev pub running_args : RunningCounts → Data
+running_args running = struct (field (codes "running_tests") (natural running.tests) ∷ field (codes "running_scripts") (natural running.scripts) ∷ [])
+
 unfoldable pub concurrency_event : RunningCounts → ℤ → Data
-concurrency_event running at =
-    counter_event (codes "concurrency") at
-    (struct (field (codes "running_tests") (natural running.tests) ∷ field (codes "running_scripts") (natural running.scripts) ∷ []))
+concurrency_event running at = counter_event (codes "concurrency") at (running_args running)
 
 -- the tests that failed are those of any cause
 abbrev pub test_counts : RunStats → TestCounts
 test_counts s = record { passed = s.passed; flaky = s.flaky; failed = failures s }
 
+abbrev pub results_args : TestCounts → Data
+results_args counts =
+    struct (field (codes "passed") (natural counts.passed) ∷ field (codes "flaky") (natural counts.flaky) ∷ field (codes "failed") (natural counts.failed) ∷ [])
+
 unfoldable pub results_event : TestCounts → ℤ → Data
-results_event counts at =
-    counter_event (codes "test results") at
-    (struct (field (codes "passed") (natural counts.passed) ∷ field (codes "flaky") (natural counts.flaky) ∷ field (codes "failed") (natural counts.failed) ∷ []))
+results_event counts at = counter_event (codes "test results") at (results_args counts)
 
 -- ---- instants
 

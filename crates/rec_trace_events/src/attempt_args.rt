@@ -1,129 +1,178 @@
 //! The args of the ends of attempts.
-ghost use Rattle.std.specs.Prelude.{◌≡◌, Some, IfOk, OnOk};
-ghost use Rattle.serde_json.specs.View.{view, members_view};
-ghost use Rattle.rec_forms.specs.Shape.{with_members};
-ghost use Rattle.rec_trace_events.specs.Args.{attempt_end_fields, counted_flaky_result, failed_attempt_args, finished_test_args, last_attempt_args, outcome_fields};
+ghost use Rattle.std.specs.Prelude.{◌≡◌, Some, OnOk, codes, option_copied};
+ghost use Rattle.rec_json.specs.Tokens.{with_field, with_fields};
+ghost use Rattle.rec_forms.specs.Groups.{test_group_value};
+ghost use Rattle.rec_forms.specs.Writable.{EachWritten, IsWritable};
+ghost use Rattle.rec_trace_events.specs.Args.{counted_flaky_result};
+ghost use Rattle.rec_trace_events.specs.AttemptEnds.{first_fields, group_or_global, last_fields, middle_fields};
 
-use crate::error_args::put_error;
-use crate::members::{put_attempt, put_delay, put_ending, put_stress_index, put_test};
+use crate::args::Args;
+use crate::error_args::write_attempt_error;
+use crate::members::{write_delay, write_stress_index};
 use rec_events::{
     Duration, ExecuteStatus, ExecutionStatuses, FlakyResult, OutputSpec, OwnedTestInstanceId,
     StressIndexSummary, TestGroup,
 };
-use rec_forms::{Object, put_field, put_optional};
-use serde_json::{Map, Value};
+use rec_forms::{write_field, write_optional};
+use rec_json::JsonText;
 use std::alloc::{AllocError, Global};
 
-/// Writes which attempt it was, and how it ended.
-fn put_outcome<S: OutputSpec>(
+/// Holds the args of the end of an attempt that failed, after which another one follows.
+#[derive(Drop)]
+pub struct FailedAttemptArgs<'a, S: OutputSpec> {
+    pub test: &'a OwnedTestInstanceId,
+    pub stress_index: &'a Option<StressIndexSummary>,
+    /// The group in which the attempt was started; none stands for the global group.
+    pub test_group: Option<&'a TestGroup>,
+    pub status: &'a ExecuteStatus<S>,
+    pub delay_before_next_attempt: &'a Duration,
+}
+
+impl<'a, S: OutputSpec> Args for FailedAttemptArgs<'a, S> {
+    ghost use Rattle.std.specs.Prelude.{option_copied};
+    ghost use Rattle.rec_trace_events.specs.Args.{failed_attempt_args};
+    ghost use Rattle.rec_trace_events.specs.AttemptEnds.{group_or_global};
+
+    ghost value_of = { λ a. failed_attempt_args a.test.now a.stress_index.now (group_or_global (option_copied a.test_group)) a.status.now a.delay_before_next_attempt.now };
+
+    #[tactic(auto, unfolding(crate::specs::Args::failed_attempt_args))]
+    fn write(&self, alloc: Global, text: &mut JsonText) -> Result<(), AllocError> {
+        text.begin_object()?;
+        write_first(alloc, text, self.test, self.status)?;
+        let delay = self.delay_before_next_attempt;
+        write_delay(alloc, text, "delay_before_next_attempt", delay)?;
+        write_middle(alloc, text, self.status, None)?;
+        write_last(
+            alloc,
+            text,
+            self.test,
+            self.stress_index,
+            self.test_group,
+            self.status,
+        )?;
+        text.end_struct()?;
+        Ok(())
+    }
+}
+
+/// Holds the args of the end of a test, which is that of its last attempt.
+#[derive(Drop)]
+pub struct LastAttemptArgs<'a, S: OutputSpec> {
+    pub test: &'a OwnedTestInstanceId,
+    pub stress_index: &'a Option<StressIndexSummary>,
+    /// The group in which the attempt was started; none stands for the global group.
+    pub test_group: Option<&'a TestGroup>,
+    pub last: &'a ExecuteStatus<S>,
+    /// The flaky result of the test, where it counts.
+    pub flaky: Option<FlakyResult>,
+}
+
+impl<'a, S: OutputSpec> Args for LastAttemptArgs<'a, S> {
+    ghost use Rattle.std.specs.Prelude.{option_copied};
+    ghost use Rattle.rec_trace_events.specs.Args.{last_attempt_args};
+    ghost use Rattle.rec_trace_events.specs.AttemptEnds.{group_or_global};
+
+    ghost value_of = { λ a. last_attempt_args a.test.now a.stress_index.now (group_or_global (option_copied a.test_group)) a.last.now a.flaky };
+
+    fn write(&self, alloc: Global, text: &mut JsonText) -> Result<(), AllocError> {
+        text.begin_object()?;
+        write_first(alloc, text, self.test, self.last)?;
+        write_middle(alloc, text, self.last, self.flaky)?;
+        write_last(
+            alloc,
+            text,
+            self.test,
+            self.stress_index,
+            self.test_group,
+            self.last,
+        )?;
+        text.end_struct()?;
+        Ok(())
+    }
+}
+
+/// Writes the fields with the keys from `attempt` to `cpu_time`.
+fn write_first<S: OutputSpec>(
     alloc: Global,
-    object: &mut Object,
+    text: &mut JsonText,
     test: &OwnedTestInstanceId,
     status: &ExecuteStatus<S>,
 ) -> Result<(), AllocError>
-    ensures { OnOk result (members_view object.new.entries
-        ≡ with_members (members_view object.old.entries) (outcome_fields test.now status.now)) }
+    ensures written { OnOk result (text.new ≡ with_fields text.old (first_fields test.now status.now)) }
+    ensures known { OnOk result (EachWritten 7 (first_fields test.now status.now)) }
 {
-    put_test(alloc, object, test)?;
-    put_ending(
-        alloc,
-        object,
-        &status.time_taken,
-        &status.result,
-        status.is_slow,
-    )?;
-    put_attempt(alloc, object, &status.retry_data)?;
+    write_field(alloc, text, "attempt", &status.retry_data.attempt)?;
+    write_field(alloc, text, "binary_id", &test.binary_id)?;
+    write_optional(alloc, text, "cpu_time", &status.cpu_time)?;
     Ok(())
 }
 
-/// Writes all that is said of an ended attempt, with the flaky result that counts for its test.
-fn put_attempt_end<S: OutputSpec>(
+/// Writes the fields with the keys from `delay_before_start` to `result`.
+fn write_middle<S: OutputSpec>(
     alloc: Global,
-    object: &mut Object,
-    test: &OwnedTestInstanceId,
-    stress_index: &Option<StressIndexSummary>,
-    test_group: &TestGroup,
+    text: &mut JsonText,
     status: &ExecuteStatus<S>,
     flaky: Option<FlakyResult>,
 ) -> Result<(), AllocError>
-    ensures { OnOk result (members_view object.new.entries
-        ≡ with_members (members_view object.old.entries) (attempt_end_fields test.now stress_index.now test_group.now status.now flaky)) }
+    ensures written { OnOk result (text.new ≡ with_fields text.old (middle_fields status.now flaky)) }
+    ensures known { OnOk result (EachWritten 7 (middle_fields status.now flaky)) }
 {
-    put_outcome(alloc, object, test, status)?;
-    put_field(alloc, object, "test_group", test_group)?;
-    put_stress_index(alloc, object, stress_index)?;
-    put_delay(
+    write_delay(
         alloc,
-        object,
+        text,
         "delay_before_start",
         &status.delay_before_start,
     )?;
     let summary = &status.error_summary;
-    put_error(alloc, object, summary, &status.retry_data, flaky)?;
-    put_optional(alloc, object, "flaky_result", &flaky)?;
-    put_optional(alloc, object, "cpu_time", &status.cpu_time)?;
+    write_attempt_error(alloc, text, summary, &status.retry_data, flaky)?;
+    write_optional(alloc, text, "flaky_result", &flaky)?;
+    write_field(alloc, text, "is_slow", &status.is_slow)?;
+    write_field(alloc, text, "result", &status.result)?;
     Ok(())
 }
 
-/// Makes the args of the end of an attempt that failed, after which another one follows. `test_group` is that
-/// in which the attempt was started.
-///
-/// # Errors
-///
-/// `AllocError` if memory runs out.
-#[tactic(auto, unfolding(crate::specs::Args::failed_attempt_args, rec_forms::specs::Shape::members_of))]
-pub fn failed_attempt_args<S: OutputSpec>(
+/// Writes the fields with the keys from `stress_index` to `total_attempts`.
+fn write_last<S: OutputSpec>(
     alloc: Global,
+    text: &mut JsonText,
     test: &OwnedTestInstanceId,
     stress_index: &Option<StressIndexSummary>,
-    test_group: &TestGroup,
+    test_group: Option<&TestGroup>,
     status: &ExecuteStatus<S>,
-    delay_before_next_attempt: &Duration,
-) -> Result<Value, AllocError>
-    ensures { IfOk result (λ v. view v ≡ failed_attempt_args test.now stress_index.now test_group.now status.now delay_before_next_attempt.now) }
+) -> Result<(), AllocError>
+    ensures written { OnOk result (text.new ≡ with_fields text.old (last_fields test.now stress_index.now (group_or_global (option_copied test_group.entry)) status.now)) }
+    ensures known { OnOk result (EachWritten 7 (last_fields test.now stress_index.now (group_or_global (option_copied test_group.entry)) status.now)) }
 {
-    let mut object = Map::new(alloc);
-    put_attempt_end(
+    write_stress_index(alloc, text, stress_index)?;
+    write_group(alloc, text, test_group)?;
+    write_field(alloc, text, "test_name", &test.test_name)?;
+    write_field(alloc, text, "time_taken", &status.time_taken)?;
+    write_field(
         alloc,
-        &mut object,
-        test,
-        stress_index,
-        test_group,
-        status,
-        None,
+        text,
+        "total_attempts",
+        &status.retry_data.total_attempts,
     )?;
-    let delay = delay_before_next_attempt;
-    put_delay(alloc, &mut object, "delay_before_next_attempt", delay)?;
-    Ok(Value::from(object))
+    Ok(())
 }
 
-/// Makes the args of the end of a test's last attempt.
-#[tactic(auto, unfolding(rec_forms::specs::Shape::members_of))]
-fn last_attempt_args<S: OutputSpec>(
+/// Writes a group, or else the global one.
+fn write_group(
     alloc: Global,
-    test: &OwnedTestInstanceId,
-    stress_index: &Option<StressIndexSummary>,
-    test_group: &TestGroup,
-    last: &ExecuteStatus<S>,
-    flaky: Option<FlakyResult>,
-) -> Result<Value, AllocError>
-    ensures { IfOk result (λ v. view v ≡ last_attempt_args test.now stress_index.now test_group.now last.now flaky) }
+    text: &mut JsonText,
+    group: Option<&TestGroup>,
+) -> Result<(), AllocError>
+    ensures written { OnOk result (text.new ≡ with_field (codes "test_group") (Some (test_group_value (group_or_global (option_copied group.entry)))) text.old) }
+    ensures known { OnOk result (IsWritable 0 (test_group_value (group_or_global (option_copied group.entry)))) }
 {
-    let mut object = Map::new(alloc);
-    put_attempt_end(
-        alloc,
-        &mut object,
-        test,
-        stress_index,
-        test_group,
-        last,
-        flaky,
-    )?;
-    Ok(Value::from(object))
+    match group {
+        Some(group) => write_field(alloc, text, "test_group", group),
+        None => write_field(alloc, text, "test_group", &TestGroup::Global),
+    }
 }
 
 /// Returns the flaky result of a test, where it counts: several attempts were made, and the last one succeeded.
-fn counted_flaky_result<S: OutputSpec>(
+pub fn counted_flaky_result<S: OutputSpec>(
     statuses: &ExecutionStatuses<S>,
     last: &ExecuteStatus<S>,
 ) -> Option<FlakyResult>
@@ -134,25 +183,4 @@ fn counted_flaky_result<S: OutputSpec>(
     } else {
         None
     }
-}
-
-/// Makes the args of the end of a test, which is that of its last attempt. `test_group` is that in which this
-/// attempt was started.
-///
-/// # Errors
-///
-/// `AllocError` if memory runs out.
-#[tactic(auto, unfolding(crate::specs::Args::finished_test_args))]
-pub fn finished_test_args<S: OutputSpec>(
-    alloc: Global,
-    test: &OwnedTestInstanceId,
-    stress_index: &Option<StressIndexSummary>,
-    test_group: &TestGroup,
-    statuses: &ExecutionStatuses<S>,
-) -> Result<Value, AllocError>
-    ensures { IfOk result (λ v. finished_test_args test.now stress_index.now test_group.now statuses.now ≡ Some (view v)) }
-{
-    let last = statuses.last_status();
-    let flaky = counted_flaky_result(statuses, last);
-    last_attempt_args(alloc, test, stress_index, test_group, last, flaky)
 }

@@ -1,24 +1,52 @@
 //! The counters of a trace.
 ghost use Rattle.std.specs.Prelude.{◌≡◌, IfOk};
-ghost use Rattle.serde_json.specs.View.{view};
+ghost use Rattle.rec_trace_events.specs.EventTexts.{event_value};
 ghost use Rattle.rec_trace_events.specs.TraceEvents.{concurrency_event, counter_event, results_event};
 
+use crate::args::Args;
 use crate::counts::{RunningCounts, TestCounts};
-use crate::event::event;
+use crate::event::{TraceEvent, event};
+use crate::event_parts::EventParts;
 use crate::rows::{Category, Row};
-use rec_forms::put_field;
-use serde_json::{Map, Value};
+use rec_forms::write_field;
+use rec_json::JsonText;
 use std::alloc::{AllocError, Global};
 
 /// Makes the event of a counter, with these counts as its args.
 #[tactic(auto, unfolding(rec_forms::specs::Shape::members_of))]
-fn counter_event(alloc: Global, name: &str, at: i64, counts: Value) -> Result<Value, AllocError>
-    ensures { IfOk result (λ v. view v ≡ counter_event name.now at (view counts)) }
+fn counter_event<A: Args>(
+    alloc: Global,
+    name: &str,
+    at: i64,
+    counts: &A,
+) -> Result<TraceEvent, AllocError>
+    ensures { IfOk result (λ e. event_value e ≡ counter_event name.now at (A.value_of counts.now)) }
 {
-    let row = Row { pid: 0, tid: 0 };
-    let mut event = event(alloc, "C", name, Category::Run.as_str(), row, at)?;
-    serde_json::put(&mut event, alloc, "args", counts)?;
-    Ok(Value::from(event))
+    let parts = EventParts {
+        phase: "C",
+        name,
+        category: Category::Run.as_str(),
+        row: Row { pid: 0, tid: 0 },
+        at,
+        id: None,
+        scope: None,
+        binding: None,
+    };
+    event(alloc, &parts, Some(counts))
+}
+
+impl Args for RunningCounts {
+    ghost use Rattle.rec_trace_events.specs.TraceEvents.{running_args};
+
+    ghost value_of = { running_args };
+
+    fn write(&self, alloc: Global, text: &mut JsonText) -> Result<(), AllocError> {
+        text.begin_object()?;
+        write_field(alloc, text, "running_scripts", &self.scripts)?;
+        write_field(alloc, text, "running_tests", &self.tests)?;
+        text.end_struct()?;
+        Ok(())
+    }
 }
 
 /// Makes the event that counts what runs, at an instant in microseconds since the epoch.
@@ -26,18 +54,30 @@ fn counter_event(alloc: Global, name: &str, at: i64, counts: Value) -> Result<Va
 /// # Errors
 ///
 /// `AllocError` if memory runs out.
-#[tactic(auto, unfolding(crate::specs::TraceEvents::concurrency_event, rec_forms::specs::Shape::members_of))]
+#[tactic(auto, unfolding(crate::specs::TraceEvents::concurrency_event))]
 pub fn concurrency_event(
     alloc: Global,
     running: RunningCounts,
     at: i64,
-) -> Result<Value, AllocError>
-    ensures { IfOk result (λ v. view v ≡ concurrency_event running at) }
+) -> Result<TraceEvent, AllocError>
+    ensures { IfOk result (λ e. event_value e ≡ concurrency_event running at) }
 {
-    let mut counts = Map::new(alloc);
-    put_field(alloc, &mut counts, "running_tests", &running.tests)?;
-    put_field(alloc, &mut counts, "running_scripts", &running.scripts)?;
-    counter_event(alloc, "concurrency", at, Value::from(counts))
+    counter_event(alloc, "concurrency", at, &running)
+}
+
+impl Args for TestCounts {
+    ghost use Rattle.rec_trace_events.specs.TraceEvents.{results_args};
+
+    ghost value_of = { results_args };
+
+    fn write(&self, alloc: Global, text: &mut JsonText) -> Result<(), AllocError> {
+        text.begin_object()?;
+        write_field(alloc, text, "failed", &self.failed)?;
+        write_field(alloc, text, "flaky", &self.flaky)?;
+        write_field(alloc, text, "passed", &self.passed)?;
+        text.end_struct()?;
+        Ok(())
+    }
 }
 
 /// Makes the event that counts how tests ended, at an instant in microseconds since the epoch.
@@ -45,13 +85,9 @@ pub fn concurrency_event(
 /// # Errors
 ///
 /// `AllocError` if memory runs out.
-#[tactic(auto, unfolding(crate::specs::TraceEvents::results_event, rec_forms::specs::Shape::members_of))]
-pub fn results_event(alloc: Global, counts: TestCounts, at: i64) -> Result<Value, AllocError>
-    ensures { IfOk result (λ v. view v ≡ results_event counts at) }
+#[tactic(auto, unfolding(crate::specs::TraceEvents::results_event))]
+pub fn results_event(alloc: Global, counts: TestCounts, at: i64) -> Result<TraceEvent, AllocError>
+    ensures { IfOk result (λ e. event_value e ≡ results_event counts at) }
 {
-    let mut members = Map::new(alloc);
-    put_field(alloc, &mut members, "passed", &counts.passed)?;
-    put_field(alloc, &mut members, "flaky", &counts.flaky)?;
-    put_field(alloc, &mut members, "failed", &counts.failed)?;
-    counter_event(alloc, "test results", at, Value::from(members))
+    counter_event(alloc, "test results", at, &counts)
 }

@@ -1,14 +1,16 @@
 //! What happens at one instant: marks of the whole run, and what is slow.
-ghost use Rattle.std.specs.Prelude.{◌≡◌, IfOk};
-ghost use Rattle.serde_json.specs.View.{view};
+ghost use Rattle.std.specs.Prelude.{◌≡◌, IfOk, OnOk};
+ghost use Rattle.rec_trace_events.specs.EventTexts.{event_value};
 ghost use Rattle.rec_trace_events.specs.TraceEvents.{instant_event, mark_args, mark_event, mark_name, mark_reason, slow_event};
 
+use crate::args::Args;
 use crate::counts::RunningCounts;
-use crate::event::event;
+use crate::event::{TraceEvent, event};
+use crate::event_parts::EventParts;
 use crate::rows::{Category, Row};
 use rec_events::CancelReason;
-use rec_forms::{put_field, put_optional, put_text};
-use serde_json::{Map, Value};
+use rec_forms::{write_field, write_optional};
+use rec_json::JsonText;
 use std::alloc::{AllocError, Global};
 
 /// Says what an instant marks of the whole run.
@@ -49,38 +51,51 @@ impl RunMark {
 
 /// Makes an event at one instant, which viewers show as wide as `scope` says.
 #[tactic(auto, unfolding(rec_forms::specs::Shape::members_of))]
-fn instant_event(
+fn instant_event<'a, A: Args>(
     alloc: Global,
-    name: &str,
+    name: &'a str,
     category: Category,
     row: Row,
     at: i64,
-    scope: &str,
-    args: Value,
-) -> Result<Value, AllocError>
-    ensures { IfOk result (λ v. view v ≡ instant_event name.now category row at scope.now (view args)) }
+    scope: &'a str,
+    args: &A,
+) -> Result<TraceEvent, AllocError>
+    ensures { IfOk result (λ e. event_value e ≡ instant_event name.now category row at scope.now (A.value_of args.now)) }
 {
-    let mut event = event(alloc, "i", name, category.as_str(), row, at)?;
-    put_text(alloc, &mut event, "s", scope)?;
-    serde_json::put(&mut event, alloc, "args", args)?;
-    Ok(Value::from(event))
+    let parts = EventParts {
+        phase: "i",
+        name,
+        category: category.as_str(),
+        row,
+        at,
+        id: None,
+        scope: Some(scope),
+        binding: None,
+    };
+    event(alloc, &parts, Some(args))
 }
 
-/// Makes the args of a mark of the run.
-#[tactic(auto, unfolding(crate::specs::TraceEvents::mark_args, rec_forms::specs::Shape::members_of))]
-fn mark_args(alloc: Global, mark: RunMark, running: RunningCounts) -> Result<Value, AllocError>
-    ensures { IfOk result (λ v. view v ≡ mark_args mark running) }
-{
-    let mut object = Map::new(alloc);
-    put_field(alloc, &mut object, "running", &running.tests)?;
-    put_field(
-        alloc,
-        &mut object,
-        "setup_scripts_running",
-        &running.scripts,
-    )?;
-    put_optional(alloc, &mut object, "reason", &mark.reason())?;
-    Ok(Value::from(object))
+/// Holds the args of a mark of the run.
+#[derive(Drop)]
+struct MarkArgs {
+    mark: RunMark,
+    running: RunningCounts,
+}
+
+impl Args for MarkArgs {
+    ghost use Rattle.rec_trace_events.specs.TraceEvents.{mark_args};
+
+    ghost value_of = { λ a. mark_args a.mark a.running };
+
+    #[tactic(auto, unfolding(crate::specs::TraceEvents::mark_args))]
+    fn write(&self, alloc: Global, text: &mut JsonText) -> Result<(), AllocError> {
+        text.begin_object()?;
+        write_optional(alloc, text, "reason", &self.mark.reason())?;
+        write_field(alloc, text, "running", &self.running.tests)?;
+        write_field(alloc, text, "setup_scripts_running", &self.running.scripts)?;
+        text.end_struct()?;
+        Ok(())
+    }
 }
 
 /// Makes a mark of the run, on its row, at an instant in microseconds since the epoch.
@@ -94,12 +109,12 @@ pub fn mark_event(
     mark: RunMark,
     running: RunningCounts,
     at: i64,
-) -> Result<Value, AllocError>
-    ensures { IfOk result (λ v. view v ≡ mark_event mark running at) }
+) -> Result<TraceEvent, AllocError>
+    ensures { IfOk result (λ e. event_value e ≡ mark_event mark running at) }
 {
-    let args = mark_args(alloc, mark, running)?;
+    let args = MarkArgs { mark, running };
     let row = Row { pid: 0, tid: 1 };
-    instant_event(alloc, mark.name(), Category::Run, row, at, "p", args)
+    instant_event(alloc, mark.name(), Category::Run, row, at, "p", &args)
 }
 
 /// Makes the event of a test or a setup script that is slow, on its row, at an instant in microseconds since the
@@ -109,14 +124,14 @@ pub fn mark_event(
 ///
 /// `AllocError` if memory runs out.
 #[tactic(auto, unfolding(crate::specs::TraceEvents::slow_event))]
-pub fn slow_event(
+pub fn slow_event<A: Args>(
     alloc: Global,
     category: Category,
     row: Row,
     at: i64,
-    args: Value,
-) -> Result<Value, AllocError>
-    ensures { IfOk result (λ v. view v ≡ slow_event category row at (view args)) }
+    args: &A,
+) -> Result<TraceEvent, AllocError>
+    ensures { IfOk result (λ e. event_value e ≡ slow_event category row at (A.value_of args.now)) }
 {
     instant_event(alloc, "slow", category, row, at, "t", args)
 }

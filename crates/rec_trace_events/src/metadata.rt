@@ -1,47 +1,95 @@
 //! The names of processes and rows, and their order.
 ghost use Rattle.std.specs.Prelude.{◌≡◌, [], ◌∷◌, map, IfOk};
-ghost use Rattle.serde_json.specs.View.{view};
+ghost use Rattle.rec_trace_events.specs.EventTexts.{event_value};
 ghost use Rattle.rec_trace_events.specs.TraceEvents.{metadata_event, name_event, place_event, process_metadata, thread_metadata};
 
-use crate::event::event;
+use crate::args::Args;
+use crate::event::{TraceEvent, event};
+use crate::event_parts::EventParts;
+use crate::members::write_text;
 use crate::rows::Row;
-use rec_forms::{put_field, put_text};
-use serde_json::{Map, Value};
+use rec_forms::write_field;
+use rec_json::JsonText;
 use std::alloc::{AllocError, Global};
 
 /// Makes an event of metadata.
 #[tactic(auto, unfolding(rec_forms::specs::Shape::members_of))]
-fn metadata_event(alloc: Global, name: &str, row: Row, args: Value) -> Result<Value, AllocError>
-    ensures { IfOk result (λ v. view v ≡ metadata_event name.now row (view args)) }
+fn metadata_event<A: Args>(
+    alloc: Global,
+    name: &str,
+    row: Row,
+    args: &A,
+) -> Result<TraceEvent, AllocError>
+    ensures { IfOk result (λ e. event_value e ≡ metadata_event name.now row (A.value_of args.now)) }
 {
-    let mut event = event(alloc, "M", name, "", row, 0)?;
-    serde_json::put(&mut event, alloc, "args", args)?;
-    Ok(Value::from(event))
+    let parts = EventParts {
+        phase: "M",
+        name,
+        category: "",
+        row,
+        at: 0,
+        id: None,
+        scope: None,
+        binding: None,
+    };
+    event(alloc, &parts, Some(args))
+}
+
+/// Names something.
+#[derive(Drop)]
+struct NameArgs<'a> {
+    name: &'a str,
+}
+
+impl<'a> Args for NameArgs<'a> {
+    ghost use Rattle.rec_trace_events.specs.TraceEvents.{name_args};
+
+    ghost value_of = { λ a. name_args a.name.now };
+
+    fn write(&self, _alloc: Global, text: &mut JsonText) -> Result<(), AllocError> {
+        text.begin_object()?;
+        write_text(text, "name", self.name)?;
+        text.end_struct()?;
+        Ok(())
+    }
 }
 
 /// Makes an event of metadata that names something.
-#[tactic(auto, unfolding(rec_forms::specs::Shape::members_of))]
-fn name_event(alloc: Global, event: &str, row: Row, name: &str) -> Result<Value, AllocError>
-    ensures { IfOk result (λ v. view v ≡ name_event event.now row name.now) }
+fn name_event(alloc: Global, event: &str, row: Row, name: &str) -> Result<TraceEvent, AllocError>
+    ensures { IfOk result (λ e. event_value e ≡ name_event event.now row name.now) }
 {
-    let mut args = Map::new(alloc);
-    put_text(alloc, &mut args, "name", name)?;
-    metadata_event(alloc, event, row, Value::from(args))
+    metadata_event(alloc, event, row, &NameArgs { name })
+}
+
+/// Says the place of something among others.
+#[derive(Drop)]
+struct PlaceArgs {
+    place: u64,
+}
+
+impl Args for PlaceArgs {
+    ghost use Rattle.rec_trace_events.specs.TraceEvents.{place_args};
+
+    ghost value_of = { λ a. place_args a.place };
+
+    fn write(&self, alloc: Global, text: &mut JsonText) -> Result<(), AllocError> {
+        text.begin_object()?;
+        write_field(alloc, text, "sort_index", &self.place)?;
+        text.end_struct()?;
+        Ok(())
+    }
 }
 
 /// Makes an event of metadata that says the place of something among others.
-#[tactic(auto, unfolding(rec_forms::specs::Shape::members_of))]
-fn place_event(alloc: Global, event: &str, row: Row, place: u64) -> Result<Value, AllocError>
-    ensures { IfOk result (λ v. view v ≡ place_event event.now row place) }
+fn place_event(alloc: Global, event: &str, row: Row, place: u64) -> Result<TraceEvent, AllocError>
+    ensures { IfOk result (λ e. event_value e ≡ place_event event.now row place) }
 {
-    let mut args = Map::new(alloc);
-    put_field(alloc, &mut args, "sort_index", &place)?;
-    metadata_event(alloc, event, row, Value::from(args))
+    metadata_event(alloc, event, row, &PlaceArgs { place })
 }
 
 /// Makes the list of two events.
-fn pair(alloc: Global, first: Value, second: Value) -> Result<Vec<Value>, AllocError>
-    ensures { IfOk result (λ events. map view events.items ≡ view first ∷ view second ∷ []) }
+fn pair(alloc: Global, first: TraceEvent, second: TraceEvent) -> Result<Vec<TraceEvent>, AllocError>
+    ensures { IfOk result (λ events. map event_value events.items ≡ event_value first ∷ event_value second ∷ []) }
 {
     let mut events = Vec::new(alloc);
     events.push(first)?;
@@ -54,8 +102,8 @@ fn pair(alloc: Global, first: Value, second: Value) -> Result<Vec<Value>, AllocE
 /// # Errors
 ///
 /// `AllocError` if memory runs out.
-pub fn process_metadata(alloc: Global, pid: u64, name: &str) -> Result<Vec<Value>, AllocError>
-    ensures { IfOk result (λ events. map view events.items ≡ process_metadata pid name.now) }
+pub fn process_metadata(alloc: Global, pid: u64, name: &str) -> Result<Vec<TraceEvent>, AllocError>
+    ensures { IfOk result (λ events. map event_value events.items ≡ process_metadata pid name.now) }
 {
     let row = Row { pid, tid: 0 };
     let name = name_event(alloc, "process_name", row, name)?;
@@ -69,8 +117,8 @@ pub fn process_metadata(alloc: Global, pid: u64, name: &str) -> Result<Vec<Value
 /// # Errors
 ///
 /// `AllocError` if memory runs out.
-pub fn thread_metadata(alloc: Global, row: Row, name: &str) -> Result<Vec<Value>, AllocError>
-    ensures { IfOk result (λ events. map view events.items ≡ thread_metadata row name.now) }
+pub fn thread_metadata(alloc: Global, row: Row, name: &str) -> Result<Vec<TraceEvent>, AllocError>
+    ensures { IfOk result (λ events. map event_value events.items ≡ thread_metadata row name.now) }
 {
     let name = name_event(alloc, "thread_name", row, name)?;
     let place = place_event(alloc, "thread_sort_index", row, row.tid)?;

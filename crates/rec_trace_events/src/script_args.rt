@@ -1,62 +1,62 @@
 //! The args of the ends of setup scripts, and of slow ones.
-ghost use Rattle.std.specs.Prelude.{◌≡◌, IfOk};
-ghost use Rattle.serde_json.specs.View.{view};
-ghost use Rattle.rec_trace_events.specs.Args.{script_end_args, slow_script_args};
 
-use crate::error_args::summary_error;
-use crate::members::{put_ending, put_given, put_slow, put_stress_index};
+use crate::args::Args;
+use crate::error_args::write_summary;
+use crate::members::write_stress_index;
 use rec_events::{Duration, OutputSpec, ScriptId, SetupScriptExecuteStatus, StressIndexSummary};
-use rec_forms::put_field;
-use serde_json::{Map, Value};
+use rec_forms::write_field;
+use rec_json::JsonText;
 use std::alloc::{AllocError, Global};
 
-/// Makes the args of the end of a setup script.
-///
-/// # Errors
-///
-/// `AllocError` if memory runs out.
-#[tactic(auto, unfolding(crate::specs::Args::script_end_args, rec_forms::specs::Shape::members_of))]
-pub fn script_end_args<S: OutputSpec>(
-    alloc: Global,
-    script_id: &ScriptId,
-    stress_index: &Option<StressIndexSummary>,
-    status: &SetupScriptExecuteStatus<S>,
-) -> Result<Value, AllocError>
-    ensures { IfOk result (λ v. view v ≡ script_end_args script_id.now stress_index.now status.now) }
-{
-    let mut object = Map::new(alloc);
-    put_field(alloc, &mut object, "script_id", script_id)?;
-    put_ending(
-        alloc,
-        &mut object,
-        &status.time_taken,
-        &status.result,
-        status.is_slow,
-    )?;
-    put_stress_index(alloc, &mut object, stress_index)?;
-    let error = summary_error(alloc, &status.error_summary)?;
-    put_given(alloc, &mut object, "error", error)?;
-    Ok(Value::from(object))
+/// Holds the args of the end of a setup script.
+#[derive(Drop)]
+pub struct ScriptEndArgs<'a, S: OutputSpec> {
+    pub script_id: &'a ScriptId,
+    pub stress_index: &'a Option<StressIndexSummary>,
+    pub status: &'a SetupScriptExecuteStatus<S>,
 }
 
-/// Makes the args of a slow setup script. `elapsed` is how long it has run.
-///
-/// # Errors
-///
-/// `AllocError` if memory runs out.
-#[tactic(auto, unfolding(crate::specs::Args::slow_script_args, rec_forms::specs::Shape::members_of))]
-pub fn slow_script_args(
-    alloc: Global,
-    script_id: &ScriptId,
-    stress_index: &Option<StressIndexSummary>,
-    elapsed: &Duration,
-    will_terminate: bool,
-) -> Result<Value, AllocError>
-    ensures { IfOk result (λ v. view v ≡ slow_script_args script_id.now stress_index.now elapsed.now will_terminate) }
-{
-    let mut object = Map::new(alloc);
-    put_field(alloc, &mut object, "script_id", script_id)?;
-    put_slow(alloc, &mut object, elapsed, will_terminate)?;
-    put_stress_index(alloc, &mut object, stress_index)?;
-    Ok(Value::from(object))
+impl<'a, S: OutputSpec> Args for ScriptEndArgs<'a, S> {
+    ghost use Rattle.rec_trace_events.specs.Args.{script_end_args};
+
+    ghost value_of = { λ a. script_end_args a.script_id.now a.stress_index.now a.status.now };
+
+    #[tactic(auto, unfolding(crate::specs::Args::script_end_args))]
+    fn write(&self, alloc: Global, text: &mut JsonText) -> Result<(), AllocError> {
+        text.begin_object()?;
+        write_summary(text, &self.status.error_summary)?;
+        write_field(alloc, text, "is_slow", &self.status.is_slow)?;
+        write_field(alloc, text, "result", &self.status.result)?;
+        write_field(alloc, text, "script_id", self.script_id)?;
+        write_stress_index(alloc, text, self.stress_index)?;
+        write_field(alloc, text, "time_taken", &self.status.time_taken)?;
+        text.end_struct()?;
+        Ok(())
+    }
+}
+
+/// Holds the args of a slow setup script. `elapsed` is how long it has run.
+#[derive(Drop)]
+pub struct SlowScriptArgs<'a> {
+    pub script_id: &'a ScriptId,
+    pub stress_index: &'a Option<StressIndexSummary>,
+    pub elapsed: &'a Duration,
+    pub will_terminate: bool,
+}
+
+impl<'a> Args for SlowScriptArgs<'a> {
+    ghost use Rattle.rec_trace_events.specs.Args.{slow_script_args};
+
+    ghost value_of = { λ a. slow_script_args a.script_id.now a.stress_index.now a.elapsed.now a.will_terminate };
+
+    #[tactic(auto, unfolding(crate::specs::Args::slow_script_args))]
+    fn write(&self, alloc: Global, text: &mut JsonText) -> Result<(), AllocError> {
+        text.begin_object()?;
+        write_field(alloc, text, "elapsed", self.elapsed)?;
+        write_field(alloc, text, "script_id", self.script_id)?;
+        write_stress_index(alloc, text, self.stress_index)?;
+        write_field(alloc, text, "will_terminate", &self.will_terminate)?;
+        text.end_struct()?;
+        Ok(())
+    }
 }

@@ -1,74 +1,91 @@
 //! The args of the begins of attempts, and of slow tests.
-ghost use Rattle.std.specs.Prelude.{◌≡◌, IfOk};
-ghost use Rattle.serde_json.specs.View.{view};
-ghost use Rattle.rec_trace_events.specs.Args.{retry_begin_args, slow_test_args, test_begin_args};
 
-use crate::members::{put_attempt, put_command_line, put_slow, put_stress_index, put_test};
+use crate::args::Args;
+use crate::members::{write_command_line, write_stress_index};
 use rec_events::{Duration, Items, OwnedTestInstanceId, RetryData, StressIndexSummary, Text};
-use rec_forms::put_field;
-use serde_json::{Map, Value};
+use rec_forms::write_field;
+use rec_json::JsonText;
 use std::alloc::{AllocError, Global};
 
-/// Makes the args of the begin of a test's first attempt. A command line without a word is left out.
-///
-/// # Errors
-///
-/// `AllocError` if memory runs out.
-#[tactic(auto, unfolding(crate::specs::Args::test_begin_args, rec_forms::specs::Shape::members_of))]
-pub fn test_begin_args(
-    alloc: Global,
-    test: &OwnedTestInstanceId,
-    command_line: &Items<Text>,
-) -> Result<Value, AllocError>
-    ensures { IfOk result (λ v. view v ≡ test_begin_args test.now command_line.now) }
-{
-    let mut object = Map::new(alloc);
-    put_test(alloc, &mut object, test)?;
-    put_command_line(alloc, &mut object, command_line)?;
-    Ok(Value::from(object))
+/// Holds the args of the begin of a test's first attempt. A command line without a word is left out.
+#[derive(Drop)]
+pub struct TestBeginArgs<'a> {
+    pub test: &'a OwnedTestInstanceId,
+    pub command_line: &'a Items<Text>,
 }
 
-/// Makes the args of the begin of a further attempt. A command line without a word is left out.
-///
-/// # Errors
-///
-/// `AllocError` if memory runs out.
-#[tactic(auto, unfolding(crate::specs::Args::retry_begin_args, rec_forms::specs::Shape::members_of))]
-pub fn retry_begin_args(
-    alloc: Global,
-    test: &OwnedTestInstanceId,
-    retry_data: &RetryData,
-    command_line: &Items<Text>,
-) -> Result<Value, AllocError>
-    ensures { IfOk result (λ v. view v ≡ retry_begin_args test.now retry_data.now command_line.now) }
-{
-    let mut object = Map::new(alloc);
-    put_test(alloc, &mut object, test)?;
-    put_attempt(alloc, &mut object, retry_data)?;
-    put_command_line(alloc, &mut object, command_line)?;
-    Ok(Value::from(object))
+impl<'a> Args for TestBeginArgs<'a> {
+    ghost use Rattle.rec_trace_events.specs.Args.{test_begin_args};
+
+    ghost value_of = { λ a. test_begin_args a.test.now a.command_line.now };
+
+    #[tactic(auto, unfolding(crate::specs::Args::test_begin_args))]
+    fn write(&self, alloc: Global, text: &mut JsonText) -> Result<(), AllocError> {
+        text.begin_object()?;
+        write_field(alloc, text, "binary_id", &self.test.binary_id)?;
+        write_command_line(alloc, text, self.command_line)?;
+        write_field(alloc, text, "test_name", &self.test.test_name)?;
+        text.end_struct()?;
+        Ok(())
+    }
 }
 
-/// Makes the args of a slow test. `elapsed` is how long its attempt has run.
-///
-/// # Errors
-///
-/// `AllocError` if memory runs out.
-#[tactic(auto, unfolding(crate::specs::Args::slow_test_args, rec_forms::specs::Shape::members_of))]
-pub fn slow_test_args(
-    alloc: Global,
-    test: &OwnedTestInstanceId,
-    stress_index: &Option<StressIndexSummary>,
-    retry_data: &RetryData,
-    elapsed: &Duration,
-    will_terminate: bool,
-) -> Result<Value, AllocError>
-    ensures { IfOk result (λ v. view v ≡ slow_test_args test.now stress_index.now retry_data.now elapsed.now will_terminate) }
-{
-    let mut object = Map::new(alloc);
-    put_test(alloc, &mut object, test)?;
-    put_slow(alloc, &mut object, elapsed, will_terminate)?;
-    put_field(alloc, &mut object, "attempt", &retry_data.attempt)?;
-    put_stress_index(alloc, &mut object, stress_index)?;
-    Ok(Value::from(object))
+/// Holds the args of the begin of a further attempt. A command line without a word is left out.
+#[derive(Drop)]
+pub struct RetryBeginArgs<'a> {
+    pub test: &'a OwnedTestInstanceId,
+    pub retry_data: &'a RetryData,
+    pub command_line: &'a Items<Text>,
+}
+
+impl<'a> Args for RetryBeginArgs<'a> {
+    ghost use Rattle.rec_trace_events.specs.Args.{retry_begin_args};
+
+    ghost value_of = { λ a. retry_begin_args a.test.now a.retry_data.now a.command_line.now };
+
+    #[tactic(auto, unfolding(crate::specs::Args::retry_begin_args))]
+    fn write(&self, alloc: Global, text: &mut JsonText) -> Result<(), AllocError> {
+        text.begin_object()?;
+        write_field(alloc, text, "attempt", &self.retry_data.attempt)?;
+        write_field(alloc, text, "binary_id", &self.test.binary_id)?;
+        write_command_line(alloc, text, self.command_line)?;
+        write_field(alloc, text, "test_name", &self.test.test_name)?;
+        write_field(
+            alloc,
+            text,
+            "total_attempts",
+            &self.retry_data.total_attempts,
+        )?;
+        text.end_struct()?;
+        Ok(())
+    }
+}
+
+/// Holds the args of a slow test. `elapsed` is how long its attempt has run.
+#[derive(Drop)]
+pub struct SlowTestArgs<'a> {
+    pub test: &'a OwnedTestInstanceId,
+    pub stress_index: &'a Option<StressIndexSummary>,
+    pub retry_data: &'a RetryData,
+    pub elapsed: &'a Duration,
+    pub will_terminate: bool,
+}
+
+impl<'a> Args for SlowTestArgs<'a> {
+    ghost use Rattle.rec_trace_events.specs.Args.{slow_test_args};
+
+    ghost value_of = { λ a. slow_test_args a.test.now a.stress_index.now a.retry_data.now a.elapsed.now a.will_terminate };
+
+    #[tactic(auto, unfolding(crate::specs::Args::slow_test_args))]
+    fn write(&self, alloc: Global, text: &mut JsonText) -> Result<(), AllocError> {
+        text.begin_object()?;
+        write_field(alloc, text, "attempt", &self.retry_data.attempt)?;
+        write_field(alloc, text, "binary_id", &self.test.binary_id)?;
+        write_field(alloc, text, "elapsed", self.elapsed)?;
+        write_stress_index(alloc, text, self.stress_index)?;
+        write_field(alloc, text, "test_name", &self.test.test_name)?;
+        write_field(alloc, text, "will_terminate", &self.will_terminate)?;
+        text.end_struct()?;
+        Ok(())
+    }
 }

@@ -88,13 +88,9 @@ fn ending(alloc: Global, builder: TraceBuilder<'_, VecTarget>) -> Result<String,
 fn phases(alloc: Global, events: &[TraceEvent]) -> Result<String, Fail> {
     let mut text = String::new(alloc);
     for event in events {
-        text.push_str(
-            event
-                .value()
-                .get("ph")
-                .and_then(Value::as_str)
-                .unwrap_or("?"),
-        )?;
+        let value = event.value(alloc)?;
+        let phase = value.get("ph").and_then(Value::as_str);
+        text.push_str(phase.unwrap_or("?"))?;
     }
     Ok(text)
 }

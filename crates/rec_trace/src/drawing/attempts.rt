@@ -1,9 +1,7 @@
 //! Draws the begins and the ends of attempts of tests, and slow tests.
-ghost use Rattle.std.specs.Prelude.{◌≡◌, Some, IfOk, OnOk, codes, option_map, option_to_list};
-ghost use Rattle.serde_json.specs.View.{view};
+ghost use Rattle.std.specs.Prelude.{◌≡◌, OnOk, codes, option_map, option_to_list};
 ghost use Rattle.rec_codec.specs.CoreKinds.{core_name};
 ghost use Rattle.rec_codec.specs.OutputKinds.{output_name};
-ghost use Rattle.rec_trace_events.specs.Args.{failed_attempt_args, finished_test_args};
 ghost use Rattle.rec_trace_events.specs.RowNames.{slot_name};
 ghost use Rattle.rec_spans.specs.Acts.Act.{AttemptStarts};
 ghost use Rattle.rec_spans.specs.Acts.{core_act, output_act};
@@ -11,23 +9,19 @@ ghost use Rattle.rec_spans.specs.Kinds.{test_span};
 ghost use Rattle.rec_spans.specs.Plain.{plain_output_kind};
 ghost use Rattle.rec_trace.specs.Drawing.{Draws, IsJudgedAct, in_sight};
 ghost use Rattle.rec_trace.specs.Drawn.Drawn.{ArrowFinishes};
-ghost use Rattle.rec_trace.specs.Table.{attempt_starts, drawn_core, drawn_output, group_of, naming, test_process};
+ghost use Rattle.rec_trace.specs.Table.{attempt_starts, drawn_core, drawn_output, naming, test_process};
 
 use crate::drawing::primitives::{
     draw_arrow_finish, draw_arrow_start, draw_counter, draw_end, draw_in_pause, draw_names,
     draw_results, draw_slice, draw_slow,
 };
 use crate::drawing::sight::Sight;
-use rec_events::{
-    CoreEventKind, Duration, ExecuteStatus, ExecutionStatuses, OutputEventKind, OutputSpec,
-    OwnedTestInstanceId, StressIndexSummary, TestGroup,
-};
+use rec_events::{CoreEventKind, OutputEventKind, OutputSpec, OwnedTestInstanceId};
 use rec_spans::{ChromeTraceGroupBy, Phase};
 use rec_trace_events::{
-    Category, Row, TestCounts, failed_attempt_args, finished_test_args, retry_begin_args,
-    slot_name, slow_test_args, test_begin_args,
+    Args, Category, FailedAttemptArgs, LastAttemptArgs, RetryBeginArgs, Row, SlowTestArgs,
+    TestBeginArgs, TestCounts, TraceEvent, counted_flaky_result, slot_name,
 };
-use serde_json::Value;
 use std::alloc::AllocError;
 
 /// Names the process of the row of a test: its binary, or that of all tests.
@@ -46,7 +40,7 @@ fn draw_attempt_names(
     row: Row,
     test: &OwnedTestInstanceId,
     slot: u64,
-    events: &mut Vec<Value>,
+    events: &mut Vec<TraceEvent>,
 ) -> Result<(), AllocError>
     ensures { OnOk result (Draws (in_sight sight.now naming row (test_process sight.now.group_by test.now) (slot_name slot)) events.old.items events.new.items) }
 {
@@ -58,17 +52,17 @@ fn draw_attempt_names(
 
 /// Draws that an attempt of a test started on a slot, at which the arrow of this number finishes, if there is
 /// one. `running` is how many tests run with it.
-fn draw_attempt_start(
+fn draw_attempt_start<A: Args>(
     sight: &Sight<'_>,
     test: &OwnedTestInstanceId,
     slot: u64,
-    args: Value,
+    args: &A,
     flow: Option<u64>,
     running: usize,
-    events: &mut Vec<Value>,
+    events: &mut Vec<TraceEvent>,
 ) -> Result<(), AllocError>
     requires { IsJudgedAct sight.now (AttemptStarts test.now slot) }
-    ensures { OnOk result (Draws (in_sight sight.now attempt_starts test.now slot (view args)
+    ensures { OnOk result (Draws (in_sight sight.now attempt_starts test.now slot (A.value_of args.now)
         (option_to_list (option_map (ArrowFinishes test.now (test_span sight.now.group_by sight.now.tracker.now.binaries test.now slot).row sight.now.judged.now.at) flow)) running)
         events.old.items events.new.items) }
 {
@@ -87,7 +81,7 @@ fn draw_attempt_start(
 pub fn draw_test_start(
     sight: &Sight<'_>,
     kind: &CoreEventKind,
-    events: &mut Vec<Value>,
+    events: &mut Vec<TraceEvent>,
 ) -> Result<(), AllocError>
     requires named { core_name kind.now ≡ codes "test-started" }
     requires judged { IsJudgedAct sight.now (core_act kind.now) }
@@ -103,9 +97,12 @@ pub fn draw_test_start(
     else {
         unreachable!()
     };
-    let args = test_begin_args(sight.alloc, test_instance, command_line)?;
+    let args = TestBeginArgs {
+        test: test_instance,
+        command_line,
+    };
     let slot = slot_assignment.global_slot;
-    draw_attempt_start(sight, test_instance, slot, args, None, *running, events)?;
+    draw_attempt_start(sight, test_instance, slot, &args, None, *running, events)?;
     Ok(())
 }
 
@@ -113,7 +110,7 @@ pub fn draw_test_start(
 pub fn draw_retry_start(
     sight: &Sight<'_>,
     kind: &CoreEventKind,
-    events: &mut Vec<Value>,
+    events: &mut Vec<TraceEvent>,
 ) -> Result<(), AllocError>
     requires named { core_name kind.now ≡ codes "test-retry-started" }
     requires judged { IsJudgedAct sight.now (core_act kind.now) }
@@ -130,10 +127,14 @@ pub fn draw_retry_start(
     else {
         unreachable!()
     };
-    let args = retry_begin_args(sight.alloc, test_instance, retry_data, command_line)?;
+    let args = RetryBeginArgs {
+        test: test_instance,
+        retry_data,
+        command_line,
+    };
     let slot = slot_assignment.global_slot;
     let flow = sight.known.arrow(test_instance);
-    draw_attempt_start(sight, test_instance, slot, args, flow, *running, events)?;
+    draw_attempt_start(sight, test_instance, slot, &args, flow, *running, events)?;
     Ok(())
 }
 
@@ -141,7 +142,7 @@ pub fn draw_retry_start(
 pub fn draw_slow_test(
     sight: &Sight<'_>,
     kind: &CoreEventKind,
-    events: &mut Vec<Value>,
+    events: &mut Vec<TraceEvent>,
 ) -> Result<(), AllocError>
     requires named { core_name kind.now ≡ codes "test-slow" }
     ensures { OnOk result (Draws (in_sight sight.now drawn_core kind.now) events.old.items events.new.items) }
@@ -156,43 +157,23 @@ pub fn draw_slow_test(
     else {
         unreachable!()
     };
-    let args = slow_test_args(
-        sight.alloc,
-        test_instance,
+    let args = SlowTestArgs {
+        test: test_instance,
         stress_index,
         retry_data,
         elapsed,
-        *will_terminate,
-    )?;
+        will_terminate: *will_terminate,
+    };
     let span = sight.tracker.open_spans().test(test_instance);
-    draw_slow(sight, Category::Test, span, args, events)?;
+    draw_slow(sight, Category::Test, span, &args, events)?;
     Ok(())
-}
-
-/// Makes the args of the end of an attempt that failed, in the group of its start.
-fn failed_args<S: OutputSpec>(
-    sight: &Sight<'_>,
-    test: &OwnedTestInstanceId,
-    stress_index: &Option<StressIndexSummary>,
-    status: &ExecuteStatus<S>,
-    delay: &Duration,
-) -> Result<Value, AllocError>
-    ensures { IfOk result (λ v. view v ≡ failed_attempt_args test.now stress_index.now (in_sight sight.now group_of test.now) status.now delay.now) }
-{
-    match sight.known.group(test) {
-        Some(group) => failed_attempt_args(sight.alloc, test, stress_index, group, status, delay),
-        None => {
-            let global = TestGroup::Global;
-            failed_attempt_args(sight.alloc, test, stress_index, &global, status, delay)
-        }
-    }
 }
 
 /// Draws that an attempt of a test failed, after which another one follows.
 pub fn draw_failed_attempt<S: OutputSpec>(
     sight: &Sight<'_>,
     kind: &OutputEventKind<S>,
-    events: &mut Vec<Value>,
+    events: &mut Vec<TraceEvent>,
 ) -> Result<(), AllocError>
     requires named { output_name kind.now ≡ codes "test-attempt-failed-will-retry" }
     requires judged { IsJudgedAct sight.now (output_act (plain_output_kind kind.now)) }
@@ -209,38 +190,25 @@ pub fn draw_failed_attempt<S: OutputSpec>(
     else {
         unreachable!()
     };
-    let delay = delay_before_next_attempt;
-    let args = failed_args(sight, test_instance, stress_index, run_status, delay)?;
+    let args = FailedAttemptArgs {
+        test: test_instance,
+        stress_index,
+        test_group: sight.known.group(test_instance),
+        status: run_status,
+        delay_before_next_attempt,
+    };
     let span = sight.tracker.open_spans().test(test_instance);
-    draw_end(sight, span, args, events)?;
+    draw_end(sight, span, &args, events)?;
     draw_arrow_start(sight, test_instance, span, events)?;
     draw_counter(sight, *running, sight.judged.running_scripts, events)?;
     Ok(())
-}
-
-/// Makes the args of the end of a test, in the group in which its last attempt was started.
-fn finished_args<S: OutputSpec>(
-    sight: &Sight<'_>,
-    test: &OwnedTestInstanceId,
-    stress_index: &Option<StressIndexSummary>,
-    statuses: &ExecutionStatuses<S>,
-) -> Result<Value, AllocError>
-    ensures { IfOk result (λ v. finished_test_args test.now stress_index.now (in_sight sight.now group_of test.now) statuses.now ≡ Some (view v)) }
-{
-    match sight.known.group(test) {
-        Some(group) => finished_test_args(sight.alloc, test, stress_index, group, statuses),
-        None => {
-            let global = TestGroup::Global;
-            finished_test_args(sight.alloc, test, stress_index, &global, statuses)
-        }
-    }
 }
 
 /// Draws that the last attempt of a test ended.
 pub fn draw_test_end<S: OutputSpec>(
     sight: &Sight<'_>,
     kind: &OutputEventKind<S>,
-    events: &mut Vec<Value>,
+    events: &mut Vec<TraceEvent>,
 ) -> Result<(), AllocError>
     requires named { output_name kind.now ≡ codes "test-finished" }
     requires judged { IsJudgedAct sight.now (output_act (plain_output_kind kind.now)) }
@@ -260,9 +228,16 @@ pub fn draw_test_end<S: OutputSpec>(
     let Some(counts) = TestCounts::of(current_stats) else {
         unreachable!()
     };
-    let args = finished_args(sight, test_instance, stress_index, run_statuses)?;
+    let last = run_statuses.last_status();
+    let args = LastAttemptArgs {
+        test: test_instance,
+        stress_index,
+        test_group: sight.known.group(test_instance),
+        last,
+        flaky: counted_flaky_result(run_statuses, last),
+    };
     let span = sight.tracker.open_spans().test(test_instance);
-    draw_end(sight, span, args, events)?;
+    draw_end(sight, span, &args, events)?;
     draw_counter(sight, *running, sight.judged.running_scripts, events)?;
     draw_results(sight, counts, events)?;
     Ok(())

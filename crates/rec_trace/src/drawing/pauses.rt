@@ -9,15 +9,14 @@ use crate::drawing::primitives::{draw_all, draw_counter, draw_run_mark};
 use crate::drawing::sight::Sight;
 use rec_events::CoreEventKind;
 use rec_spans::Phase;
-use rec_trace_events::RunMark;
-use serde_json::Value;
+use rec_trace_events::{RunMark, TraceEvent};
 use std::alloc::AllocError;
 
 /// Draws that a run was cancelled.
 pub fn draw_cancel(
     sight: &Sight<'_>,
     kind: &CoreEventKind,
-    events: &mut Vec<Value>,
+    events: &mut Vec<TraceEvent>,
 ) -> Result<(), AllocError>
     requires named { core_name kind.now ≡ codes "run-begin-cancel" }
     ensures { OnOk result (Draws (in_sight sight.now drawn_core kind.now) events.old.items events.new.items) }
@@ -37,7 +36,7 @@ pub fn draw_cancel(
 }
 
 /// Draws the ends of all open spans, unless the run is in a pause already.
-fn draw_pause(sight: &Sight<'_>, events: &mut Vec<Value>) -> Result<(), AllocError>
+fn draw_pause(sight: &Sight<'_>, events: &mut Vec<TraceEvent>) -> Result<(), AllocError>
     ensures { OnOk result (Draws (if sight.now.tracker.now.in_pause then [] else bare phases.End sight.now.judged.now.at sight.now.tracker.now.spans)
         events.old.items events.new.items) }
 {
@@ -51,7 +50,7 @@ fn draw_pause(sight: &Sight<'_>, events: &mut Vec<Value>) -> Result<(), AllocErr
 pub fn draw_run_pause(
     sight: &Sight<'_>,
     kind: &CoreEventKind,
-    events: &mut Vec<Value>,
+    events: &mut Vec<TraceEvent>,
 ) -> Result<(), AllocError>
     requires named { core_name kind.now ≡ codes "run-paused" }
     ensures { OnOk result (Draws (in_sight sight.now drawn_core kind.now) events.old.items events.new.items) }
@@ -71,7 +70,7 @@ pub fn draw_run_pause(
 }
 
 /// Draws the begins of all open spans, where the run is in a pause.
-fn draw_resume(sight: &Sight<'_>, events: &mut Vec<Value>) -> Result<(), AllocError>
+fn draw_resume(sight: &Sight<'_>, events: &mut Vec<TraceEvent>) -> Result<(), AllocError>
     ensures { OnOk result (Draws (if sight.now.tracker.now.in_pause then bare phases.Begin sight.now.judged.now.at sight.now.tracker.now.spans else [])
         events.old.items events.new.items) }
 {
@@ -85,7 +84,7 @@ fn draw_resume(sight: &Sight<'_>, events: &mut Vec<Value>) -> Result<(), AllocEr
 pub fn draw_run_continuation(
     sight: &Sight<'_>,
     kind: &CoreEventKind,
-    events: &mut Vec<Value>,
+    events: &mut Vec<TraceEvent>,
 ) -> Result<(), AllocError>
     requires named { core_name kind.now ≡ codes "run-continued" }
     ensures { OnOk result (Draws (in_sight sight.now drawn_core kind.now) events.old.items events.new.items) }

@@ -1,6 +1,5 @@
 //! Draws the parts of which the trace events of every kind of event are made.
 ghost use Rattle.std.specs.Prelude.{◌≡◌, [], ◌∷◌, Some, IfOk, OnOk, if◌then◌else◌, map, option_copied, option_map, option_to_list};
-ghost use Rattle.serde_json.specs.View.{view};
 ghost use Rattle.rec_trace_events.specs.TraceEvents.{process_row};
 ghost use Rattle.rec_spans.specs.Past.{mark};
 ghost use Rattle.rec_trace.specs.Drawing.{Draws, in_sight};
@@ -13,11 +12,10 @@ use crate::drawing::sight::Sight;
 use rec_events::{OwnedTestInstanceId, Text};
 use rec_spans::{Phase, Span, SpanKey};
 use rec_trace_events::{
-    Category, Row, RunMark, RunningCounts, TestCounts, arrow_finish, arrow_start, begin_event,
-    concurrency_event, end_event, mark_event, process_metadata, results_event, run_process_name,
-    slow_event, thread_metadata,
+    Args, Category, NoArgs, Row, RunMark, RunningCounts, TestCounts, TraceEvent, arrow_finish,
+    arrow_start, begin_event, concurrency_event, end_event, mark_event, process_metadata,
+    results_event, run_process_name, slow_event, thread_metadata,
 };
-use serde_json::Value;
 use std::alloc::AllocError;
 
 // ---- names
@@ -27,7 +25,7 @@ fn name_process(
     sight: &Sight<'_>,
     pid: u64,
     name: &str,
-    events: &mut Vec<Value>,
+    events: &mut Vec<TraceEvent>,
 ) -> Result<(), AllocError>
     ensures { OnOk result (Draws (if (known_in sight.now.known.now).is_named (process_row pid) then [] else ProcessNamed pid name.now ∷ [])
         events.old.items events.new.items) }
@@ -44,7 +42,7 @@ fn name_row(
     sight: &Sight<'_>,
     row: Row,
     name: &str,
-    events: &mut Vec<Value>,
+    events: &mut Vec<TraceEvent>,
 ) -> Result<(), AllocError>
     ensures { OnOk result (Draws (if (known_in sight.now.known.now).is_named row then [] else RowNamed row name.now ∷ [])
         events.old.items events.new.items) }
@@ -62,7 +60,7 @@ pub fn draw_names(
     row: Row,
     process: &str,
     name: &str,
-    events: &mut Vec<Value>,
+    events: &mut Vec<TraceEvent>,
 ) -> Result<(), AllocError>
     ensures { OnOk result (Draws (in_sight sight.now naming row process.now name.now) events.old.items events.new.items) }
 {
@@ -87,7 +85,7 @@ pub fn draw_run_names(
     sight: &Sight<'_>,
     row: Row,
     name: &str,
-    events: &mut Vec<Value>,
+    events: &mut Vec<TraceEvent>,
 ) -> Result<(), AllocError>
     ensures { OnOk result (Draws (in_sight sight.now naming row (in_sight sight.now run_process) name.now) events.old.items events.new.items) }
 {
@@ -111,14 +109,14 @@ fn category_of(key: &SpanKey) -> Category
 }
 
 /// Draws the begin or the end of a slice of a span, with these args, where there are some.
-pub fn draw_slice(
+pub fn draw_slice<A: Args>(
     sight: &Sight<'_>,
     phase: Phase,
     span: &Span,
-    args: Option<Value>,
-    events: &mut Vec<Value>,
+    args: Option<&A>,
+    events: &mut Vec<TraceEvent>,
 ) -> Result<(), AllocError>
-    ensures { OnOk result (Draws (Slice (mark phase sight.now.judged.now.at span.now) (option_map view args) ∷ [])
+    ensures { OnOk result (Draws (Slice (mark phase sight.now.judged.now.at span.now) (option_map A.value_of (option_copied args.entry)) ∷ [])
         events.old.items events.new.items) }
 {
     let (name, category) = (span.name.as_str(), category_of(&span.key));
@@ -136,25 +134,25 @@ pub fn draw_in_pause(
     sight: &Sight<'_>,
     phase: Phase,
     span: &Span,
-    events: &mut Vec<Value>,
+    events: &mut Vec<TraceEvent>,
 ) -> Result<(), AllocError>
     ensures { OnOk result (Draws (if sight.now.tracker.now.in_pause then bare phase sight.now.judged.now.at (span.now ∷ []) else [])
         events.old.items events.new.items) }
 {
     if sight.tracker.in_pause() {
-        draw_slice(sight, phase, span, None, events)?;
+        draw_slice(sight, phase, span, None::<&NoArgs>, events)?;
     }
     Ok(())
 }
 
 /// Draws the begin of a span. In a pause the span ends at once.
-pub fn draw_start(
+pub fn draw_start<A: Args>(
     sight: &Sight<'_>,
     span: &Span,
-    args: Option<Value>,
-    events: &mut Vec<Value>,
+    args: Option<&A>,
+    events: &mut Vec<TraceEvent>,
 ) -> Result<(), AllocError>
-    ensures { OnOk result (Draws (in_sight sight.now opens span.now (option_map view args) [])
+    ensures { OnOk result (Draws (in_sight sight.now opens span.now (option_map A.value_of (option_copied args.entry)) [])
         events.old.items events.new.items) }
 {
     draw_slice(sight, Phase::Begin, span, args, events)?;
@@ -163,13 +161,13 @@ pub fn draw_start(
 }
 
 /// Draws the end of a span, where it is open. In a pause the span begins before that.
-pub fn draw_end(
+pub fn draw_end<A: Args>(
     sight: &Sight<'_>,
     span: Option<&Span>,
-    args: Value,
-    events: &mut Vec<Value>,
+    args: &A,
+    events: &mut Vec<TraceEvent>,
 ) -> Result<(), AllocError>
-    ensures { OnOk result (Draws (in_sight sight.now closes (option_to_list (option_copied span.entry)) (Some (view args)))
+    ensures { OnOk result (Draws (in_sight sight.now closes (option_to_list (option_copied span.entry)) (Some (A.value_of args.now)))
         events.old.items events.new.items) }
 {
     if let Some(span) = span {
@@ -180,11 +178,15 @@ pub fn draw_end(
 }
 
 /// Draws the begins, or the ends, of all open spans without args.
-pub fn draw_all(sight: &Sight<'_>, phase: Phase, events: &mut Vec<Value>) -> Result<(), AllocError>
+pub fn draw_all(
+    sight: &Sight<'_>,
+    phase: Phase,
+    events: &mut Vec<TraceEvent>,
+) -> Result<(), AllocError>
     ensures { OnOk result (Draws (bare phase sight.now.judged.now.at sight.now.tracker.now.spans) events.old.items events.new.items) }
 {
     for span in sight.tracker.open_spans().iter() {
-        draw_slice(sight, phase, span, None, events)?;
+        draw_slice(sight, phase, span, None::<&NoArgs>, events)?;
     }
     Ok(())
 }
@@ -196,7 +198,7 @@ pub fn draw_counter(
     sight: &Sight<'_>,
     tests: usize,
     scripts: usize,
-    events: &mut Vec<Value>,
+    events: &mut Vec<TraceEvent>,
 ) -> Result<(), AllocError>
     ensures { OnOk result (Draws (in_sight sight.now counter tests scripts ∷ []) events.old.items events.new.items) }
 {
@@ -209,7 +211,7 @@ pub fn draw_counter(
 pub fn draw_results(
     sight: &Sight<'_>,
     counts: TestCounts,
-    events: &mut Vec<Value>,
+    events: &mut Vec<TraceEvent>,
 ) -> Result<(), AllocError>
     ensures { OnOk result (Draws (Results counts sight.now.judged.now.at ∷ []) events.old.items events.new.items) }
 {
@@ -223,7 +225,7 @@ pub fn draw_run_mark(
     what: RunMark,
     tests: usize,
     scripts: usize,
-    events: &mut Vec<Value>,
+    events: &mut Vec<TraceEvent>,
 ) -> Result<(), AllocError>
     ensures { OnOk result (Draws (in_sight sight.now run_marked what tests scripts) events.old.items events.new.items) }
 {
@@ -234,14 +236,14 @@ pub fn draw_run_mark(
 }
 
 /// Draws that a span is slow, where it is open.
-pub fn draw_slow(
+pub fn draw_slow<A: Args>(
     sight: &Sight<'_>,
     category: Category,
     span: Option<&Span>,
-    args: Value,
-    events: &mut Vec<Value>,
+    args: &A,
+    events: &mut Vec<TraceEvent>,
 ) -> Result<(), AllocError>
-    ensures { OnOk result (Draws (map (λ s. Slow category s.row sight.now.judged.now.at (view args)) (option_to_list (option_copied span.entry)))
+    ensures { OnOk result (Draws (map (λ s. Slow category s.row sight.now.judged.now.at (A.value_of args.now)) (option_to_list (option_copied span.entry)))
         events.old.items events.new.items) }
 {
     if let Some(span) = span {
@@ -257,7 +259,7 @@ pub fn draw_arrow_start(
     sight: &Sight<'_>,
     test: &OwnedTestInstanceId,
     span: Option<&Span>,
-    events: &mut Vec<Value>,
+    events: &mut Vec<TraceEvent>,
 ) -> Result<(), AllocError>
     ensures { OnOk result (Draws (map (λ s. ArrowStarts test.now s.row sight.now.judged.now.at sight.now.tracker.now.next_flow) (option_to_list (option_copied span.entry)))
         events.old.items events.new.items) }
@@ -275,7 +277,7 @@ pub fn draw_arrow_finish(
     test: &OwnedTestInstanceId,
     row: Row,
     flow: Option<u64>,
-    events: &mut Vec<Value>,
+    events: &mut Vec<TraceEvent>,
 ) -> Result<(), AllocError>
     ensures { OnOk result (Draws (option_to_list (option_map (ArrowFinishes test.now row sight.now.judged.now.at) flow)) events.old.items events.new.items) }
 {

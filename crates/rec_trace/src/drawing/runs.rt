@@ -13,9 +13,8 @@ use crate::drawing::sight::Sight;
 use crate::known::Known;
 use rec_events::{CoreEventKind, Text};
 use rec_trace_events::{
-    Row, run_begin_args, run_end_args, run_process_name, sub_run_begin_args, sub_run_end_args,
+    Row, RunBeginArgs, RunEndArgs, SubRunBeginArgs, SubRunEndArgs, TraceEvent, run_process_name,
 };
-use serde_json::Value;
 use std::alloc::{AllocError, Global};
 
 /// Names the process of the run, under the profile that its start names, and its row, each where it wasn't named
@@ -24,7 +23,7 @@ fn draw_profile_names(
     sight: &Sight<'_>,
     row: Row,
     profile: &Text,
-    events: &mut Vec<Value>,
+    events: &mut Vec<TraceEvent>,
 ) -> Result<(), AllocError>
     ensures { OnOk result (Draws (in_sight sight.now naming row (run_process_name (Some profile.now)) (codes "run")) events.old.items events.new.items) }
 {
@@ -37,7 +36,7 @@ fn draw_profile_names(
 pub fn draw_run_start(
     sight: &Sight<'_>,
     kind: &CoreEventKind,
-    events: &mut Vec<Value>,
+    events: &mut Vec<TraceEvent>,
 ) -> Result<(), AllocError>
     requires named { core_name kind.now ≡ codes "run-started" }
     requires judged { IsJudgedAct sight.now (core_act kind.now) }
@@ -56,15 +55,14 @@ pub fn draw_run_start(
         unreachable!()
     };
     draw_profile_names(sight, span.row, profile_name, events)?;
-    let args = run_begin_args(
-        sight.alloc,
-        sight.version,
+    let args = RunBeginArgs {
+        version: sight.version,
         run_id,
-        profile_name.as_str(),
+        profile: profile_name.as_str(),
         cli_args,
         stress_condition,
-    )?;
-    draw_start(sight, span, Some(args), events)?;
+    };
+    draw_start(sight, span, Some(&args), events)?;
     Ok(())
 }
 
@@ -82,7 +80,7 @@ fn last_profile(known: &Known) -> &str
 pub fn draw_run_end(
     sight: &Sight<'_>,
     kind: &CoreEventKind,
-    events: &mut Vec<Value>,
+    events: &mut Vec<TraceEvent>,
 ) -> Result<(), AllocError>
     requires named { core_name kind.now ≡ codes "run-finished" }
     ensures { OnOk result (Draws (in_sight sight.now drawn_core kind.now) events.old.items events.new.items) }
@@ -96,15 +94,14 @@ pub fn draw_run_end(
     else {
         unreachable!()
     };
-    let args = run_end_args(
-        sight.alloc,
-        sight.version,
-        elapsed,
-        last_profile(sight.known),
+    let args = RunEndArgs {
+        version: sight.version,
+        time_taken: elapsed,
+        profile: last_profile(sight.known),
         run_stats,
         outstanding_not_seen,
-    )?;
-    draw_end(sight, sight.tracker.open_spans().run(), args, events)?;
+    };
+    draw_end(sight, sight.tracker.open_spans().run(), &args, events)?;
     Ok(())
 }
 
@@ -112,7 +109,7 @@ pub fn draw_run_end(
 pub fn draw_sub_run_start(
     sight: &Sight<'_>,
     kind: &CoreEventKind,
-    events: &mut Vec<Value>,
+    events: &mut Vec<TraceEvent>,
 ) -> Result<(), AllocError>
     requires named { core_name kind.now ≡ codes "stress-sub-run-started" }
     requires judged { IsJudgedAct sight.now (core_act kind.now) }
@@ -125,8 +122,8 @@ pub fn draw_sub_run_start(
         unreachable!()
     };
     draw_run_names(sight, span.row, "stress sub-runs", events)?;
-    let args = sub_run_begin_args(sight.alloc, progress)?;
-    draw_start(sight, span, Some(args), events)?;
+    let args = SubRunBeginArgs { progress };
+    draw_start(sight, span, Some(&args), events)?;
     Ok(())
 }
 
@@ -134,7 +131,7 @@ pub fn draw_sub_run_start(
 pub fn draw_sub_run_end(
     sight: &Sight<'_>,
     kind: &CoreEventKind,
-    events: &mut Vec<Value>,
+    events: &mut Vec<TraceEvent>,
 ) -> Result<(), AllocError>
     requires named { core_name kind.now ≡ codes "stress-sub-run-finished" }
     ensures { OnOk result (Draws (in_sight sight.now drawn_core kind.now) events.old.items events.new.items) }
@@ -147,7 +144,11 @@ pub fn draw_sub_run_end(
     else {
         unreachable!()
     };
-    let args = sub_run_end_args(sight.alloc, progress, sub_elapsed, sub_stats)?;
-    draw_end(sight, sight.tracker.open_spans().sub_run(), args, events)?;
+    let args = SubRunEndArgs {
+        progress,
+        time_taken: sub_elapsed,
+        sub_stats,
+    };
+    draw_end(sight, sight.tracker.open_spans().sub_run(), &args, events)?;
     Ok(())
 }

@@ -11,8 +11,9 @@ ghost use Rattle.rec_trace.specs.Table.{drawn_core, drawn_output, naming};
 use crate::drawing::primitives::{draw_counter, draw_end, draw_names, draw_slow, draw_start};
 use crate::drawing::sight::Sight;
 use rec_events::{CoreEventKind, OutputEventKind, OutputSpec};
-use rec_trace_events::{Category, Row, script_end_args, script_name, slow_script_args};
-use serde_json::Value;
+use rec_trace_events::{
+    Category, NoArgs, Row, ScriptEndArgs, SlowScriptArgs, TraceEvent, script_name,
+};
 use std::alloc::AllocError;
 
 /// Names the process of the setup scripts, and the row of the one of this index, each where it wasn't named before.
@@ -20,7 +21,7 @@ fn draw_script_names(
     sight: &Sight<'_>,
     row: Row,
     index: usize,
-    events: &mut Vec<Value>,
+    events: &mut Vec<TraceEvent>,
 ) -> Result<(), AllocError>
     ensures { OnOk result (Draws (in_sight sight.now naming row (codes "setup-scripts") (script_name index)) events.old.items events.new.items) }
 {
@@ -33,7 +34,7 @@ fn draw_script_names(
 pub fn draw_script_start(
     sight: &Sight<'_>,
     kind: &CoreEventKind,
-    events: &mut Vec<Value>,
+    events: &mut Vec<TraceEvent>,
 ) -> Result<(), AllocError>
     requires named { core_name kind.now ≡ codes "setup-script-started" }
     requires judged { IsJudgedAct sight.now (core_act kind.now) }
@@ -46,7 +47,7 @@ pub fn draw_script_start(
         unreachable!()
     };
     draw_script_names(sight, span.row, *index, events)?;
-    draw_start(sight, span, None, events)?;
+    draw_start(sight, span, None::<&NoArgs>, events)?;
     let (tests, scripts) = (sight.known.running(), sight.judged.running_scripts);
     draw_counter(sight, tests, scripts, events)?;
     Ok(())
@@ -56,7 +57,7 @@ pub fn draw_script_start(
 pub fn draw_slow_script(
     sight: &Sight<'_>,
     kind: &CoreEventKind,
-    events: &mut Vec<Value>,
+    events: &mut Vec<TraceEvent>,
 ) -> Result<(), AllocError>
     requires named { core_name kind.now ≡ codes "setup-script-slow" }
     ensures { OnOk result (Draws (in_sight sight.now drawn_core kind.now) events.old.items events.new.items) }
@@ -71,15 +72,14 @@ pub fn draw_slow_script(
     else {
         unreachable!()
     };
-    let args = slow_script_args(
-        sight.alloc,
+    let args = SlowScriptArgs {
         script_id,
         stress_index,
         elapsed,
-        *will_terminate,
-    )?;
+        will_terminate: *will_terminate,
+    };
     let span = sight.tracker.open_spans().some_script(script_id);
-    draw_slow(sight, Category::SetupScript, span, args, events)?;
+    draw_slow(sight, Category::SetupScript, span, &args, events)?;
     Ok(())
 }
 
@@ -87,7 +87,7 @@ pub fn draw_slow_script(
 pub fn draw_script_end<S: OutputSpec>(
     sight: &Sight<'_>,
     kind: &OutputEventKind<S>,
-    events: &mut Vec<Value>,
+    events: &mut Vec<TraceEvent>,
 ) -> Result<(), AllocError>
     requires named { output_name kind.now ≡ codes "setup-script-finished" }
     requires judged { IsJudgedAct sight.now (output_act (plain_output_kind kind.now)) }
@@ -103,9 +103,13 @@ pub fn draw_script_end<S: OutputSpec>(
     else {
         unreachable!()
     };
-    let args = script_end_args(sight.alloc, script_id, stress_index, run_status)?;
+    let args = ScriptEndArgs {
+        script_id,
+        stress_index,
+        status: run_status,
+    };
     let span = sight.tracker.open_spans().script(*index);
-    draw_end(sight, span, args, events)?;
+    draw_end(sight, span, &args, events)?;
     let (tests, scripts) = (sight.known.running(), sight.judged.running_scripts);
     draw_counter(sight, tests, scripts, events)?;
     Ok(())

@@ -1,7 +1,8 @@
 //! What is noted of tests: the groups of their open attempts, and their pending arrows.
-ghost use Rattle.std.specs.Prelude.{◌≡◌, true, None, is_some, OnOk, option_copied};
+ghost use Rattle.std.specs.Prelude.{◌≡◌, true, false, None, is_some, OnOk, option_copied};
 ghost use Rattle.rec_events.specs.declared.instances.OwnedTestInstanceId.{OwnedTestInstanceId};
 ghost use Rattle.rec_events.specs.Tests.{test_eq};
+ghost use Rattle.rec_trace.specs.Entries.{EachTestSays, EachTestSaysBut, TestSays, notes_say};
 ghost use Rattle.rec_trace.specs.Held.{IsCountOf};
 ghost use Rattle.rec_trace.specs.Known.{of_test};
 ghost use Rattle.rec_trace.specs.KnownMaps.{HasTest, HasTests, arrow_noted, arrow_with, arrows_with, group_noted, groups_with};
@@ -18,7 +19,8 @@ pub struct TestNotes {
     pub arrow: Option<u64>,
 }
 
-/// Keeps the notes of each test. An empty note says as much as none.
+/// Keeps the notes of each test. An empty note says as much as none: it is room for what an event notes, and stays
+/// no longer than that event.
 #[derive(Drop)]
 pub struct Notes {
     tests: BTreeMap<OwnedTestInstanceId, TestNotes>,
@@ -29,6 +31,7 @@ impl Notes {
     pub fn new(alloc: Global) -> Notes
         ensures groups { (test : OwnedTestInstanceId) → group_noted result test ≡ None }
         ensures arrows { (test : OwnedTestInstanceId) → arrow_noted result test ≡ None }
+        ensures says { EachTestSays result }
     {
         Notes {
             tests: BTreeMap::new(alloc),
@@ -76,6 +79,7 @@ impl Notes {
         ensures groups { (test : OwnedTestInstanceId) → group_noted self.new test ≡ group_noted self.old test }
         ensures arrows { (test : OwnedTestInstanceId) → arrow_noted self.new test ≡ arrow_noted self.old test }
         ensures room { OnOk result (HasTests news.now self.new) }
+        ensures says { EachTestSays self.old → EachTestSaysBut news.now self.new }
     {
         match news {
             Some(news) => self.make_test(alloc, &news.test),
@@ -88,6 +92,7 @@ impl Notes {
         ensures groups { (other : OwnedTestInstanceId) → group_noted self.new other ≡ group_noted self.old other }
         ensures arrows { (other : OwnedTestInstanceId) → arrow_noted self.new other ≡ arrow_noted self.old other }
         ensures room { OnOk result (HasTest test.now self.new) }
+        ensures says { (other : OwnedTestInstanceId) → test_eq test.now other ≡ false → TestSays self.old other → TestSays self.new other }
     {
         if self.tests.contains_key(test) {
             return Ok(());
@@ -107,6 +112,7 @@ impl Notes {
     pub fn let_go(&mut self, news: &Option<TestNews>)
         ensures groups { (test : OwnedTestInstanceId) → group_noted self.new test ≡ group_noted self.old test }
         ensures arrows { (test : OwnedTestInstanceId) → arrow_noted self.new test ≡ arrow_noted self.old test }
+        ensures says { EachTestSaysBut news.now self.old → EachTestSays self.new }
     {
         if let Some(news) = news {
             self.let_go_test(&news.test);
@@ -117,6 +123,7 @@ impl Notes {
     fn let_go_test(&mut self, test: &OwnedTestInstanceId)
         ensures groups { (other : OwnedTestInstanceId) → group_noted self.new other ≡ group_noted self.old other }
         ensures arrows { (other : OwnedTestInstanceId) → arrow_noted self.new other ≡ arrow_noted self.old other }
+        ensures says { (other : OwnedTestInstanceId) → (test_eq test.now other ≡ false → TestSays self.old other) → TestSays self.new other }
     {
         if self.says_nothing(test) {
             drop(self.tests.remove(test));
@@ -127,6 +134,7 @@ impl Notes {
     fn says_nothing(&self, test: &OwnedTestInstanceId) -> bool
         ensures group { result ≡ true → group_noted self.now test.now ≡ None }
         ensures arrow { result ≡ true → arrow_noted self.now test.now ≡ None }
+        ensures says { result ≡ false → TestSays self.now test.now }
     {
         self.group(test).is_none() && self.arrow(test).is_none()
     }
@@ -136,6 +144,7 @@ impl Notes {
         requires { HasTests news self.old }
         ensures groups { (test : OwnedTestInstanceId) → group_noted self.new test ≡ groups_with news (group_noted self.old) test }
         ensures arrows { (test : OwnedTestInstanceId) → arrow_noted self.new test ≡ arrows_with news (arrow_noted self.old) test }
+        ensures says { EachTestSaysBut news self.old → EachTestSays self.new }
     {
         if let Some(news) = news {
             self.take_news(news);
@@ -147,6 +156,7 @@ impl Notes {
         requires { HasTest news.test self.old }
         ensures groups { (test : OwnedTestInstanceId) → group_noted self.new test ≡ of_test news.test news.group (group_noted self.old) test }
         ensures arrows { (test : OwnedTestInstanceId) → arrow_noted self.new test ≡ of_test news.test (arrow_with news.arrow (arrow_noted self.old news.test)) (arrow_noted self.old) test }
+        ensures says { (other : OwnedTestInstanceId) → (test_eq news.test other ≡ false → TestSays self.old other) → TestSays self.new other }
     {
         let arrow = arrow_after(news.arrow, self.arrow(&news.test));
         let notes = TestNotes {
@@ -161,13 +171,23 @@ impl Notes {
         requires { HasTest test self.old }
         ensures groups { (other : OwnedTestInstanceId) → group_noted self.new other ≡ of_test test notes.group (group_noted self.old) other }
         ensures arrows { (other : OwnedTestInstanceId) → arrow_noted self.new other ≡ of_test test notes.arrow (arrow_noted self.old) other }
+        ensures says { (other : OwnedTestInstanceId) → (test_eq test other ≡ false → TestSays self.old other) → TestSays self.new other }
     {
         // The entries of tests that ended aren't kept for all of a long run.
         if notes.group.is_none() && notes.arrow.is_none() {
-            drop(self.tests.remove(&test));
+            self.forget(&test);
             return;
         }
         self.replace(test, notes);
+    }
+
+    /// Removes the entry of a test.
+    fn forget(&mut self, test: &OwnedTestInstanceId)
+        ensures groups { (other : OwnedTestInstanceId) → group_noted self.new other ≡ of_test test.now None (group_noted self.old) other }
+        ensures arrows { (other : OwnedTestInstanceId) → arrow_noted self.new other ≡ of_test test.now None (arrow_noted self.old) other }
+        ensures says { (other : OwnedTestInstanceId) → (test_eq test.now other ≡ false → TestSays self.old other) → TestSays self.new other }
+    {
+        drop(self.tests.remove(test));
     }
 
     /// Replaces the notes of a test.
@@ -175,6 +195,7 @@ impl Notes {
         requires { HasTest test self.old }
         ensures groups { (other : OwnedTestInstanceId) → group_noted self.new other ≡ of_test test notes.group (group_noted self.old) other }
         ensures arrows { (other : OwnedTestInstanceId) → arrow_noted self.new other ≡ of_test test notes.arrow (arrow_noted self.old) other }
+        ensures says { notes_say notes ≡ true → (other : OwnedTestInstanceId) → (test_eq test other ≡ false → TestSays self.old other) → TestSays self.new other }
     {
         // Only a new test can want memory.
         let Ok(before) = self.tests.insert(test, notes) else {

@@ -1,4 +1,4 @@
-use Rattle.std.proofs.Common.{[], ap, refl, subst, ◌∙◌}
+use Rattle.std.proofs.Common.{[], refl, subst}
 use Rattle.rec_trace.proofs.convert.convert_to_chrome_trace.Goals as goal
 use Rattle.rec_trace.proofs.Converting.{converted-item, converts-all, refused-item}
 use Rattle.rec_trace.specs.Traces.{HasTraced}
@@ -28,5 +28,4 @@ pub returns-clause-trace : goal.returns-clause-trace
 returns-clause-trace g c =
     converts-all c.args.message_format c.args.group_by c.args.version.now c.loop-item.trace c.loop-item.yielded c.loop-item.invariant.converted
     g.I.Iterator.next_gives c.args.events c.into_iter-item-iterator.result c.loop-item.item-iterator c.next.new.self c.into_iter-item-iterator.ensures.into_iter_gives c.loop-item.yielded_by
-    c.into_bytes.result.items c.in-None.ensures.steps
-    (λ f k v past has. ap (λ v. v.items) c.into_bytes.ensures.value ∙ c.in_ok-text.ensures f k v past has)
+    c.in_ok-text.text.items c.in-None.ensures.steps c.in_ok-text.ensures

@@ -1,6 +1,7 @@
 use Rattle.std.proofs.Common.{Some, ap, sym, ◌∙◌}
 use Rattle.rec_trace_events.proofs.WithoutOutputs.{failed_attempt_args-with}
 use Rattle.rec_trace_events.specs.Args.{failed_attempt_args}
+use Rattle.rec_trace_events.specs.AttemptEnds.{group_or_global}
 use Rattle.rec_spans.specs.Acts.{output_act}
 use Rattle.rec_spans.specs.declared.spans.SpanKey.TheVariants as keys
 use Rattle.rec_spans.specs.Past.{of_key, scripts_after}
@@ -17,7 +18,8 @@ returns g c =
     let k = c.in-TestAttemptFailedWillRetry in
     let spans = c.test-span.ensures ∙ ap (of_key (keys.Test k.test_instance)) c.open_spans.ensures in
     let group = in_sight s group_of k.test_instance in
-    let args = ◌∙◌ {b = failed_attempt_args k.test_instance k.stress_index group k.run_status k.delay_before_next_attempt} c.in_ok-args.ensures
+    let args = ◌∙◌ {b = failed_attempt_args k.test_instance k.stress_index group k.run_status k.delay_before_next_attempt}
+    (ap (λ g. failed_attempt_args k.test_instance k.stress_index (group_or_global g) k.run_status k.delay_before_next_attempt) c.group.ensures)
     (sym (failed_attempt_args-with (Unit {0}) (λ o. tt) k.test_instance k.stress_index group k.run_status k.delay_before_next_attempt)) in
     let scripts = c.requires.judged.scripts ∙ ap (λ kind. scripts_after (output_act (plain_output_kind kind)) s.tracker.now.scripts) k.is in
     rw k.is

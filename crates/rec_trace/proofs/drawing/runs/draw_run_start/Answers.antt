@@ -13,7 +13,7 @@ returns c =
     let k = c.in-RunStarted in
     let span = span_is s.judged.now.started c.in-Some.span run_span c.in-Some.is
     (c.requires.judged.starts ∙ ap (λ kind. started (change_of s.group_by s.tracker.now.binaries (core_act kind))) k.is) in
-    let args = c.in_ok-args.ensures ∙ ap (λ p. run_begin_args s.version.now k.run_id p k.cli_args k.stress_condition) c.as_str.ensures.value in
+    let args = ap (λ p. run_begin_args s.version.now k.run_id p k.cli_args k.stress_condition) c.as_str.ensures.value in
     rw k.is
     (start_of s.version.now s.group_by s.tracker.now (known_in s.known.now) s.judged.now.at run_span c.in-Some.span _ _ _ _ _ _ _
     span (ap Some args) c.in_ok-draw_profile_names.ensures c.in_ok-draw_start.ensures)

@@ -1,4 +1,4 @@
-use Rattle.std.proofs.Common.{Some, ap, ◌∙◌}
+use Rattle.std.proofs.Common.{ap, refl, ◌∙◌}
 use Rattle.rec_spans.specs.Acts.{core_act}
 use Rattle.rec_spans.specs.Kinds.{change_of, sub_run_span}
 use Rattle.rec_spans.specs.Starts.{started}
@@ -14,4 +14,4 @@ returns c =
     (c.requires.judged.starts ∙ ap (λ kind. started (change_of s.group_by s.tracker.now.binaries (core_act kind))) k.is) in
     rw k.is
     (start_of s.version.now s.group_by s.tracker.now (known_in s.known.now) s.judged.now.at sub_run_span c.in-Some.span _ _ _ _ _ _ _
-    span (ap Some c.in_ok-args.ensures) c.in_ok-draw_run_names.ensures c.in_ok-draw_start.ensures)
+    span refl c.in_ok-draw_run_names.ensures c.in_ok-draw_start.ensures)

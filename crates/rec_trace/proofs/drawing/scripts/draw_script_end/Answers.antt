@@ -13,7 +13,7 @@ returns g c =
     let s = c.args.sight.now in
     let k = c.in-SetupScriptFinished in
     let spans = c.script-span.ensures ∙ ap (of_key (keys.Script k.index)) c.open_spans.ensures in
-    let args = c.in_ok-args.ensures ∙ sym (script_end_args-with (Unit {0}) (λ o. tt) k.script_id k.stress_index k.run_status) in
+    let args = sym (script_end_args-with (Unit {0}) (λ o. tt) k.script_id k.stress_index k.run_status) in
     let scripts = c.requires.judged.scripts ∙ ap (λ kind. scripts_after (output_act (plain_output_kind kind)) s.tracker.now.scripts) k.is in
     rw k.is
     (counted_end_of s.version.now s.group_by s.tracker.now (known_in s.known.now) s.judged.now.at _ _ _ _ _ _ _ _ _ _ _

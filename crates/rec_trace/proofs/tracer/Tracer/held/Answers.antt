@@ -17,7 +17,7 @@ returns c = λ version events has.
     record {
       named = c.named.result;
       pending = c.pending.result;
-      names = subst (λ (k : Known). IsCountOf row_eq k.is_named c.named.result) has.knows c.named.ensures;
+      names = subst (λ (k : Known). IsCountOf row_eq k.is_named c.named.result) has.knows (c.named.ensures has.each_says);
       arrows = subst (λ (k : Known). IsCountOf test_eq (λ test. is_some (k.arrow test)) c.pending.result) has.knows c.pending.ensures;
       adds = added-up (length (open_spans (after [] (history g events)))) c.named.result c.pending.result (binaries_held g (binaries (after [] (history g events)))) c.saturating_add-known.result
           c.saturating_add.result c.saturating_add-2.result 18446744073709551615 c.saturating_add-known.ensures

@@ -6,5 +6,6 @@ returns g c = λ before p. record {
   group = p.group;
   version = p.version;
   stands = c.take_back.ensures before.group_by before.tracker p.opened p.stands;
-  knows = same-trans c.let_go.ensures p.knows;
+  knows = same-trans c.let_go.ensures.same p.knows;
+  each_says = λ says. c.let_go.ensures.says (p.each_says says);
 }

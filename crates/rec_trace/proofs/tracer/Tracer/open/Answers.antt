@@ -19,6 +19,7 @@ returns-in-Ok-clause-ok g c =
       told = subst (λ flow. Tells flow c.args.judged.started (plain_kind c.args.event.now.kind) c.in_ok-news.news) c.next_flow-flow.ensures c.in_ok-news.ensures.tells
           (seen_by old event) c.requires.starts refl (known_in old.known);
       has_room = c.in_ok-news.ensures.room;
+      each_says = c.in_ok-news.ensures.says;
       numbered = c.in-Ok.ensures.opened.numbered ∙ ap suc (sym (ap (λ (t : TraceState). t.number) c.in-Ok.ensures.ok));
     }
 
@@ -27,5 +28,6 @@ returns-in-Err-clause-err g c = record {
   group = refl;
   version = refl;
   stands = c.in-Err.ensures.err;
-  knows = same-trans c.let_go.ensures c.prepare.ensures.same;
+  knows = same-trans c.let_go.ensures.same c.prepare.ensures.same;
+  each_says = λ says. c.let_go.ensures.says (c.in_ok-news.ensures.says says);
 }

@@ -7,7 +7,7 @@ use Rattle.rec_trace.specs.KnownNews.{known_in}
 use Rattle.rec_trace.specs.Steps.{StaysSame}
 
 same : (t : Tracer) → StaysSame t t
-same t = record { group = refl; version = refl; stands = refl; knows = same-self (known_in t.known) }
+same t = record { group = refl; version = refl; stands = refl; knows = same-self (known_in t.known); each_says = λ says. says }
 
 pub returns-in_err-judged-clause-judged : goal.returns-in_err-judged-clause-judged
 returns-in_err-judged-clause-judged g c =
@@ -19,14 +19,14 @@ returns-in_err-judged-clause-err g c =
     let p = err_from_is_err_and c.from_residual.result c.from_residual.ensures.1 in
     rw (p.1) (same c.args.self.now)
 
-pub returns-in_err-values-clause-judged : goal.returns-in_err-values-clause-judged
-returns-in_err-values-clause-judged g c =
-    let p = err_from_is_err_and c.from_residual-in_err-values.result c.from_residual-in_err-values.ensures.1 in
+pub returns-in_err-events-clause-judged : goal.returns-in_err-events-clause-judged
+returns-in_err-events-clause-judged g c =
+    let p = err_from_is_err_and c.from_residual-in_err-events.result c.from_residual-in_err-events.ensures.1 in
     rw (p.1, p.2) (inl refl)
 
-pub returns-in_err-values-clause-err : goal.returns-in_err-values-clause-err
-returns-in_err-values-clause-err g c =
-    let p = err_from_is_err_and c.from_residual-in_err-values.result c.from_residual-in_err-values.ensures.1 in
+pub returns-in_err-events-clause-err : goal.returns-in_err-events-clause-err
+returns-in_err-events-clause-err g c =
+    let p = err_from_is_err_and c.from_residual-in_err-events.result c.from_residual-in_err-events.ensures.1 in
     rw (p.1) (same c.args.self.now)
 
 pub returns-in_err-prepared-clause-judged : goal.returns-in_err-prepared-clause-judged

@@ -1,6 +1,7 @@
 use Rattle.std.proofs.Common.{◌≡◌, IsSome, None, ap, is_some, refl, subst, sym, ◌∙◌}
 use Rattle.std.specs.Map.{lookup}
 use Rattle.rec_events.specs.Tests.{test_eq}
+use Rattle.rec_trace.proofs.Entries.{test-other}
 use Rattle.rec_trace.proofs.known.notes.Notes.make_test.Goals as goal
 use Rattle.rec_trace.proofs.KnownMaps.{test-absent, test-get, test-there, test-unnoted}
 use Rattle.rec_trace.specs.declared.known.notes.TestNotes.{TestNotes}
@@ -30,3 +31,7 @@ returns-clause-room c =
     let tests = c.args.self.now.tests in
     subst (λ t. IsSome (lookup (test_eq t) c.insert.new.self.entries)) c.in_ok-key.ensures.copy
     (test-there c.in_ok-key.key tests c.insert.new.self _ c.in_ok-insert.ensures.updates refl)
+
+pub returns-clause-says : goal.returns-clause-says
+returns-clause-says c = λ other no says.
+    test-other c.in_ok-key.key c.args.self.now.tests c.insert.new.self _ c.in_ok-insert.ensures.updates other (ap (λ t. test_eq t other) c.in_ok-key.ensures.copy ∙ no) says

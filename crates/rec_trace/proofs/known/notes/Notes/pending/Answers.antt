@@ -1,4 +1,4 @@
-use Rattle.std.proofs.Common.{◌≡◌, ◌+◌, [], is_some, subst, arith}
+use Rattle.std.proofs.Common.{◌≡◌, ◌+◌, is_some, subst, arith}
 use Rattle.std.specs.List.{count_by}
 use Rattle.std.specs.Map.{lookup, values_of}
 use Rattle.rec_events.proofs.TestOrder.{test_eq-self, test_eq-true}

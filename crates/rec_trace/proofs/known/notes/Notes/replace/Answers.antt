@@ -1,4 +1,5 @@
 use Rattle.std.proofs.Common.{refl, sym, ◌∙◌}
+use Rattle.rec_trace.proofs.Entries.{test-said}
 use Rattle.rec_trace.proofs.known.notes.Notes.replace.Goals as goal
 use Rattle.rec_trace.proofs.KnownMaps.{no_some, test-get, test-noted}
 use Rattle.rec_trace.specs.declared.known.notes.TestNotes.{TestNotes}
@@ -13,3 +14,6 @@ returns-clause-groups c =
 pub returns-clause-arrows : goal.returns-clause-arrows
 returns-clause-arrows c =
     test-noted c.args.test c.args.self.now.tests c.insert.new.self _ c.in-Ok.ensures.updates (λ (n : TestNotes). n.arrow) c.args.notes.arrow refl
+
+pub returns-clause-says : goal.returns-clause-says
+returns-clause-says c = λ say. test-said c.args.test c.args.self.now.tests c.insert.new.self _ c.in-Ok.ensures.updates say

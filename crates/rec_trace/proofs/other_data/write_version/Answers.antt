@@ -1,0 +1,11 @@
+use Rattle.std.proofs.Common.{refl}
+use Rattle.rec_trace.proofs.other_data.write_version.Goals as goal
+use Rattle.rec_trace.proofs.OtherData.{version_alone}
+use Rattle.rec_trace.specs.Texts.{other_data}
+
+pub returns-clause-written : goal.returns-clause-written
+unfolding other_data
+returns-clause-written c = c.in_ok-end_struct.ensures _ _ (rw (c.in_ok-write_field.ensures.written, c.in_ok-begin_object.ensures) refl)
+
+pub returns-clause-known : goal.returns-clause-known
+returns-clause-known c = version_alone _ c.in_ok-write_field.ensures.known

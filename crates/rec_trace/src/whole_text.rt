@@ -1,0 +1,64 @@
+//! Writes what stands in the text of a trace before its events and after them.
+ghost use Rattle.std.specs.Prelude.{◌≡◌, IfOk, string_bytes};
+ghost use Rattle.serde_json.specs.Data.{Data};
+ghost use Rattle.serde_json.specs.Written.{compact_text};
+ghost use Rattle.rec_forms.specs.Writable.{IsWritable};
+ghost use Rattle.rec_trace.specs.declared.settings.ChromeTraceMessageFormat.TheVariants.{JsonPretty};
+ghost use Rattle.rec_trace.specs.Texts.{compact_front, trace_end, trace_front};
+
+use crate::layout::lay_out;
+use crate::settings::ChromeTraceMessageFormat;
+use std::alloc::{AllocError, Global};
+
+/// Writes what stands before the events of a trace that says this beside them.
+///
+/// # Errors
+///
+/// `AllocError` if memory runs out.
+pub fn trace_front(
+    alloc: Global,
+    format: ChromeTraceMessageFormat,
+    other_data: &str,
+) -> Result<Vec<u8>, AllocError>
+    ensures { IfOk result (λ s. (other : Data) → other_data.now ≡ compact_text other → IsWritable 8 other → s.items ≡ trace_front format other) }
+{
+    let front = compact_front(alloc, other_data)?;
+    match format {
+        ChromeTraceMessageFormat::Json => Ok(front.into_bytes()),
+        ChromeTraceMessageFormat::JsonPretty => pretty_front(alloc, front),
+    }
+}
+
+/// Writes in one line what stands before the events.
+fn compact_front(alloc: Global, other_data: &str) -> Result<String, AllocError>
+    ensures { IfOk result (λ s. (other : Data) → other_data.now ≡ compact_text other → string_bytes s ≡ compact_front other) }
+{
+    let mut front = String::from_str(alloc, "{\"displayTimeUnit\":\"ms\",\"otherData\":")?;
+    front.push_str(other_data)?;
+    front.push_str(",\"traceEvents\":[")?;
+    Ok(front)
+}
+
+/// Writes over several lines what stands before the events, from what stands there in one line: that is what a trace
+/// without events has before its end.
+fn pretty_front(alloc: Global, mut front: String) -> Result<Vec<u8>, AllocError>
+    ensures { IfOk result (λ s. (other : Data) → string_bytes front ≡ compact_front other → IsWritable 8 other → s.items ≡ trace_front JsonPretty other) }
+{
+    front.push_str(trace_end(ChromeTraceMessageFormat::Json, false))?;
+    let mut lines = lay_out(alloc, &front)?;
+    let end = trace_end(ChromeTraceMessageFormat::JsonPretty, false);
+    let front_len = lines.as_slice().len().saturating_sub(end.len());
+    lines.truncate(front_len);
+    Ok(lines)
+}
+
+/// Names what stands after the events of a trace, where there are some or none.
+pub fn trace_end(format: ChromeTraceMessageFormat, has_events: bool) -> &'static str
+    ensures { result.now ≡ trace_end format has_events }
+{
+    match format {
+        ChromeTraceMessageFormat::Json => "]}",
+        ChromeTraceMessageFormat::JsonPretty if has_events => "\n  ]\n}",
+        ChromeTraceMessageFormat::JsonPretty => "]\n}",
+    }
+}

@@ -1,0 +1,19 @@
+use Rattle.std.specs.Prelude.{refl}
+use Rattle.rec_trace_events.proofs.run_args.SubRunEndArgsArgs.write.Goals as goal
+use Rattle.rec_trace_events.proofs.WritableArgs.{sub_run_end_written}
+use Rattle.rec_trace_events.specs.Args.{sub_run_end_args}
+
+-- what each call wrote, from the last one back
+pub returns-clause-written : goal.returns-clause-written
+unfolding sub_run_end_args
+returns-clause-written c =
+    c.in_ok-end_struct.ensures _ _ (rw (
+      c.in_ok-write_field-3.ensures.written,
+      c.in_ok-write_field-2.ensures.written,
+      c.in_ok-write_field.ensures.written,
+      c.in_ok-begin_object.ensures,
+    ) refl)
+
+pub returns-clause-known : goal.returns-clause-known
+returns-clause-known c =
+    sub_run_end_written _ _ _ c.in_ok-write_field.ensures.known c.in_ok-write_field-3.ensures.known c.in_ok-write_field-2.ensures.known
