@@ -125,7 +125,7 @@ fn built<S: OutputForm>(
     if added::<S>(alloc, &mut trace, &with_refusals())? != 10 {
         return Err("not ten refusals".into());
     }
-    let text = trace.into_text(alloc)?;
+    let text = String::from_utf8(trace.into_bytes(alloc)?)?;
     Ok(Value::from_str(alloc, text.as_str())?)
 }
 
