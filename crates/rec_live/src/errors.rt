@@ -1,7 +1,7 @@
 //! Why a session isn't recorded to its end.
 
 use rec_codec::LineError;
-use rec_container::SinkFailed;
+use rec_container::{ReadError, SinkFailed};
 use rec_store::RunStoreError;
 use std::alloc::{AllocError, AllocFailed};
 use thiserror::Error;
@@ -12,9 +12,9 @@ pub enum RecordingError {
     /// The words aren't one directory.
     #[error("the word is the directory of the run")]
     FaultyWords,
-    /// The session can't be read.
-    #[error("the session can't be read")]
-    SourceFault,
+    /// The session isn't read to its end.
+    #[error("{0}")]
+    Session(#[from] ReadError),
     /// The session's first line is no head.
     #[error("the first line is no head")]
     ParseHead,

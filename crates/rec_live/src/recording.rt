@@ -1,11 +1,12 @@
 //! The events of a session, which are recorded and counted.
 ghost use Rattle.std.specs.Prelude.{◌≡◌, false, IfOk};
+ghost use Rattle.rec_container.specs.Within.{Gave};
 ghost use Rattle.rec_store.specs.Recording.{has_failed};
 ghost use Rattle.rec_live.specs.Accepted.{HasCounted};
 
 use crate::errors::RecordingError;
 use rec_codec::{Line, Lines, read_line};
-use rec_container::{ReadError, Sink, Source, read_within, write_all};
+use rec_container::{Sink, Source, read_within, write_all};
 use rec_events::{LiveSpec, TestEventSummary};
 use rec_format::SessionHead;
 use rec_forms::{FromValueError, read_text};
@@ -17,14 +18,14 @@ use std::alloc::Global;
 const SESSION_LIMIT: u64 = 1_000_000_000;
 
 /// Reads a session to its end.
-pub fn read_session<S: Source>(alloc: Global, source: &mut S) -> Result<Vec<u8>, RecordingError> {
-    match read_within(alloc, SESSION_LIMIT, source) {
-        Ok(session) => Ok(session),
-        Err(ReadError::OutOfMemory) => Err(RecordingError::OutOfMemory),
-        Err(ReadError::SourceFault | ReadError::TooLarge { .. }) => {
-            Err(RecordingError::SourceFault)
-        }
-    }
+///
+/// # Errors
+///
+/// Those of [`read_within`], with a limit of 1,000,000,000 bytes.
+pub fn read_session<S: Source>(alloc: Global, source: &mut S) -> Result<Vec<u8>, RecordingError>
+    ensures { IfOk result (λ bytes. Gave S.left S.faults 1000000000 source.old source.new bytes.items) }
+{
+    Ok(read_within(alloc, SESSION_LIMIT, source)?)
 }
 
 /// Records the head of a session and its events, and prints after each how many events were accepted.

@@ -10,12 +10,13 @@ use rec_format::{
     StoreVersionIncompatibility,
 };
 use std::alloc::AllocError;
+use std::fmt;
 use thiserror::Error;
 
 /// Says why a bundle, or a part of it, isn't read. A bundle is judged in the order of the variants up
 /// to `UnsupportedStoreFormatVersion`, and the first refusal is answered. Want of memory may come at any
 /// time.
-#[derive(Debug, PartialEq, Drop, Error)]
+#[derive(PartialEq, Drop, Error)]
 pub enum PortableRecordingReadError {
     /// The source of the bundle failed.
     #[error("reading the bundle failed")]
@@ -88,6 +89,13 @@ pub enum PortableRecordingReadError {
     /// Memory ran out.
     #[error("out of memory")]
     OutOfMemory,
+}
+
+/// Prints the error as `Display` does.
+impl fmt::Debug for PortableRecordingReadError {
+    fn fmt<W: fmt::Write>(&self, f: &mut fmt::Formatter<W>) -> fmt::Result {
+        fmt::Display::fmt(self, f)
+    }
 }
 
 impl From<AllocError> for PortableRecordingReadError {

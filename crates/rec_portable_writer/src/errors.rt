@@ -4,10 +4,11 @@ ghost use Rattle.rec_portable_writer.specs.declared.errors.PortableRecordingErro
 
 use rec_events::Text;
 use std::alloc::AllocError;
+use std::fmt;
 use thiserror::Error;
 
 /// Says why no bundle was made of a run's directory.
-#[derive(Debug, PartialEq, Drop, Error)]
+#[derive(PartialEq, Drop, Error)]
 pub enum PortableRecordingError {
     /// There is no directory of the run.
     #[error("there is no run at {}", .path.as_str())]
@@ -44,6 +45,13 @@ pub enum PortableRecordingError {
     /// Memory ran out.
     #[error("out of memory")]
     OutOfMemory,
+}
+
+/// Prints the error as `Display` does.
+impl fmt::Debug for PortableRecordingError {
+    fn fmt<W: fmt::Write>(&self, f: &mut fmt::Formatter<W>) -> fmt::Result {
+        fmt::Display::fmt(self, f)
+    }
 }
 
 impl From<AllocError> for PortableRecordingError {

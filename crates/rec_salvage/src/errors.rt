@@ -5,12 +5,13 @@ ghost use Rattle.rec_salvage.specs.declared.errors.SalvageError.TheVariants.{Bad
 use rec_container::FrontError;
 use rec_events::Text;
 use std::alloc::AllocError;
+use std::fmt;
 use thiserror::Error;
 
 /// Says why nothing was salvaged of a recording.
 ///
 /// A `file_name` is the whole path of an entry in the store.
-#[derive(Debug, PartialEq, Drop, Error)]
+#[derive(PartialEq, Drop, Error)]
 pub enum SalvageError {
     /// The store's bytes don't begin with `nxtcont1`.
     #[error("the store doesn't begin with nxtcont1")]
@@ -48,6 +49,13 @@ pub enum SalvageError {
     /// Memory ran out.
     #[error("out of memory")]
     OutOfMemory,
+}
+
+/// Prints the error as `Display` does.
+impl fmt::Debug for SalvageError {
+    fn fmt<W: fmt::Write>(&self, f: &mut fmt::Formatter<W>) -> fmt::Result {
+        fmt::Display::fmt(self, f)
+    }
 }
 
 impl From<AllocError> for SalvageError {

@@ -5,12 +5,13 @@ ghost use Rattle.rec_store.specs.declared.read_error.RecordReadError.TheVariants
 use rec_container::ContainerError;
 use rec_events::Text;
 use std::alloc::{AllocError, AllocFailed};
+use std::fmt;
 use thiserror::Error;
 
 /// Says why a part of a recording was not read.
 ///
 /// A `file_name` is the whole path of an entry in the store, but in `UnknownOutputType`.
-#[derive(Debug, PartialEq, Drop, Error)]
+#[derive(PartialEq, Drop, Error)]
 pub enum RecordReadError {
     /// There is no directory at this path.
     #[error("there is no run at {}", .path.as_str())]
@@ -99,6 +100,13 @@ pub enum RecordReadError {
     /// Memory ran out.
     #[error("out of memory")]
     OutOfMemory,
+}
+
+/// Prints the error as `Display` does.
+impl fmt::Debug for RecordReadError {
+    fn fmt<W: fmt::Write>(&self, f: &mut fmt::Formatter<W>) -> fmt::Result {
+        fmt::Display::fmt(self, f)
+    }
 }
 
 impl From<AllocError> for RecordReadError {

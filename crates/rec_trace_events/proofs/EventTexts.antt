@@ -7,8 +7,9 @@ use Rattle.serde_json.specs.Read.{read}
 use Rattle.serde_json.specs.Written.{compact_text}
 use Rattle.rec_forms.proofs.ReadBack.{IsWritable-read_back}
 use Rattle.rec_forms.specs.Writable.{IsWritable, EachWritten, struct_writable, within_depth}
+use Rattle.rec_trace_events.proofs.Pairs.{left, right}
 use Rattle.rec_trace_events.specs.declared.event_parts.EventParts.{EventParts}
-use Rattle.rec_trace_events.specs.EventParts.{event_of, first_fields, last_fields}
+use Rattle.rec_trace_events.specs.EventParts.{event_of, fields_before_name, fields_from_name}
 use Rattle.rec_trace_events.specs.EventTexts.{event_value, IsEventText}
 
 pub event_value-written : (text : List ℕ) (d : Data) → text ≡ compact_text d → IsWritable 9 d → event_value text ≡ d
@@ -23,14 +24,8 @@ IsEventText-written text d written w =
 pub read-event_text : (text : List ℕ) → IsEventText text → read text ≡ Some (event_value text)
 read-event_text text is = ap read is.written ∙ (IsWritable-read_back 9 (event_value text) is.writable (within_depth refl)).0
 
-left : {A B : Type 0} → A × B → A
-left p = p.0
-
-right : {A B : Type 0} → A × B → B
-right p = p.1
-
 -- the fields were written in the order of their keys
-pub event_writable : (p : EventParts) (args : Option Data) → EachWritten 8 (first_fields p args) → EachWritten 8 (last_fields p) → IsWritable 9 (event_of p args)
+pub event_writable : (p : EventParts) (args : Option Data) → EachWritten 8 (fields_before_name p args) → EachWritten 8 (fields_from_name p) → IsWritable 9 (event_of p args)
 event_writable p args first last =
     let bp = right first in
     let cat = right bp in

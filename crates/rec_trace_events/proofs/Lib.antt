@@ -1,5 +1,5 @@
-pub mod BareSlices
 pub mod EventTexts
+mod Pairs
 pub mod WithoutOutputs
 pub mod WritableArgs
 pub mod WritableAttempts

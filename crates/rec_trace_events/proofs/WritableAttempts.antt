@@ -14,6 +14,7 @@ use Rattle.rec_forms.specs.ResultLaws.{execution_result_writable, flaky_result_w
 use Rattle.rec_forms.specs.Results.{execution_result_value, flaky_result_value, IsExecutionResult}
 use Rattle.rec_forms.specs.Times.{IsDuration, duration_value}
 use Rattle.rec_forms.specs.Writable.{IsWritable, IfWritten, EachWritten, boolean_writable, optional_writable, string_writable, struct_writable, weaker}
+use Rattle.rec_trace_events.proofs.Pairs.{left, right}
 use Rattle.rec_trace_events.proofs.WritableArgs.{duration_written}
 use Rattle.rec_trace_events.specs.Args.{delay_field, failed_attempt_args, last_attempt_args, script_end_args, stress_index_field, summary_error}
 use Rattle.rec_trace_events.specs.AttemptEnds.{first_fields, last_fields, middle_fields}
@@ -28,12 +29,6 @@ flaky_result_written (Some flaky) = weaker 0 7 (omega arith) (flaky_result_writa
 
 pub result_written : (r : ExecutionResultDescription) → IsExecutionResult r → IsWritable 7 (execution_result_value r)
 result_written r is = weaker 4 7 (omega arith) (execution_result_writable r is)
-
-left : {A B : Type 0} → A × B → A
-left p = p.0
-
-right : {A B : Type 0} → A × B → B
-right p = p.1
 
 module _ {S O : Type 0} where
   -- the fields were written in the order of their keys

@@ -17,9 +17,9 @@ event_of p args = struct (
 
 -- ---- in the order of the keys
 
--- the keys from `args` to `id`
-abbrev pub first_fields : EventParts → Option Data → List Field
-first_fields p args =
+-- the keys before `name`, from `args` to `id`
+abbrev pub fields_before_name : EventParts → Option Data → List Field
+fields_before_name p args =
     given (codes "args") args
     ∷ optional (codes "bp") (λ s. string s.now) p.binding
     ∷ field (codes "cat") (string p.category.now)
@@ -27,8 +27,8 @@ first_fields p args =
     ∷ []
 
 -- the keys from `name` to `ts`
-abbrev pub last_fields : EventParts → List Field
-last_fields p =
+abbrev pub fields_from_name : EventParts → List Field
+fields_from_name p =
     field (codes "name") (string p.name.now)
     ∷ field (codes "ph") (string p.phase.now)
     ∷ field (codes "pid") (natural p.row.pid)

@@ -9,7 +9,7 @@ use std::alloc::{AllocError, Global};
 
 /// Writes the args of a trace event, which are a JSON object.
 pub trait Args {
-    // The value that they are written as.
+    // the value that they are written as
     ghost value_of: { Self → Data };
 
     /// Writes the args at the end of `text`.

@@ -21,10 +21,12 @@ use std::alloc::{AllocError, Global};
 #[derive(Drop)]
 pub struct FailedAttemptArgs<'a, S: OutputSpec> {
     pub test: &'a OwnedTestInstanceId,
+    /// Which of a stress run's runs it belongs to.
     pub stress_index: &'a Option<StressIndexSummary>,
     /// The group in which the attempt was started; none stands for the global group.
     pub test_group: Option<&'a TestGroup>,
     pub status: &'a ExecuteStatus<S>,
+    /// How long the runner waits before the next attempt.
     pub delay_before_next_attempt: &'a Duration,
 }
 
@@ -59,9 +61,11 @@ impl<'a, S: OutputSpec> Args for FailedAttemptArgs<'a, S> {
 #[derive(Drop)]
 pub struct LastAttemptArgs<'a, S: OutputSpec> {
     pub test: &'a OwnedTestInstanceId,
+    /// Which of a stress run's runs it belongs to.
     pub stress_index: &'a Option<StressIndexSummary>,
     /// The group in which the attempt was started; none stands for the global group.
     pub test_group: Option<&'a TestGroup>,
+    /// The test's last attempt.
     pub last: &'a ExecuteStatus<S>,
     /// The flaky result of the test, where it counts.
     pub flaky: Option<FlakyResult>,

@@ -7,7 +7,7 @@ ghost use Rattle.rec_trace_events.specs.EventParts.{event_of};
 ghost use Rattle.rec_trace_events.specs.EventTexts.{event_value};
 
 use crate::args::Args;
-use crate::event_parts::{EventParts, write_first, write_last};
+use crate::event_parts::{EventParts, write_before_name, write_from_name};
 use rec_forms::value_of_text;
 use rec_json::JsonText;
 use serde_json::Value;
@@ -53,6 +53,10 @@ impl TraceEvent {
 }
 
 /// Makes the event of these parts, with these args where there are some.
+///
+/// # Errors
+///
+/// `AllocError` if memory runs out.
 pub fn event<A: Args>(
     alloc: Global,
     parts: &EventParts<'_>,
@@ -62,8 +66,8 @@ pub fn event<A: Args>(
 {
     let mut text = JsonText::new(alloc);
     text.begin_object()?;
-    write_first(alloc, &mut text, parts, args)?;
-    write_last(alloc, &mut text, parts)?;
+    write_before_name(alloc, &mut text, parts, args)?;
+    write_from_name(alloc, &mut text, parts)?;
     text.end_struct()?;
     Ok(TraceEvent {
         text: text.into_text(),

@@ -2,7 +2,7 @@
 ghost use Rattle.std.specs.Prelude.{◌≡◌, OnOk, codes, option_copied, option_map};
 ghost use Rattle.rec_json.specs.Tokens.{with_field, with_fields};
 ghost use Rattle.rec_forms.specs.Writable.{EachWritten, IfWritten};
-ghost use Rattle.rec_trace_events.specs.EventParts.{first_fields, last_fields};
+ghost use Rattle.rec_trace_events.specs.EventParts.{fields_before_name, fields_from_name};
 
 use crate::args::Args;
 use crate::members::{write_optional_text, write_text};
@@ -14,6 +14,7 @@ use std::alloc::{AllocError, Global};
 /// Holds what an event has beside its args. The last three are of some phases alone.
 #[derive(Drop)]
 pub struct EventParts<'a> {
+    /// The kind of event, a letter of the trace format.
     pub phase: &'a str,
     pub name: &'a str,
     pub category: &'a str,
@@ -46,15 +47,19 @@ fn write_args<A: Args>(
     }
 }
 
-/// Writes the fields with the keys from `args` to `id`.
-pub fn write_first<A: Args>(
+/// Writes the fields whose keys come before `name`, from `args` to `id`.
+///
+/// # Errors
+///
+/// `AllocError` if memory runs out; then `text` may hold a part of them.
+pub fn write_before_name<A: Args>(
     alloc: Global,
     text: &mut JsonText,
     parts: &EventParts<'_>,
     args: Option<&A>,
 ) -> Result<(), AllocError>
-    ensures written { OnOk result (text.new ≡ with_fields text.old (first_fields parts.now (option_map A.value_of (option_copied args.entry)))) }
-    ensures known { OnOk result (EachWritten 8 (first_fields parts.now (option_map A.value_of (option_copied args.entry)))) }
+    ensures written { OnOk result (text.new ≡ with_fields text.old (fields_before_name parts.now (option_map A.value_of (option_copied args.entry)))) }
+    ensures known { OnOk result (EachWritten 8 (fields_before_name parts.now (option_map A.value_of (option_copied args.entry)))) }
 {
     write_args(alloc, text, args)?;
     write_optional_text(text, "bp", parts.binding)?;
@@ -64,13 +69,17 @@ pub fn write_first<A: Args>(
 }
 
 /// Writes the fields with the keys from `name` to `ts`.
-pub fn write_last(
+///
+/// # Errors
+///
+/// `AllocError` if memory runs out; then `text` may hold a part of them.
+pub fn write_from_name(
     alloc: Global,
     text: &mut JsonText,
     parts: &EventParts<'_>,
 ) -> Result<(), AllocError>
-    ensures written { OnOk result (text.new ≡ with_fields text.old (last_fields parts.now)) }
-    ensures known { OnOk result (EachWritten 8 (last_fields parts.now)) }
+    ensures written { OnOk result (text.new ≡ with_fields text.old (fields_from_name parts.now)) }
+    ensures known { OnOk result (EachWritten 8 (fields_from_name parts.now)) }
 {
     write_text(text, "name", parts.name)?;
     write_text(text, "ph", parts.phase)?;
