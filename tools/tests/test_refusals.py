@@ -4,7 +4,8 @@ import pathlib
 import tempfile
 import unittest
 
-import try_refusals
+import refusals
+import try_edits
 
 ENUM = '''
 /// Says why.
@@ -29,7 +30,7 @@ pub enum RecordExportError {
 
 class Edits(unittest.TestCase):
     def test_each_variant_without_an_edit_gets_one(self):
-        made = try_refusals.edits(ENUM, {"SourceFault"})
+        made = refusals.edits(ENUM, {"SourceFault"})
         self.assertEqual(list(made), [
             "always_two_parts.edit", "always_count_out_of_range.edit", "always_count_out_of_range_2.edit",
         ])
@@ -43,22 +44,24 @@ class Edits(unittest.TestCase):
         self.assertIn("Err(RecordExportError::CountOutOfRange { event: Some(1) });", made["always_count_out_of_range_2.edit"])
 
     def test_what_is_not_known(self):
-        with self.assertRaisesRegex(try_refusals.Unknown, "CountOutOfRange has a field of the type Option<u8>"):
-            try_refusals.edits(ENUM.replace("Option<u64>", "Option<u8>"), set())
-        with self.assertRaisesRegex(try_refusals.Unknown, "no enum"):
-            try_refusals.edits("", set())
+        with self.assertRaisesRegex(refusals.Unknown, "CountOutOfRange has a field of the type Option<u8>"):
+            refusals.edits(ENUM.replace("Option<u64>", "Option<u8>"), set())
+        with self.assertRaisesRegex(refusals.Unknown, "no enum"):
+            refusals.edits("", set())
 
     def test_variants_with_an_edit(self):
         with tempfile.TemporaryDirectory() as name:
             folder = pathlib.Path(name)
-            try_refusals.write(try_refusals.edits(ENUM, {"SourceFault"}), folder)
-            self.assertEqual(try_refusals.edited(folder), {"TwoParts", "CountOutOfRange"})
+            for edit, text in refusals.edits(ENUM, {"SourceFault"}).items():
+                (folder / edit).write_text(text)
+            self.assertEqual(refusals.edited(folder), {"TwoParts", "CountOutOfRange"})
 
-    def test_the_edits_fit_the_sources(self):
-        crate = try_refusals.TOP / try_refusals.CRATE
-        made = try_refusals.edits((crate / "src/refusal.rt").read_text(), try_refusals.edited(crate / "must-fail"))
-        self.assertGreater(len(made), 0)
-        self.assertEqual((crate / "src/export.rt").read_text().count(try_refusals.JUDGED + "\n"), 1)
+    def test_each_refusal_has_an_edit(self):
+        enum = (try_edits.CRATES / refusals.CRATE / refusals.ENUM_FILE).read_text()
+        texts = [text for name, text in try_edits.left_out().items() if name.startswith("rec_export/always_")]
+        texts += [path.read_text() for path in (try_edits.CRATES / refusals.CRATE / "must-fail").glob("always_*.edit")]
+        for name in refusals.variants(enum).keys() - refusals.LEFT_OUT:
+            self.assertTrue(any(f"Err({refusals.ENUM}::{name}" in text for text in texts), name)
 
 
 if __name__ == "__main__":
