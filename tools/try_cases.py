@@ -36,7 +36,7 @@ def all_cases():
 
 @contextlib.contextmanager
 def given(source):
-    """How a program is given these bytes, or a line without an end."""
+    """How a program is given these bytes, or a line that comes again and again."""
     if isinstance(source, Endless):
         with subprocess.Popen(["yes", source.line], stdout=subprocess.PIPE) as lines:
             yield {"stdin": lines.stdout}

@@ -107,7 +107,7 @@ class Endless:
 class Case:
     """Words and standard input of the program, and what must come of them.
 
-    `input` are bytes, a line without an end, or a bundle that is written first. `out` and `err` are all that is printed, or
+    `input` are bytes, a line that comes again and again, or a bundle that is written first. `out` and `err` are all that is printed, or
     something that is said of it, `out` also beside what another input prints; `file` is what the file `b` in the folder of the
     case has then, None where there is none. Where a `device` is named, standard error goes to it, and is not seen.
     """

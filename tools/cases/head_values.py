@@ -35,6 +35,9 @@ OF_MANIFESTS = [
             ("01", REFUSED),
             ('"1"', REFUSED),
             ("null", REFUSED),
+            ("true", REFUSED),
+            ("[1]", REFUSED),
+            ("{}", REFUSED),
             ("7 8", REFUSED),
             ("\xa07", REFUSED),
             ("", REFUSED),
@@ -44,13 +47,19 @@ OF_MANIFESTS = [
         "u64",
         '"compressed":4',
         '"compressed":VALUE',
-        [("18446744073709551615", "18446744073709551615"), ("18446744073709551616", REFUSED)],
+        [
+            ("9223372036854775808", "9223372036854775808"),
+            ("18446744073709551615", "18446744073709551615"),
+            ("18446744073709551616", REFUSED),
+        ],
     ),
     (
         "i64",
         '"started-at":{"nanos":0,"offset":0,"secs":1000}',
         '"started-at":{"nanos":0,"offset":0,"secs":VALUE}',
         [
+            ("0", "0"),
+            ("-1", "-1"),
             ("-9223372036854775808", "-9223372036854775808"),
             ("-9223372036854775809", REFUSED),
             ("9223372036854775807", "9223372036854775807"),
@@ -74,6 +83,31 @@ OF_MANIFESTS = [
         '"cli-args":[]',
         '"cli-args":[VALUE]',
         TEXTS,
+    ),
+    (
+        "escaped text",
+        '"cli-args":[]',
+        '"cli-args":[VALUE]',
+        [
+            ('"a b/c"', '"a b/c"'),
+            ('"\\"\\\\\\/"', '"\\"\\\\/"'),
+            ('"\\n\\r\\t\\b\\f"', '"\\n\\r\\t\\b\\f"'),
+            ('"\\u0041\\u00e9"', '"Aé"'),
+            ('"\\u0000\\u001b\\u001f"', '"\\u0000\\u001b\\u001f"'),
+            ('"\\u007f\\ud83e\\udd80"', '"\x7f\U0001f980"'),
+            ('"\\udd80\\ud83e"', REFUSED),
+            ('"\\x41"', REFUSED),
+            ('"\\u41"', REFUSED),
+            ('"\n"', REFUSED),
+            ('"\0"', REFUSED),
+            ('"open', REFUSED),
+        ],
+    ),
+    (
+        "list",
+        '"cli-args":[]',
+        '"cli-args":VALUE',
+        [('["b", "a", "b"]', '["b","a","b"]'), ('["b",null]', REFUSED), ("{}", REFUSED)],
     ),
     (
         "run id",
@@ -113,6 +147,12 @@ OF_MANIFESTS = [
         '"duration":VALUE,"env-vars":{}',
         [
             ('{"nanos":1,"secs":2,"secs":3}', '{"nanos":1,"secs":3}'),
+            ('{"nanos":1,"secs":null,"secs":3}', '{"nanos":1,"secs":3}'),
+            ('{"nan\\u006fs":1,"secs":2,"secs-":3,"sec":4}', '{"nanos":1,"secs":2}'),
+            ('{"nanos":1,"secs":2,"secs":null}', REFUSED),
+            ('{"nanos":1,"":2}', REFUSED),
+            ('{"nanos":1,"x":{"secs":2}}', REFUSED),
+            ("{}", REFUSED),
             ('{"nanos":1000000000,"secs":2}', REFUSED),
             ('{"nanos":1,"secs":-1}', REFUSED),
             ("[2,1]", REFUSED),
@@ -122,7 +162,19 @@ OF_MANIFESTS = [
         "map",
         '"env-vars":{}',
         '"env-vars":VALUE',
-        [('{"b":"1","a":"2","b":"3"}', '{"a":"2","b":"3"}'), ('{"a":null}', REFUSED), ("[]", REFUSED)],
+        [
+            ('{"b":"1","a":"2","b":"3"}', '{"a":"2","b":"3"}'),
+            ('{"b":"1","":"2","a":"3","b":"4"}', '{"":"2","a":"3","b":"4"}'),
+            (
+                '{"a_b":"1","ab":"2","a":"3","a-b":"4","a1":"5","B":"6","\\n":""}',
+                '{"\\n":"","B":"6","a":"3","a-b":"4","a1":"5","a_b":"1","ab":"2"}',
+            ),
+            ('{"\uff5e":"1","\\ud800\\udc00":"2","z":"3"}', '{"z":"3","\uff5e":"1","\U00010000":"2"}'),
+            ('{"a":null,"b":"1","a":"3"}', '{"a":"3","b":"1"}'),
+            ('{"a":"3","b":"1","a":null}', REFUSED),
+            ('{"a":null}', REFUSED),
+            ("[]", REFUSED),
+        ],
     ),
     (
         "status",
@@ -168,6 +220,7 @@ OF_HEADS = [
         [
             ("[]", "[]"),
             ('["b","a","b","B"]', '["B","a","b"]'),
+            ('["b","a","é","b","z"]', '["a","b","z","é"]'),
             ('["é","z",""]', '["","z","é"]'),
             ('["a",1]', REFUSED),
             ("{}", REFUSED),
@@ -434,9 +487,9 @@ def of_options(options):
     return bundle(b"", store(options.encode(), ONE_TEST), COUNTED_MANIFEST)
 
 
-def nested(depth):
-    """Record options with this many arrays in one another."""
-    return '{"run-mode":"test","x":' + "[" * depth + "]" * depth + "}"
+def nested(depth, opening="[", closing="]"):
+    """Record options with this many arrays, or objects, in one another."""
+    return '{"run-mode":"test","x":' + opening * depth + "0" + closing * depth + "}"
 
 
 STATUSES = OF_MANIFESTS[-1][-1]
@@ -493,4 +546,6 @@ CASES = [
     Case("126 arrays in a head", ("record", "b"), session(head=DEEPER_HEAD), 5, err=b"ParseHead\n"),
     Case("126 arrays", ("replay",), of_options(nested(126)), out=HEADER),
     Case("127 arrays", ("replay",), of_options(nested(127)), 12, err=UNREADABLE_OPTIONS),
+    Case("126 objects", ("replay",), of_options(nested(126, '{"a":', "}")), out=HEADER),
+    Case("127 objects", ("replay",), of_options(nested(127, '{"a":', "}")), 12, err=UNREADABLE_OPTIONS),
 ]

@@ -5,13 +5,13 @@ there.
 
 - A source and sinks that take single bytes: `rec_program_tests`: `single_bytes_change_nothing`.
 - A source in pieces, of which a read fails: `rec_program_tests`: `faults_of_sources`;
-  `rec_portable_tests`: `a_source_that_fails_is_no_bundle`.
+  `rec_portable_tests`: `refusals_are_printed`.
 - Sinks in pieces, of which a write fails: `rec_program_tests`: `faults_of_the_bundle_leave_no_trace`,
   `faults_of_the_trace_leave_the_bundle_whole`, `faults_of_standard_output`, `faults_of_other_sinks`.
 - Names that don't tell the outputs of two tests apart: `rec_program_tests`: `outputs_clash`.
 """
 
-from cases.case import SOME, Case, Endless
+from cases.case import SOME, Case
 from cases.made import ONE_TEST, bundle, end, go_on, log_of, pause, run, run_end, start, store
 from cases.outlines import GROUPINGS, printed
 from cases.recorded_bundles import outputs_are
@@ -77,7 +77,6 @@ HOSTILE = [
     ("the greatest limit", (*RECORD, "--session-limit", "18446744073709551615"), SESSION, 0, b"", PAUSE_ALONE, BUNDLE),
     ("one output of two tests", RECORD, ONE_OUTPUT, 0, b"", SOME, STORED_ONCE),
     ("a full device", ("record", "/dev/full"), SESSION, 10, b"BundleFault\n", b"", None),
-    ("lines without an end", (*RECORD, "--session-limit", "10"), Endless(""), 4, b"SessionTooLarge limit=10\n", b"", None),
     ("a line of 128 nested arrays", RECORD, session_of(b"[" * 128 + b"]" * 128), 5, b"ParseEvent line_number=2\n", b"", None),
     ("a line of 100000 nested arrays", RECORD, session_of(b"[" * 100000), 5, b"ParseEvent line_number=2\n", b"", None),
     ("a byte more than a bundle", INFO, BUNDLE + b"\0", 12, b"ReadArchive fault=TrailingBytes at=1194\n", b"", None),

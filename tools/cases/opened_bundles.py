@@ -14,12 +14,26 @@ MANIFEST_LINE = MANIFEST + b"\n"
 # Bytes that are no bundle, and what is wrong with them.
 DAMAGED = [
     (b"PK", b"ReadArchive fault=BadMagic\n"),
+    (b"nxtcont2\0", b"ReadArchive fault=BadMagic\n"),
+    (b"nxtcont1\x01\0", b"ReadArchive fault=Truncated at=9\n"),
+    (b"nxtcont1\x01\0\x02a", b"ReadArchive fault=Truncated at=11\n"),
+    (b"nxtcont1\x01\0\x01a\0\0\0", b"ReadArchive fault=Truncated at=12\n"),
+    (b"nxtcont1\x01\0\x01a\0\0\0\0\0\0\0\x01", b"ReadArchive fault=Truncated at=20\n"),
+    (b"nxtcont1\x01\0\x01a\0\0\0\0\0\0\0\x01x", b"ReadArchive fault=Truncated at=21\n"),
     (b"nxtcont1\0x", b"ReadArchive fault=TrailingBytes at=9\n"),
     (b"nxtcont1\x02", b"ReadArchive fault=BadTag at=8\n"),
     (b"nxtcont1\x01\0\x01\xff", b"ReadArchive fault=BadName at=11\n"),
     (
         b"nxtcont1\x01\0\x01a\0\0\0\0\0\0\0\0\x01\0\x01a\0\0\0\0\0\0\0\0\0",
         b"ReadArchive fault=DuplicateName at=23\n",
+    ),
+    (
+        b"nxtcont1\x01\0\x01a\0\0\0\0\0\0\0\x01x\x01\0\x01a\0\0\0\0\0\0\0\0\0",
+        b"ReadArchive fault=DuplicateName at=24\n",
+    ),
+    (
+        b"nxtcont1\x01\0\x01b\0\0\0\0\0\0\0\0\x01\0\x01a\0\0\0\0\0\0\0\0\x01\0\x01a\0\0\0\0\0\0\0\0",
+        b"ReadArchive fault=DuplicateName at=35\n",
     ),
     (b"nxtcont1\0", b"NotAWrapperArchive file_count=0 zip_count=0\n"),
     (b"nxtcont1\x01\0\x05x.zip\0\0\0\0\0\0\0\0\0", b"NotAWrapperArchive file_count=1 zip_count=1\n"),

@@ -10,6 +10,7 @@ from cases.texts import (
     BUILD_SCOPE, HEAD, HEADER, LOGGED_PAUSE, LOG_LINES, MANIFEST, METADATA, NO_SIZES, RUN_ID, RUN_PAUSED, RUN_STARTED,
     SMALL_SESSION, TEST_STARTED, finished, replaced, session_of,
 )
+from cases.whole_bundles import whole
 from container import container, entries
 
 # The bundles of a head alone and of a run with one test, whose manifest has these sizes.
@@ -233,6 +234,10 @@ ONE_TEST = session_of(RUN_STARTED, TEST_STARTED, finished())
 
 # An output of 4000 bytes, longer than the log.
 LARGE_OUTPUT = session_of(TEST_STARTED, finished(b'{"split":{"stdout":"' + b"61" * 4000 + b'"}}'))
+
+# Two outputs of 4000 and 5000 bytes.
+TWO_LARGE_OUTPUTS = session_of(
+    TEST_STARTED, finished(b'{"split":{"stdout":"' + b"61" * 4000 + b'","stderr":"' + b"62" * 5000 + b'"}}'))
 ABC_WHOLE = has(b'"stdout":{"full":"ba7816bf8f01cfea-stdout"}')
 ABC_NOT_WHOLE = lacks(b'"stdout":{"full":"ba7816bf8f01cfea-stdout"}')
 ABC_CUT = has(b'"original-size":3')
@@ -256,12 +261,11 @@ def store_is(wanted):
 
 
 def recorded(name, limit, events, lines, stored):
-    """Events, each after what has to start before it, stand so in the log, and their outputs in the store."""
+    """Events, each after what has to start before it, make the bundle of these lines and of these outputs."""
     starts = [starts_of(event) for event in events]
     given = [line for before, event in zip(starts, events) for line in [*before, event]]
     log = log_of(*(line for before, event in zip(starts, lines) for line in [*before, event]))
-    bundle = both(entry_is(RUN_LOG, log), outputs_are(stored))
-    return Case(name, ("record", "b", "--max-output", str(limit)), session(*given), out=SOME, file=bundle)
+    return Case(name, ("record", "b", "--max-output", str(limit)), session(*given), out=SOME, file=whole(log, stored))
 
 
 def cut(output, limit, kept):
@@ -330,6 +334,10 @@ CASES = [
     limited(LARGE_OUTPUT, "--read-limit 3999", 7,
             b"FileTooLarge file_name=out/82396ec9191a2292-stdout size=4000 limit=3999\n"),
     limited(LARGE_OUTPUT, "--max-output 3999 --read-limit 3999"),
+    limited(TWO_LARGE_OUTPUTS, "--read-limit 3999", 7,
+            b"FileTooLarge file_name=out/82396ec9191a2292-stdout size=4000 limit=3999\n"),
+    limited(TWO_LARGE_OUTPUTS, "--read-limit 4000", 7,
+            b"FileTooLarge file_name=out/5026f8e8d3aade59-stderr size=5000 limit=4000\n"),
     limited(session_of(RUN_STARTED, RUN_STARTED), "--read-limit 400", 7,
             b"FileTooLarge file_name=manifest.json size=466 limit=400\n"),
     output_limited("3", both(ABC_WHOLE, ABC_NOT_CUT)),

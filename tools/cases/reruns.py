@@ -3,14 +3,16 @@
 from cases.case import Case, Recorded
 from cases.head_values import SCOPE
 from cases.made import (
-    EXIT_CODE, TRACED_MANIFEST, Line, attempt, bundle, captured, compact, end, fail, go_on, held, log_of, pause, retry, run,
-    run_end, start, test, test_finished, test_started, traced_log, traced_session,
+    EXIT_CODE, TRACED_MANIFEST, Line, attempt, attempt_of, bundle, captured, compact, end, fail, go_on, held, log_of, pause, retry,
+    retry_started, run, run_end, slot, start, test, test_finished, test_started, traced_log, traced_session,
 )
 from cases.texts import RUN_ID
 
 PARENT_ID = "650e8400-e29b-41d4-a716-446655440000"
 ROOT_ID = "750e8400-e29b-41d4-a716-446655440000"
 NO_OUTPUT = captured({"split": {}})
+LEAKED = {"leak": "pass"}
+REUSED = b'{"build-kind":"reused","scope":{}}'
 
 
 def flaky(secs, number, counts_as):
@@ -28,14 +30,14 @@ def retried(counts_as):
     ]
 
 
-def selection(suites, root=RUN_ID):
+def selection(suites, root=RUN_ID, scope=SCOPE):
     """The line of a selection after the run, whose root is this, with the outstanding and the passing tests of binaries."""
     sets = ",".join(
         '{"binary_id":"%s","outstanding":[%s],"passing":[%s]}' % (
             binary, ",".join(f'"{name}"' for name in outstanding), ",".join(f'"{name}"' for name in passing))
         for binary, outstanding, passing in suites
     )
-    return '{"parent-run-id":"%s","root-info":{"build-scope":%s,"run-id":"%s"},"test-suites":[%s]}\n' % (RUN_ID, SCOPE, root, sets)
+    return '{"parent-run-id":"%s","root-info":{"build-scope":%s,"run-id":"%s"},"test-suites":[%s]}\n' % (RUN_ID, scope, root, sets)
 
 
 def stored(scope=b'{"build-kind":"cargo","scope":{}}', rerun=None, tests=b'{"suites":{}}'):
@@ -61,9 +63,15 @@ def begun(name, binary="a"):
     return Line(1001, test_started(test(name, binary)), more=1)
 
 
-def ended(name, result, binary="a"):
-    """It ends after one attempt."""
-    return Line(1002, test_finished(attempt(NO_OUTPUT, result, total=1), of=test(name, binary)), more=-1)
+def ended(name, *results, counts_as="pass"):
+    """It ends after attempts that ended so, and counts as this where it is flaky."""
+    attempts = [attempt(NO_OUTPUT, result, number, len(results)) for number, result in enumerate(results, 1)]
+    return Line(1002, test_finished(*attempts, of=test(name, "a"), flaky=("failure", counts_as)), more=-1)
+
+
+def begun_again(name):
+    """It starts again."""
+    return Line(1001, retry_started(test(name, "a"), slot(), attempt_of(1, 2)), more=1)
 
 
 ALL_PASSED = selection([("alpha::a", [], ["t1", "t2"]), ("beta::b", [], ["t3", "t4"])])
@@ -81,25 +89,54 @@ STANDINGS = (
     ([begun("t"), ended("t", EXIT_CODE), begun("t"), ended("t", "pass")], True),
     ([begun("t"), ended("t", "pass"), begun("t"), ended("t", EXIT_CODE)], False),
     ([ended("t", "pass"), begun("t")], False),
+    ([begun("t"), ended("t", "pass"), begun_again("t"), ended("t", "pass")], True),
+    ([begun("t"), begun("t"), ended("t", "exec-fail", "pass"), ended("t", "pass")], True),
+    # What a test counts as where it is flaky says nothing of one whose only attempt passed.
+    ([begun("t"), ended("t", "pass", counts_as="fail")], True),
+    ([begun("t"), ended("t", "exec-fail", "pass")], True),
+    ([begun("t"), ended("t", "exec-fail", "pass", counts_as="fail")], False),
+    ([begun("t"), ended("t", "pass", "pass", counts_as="fail")], False),
+    ([begun("t"), ended("t", "exec-fail", LEAKED)], True),
+    ([begun("t"), ended("t", "pass", "exec-fail")], False),
+)
+
+# Events of tests of a binary after a rerun in which `x` passed and `y` may not have, and the tests that are outstanding and that have
+# passed by both.
+AFTER_X_PASSED = (
+    ("y starts and passes", [begun("y"), ended("y", "pass")], ["y"], ([], ["x", "y"])),
+    ("x ends without a start", [ended("x", "exec-fail")], [], ([], ["x"])),
+    ("x starts and fails", [begun("x"), ended("x", "exec-fail")], [], (["x"], [])),
 )
 
 
-def standing(events, passed):
+def reran(name, events, outstanding, suite):
+    gone = "".join(f"gone a {test}\n" for test in suite[0])
+    return asked(f"of a parent after which {name}", traced_log(events), stored(rerun=rerun_of([("a", outstanding, ["x"])])),
+                 selection([("a", *suite)], ROOT_ID) + gone)
+
+
+def standing(number, events, passed):
     suites = [("a", [], ["t"])] if passed else [("a", ["t"], [])]
     plan = "skip a t\n" if passed else "run a t\n"
-    return asked(f"of {len(events)} events", traced_log(events), stored(tests=b'{"suites":{"a":["t"]}}'), selection(suites) + plan)
+    return asked(f"of one test, {number}", traced_log(events), stored(tests=b'{"suites":{"a":["t"]}}'), selection(suites) + plan)
 
 
 CASES = [
     Case("rerun after a retry that passed", ("rerun",), Recorded(traced_session(retried("pass"))), out=ALL_PASSED.encode()),
     Case("rerun after a retry that counts as failed", ("rerun",), Recorded(traced_session(retried("fail"))), out=ONE_FAILED.encode()),
-    *[standing(events, passed) for events, passed in STANDINGS],
+    *[standing(number, *row) for number, row in enumerate(STANDINGS, 1)],
     asked("of no events", b"", stored(), selection([])),
     asked("of an end alone", traced_log([ended("t", "pass")]), stored(), selection([])),
     asked("of a list", ONE_PASSED, stored(tests=LISTED),
           selection([("a", [], ["t1"])]) + "run a t3\nrun a t2\nrun b t1\nskip a t1\n"),
     asked("of a parent", traced_log([run(1000), begun("y")]), stored(rerun=PARENT),
           selection([("a", ["y"], ["x"])], ROOT_ID) + "gone a y\n"),
+    *[reran(*after) for after in AFTER_X_PASSED],
+    asked("of a build that was reused", b"", stored(REUSED), selection([], scope=SCOPE.replace("cargo", "reused"))),
+    asked("of a build that was reused, and a parent", b"", stored(REUSED, rerun_of([])), selection([], ROOT_ID)),
+    asked("of a list with tests that the rerun info names, and others", b"",
+          stored(rerun=rerun_of([("b", ["t"], ["u"]), ("c", ["z", "a"], [])]), tests=b'{"suites":{"b":["t","u","t"],"a":["x"]}}'),
+          selection([("b", ["t"], ["u"]), ("c", ["a", "z"], [])], ROOT_ID) + "run a x\nrun b t\nskip b u\ngone c a\ngone c z\n"),
     asked("of a parent in which a test is in both sets", b"", stored(rerun=rerun_of([("a", ["x"], ["x"])])),
           selection([("a", [], ["x"])], ROOT_ID)),
     asked("without a log and a store", None, None, status=12, err="MissingFile file_name=run.log.zst"),

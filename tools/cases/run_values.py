@@ -70,6 +70,10 @@ TABLES = [
                 '{"count":{"total":0,"elapsed":{"secs":1,"nanos":2},"completed":3}}',
                 '{"count":{"completed":3,"elapsed":{"nanos":2,"secs":1},"total":0}}',
             ),
+            (
+                '{"count":{"total":7,"elapsed":{"secs":1,"nanos":2},"completed":3,"total":null}}',
+                '{"count":{"completed":3,"elapsed":{"nanos":2,"secs":1}}}',
+            ),
             ('{"count":{"completed":3}}', REFUSED),
             ('{"count":{"elapsed":{"secs":1,"nanos":2}}}', REFUSED),
             ('{"count":{"elapsed":null,"completed":3}}', REFUSED),
@@ -78,6 +82,7 @@ TABLES = [
             ('{"count":{"elapsed":{"secs":1,"nanos":2},"completed":4294967296}}', REFUSED),
             ('{"count":{"total":4294967296,"elapsed":{"secs":1,"nanos":2},"completed":3}}', REFUSED),
             ('{"count":{"total":1.0,"elapsed":{"secs":1,"nanos":2},"completed":3}}', REFUSED),
+            ('{"count":{"total":-1,"elapsed":{"secs":1,"nanos":2},"completed":3}}', REFUSED),
             ('{"count":{"elapsed":{"secs":1,"nanos":1000000000},"completed":3}}', REFUSED),
             (
                 '{"time":{"total":{"secs":5,"nanos":6},"elapsed":{"secs":1,"nanos":2},"completed":3,"x":[]}}',

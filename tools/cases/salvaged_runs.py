@@ -3,11 +3,11 @@
 import hashlib
 
 from cases.case import Case, Recorded
-from cases.made import bundle
+from cases.made import bundle, log as log_with, script_ended
 from cases.recorded_bundles import ONE_TEST_RECORDED
-from cases.texts import HEAD, LOGGED_PAUSE, METADATA, RUN_PAUSED, SMALL_SESSION
+from cases.texts import HEAD, LOGGED_PAUSE, METADATA, RUN_PAUSED, SMALL_SESSION, replaced
 from cases.whole_bundles import (
-    FIRST, OUTPUTS, PAUSED, SECOND, STORE_3_0, TWO_SLOTS_LOG, manifest_of, older, whole,
+    FIRST, OUTPUTS, PAUSED, SECOND, STORE_3_0, TWO_SLOTS_LOG, manifest_of, older, whole, wrote,
 )
 from container import container
 
@@ -52,6 +52,21 @@ KEPT_LINES = {
     "a line that is no event": (LOGGED_PAUSE + b"{}\n" + LOGGED_PAUSE, LOGGED_PAUSE, 1),
     "a blank line before a line that is no event": (LOGGED_PAUSE + b"\n{}\n", LOGGED_PAUSE + b"\n", 1),
     "a last line that is whole but for its LF": (LOGGED_PAUSE + RUN_PAUSED, LOGGED_PAUSE, 1),
+    "one line that is whole but for its LF": (RUN_PAUSED, b"", 0),
+}
+
+# White space with a no-break space, a line with blanks around it, and the same white space. `sizes` counts three lines in it.
+SPACED = b" \t\xc2\xa0\n \t" + RUN_PAUSED + b"\r\n \t\xc2\xa0\n"
+ONE_EVENT = replaced(whole(SPACED), b'"entries":3', b'"entries":1')
+
+# A script that wrote the first output, and the same of an output that no store has. How many lines of a log of both are kept, and
+# how many outputs.
+SCRIPT = log_with([script_ended({**wrote(FIRST, "pass"), "env-map": {"DB_URL": "db:1"}}, program="./db.sh", args=["up"])])
+OUTPUT_MISSING = SCRIPT.replace(b"ba7816bf8f01cfea", b"486ea46224d1bb4f")
+KEPT_SCRIPTS = {
+    "a pause and a script, before a line without its LF": ([LOGGED_PAUSE, SCRIPT, RUN_PAUSED], 2),
+    "a script before one whose output is missing": ([SCRIPT, OUTPUT_MISSING, SCRIPT], 1),
+    "two scripts before a line that is no event": ([SCRIPT, SCRIPT, b"{}\n", LOGGED_PAUSE], 2),
 }
 
 # Stores over a log that names both outputs, with the metadata in its order, and how many outputs are kept of each.
@@ -87,8 +102,32 @@ def other(name, content):
     return [(entry, content if entry == name else kept) for entry, kept in METADATA]
 
 
+# The metadata in the order in which it is judged; cargo's need not be JSON. What a store has of it: the entry (o), bytes that are no
+# text (x) or nothing (-), and the line of each such store.
+PARTS = [METADATA[0], RERUN, METADATA[1], (METADATA[2][0], b"no JSON"), METADATA[3]]
+JUDGED = {
+    "-x-x-": "MissingMeta file_name=meta/build-scope.json",
+    "xx-x-": "BadMeta file_name=meta/build-scope.json",
+    "ox-x-": "BadMeta file_name=meta/rerun-info.json",
+    "o--x-": "MissingMeta file_name=meta/test-list.json",
+    "ooxx-": "BadMeta file_name=meta/test-list.json",
+    "ooo--": "MissingMeta file_name=meta/cargo-metadata.json",
+    "ooox-": "BadMeta file_name=meta/cargo-metadata.json",
+    "oooo-": "MissingMeta file_name=meta/record-opts.json",
+    "oooox": "BadMeta file_name=meta/record-opts.json",
+}
+
+
+def with_parts(marks):
+    """A store with these parts of the metadata, the last of them first."""
+    parts = [(name, content if mark == "o" else b"\xff") for (name, content), mark in zip(PARTS, marks) if mark != "-"]
+    return container(sorted(parts, key=lambda part: part[0] != PARTS[4][0]))
+
+
 # Stores of which nothing is salvaged, and the line of each.
 REFUSED = [
+    *[(f"the metadata {marks}", with_parts(marks), line) for marks, line in JUDGED.items()],
+    ("a store of another version", b"nxtcont2", "BadMagic"),
     ("a store of no bytes", b"", "BadMagic"),
     ("a store that is cut within the magic", b"nxtcont", "BadMagic"),
     ("a store of another kind", b"PK\3\4____", "BadMagic"),
@@ -117,6 +156,11 @@ CASES = [
     salvaged("of older versions", older(whole(TWO_SLOTS_LOG, OUTPUTS)), 14, 2, whole(TWO_SLOTS_LOG, OUTPUTS, store_version=STORE_3_0)),
     *map(cut, CUTS),
     *[salvaged(f"of {name}", bundle(log, WHOLE_STORE), events, 0, whole(kept)) for name, (log, kept, events) in KEPT_LINES.items()],
+    salvaged("of white space beyond ASCII, before a line that is no text",
+             bundle(SPACED + b"\xff\n" + LOGGED_PAUSE, WHOLE_STORE), 1, 0, ONE_EVENT),
+    *[salvaged(f"of {name}", bundle(b"".join(lines), WHOLE_STORE), kept, 1, whole(b"".join(lines[:kept]), [FIRST]))
+      for name, (lines, kept) in KEPT_SCRIPTS.items()],
+    salvaged("of the metadata ooooo", bundle(LOGGED_PAUSE, with_parts("ooooo")), 1, 0, whole(LOGGED_PAUSE, metadata=PARTS)),
     salvaged("of a line whose output is missing, before others", bundle(TWO_SLOTS_LOG, container([*METADATA, SECOND])), 3, 0,
              whole(b"".join(LINES[:3]))),
     salvaged("of an output that two lines name", bundle(LINES[3] * 2, WHOLE_STORE), 2, 1, whole(LINES[3] * 2, [FIRST])),

@@ -118,6 +118,7 @@ CASES = [
     *within("one test", "1", ONE_TEST, b"events=4 outputs=1\n", BUNDLE_OF_ONE),
     Case("the session of one test, recorded", ("replay",), Recorded(ONE_TEST), out=ONE_REPLAYED),
     Case("eighty tests", ("sample", "80", "b"), out=b"events=164 outputs=16\n", file=SOME),
+    Case("eighty tests, after zeros", ("sample", "00080", "b"), out=b"events=164 outputs=16\n", file=SOME),
     Case("the longest session", ("sample", "10000", "b", "--session-limit", "39999999"), out=begins(b"events=20252 outputs="),
          file=SOME),
     Case("one test is replayed", ("replay",), Sampled(1), out=ONE_REPLAYED),

@@ -41,8 +41,15 @@ USAGES = {
     "nothing at all": ([run(1000), run_end(1000)], used(0)),
     "an attempt over a pause": (
         [run(1000), start(1001, 1, 0), pause(1003, 0), go_on(1006, 0), end(1010, 1, 0), run_end(1015)], used(15, (0, 6, 3, 6))),
+    "times of some nanoseconds": (
+        [run(1000), late(start(1000, 1, 0), 1), late(pause(1000, 0), 3), late(go_on(1000, 0), 6), late(end(1000, 1, 0), 10),
+         late(run_end(1000), 15)],
+        "run=15\nslot=0 busy=6 paused=3 idle=6\n"),
     "an attempt that starts in a pause": (
         [run(1000), pause(1001, 0), start(1002, 1, 0), go_on(1004, 0), end(1005, 1, 0), run_end(1006)], used(6, (0, 1, 3, 2))),
+    "an attempt that starts in the pause of another": (
+        [run(1000), start(1001, 1, 0), pause(1003, 0), start(1006, 2, 7), go_on(1007, 0), end(1010, 1, 0), end(1012, 2, 0), run_end(1015)],
+        used(15, (0, 5, 4, 6), (7, 5, 4, 6))),
     "an attempt that ends in a pause": (
         [run(1000), start(1001, 1, 0), pause(1002, 0), end(1003, 1, 0), go_on(1005, 0), run_end(1006)], used(6, (0, 1, 3, 2))),
     "a retry on another slot": (
@@ -51,6 +58,7 @@ USAGES = {
     "slots in another order": (
         [run(1000), start(1000, 1, 7), start(1000, 2, 2), end(1001, 1, 0), end(1002, 2, 0), run_end(1002)],
         used(2, (2, 2, 0, 0), (7, 1, 0, 1))),
+    "a continuation whose instant is behind the run's start": ([go_on(1007, 0), run(1006), run_end(1009)], used(3)),
     "a pause before the run": (
         [pause(1000, 0), run(1005), start(1006, 1, 0), go_on(1008, 0), end(1009, 1, 0), run_end(1010)], used(5, (0, 1, 3, 1))),
     "an instant that falls before the run": ([skip(1001, 1), run(1000), run_end(1002)], used(2)),
@@ -71,6 +79,8 @@ REFUSED = {
     "an attempt that ends after the run": (
         [run(1000), start(1001, 1, 0), run_end(1002), end(1003, 1, 0)], 14, "AttemptOutside event=2"),
     "a start after the run": ([run(1000), run_end(1002), start(1003, 1, 0), end(1004, 1, 0)], 14, "AttemptOutside event=3"),
+    "a start after the run and an attempt inside": (
+        [run(1000), start(1001, 1, 0), end(1001, 1, 0), run_end(1002), start(1002, 2, 0), end(1003, 2, 0)], 14, "AttemptOutside event=5"),
     "the first of two attempts": ([start(1000, 1, 0), run(1001), start(1001, 2, 1), run_end(1003)], 14, "AttemptOutside event=1"),
     "an end a nanosecond before": (
         [run(1000), late(pause(1002, 0), 1), run_end(1002)], 14, "StampFell event=3"),

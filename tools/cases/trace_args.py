@@ -294,6 +294,15 @@ CANCELLED = """\
 """
 SLOW_TEST = '"cat":"test","name":"slow","ph":"i","pid":2,"s":"t","tid":10003,"ts":1002000000}'
 SLOW_SCRIPT = '"cat":"setup-script","name":"slow","ph":"i","pid":1,"s":"t","tid":10000,"ts":1002000000}'
+# Both with all members: of the second of three attempts of a test that will be stopped, and of a setup script in a stress run.
+STOPPED = of_first(1002, slow_test(numbered(1), attempt_of(2, 3), duration(60, 5), True))
+STRESSED = event(1002, {"stress-index": {"current": 1}, **slow_script("db1", "sh", duration(60, 5))})
+SLOW_AND_STOPPED = (
+    '{"args":{"attempt":2,"binary_id":"alpha::a","elapsed":{"nanos":5,"secs":60},"test_name":"t1","will_terminate":true},'
+    + SLOW_TEST)
+SLOW_UNDER_STRESS = (
+    '{"args":{"elapsed":{"nanos":5,"secs":60},"script_id":"db1","stress_index":{"current":1,"total":null},'
+    '"will_terminate":false},' + SLOW_SCRIPT)
 ARROW_START = '{"cat":"test","id":0,"name":"retry","ph":"s","pid":2,"tid":10001,"ts":1002000000}'
 ARROW_FINISH = '{"bp":"e","cat":"test","id":0,"name":"retry","ph":"f","pid":2,"tid":10001,"ts":1002000000}'
 
@@ -345,6 +354,8 @@ CASES = [
     *printed("a cancel", [event(1002, CANCEL)], lines(CANCELLED)),
     *printed("the row of a slow test", [start(1001, 1, 3), test_was_slow({}, False)], lines(SLOW_TEST)),
     *printed("the row of a slow setup script", [DB_INIT, script_was_slow({}, False)], lines(SLOW_SCRIPT)),
+    *printed("a slow test that will be stopped", [start(1001, 1, 3), STOPPED], lines(SLOW_AND_STOPPED)),
+    *printed("a slow setup script in a stress run", [script(1001, 0, 1), STRESSED], lines(SLOW_UNDER_STRESS)),
     *printed("the start of an arrow", [start(1001, 1, 1), fail(1002, 1)], lines(ARROW_START)),
     *printed("the finish of an arrow", [start(1001, 1, 1), fail(1001, 1), retry(1002, 1, 1)], lines(ARROW_FINISH)),
 ]

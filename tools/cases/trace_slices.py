@@ -8,7 +8,7 @@ from cases.made import (
     cancel, end, fail, go_on, pause, retry, run, run_end, script, script_end, script_slow, skip, slow, start, sub_run,
     sub_run_end,
 )
-from cases.outlines import GROUPINGS, outline, printed
+from cases.outlines import GROUPINGS, outline, outlined, printed
 
 RUN = {"binary": "run:test run 0/1", "slot": "run:test run 0/1"}
 SUB_RUN = {"binary": "stress:sub-run 0/2", "slot": "stress:sub-run 0/2"}
@@ -143,6 +143,54 @@ OTHER_SPANS = [
 ]
 
 
+# The run, a setup script, and attempts of three tests on two slots, with all that is drawn of them by binary.
+ALL_SPANS = [
+    run(1000), start(1001, 1, 0), script(1002, 0, 1), script_end(1003, 0, 1), fail(1004, 1), start(1005, 2, 0), retry(1007, 1, 1),
+    fail(1009, 2), start(1010, 3, 0), run_end(1011),
+]
+ALL_DRAWN = """\
+M :process_name 0/0 0 {"name":"nextest run (default)"}
+M :process_sort_index 0/0 0 {"sort_index":0}
+M :thread_name 0/1 0 {"name":"run"}
+M :thread_sort_index 0/1 0 {"sort_index":1}
+B run:test run 0/1 1000000000
+M :process_name 2/0 0 {"name":"alpha::a"}
+M :process_sort_index 2/0 0 {"sort_index":2}
+M :thread_name 2/10000 0 {"name":"slot-0"}
+M :thread_sort_index 2/10000 0 {"sort_index":10000}
+B test:t1 2/10000 1001000000
+C run:concurrency 0/0 1001000000 {"running_scripts":0,"running_tests":1}
+M :process_name 1/0 0 {"name":"setup-scripts"}
+M :process_sort_index 1/0 0 {"sort_index":1}
+M :thread_name 1/10000 0 {"name":"script-0"}
+M :thread_sort_index 1/10000 0 {"sort_index":10000}
+B setup-script:db1 1/10000 1002000000
+C run:concurrency 0/0 1002000000 {"running_scripts":1,"running_tests":1}
+E setup-script:db1 1/10000 1003000000
+C run:concurrency 0/0 1003000000 {"running_scripts":0,"running_tests":1}
+E test:t1 2/10000 1004000000
+s test:retry 2/10000 1004000000 0
+C run:concurrency 0/0 1004000000 {"running_scripts":0,"running_tests":0}
+B test:t2 2/10000 1005000000
+C run:concurrency 0/0 1005000000 {"running_scripts":0,"running_tests":1}
+M :thread_name 2/10001 0 {"name":"slot-1"}
+M :thread_sort_index 2/10001 0 {"sort_index":10001}
+B test:t1 2/10001 1007000000
+f test:retry 2/10001 1007000000 0
+C run:concurrency 0/0 1007000000 {"running_scripts":0,"running_tests":2}
+E test:t2 2/10000 1009000000
+s test:retry 2/10000 1009000000 1
+C run:concurrency 0/0 1009000000 {"running_scripts":0,"running_tests":1}
+M :process_name 3/0 0 {"name":"beta::b"}
+M :process_sort_index 3/0 0 {"sort_index":3}
+M :thread_name 3/10000 0 {"name":"slot-0"}
+M :thread_sort_index 3/10000 0 {"sort_index":10000}
+B test:t3 3/10000 1010000000
+C run:concurrency 0/0 1010000000 {"running_scripts":0,"running_tests":2}
+E run:test run 0/1 1011000000
+"""
+
+
 def marks(group_by, drawn):
     """The outline of these begins and ends."""
     return outline("BE", "".join(f"{phase} {of[group_by]} {secs}000000\n" for phase, of, secs in drawn))
@@ -152,3 +200,4 @@ CASES = [
     case for name, lines, drawn in PAUSED_TESTS + ATTEMPTS + OTHER_SPANS for group_by in GROUPINGS
     for case in printed(name, lines, marks(group_by, drawn), group_by)
 ]
+CASES += outlined("all that is drawn of a run", "MBECisf", ALL_SPANS, ALL_DRAWN)

@@ -2,7 +2,9 @@
 
 from cases.case import Case, Recorded
 from cases.made import bundle, held, log_of
-from cases.recorded_bundles import HEAD_ALONE, ONE_TEST_RECORDED
+from cases.recorded_bundles import (
+    FAILED_LINE, HEAD_ALONE, ONE_TEST_RECORDED, SCRIPT_LINE, STORED_OF_ALL_KINDS, TWO_ATTEMPTS_LINE, logged,
+)
 from cases.texts import (
     BUILD_SCOPE, HEAD, LOG_LINES, LOGGED_PAUSE, MANIFEST, METADATA, NEWER_STORE, OLDER_STORE, RUN_PAUSED, SMALL_SESSION, replaced,
     session_of,
@@ -120,6 +122,8 @@ FOREIGN = [
     ("another entry beside a part that isn't read", [*PARTS[:2], (b"store.zip", container(METADATA[1:])), NOTES], "notes"),
 ]
 
+LONG_LOG_LAST = held((b"manifest.json", MANIFEST), (b"store.zip", STORE), (b"run.log.zst", TWO_SLOTS_LOG))
+
 FAULTY = log_of(b"{}")
 NO_TEXT = b"\xff\n"
 BAD_SCOPE = (b"meta/build-scope.json", b"{}")
@@ -141,6 +145,8 @@ UNREAD = [
     ("a line that is no text", LOGGED_PAUSE + NO_TEXT + FAULTY, METADATA, 5, "Read ReadRunLog line_number=2"),
     ("no output", TWO_SLOTS_LOG, METADATA, 12, f"{MISSING}{FIRST[0].decode()}"),
     ("no second output", TWO_SLOTS_LOG, [*METADATA, FIRST], 12, f"{MISSING}{SECOND[0].decode()}"),
+    ("rerun info that is none before a faulty line", FAULTY, [*METADATA, (b"meta/rerun-info.json", b"{}")], 12,
+     f"{NO_ITEM}meta/rerun-info.json"),
     ("no record options before a faulty line", FAULTY, METADATA[:3], 12, f"{MISSING}meta/record-opts.json"),
     ("a faulty line before a missing output", TWO_SLOTS_LOG + FAULTY, METADATA, 5, "Read ParseEvent line_number=15"),
     ("a missing output before a foreign entry", TWO_SLOTS_LOG, [NOTES, *METADATA], 12, f"{MISSING}{FIRST[0].decode()}"),
@@ -153,13 +159,47 @@ UNNAMED = [
     ("the first of two", [*METADATA[:2], SECOND, FIRST, *METADATA[2:]], SECOND[0].decode()),
 ]
 
+# Logs, and the outputs that their events name in this order: a setup script, an attempt and a test with two attempts, beside a
+# pause; both streams of a process, standard error before standard output and cut; and processes without bytes.
+NAMING = [
+    ("events of all kinds", LOGGED_PAUSE + log_of(SCRIPT_LINE, FAILED_LINE, TWO_ATTEMPTS_LINE), STORED_OF_ALL_KINDS),
+    ("two attempts", log_of(TWO_ATTEMPTS_LINE), STORED_OF_ALL_KINDS[::2]),
+    (
+        "both streams",
+        log_of(logged(
+            '{"output":{"output":{"split":{"stderr":{"truncated":{"file-name":"0000000000000007-stderr","original-size":9}},'
+            '"stdout":{"full":"0000000000000007-stdout"}}}}}')),
+        [(b"out/0000000000000007-stdout", b"abc"), (b"out/0000000000000007-stderr", b"hello")],
+    ),
+    (
+        "processes without bytes",
+        log_of(logged('{"output":{"output":{"split":{"stderr":"empty"}}}}'), logged('{"start-error":"no such file"}')), [],
+    ),
+]
+
+
+def naming(name, log, outputs):
+    """The cases of a log whose events name these outputs: all are there, and then the first that is missing is said."""
+    yield upgraded(f"of {name}", bundle(log, container([*METADATA, *outputs])), whole(log, outputs))
+    for count, (missing, _) in enumerate(outputs):
+        stored = container([*METADATA, *outputs[:count]])
+        yield refused(f"of {name} with {count} outputs", bundle(log, stored), 12, f"{MISSING}{missing.decode()}")
+
+
 LONG = (FIRST[0], b"x" * 9001)
-LONG_SCOPE = (METADATA[0][0], METADATA[0][1] + b" " * 900)
+RERUN_METADATA = [METADATA[0], (b"meta/rerun-info.json", RERUN_WRITTEN), *METADATA[1:]]
 
 
 def above(limit, name, size):
     """What is said of an entry above the read limit."""
     return f"FileTooLarge file_name={name} size={size} limit={limit}"
+
+
+def long_part(name):
+    """The case of a store in which the entry of this name has blanks up to 1001 bytes."""
+    stored = container([(entry, kept.ljust(1001) if entry == name else kept) for entry, kept in RERUN_METADATA])
+    line = f"Read {above(1000, name.decode(), 1001)}"
+    return refused(f"of a long {name.decode()}", bundle(LOGGED_PAUSE, stored), 7, line, ("--read-limit", "1000"))
 
 
 CASES = [
@@ -178,14 +218,16 @@ CASES = [
             ("--read-limit", "9")),
     refused("of a log above the limit", whole(TWO_SLOTS_LOG, OUTPUTS), 7,
             f"Open {above(1000, 'run.log.zst', len(TWO_SLOTS_LOG))}", ("--read-limit", "1000")),
+    refused("of a log above the limit behind the store", LONG_LOG_LAST, 7,
+            f"Open {above(1000, 'run.log.zst', len(TWO_SLOTS_LOG))}", ("--read-limit", "1000")),
     *[refused(f"of {name}", container(entries), 12, f"ForeignEntry file_name={first}") for name, entries, first in FOREIGN],
     *[refused(f"of {name}", bundle(log, container(entries)), status, line) for name, log, entries, status, line in UNREAD],
     *[refused(f"of {name} in the store", bundle(LOGGED_PAUSE, container(entries)), 12, f"ForeignEntry file_name={first}")
       for name, entries, first in UNNAMED],
+    *[case for row in NAMING for case in naming(*row)],
     refused("of an output above the limit", whole(ONE_TEST_LOG, [LONG]), 7, f"Read {above(9000, LONG[0].decode(), 9001)}",
             ("--read-limit", "9000")),
-    refused("of a part above the limit", bundle(LOGGED_PAUSE, container([LONG_SCOPE, *METADATA[1:]])), 7,
-            f"Read {above(1000, 'meta/build-scope.json', len(LONG_SCOPE[1]))}", ("--read-limit", "1000")),
+    *[long_part(name) for name, _ in RERUN_METADATA],
     refused("of a manifest that is written longer", bundle(LOGGED_PAUSE, STORE, SHORT_MANIFEST), 7,
             above(len(SHORT_MANIFEST), "manifest.json", len(MANIFEST_OF_PAUSE)), ("--read-limit", str(len(SHORT_MANIFEST)))),
     # No file has the empty word as its path.
