@@ -4,10 +4,4 @@
 #[cfg(test)]
 mod events;
 #[cfg(test)]
-mod helpers;
-#[cfg(test)]
 mod line_items;
-#[cfg(test)]
-mod lines;
-#[cfg(test)]
-mod output_kinds;

@@ -1,132 +1,128 @@
-//! What a writer writes, what a reader reads, and what sources and sinks in memory do.
+//! What writers answer and write, and what is read of sources that fail.
 
-use rec_container::*;
-use std::alloc::Global;
-use std::collections::VecDeque;
-use std::process::Abort;
+use rec_container::{
+    Container, ContainerWriter, EndlessSource, FailingSink, FailingSource, MemorySink,
+    NamedContent, Source, container_length, read_within, write_all_dyn, write_container,
+};
+use std::alloc::{AllocError, Global};
+use std::str;
 use std::test::Fail;
 
-// The entry `a` with the content `hi`, as the format spells it.
-const ONE: &[u8] = &[
-    0x6e, 0x78, 0x74, 0x63, 0x6f, 0x6e, 0x74, 0x31, 0x01, 0x00, 0x01, 0x61, 0x00, 0x00, 0x00, 0x00,
-    0x00, 0x00, 0x00, 0x02, 0x68, 0x69, 0x00,
-];
+/// What is called.
+#[derive(Clone, Copy)]
+enum Asked<'a> {
+    /// A writer of entries over a sink that takes pieces of so many bytes, 0 for whole ones, and fails at the
+    /// write of this number.
+    Writer(usize, u64, &'a [(&'a str, &'a [u8])]),
+    /// A container of one entry, whose content is at hand, into a sink that fails at this write.
+    AtHand(u64),
+    /// Whether a container has no entries.
+    IsEmpty(&'a [u8]),
+    /// A source of a text that gives pieces of so many bytes, and fails at the read of this number.
+    Pieces(usize, u64),
+    /// A read without room, which is to fail.
+    NoRoom,
+    Endless,
+    /// What a source has within a limit, and which of its reads fails.
+    Within(u64, u64),
+    EndlessWithin(u64),
+    /// A sink without room for what is written.
+    Full,
+}
 
-/// The bytes of a container with the entry `a`, by a sink that has the room.
+/// The entry `a`, as it is given to a writer.
+const HI: &[(&str, &[u8])] = &[("a", b"hi")];
+
+const TEXT: &[u8] = b"in pieces";
+
+fn answer(alloc: Global, asked: Asked<'_>) -> Result<String, Fail> {
+    match asked {
+        Asked::Writer(piece, fails, entries) => Ok(written(alloc, piece, fails, entries)?),
+        Asked::AtHand(fails) => Ok(at_hand(alloc, fails)?),
+        Asked::IsEmpty(bytes) => is_empty(alloc, bytes),
+        Asked::Pieces(piece, fails) => Ok(pieces(alloc, piece, fails)?),
+        Asked::NoRoom => Ok(without_room(alloc)?),
+        Asked::Endless => Ok(endless(alloc)?),
+        Asked::Within(limit, fails) => Ok(within(alloc, limit, fails)?),
+        Asked::EndlessWithin(limit) => Ok(endless_within(alloc, limit)?),
+        Asked::Full => Ok(full(alloc)?),
+    }
+}
+
+/// A sink with room.
+fn sink(alloc: Global, piece: usize, fails: u64) -> Result<FailingSink, AllocError> {
+    let mut sink = FailingSink::new(alloc, piece, vec![in alloc; fails]?);
+    sink.reserve(64)?;
+    Ok(sink)
+}
+
+/// What each entry and the end are answered, how often the sink failed, and what it took.
 fn written(
     alloc: Global,
-    sink: FailingSink,
-) -> (Result<(), ContainerWriteError>, ContainerEnd<FailingSink>) {
-    let mut writer = ContainerWriter::new(alloc, sink);
-    let added = writer.add("a", b"hi");
-    (added, writer.finish())
-}
-
-#[test]
-fn writes_no_entries(rt: HostRuntime) -> Result<(), Fail> {
-    let mut empty = MemorySink::new(rt.alloc());
-    empty.reserve(9)?;
-    let end = ContainerWriter::new(rt.alloc(), empty).finish();
-    assert_eq!(rt; end.sink.bytes(), b"nxtcont1\0".as_slice());
-    let sizes = ContainerSizes {
-        compressed: 9,
-        uncompressed: 0,
-        entries: 0,
-    };
-    assert_eq!(rt; end.result, Ok(sizes));
-    assert!(rt; Container::parse(rt.alloc(), b"nxtcont1\0")?.is_empty());
-    Ok(())
-}
-
-#[test]
-fn writes_and_reads(rt: HostRuntime) -> Result<(), Fail> {
-    let mut sink = FailingSink::new(rt.alloc(), 1, Vec::new(rt.alloc()));
-    sink.reserve(23)?;
-    let (added, end) = written(rt.alloc(), sink);
-    assert_eq!(rt; added, Ok(()));
-    assert_eq!(rt; end.sink.bytes(), ONE);
-    let container = Container::parse(rt.alloc(), ONE)?;
-    assert_eq!(rt; container.len(), 1);
-    assert_eq!(rt; container.name(0), "a");
-    assert_eq!(rt; container.bytes(0), b"hi".as_slice());
-    assert_eq!(rt; container.place(0), 20);
-    assert_eq!(rt; container.get("a"), Some(b"hi".as_slice()));
-    assert_eq!(rt; container.get("b"), None);
-    Ok(())
-}
-
-#[test]
-fn takes_equal_content_again(rt: HostRuntime) -> Result<(), Fail> {
-    let mut sink = MemorySink::new(rt.alloc());
-    sink.reserve(22)?;
-    let mut writer = ContainerWriter::new(rt.alloc(), sink);
-    assert_eq!(rt; writer.add("a", b"x"), Ok(()));
-    assert_eq!(rt; writer.add("a", b"x"), Ok(()));
-    assert_eq!(rt;
-        writer.add("a", b"y"),
-        Err(ContainerWriteError::NameCollision)
-    );
-    assert_eq!(rt; writer.add("", b"y"), Err(ContainerWriteError::BadName));
-    assert!(rt; !writer.is_failed());
+    piece: usize,
+    fails: u64,
+    entries: &[(&str, &[u8])],
+) -> Result<String, AllocError> {
+    let mut writer = ContainerWriter::new(alloc, sink(alloc, piece, fails)?);
+    let added = added(alloc, &mut writer, entries);
     let end = writer.finish();
-    let sizes = ContainerSizes {
-        compressed: 22,
-        uncompressed: 1,
-        entries: 1,
+    let faults = end.sink.faults();
+    let taken = String::from_str(alloc, str::from_utf8(end.sink.bytes()).unwrap_or("no text"));
+    let ended = match end.result {
+        Ok(sizes) => {
+            format!(in alloc;
+                "{} {} {}",
+                sizes.compressed, sizes.uncompressed, sizes.entries
+            )
+        }
+        Err(error) => format!(in alloc; "{error:?}"),
     };
-    assert_eq!(rt; end.result, Ok(sizes));
-    assert_eq!(rt; end.sink.faults(), 0);
-    Ok(())
+    format!(in alloc; "{}{}, {faults} faults: {}", added?, ended?, taken?)
 }
 
-#[test]
-fn answers_the_first_fault(rt: HostRuntime) -> Result<(), Fail> {
-    let cases: [(&[u8], ContainerError); 14] = [
-        (b"PK", ContainerError::BadMagic),
-        (b"nxtcont2\0", ContainerError::BadMagic),
-        (b"nxtcont1", ContainerError::Truncated { at: 8 }),
-        (b"nxtcont1\0\0", ContainerError::TrailingBytes { at: 9 }),
-        (b"nxtcont1\x02", ContainerError::BadTag { at: 8 }),
-        (b"nxtcont1\x01\0", ContainerError::Truncated { at: 9 }),
-        (b"nxtcont1\x01\0\0", ContainerError::BadName { at: 9 }),
-        (b"nxtcont1\x01\0\x02a", ContainerError::Truncated { at: 11 }),
-        (
-            b"nxtcont1\x01\0\x01\xff",
-            ContainerError::BadName { at: 11 },
-        ),
-        (
-            b"nxtcont1\x01\0\x01a\0\0\0",
-            ContainerError::Truncated { at: 12 },
-        ),
-        (
-            b"nxtcont1\x01\0\x01a\0\0\0\0\0\0\0\x01",
-            ContainerError::Truncated { at: 20 },
-        ),
-        (
-            b"nxtcont1\x01\0\x01a\0\0\0\0\0\0\0\x01x",
-            ContainerError::Truncated { at: 21 },
-        ),
-        (
-            b"nxtcont1\x01\0\x01a\0\0\0\0\0\0\0\x01x\x01\0\x01a\0\0\0\0\0\0\0\0\0",
-            ContainerError::DuplicateName { at: 24 },
-        ),
-        (
-            b"nxtcont1\x01\0\x01b\0\0\0\0\0\0\0\0\x01\0\x01a\0\0\0\0\0\0\0\0\x01\0\x01a\0\0\0\0\0\0\0\0",
-            ContainerError::DuplicateName { at: 35 },
-        ),
-    ];
-    for (bytes, fault) in cases {
-        assert_eq!(rt;
-            Container::parse(rt.alloc(), bytes).err(),
-            Some(fault),
-            "{bytes:?}"
-        );
+/// What a writer answers to each entry, and what it says of itself then.
+fn added(
+    alloc: Global,
+    writer: &mut ContainerWriter<FailingSink>,
+    entries: &[(&str, &[u8])],
+) -> Result<String, AllocError> {
+    let mut text = String::new(alloc);
+    for (name, content) in entries {
+        match writer.add(name, content) {
+            Ok(()) => text.push_str("added, ")?,
+            Err(error) => write!(text, "{error:?}, ")?,
+        }
     }
-    Ok(())
+    if writer.is_failed() || writer.is_empty() {
+        return Ok(text);
+    }
+    let content = str::from_utf8(writer.bytes(0)).unwrap_or("no text");
+    write!(text, "{} with {} {content}, ", writer.len(), writer.name(0))?;
+    Ok(text)
 }
 
-/// Reads to the end, and answers what was read and how many reads failed.
-fn read_to_end<S: Source>(alloc: Global, source: &mut S) -> Result<(Vec<u8>, u64), Fail> {
+/// How long the container of an entry is, whether it is written whole, and what the sink took.
+fn at_hand(alloc: Global, fails: u64) -> Result<String, AllocError> {
+    let contents = [NamedContent {
+        name: "a",
+        content: b"hi",
+    }];
+    let length = container_length(&contents).unwrap_or(0);
+    let mut sink = sink(alloc, 0, fails)?;
+    let whole = write_container(&mut sink, &contents).is_ok();
+    let taken = str::from_utf8(sink.bytes()).unwrap_or("no text");
+    format!(in alloc; "{length} {whole}: {taken}")
+}
+
+fn is_empty(alloc: Global, bytes: &[u8]) -> Result<String, Fail> {
+    let container = Container::parse(alloc, bytes)?;
+    Ok(format!(in alloc; "{}", container.is_empty())?)
+}
+
+/// What a source has, how many reads failed, and how many it counted.
+fn pieces(alloc: Global, piece: usize, fails: u64) -> Result<String, AllocError> {
+    let fail_at = [fails];
+    let mut source = FailingSource::new(TEXT, piece, &fail_at);
     let mut bytes = Vec::new(alloc);
     let mut failed = 0u64;
     let mut buf = [0; 4];
@@ -137,112 +133,141 @@ fn read_to_end<S: Source>(alloc: Global, source: &mut S) -> Result<(Vec<u8>, u64
             Err(_) => failed = failed.saturating_add(1),
         }
     }
-    Ok((bytes, failed))
+    let text = str::from_utf8(&bytes).unwrap_or("no text");
+    format!(in alloc; "{text} {failed} {}", source.faults())
 }
 
-#[test]
-fn reads_in_pieces(rt: HostRuntime) -> Result<(), Fail> {
-    let text = b"in pieces".as_slice();
-    let (bytes, failed) = read_to_end(rt.alloc(), &mut SliceSource::new(text))?;
-    assert_eq!(rt; (bytes.as_slice(), failed), (text, 0));
-    for piece in [0, 1, 3] {
-        for call in 1..=4 {
-            let fail_at = [call];
-            let mut source = FailingSource::new(text, piece, &fail_at);
-            let (bytes, failed) = read_to_end(rt.alloc(), &mut source)?;
-            assert_eq!(rt; bytes.as_slice(), text, "{piece} {call}");
-            assert_eq!(rt; failed, 1);
-            assert_eq!(rt; source.faults(), 1);
-        }
-    }
-    assert_eq!(rt;
-        FailingSource::new(text, 0, &[2]).read(&mut []).ok(),
-        Some(0)
-    );
+fn without_room(alloc: Global) -> Result<String, AllocError> {
+    let fail_at = [2];
+    let mut source = FailingSource::new(TEXT, 0, &fail_at);
+    format!(in alloc; "{}", source.read(&mut []).unwrap_or(9))
+}
+
+fn endless(alloc: Global) -> Result<String, AllocError> {
     let mut buf = [0; 3];
-    assert_eq!(rt; EndlessSource::new(7).read(&mut buf).ok(), Some(3));
-    assert_eq!(rt; buf, [7, 7, 7]);
-
-    let mut deque = VecDeque::new(rt.alloc());
-    for byte in text {
-        deque.push_back(*byte)?;
-    }
-    let (bytes, failed) = read_to_end(rt.alloc(), &mut StdSource::new(deque))?;
-    assert_eq!(rt; (bytes.as_slice(), failed), (text, 0));
-    Ok(())
+    let count = EndlessSource::new(b'7').read(&mut buf).unwrap_or(9);
+    let text = str::from_utf8(&buf).unwrap_or("no text");
+    format!(in alloc; "{count} {text}")
 }
 
-#[test]
-fn hands_the_sink_back(rt: HostRuntime) -> Result<(), Fail> {
-    let mut sink = MemorySink::new(rt.alloc());
-    sink.reserve(23)?;
-    let mut writer = ContainerWriter::new(rt.alloc(), sink);
-    assert_eq!(rt; writer.add("a", b"hi"), Ok(()));
-    assert_eq!(rt; writer.into_sink().bytes(), &ONE[..22]);
-    Ok(())
+/// What is read of `12345`, in pieces of two bytes.
+fn within(alloc: Global, limit: u64, fails: u64) -> Result<String, AllocError> {
+    let fail_at = [fails];
+    let mut source = FailingSource::new(b"12345", 2, &fail_at);
+    match read_within(alloc, limit, &mut source) {
+        Ok(bytes) => String::from_str(alloc, str::from_utf8(&bytes).unwrap_or("no text")),
+        Err(error) => format!(in alloc; "{error}"),
+    }
 }
 
-#[test]
-fn writes_contents_at_hand(rt: HostRuntime) -> Result<(), Fail> {
-    let contents = [NamedContent {
-        name: "a",
-        content: b"hi",
-    }];
-    assert_eq!(rt; container_length(&contents), Some(23));
-    assert_eq!(rt; container_length(&[]), Some(9));
-    // The magic, the tag and the name's length, the name, the content's length, the content, and
-    // the end mark.
-    for (call, taken) in [(1, 0), (2, 8), (3, 11), (4, 12), (5, 20), (6, 22), (7, 23)] {
-        let mut sink = FailingSink::new(rt.alloc(), 0, vec![in rt.alloc(); call]?);
-        sink.reserve(23)?;
-        let whole = write_container(&mut sink, &contents).is_ok();
-        assert_eq!(rt;
-            (whole, sink.bytes()),
-            (taken == 23, &ONE[..taken]),
-            "{call}"
-        );
+fn endless_within(alloc: Global, limit: u64) -> Result<String, AllocError> {
+    match read_within(alloc, limit, &mut EndlessSource::new(b'x')) {
+        Ok(bytes) => format!(in alloc; "{} bytes", bytes.as_slice().len()),
+        Err(error) => format!(in alloc; "{error}"),
     }
-    let mut writer = ContainerWriter::new(rt.alloc(), GrowingSink::new(rt.alloc()));
-    assert_eq!(rt; writer.add("a", b"hi"), Ok(()));
-    assert_eq!(rt; (writer.len(), writer.is_empty()), (1, false));
-    assert_eq!(rt; (writer.name(0), writer.bytes(0)), ("a", b"hi".as_slice()));
-    Ok(())
 }
 
-#[test]
-fn stops_at_a_failing_sink(rt: HostRuntime) -> Result<(), Fail> {
-    // The two pieces of the entry and the end mark, byte by byte or whole.
-    for (piece, call, taken) in [
-        (0, 1, 0),
-        (0, 2, 20),
-        (0, 3, 22),
-        (1, 1, 0),
-        (1, 9, 8),
-        (1, 22, 21),
-        (1, 23, 22),
-    ] {
-        let mut sink = FailingSink::new(rt.alloc(), piece, vec![in rt.alloc(); call]?);
-        sink.reserve(23)?;
-        let (added, end) = written(rt.alloc(), sink);
-        assert_eq!(rt; end.sink.bytes(), &ONE[..taken], "{piece} {call}");
-        assert_eq!(rt; end.sink.faults(), 1);
-        if taken < 22 {
-            assert_eq!(rt; added, Err(ContainerWriteError::SinkFault));
-            assert_eq!(rt; end.result, Err(ContainerWriteError::Failed));
-        } else {
-            assert_eq!(rt; added, Ok(()));
-            assert_eq!(rt; end.result, Err(ContainerWriteError::SinkFault));
-        }
-    }
-    let mut small = MemorySink::new(rt.alloc());
+/// Whether more than a sink has room for is written, how often it failed, and how much it took.
+fn full(alloc: Global) -> Result<String, AllocError> {
+    let mut small = MemorySink::new(alloc);
     small.reserve(1)?;
-    let room = [0; 100_000];
-    assert!(rt; write_all_dyn(&mut small, &room).is_err());
-    assert_eq!(rt; small.faults(), 1);
-    assert_eq!(rt; small.bytes(), [].as_slice());
+    let long = vec![in alloc; 0; 100_000]?;
+    let whole = write_all_dyn(&mut small, &long).is_ok();
+    format!(in alloc; "{whole} {} {}", small.faults(), small.bytes().len())
+}
 
-    let mut deque = VecDeque::new(rt.alloc());
-    assert!(rt; write_all(&mut StdSink::new(&mut deque), b"whole").is_ok());
-    assert_eq!(rt; deque.as_slices().0, b"whole".as_slice());
+const ANSWERS: &[(Asked<'static>, &str)] = &[
+    (Asked::Writer(0, 0, &[]), "9 0 0, 0 faults: nxtcont1\0"),
+    (
+        Asked::Writer(1, 0, HI),
+        "added, 1 with a hi, 23 2 1, 0 faults: nxtcont1\x01\0\x01a\0\0\0\0\0\0\0\x02hi\0",
+    ),
+    // Equal content is taken again.
+    (
+        Asked::Writer(0, 0, &[("a", b"x"), ("a", b"x"), ("a", b"y"), ("", b"y")]),
+        "added, added, NameCollision, BadName, 1 with a x, 22 1 1, 0 faults: nxtcont1\x01\0\x01a\0\0\0\0\0\0\0\x01x\0",
+    ),
+    // The two pieces of the entry and the end mark, whole or byte by byte.
+    (Asked::Writer(0, 1, HI), "SinkFault, Failed, 1 faults: "),
+    (
+        Asked::Writer(0, 2, HI),
+        "SinkFault, Failed, 1 faults: nxtcont1\x01\0\x01a\0\0\0\0\0\0\0\x02",
+    ),
+    (
+        Asked::Writer(0, 3, HI),
+        "added, 1 with a hi, SinkFault, 1 faults: nxtcont1\x01\0\x01a\0\0\0\0\0\0\0\x02hi",
+    ),
+    (Asked::Writer(1, 1, HI), "SinkFault, Failed, 1 faults: "),
+    (
+        Asked::Writer(1, 9, HI),
+        "SinkFault, Failed, 1 faults: nxtcont1",
+    ),
+    (
+        Asked::Writer(1, 22, HI),
+        "SinkFault, Failed, 1 faults: nxtcont1\x01\0\x01a\0\0\0\0\0\0\0\x02h",
+    ),
+    (
+        Asked::Writer(1, 23, HI),
+        "added, 1 with a hi, SinkFault, 1 faults: nxtcont1\x01\0\x01a\0\0\0\0\0\0\0\x02hi",
+    ),
+    // The magic, the tag and the name's length, the name, the content's length, the content, and the end mark.
+    (Asked::AtHand(1), "23 false: "),
+    (Asked::AtHand(2), "23 false: nxtcont1"),
+    (Asked::AtHand(3), "23 false: nxtcont1\x01\0\x01"),
+    (Asked::AtHand(4), "23 false: nxtcont1\x01\0\x01a"),
+    (
+        Asked::AtHand(5),
+        "23 false: nxtcont1\x01\0\x01a\0\0\0\0\0\0\0\x02",
+    ),
+    (
+        Asked::AtHand(6),
+        "23 false: nxtcont1\x01\0\x01a\0\0\0\0\0\0\0\x02hi",
+    ),
+    (
+        Asked::AtHand(7),
+        "23 true: nxtcont1\x01\0\x01a\0\0\0\0\0\0\0\x02hi\0",
+    ),
+    (Asked::IsEmpty(b"nxtcont1\0"), "true"),
+    (
+        Asked::IsEmpty(b"nxtcont1\x01\0\x01a\0\0\0\0\0\0\0\x02hi\0"),
+        "false",
+    ),
+    (Asked::Pieces(0, 0), "in pieces 0 0"),
+    (Asked::Pieces(0, 1), "in pieces 1 1"),
+    (Asked::Pieces(0, 2), "in pieces 1 1"),
+    (Asked::Pieces(0, 3), "in pieces 1 1"),
+    (Asked::Pieces(0, 4), "in pieces 1 1"),
+    (Asked::Pieces(1, 1), "in pieces 1 1"),
+    (Asked::Pieces(1, 2), "in pieces 1 1"),
+    (Asked::Pieces(1, 3), "in pieces 1 1"),
+    (Asked::Pieces(1, 4), "in pieces 1 1"),
+    (Asked::Pieces(3, 1), "in pieces 1 1"),
+    (Asked::Pieces(3, 2), "in pieces 1 1"),
+    (Asked::Pieces(3, 3), "in pieces 1 1"),
+    (Asked::Pieces(3, 4), "in pieces 1 1"),
+    (Asked::NoRoom, "0"),
+    (Asked::Endless, "3 777"),
+    (Asked::Within(5, 0), "12345"),
+    (Asked::Within(6, 0), "12345"),
+    (Asked::Within(u64::MAX, 0), "12345"),
+    (Asked::Within(4, 0), "the source has more than 4 bytes"),
+    (Asked::Within(0, 0), "the source has more than 0 bytes"),
+    (Asked::Within(5, 1), "the source failed"),
+    // The end takes a fourth call.
+    (Asked::Within(5, 4), "the source failed"),
+    (Asked::Within(2, 3), "the source has more than 2 bytes"),
+    (
+        Asked::EndlessWithin(10_000),
+        "the source has more than 10000 bytes",
+    ),
+    (Asked::Full, "false 1 0"),
+];
+
+#[test]
+fn calls_answer_what_they_should(rt: HostRuntime) -> Result<(), Fail> {
+    for (asked, want) in ANSWERS {
+        let found = answer(rt.alloc(), *asked)?;
+        assert!(rt; found.as_str() == *want, "{found:?}, and not {want:?}");
+    }
     Ok(())
 }

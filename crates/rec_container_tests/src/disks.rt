@@ -1,63 +1,83 @@
-//! What disks keep, in memory and over the files of a runtime.
+//! What a disk in memory keeps and answers.
 
-use rec_container::{Disk, DiskError, MemoryDisk, StdDisk};
-use std::process::Abort;
+use crate::calls::{Call, answers};
+use rec_container::MemoryDisk;
+use std::alloc::{AllocError, Global};
 use std::test::Fail;
 
-/// Whether a file has these bytes.
-fn holds(disk: &MemoryDisk, path: &str, bytes: &[u8]) -> bool {
-    match disk.get(path) {
-        Some(file) => file == bytes,
-        None => false,
+/// A disk with one file, its calls, and what these answer and leave.
+#[derive(Clone, Copy)]
+struct Case<'c> {
+    /// The content of the file `run/log`.
+    log: &'c [u8],
+    /// Which calls fail, from 1.
+    fails: &'c [u64],
+    calls: &'c [Call<'c>],
+    answers: &'c str,
+    left: &'c [(&'c str, &'c [u8])],
+}
+
+const CASES: &[Case<'static>] = &[
+    // Files are kept.
+    Case {
+        log: b"one",
+        fails: &[],
+        calls: &[
+            Call::Append("run/log", b" two"),
+            Call::Len("run/log"),
+            Call::Rename("run/log", "run/old"),
+            Call::Create("run/log"),
+            Call::Read("run/old", 4),
+        ],
+        answers: "4;7;done;done;3 two.;",
+        left: &[("run/log", b""), ("run/old", b"one two")],
+    },
+    // A path is there where a file lies below it.
+    Case {
+        log: b"",
+        fails: &[],
+        calls: &[
+            Call::Exists("run"),
+            Call::Exists("run/log"),
+            Call::Exists("ru"),
+            Call::Exists(""),
+            Call::Append("run", b"x"),
+        ],
+        answers: "true;true;false;false;missing;",
+        left: &[("run/log", b"")],
+    },
+    Case {
+        log: b"",
+        fails: &[2, 3],
+        calls: &[
+            Call::Create("log"),
+            Call::Append("log", b"x"),
+            Call::Exists("log"),
+            Call::Len("log"),
+        ],
+        answers: "done;failed;failed;0;",
+        left: &[("log", b"")],
+    },
+];
+
+/// What the calls of a case answer, and which of its files aren't left so.
+fn found(alloc: Global, case: &Case<'_>) -> Result<String, AllocError> {
+    let mut disk = MemoryDisk::new(alloc, case.fails.to_vec(alloc)?);
+    disk.put("run/log", case.log)?;
+    let mut text = answers(alloc, &mut disk, case.calls)?;
+    for (path, bytes) in case.left {
+        if disk.get(path).unwrap_or(b"missing") != *bytes {
+            text.push_str(path)?;
+        }
     }
+    Ok(text)
 }
 
 #[test]
-fn keeps_files(rt: HostRuntime) -> Result<(), Fail> {
-    let mut disk = MemoryDisk::new(rt.alloc(), Vec::new(rt.alloc()));
-    disk.put("run/log", b"one")?;
-    assert_eq!(rt; disk.append("run/log", b" two"), Ok(4));
-    assert_eq!(rt; disk.len("run/log"), Ok(7));
-    assert_eq!(rt; disk.rename("run/log", "run/old"), Ok(()));
-    assert_eq!(rt; disk.create("run/log"), Ok(()));
-    assert!(rt; holds(&disk, "run/log", b""));
-    assert!(rt; holds(&disk, "run/old", b"one two"));
-    let mut buf = [0; 4];
-    assert_eq!(rt; disk.read("run/old", 4, &mut buf), Ok(3));
-    assert_eq!(rt; buf, *b"two\0");
-    Ok(())
-}
-
-#[test]
-fn looks_below_a_path(rt: HostRuntime) -> Result<(), Fail> {
-    let mut disk = MemoryDisk::new(rt.alloc(), Vec::new(rt.alloc()));
-    disk.put("run/log", b"")?;
-    for (path, there) in [("run", true), ("run/log", true), ("ru", false), ("", false)] {
-        assert_eq!(rt; disk.exists(path), Ok(there), "{path}");
+fn a_disk_in_memory_keeps_files(rt: HostRuntime) -> Result<(), Fail> {
+    for case in CASES {
+        let found = found(rt.alloc(), case)?;
+        assert!(rt; found.as_str() == case.answers, "{found}");
     }
-    assert_eq!(rt; disk.append("run", b"x"), Err(DiskError::Missing));
-    Ok(())
-}
-
-#[test]
-fn fails_at_its_calls(rt: HostRuntime) -> Result<(), Fail> {
-    let mut disk = MemoryDisk::new(rt.alloc(), vec![in rt.alloc(); 2, 3]?);
-    assert_eq!(rt; disk.create("log"), Ok(()));
-    assert_eq!(rt; disk.append("log", b"x"), Err(DiskError::DiskFailed));
-    assert_eq!(rt; disk.exists("log"), Err(DiskError::DiskFailed));
-    assert_eq!(rt; disk.len("log"), Ok(0));
-    Ok(())
-}
-
-#[test]
-fn misses_what_is_not_there(rt: HostRuntime) -> Result<(), Fail> {
-    let mut disk = StdDisk::new(&rt);
-    let path = "no/such/file";
-    assert_eq!(rt; disk.exists(path), Ok(false));
-    assert_eq!(rt; disk.len(path), Err(DiskError::Missing));
-    assert_eq!(rt; disk.read(path, 0, &mut [0; 4]), Err(DiskError::Missing));
-    assert_eq!(rt; disk.append(path, b"x"), Err(DiskError::Missing));
-    assert_eq!(rt; disk.rename(path, "other"), Err(DiskError::Missing));
-    assert_eq!(rt; disk.create(path), Err(DiskError::DiskFailed));
     Ok(())
 }

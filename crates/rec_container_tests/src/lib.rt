@@ -1,15 +1,13 @@
-//! The tests of `rec_container`.
+//! The tests of `rec_container`: what no input of the program brings about.
 #![tactic(auto)]
 
+#[cfg(test)]
+mod calls;
 #[cfg(test)]
 mod containers;
 #[cfg(test)]
 mod disks;
 #[cfg(test)]
-mod fronts;
-#[cfg(test)]
 mod lookups;
 #[cfg(test)]
 mod real_files;
-#[cfg(test)]
-mod streams;

@@ -33,6 +33,20 @@ fn find_among_31<'a, L: Ledger>(
     container.get_counted(name, steps)
 }
 
+/// Names, and whether they are to be found among three.
+const SOUGHT: &[(&str, bool)] = &[
+    ("a", true),
+    ("b", true),
+    ("c", true),
+    ("", false),
+    ("aa", false),
+    ("d", false),
+];
+
+/// Three entries without content.
+const THREE: &[u8] =
+    b"nxtcont1\x01\0\x01b\0\0\0\0\0\0\0\0\x01\0\x01a\0\0\0\0\0\0\0\0\x01\0\x01c\0\0\0\0\0\0\0\0\0";
+
 /// Whether exactly the names `a`, `b` and `c` are found, and are in the order `b`, `a`, `c`.
 fn has_three<L: Ledger>(blank: Blank, alloc: Global, bytes: &[u8]) -> Result<bool, ContainerError>
     requires name { blank.name ≡ L.name }
@@ -44,15 +58,9 @@ fn has_three<L: Ledger>(blank: Blank, alloc: Global, bytes: &[u8]) -> Result<boo
         return Ok(false);
     }
     let mut steps: Steps<L> = Steps::new(blank);
-    for (name, content) in [
-        ("a", Some(b"".as_slice())),
-        ("b", Some(b"".as_slice())),
-        ("c", Some(b"".as_slice())),
-        ("", None),
-        ("aa", None),
-        ("d", None),
-    ] {
-        if find_among_three(&container, name, &mut steps) != content {
+    for (name, is_there) in SOUGHT {
+        let is_found = find_among_three(&container, name, &mut steps) == Some(b"".as_slice());
+        if is_found != *is_there {
             return Ok(false);
         }
     }
@@ -61,9 +69,7 @@ fn has_three<L: Ledger>(blank: Blank, alloc: Global, bytes: &[u8]) -> Result<boo
 
 #[test]
 fn finds_among_three(rt: HostRuntime) -> Result<(), Fail> {
-    let bytes =
-        b"nxtcont1\x01\0\x01b\0\0\0\0\0\0\0\0\x01\0\x01a\0\0\0\0\0\0\0\0\x01\0\x01c\0\0\0\0\0\0\0\0\0";
-    assert!(rt; has_three::<Brand>(Blank::new(1), rt.alloc(), bytes)?);
+    assert!(rt; has_three::<Brand>(Blank::new(1), rt.alloc(), THREE)?);
     Ok(())
 }
 
@@ -92,17 +98,27 @@ fn has_each<L: Ledger>(
     Ok(find_among_31(&container, "~", &mut steps).is_none())
 }
 
+/// Sixteen entries, each with its name as its content.
+const SIXTEEN: &[u8] = b"nxtcont1\
+    \x01\x00\x01p\x00\x00\x00\x00\x00\x00\x00\x01p\
+    \x01\x00\x01a\x00\x00\x00\x00\x00\x00\x00\x01a\
+    \x01\x00\x01o\x00\x00\x00\x00\x00\x00\x00\x01o\
+    \x01\x00\x01b\x00\x00\x00\x00\x00\x00\x00\x01b\
+    \x01\x00\x01n\x00\x00\x00\x00\x00\x00\x00\x01n\
+    \x01\x00\x01c\x00\x00\x00\x00\x00\x00\x00\x01c\
+    \x01\x00\x01m\x00\x00\x00\x00\x00\x00\x00\x01m\
+    \x01\x00\x01d\x00\x00\x00\x00\x00\x00\x00\x01d\
+    \x01\x00\x01l\x00\x00\x00\x00\x00\x00\x00\x01l\
+    \x01\x00\x01e\x00\x00\x00\x00\x00\x00\x00\x01e\
+    \x01\x00\x01k\x00\x00\x00\x00\x00\x00\x00\x01k\
+    \x01\x00\x01f\x00\x00\x00\x00\x00\x00\x00\x01f\
+    \x01\x00\x01j\x00\x00\x00\x00\x00\x00\x00\x01j\
+    \x01\x00\x01g\x00\x00\x00\x00\x00\x00\x00\x01g\
+    \x01\x00\x01i\x00\x00\x00\x00\x00\x00\x00\x01i\
+    \x01\x00\x01h\x00\x00\x00\x00\x00\x00\x00\x01h\x00";
+
 #[test]
 fn finds_among_sixteen(rt: HostRuntime) -> Result<(), Fail> {
-    let names = [
-        "p", "a", "o", "b", "n", "c", "m", "d", "l", "e", "k", "f", "j", "g", "i", "h",
-    ];
-    let mut writer = ContainerWriter::new(rt.alloc(), GrowingSink::new(rt.alloc()));
-    for name in names {
-        writer.add(name, name.as_bytes())?;
-    }
-    let end = writer.finish();
-    assert!(rt; end.result.is_ok());
-    assert!(rt; has_each::<Brand>(Blank::new(1), rt.alloc(), end.sink.bytes(), 16)?);
+    assert!(rt; has_each::<Brand>(Blank::new(1), rt.alloc(), SIXTEEN, 16)?);
     Ok(())
 }

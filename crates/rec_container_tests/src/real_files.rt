@@ -1,102 +1,102 @@
 //! What a disk over the machine's own files answers. Contracts can't say what such a disk holds.
 
-use rec_container::{Disk, DiskError, StdDisk};
+use crate::calls::{Call, answers};
+use rec_container::StdDisk;
+use std::alloc::Global;
 use std::fs;
 use std::process::Abort;
 use std::rt::Files;
 use std::test::Fail;
 
-/// What a call of a disk answered.
-fn answer_of<T: Drop>(answer: Result<T, DiskError>) -> &'static str {
-    match answer {
-        Ok(_) => "done",
-        Err(DiskError::Missing) => "missing",
-        Err(DiskError::DiskFailed) => "failed",
-        Err(DiskError::OutOfMemory) => "no memory",
-    }
+/// Adds what calls answer, as a line.
+fn ask<R: Files>(rt: &R, alloc: Global, text: &mut String, calls: &[Call<'_>]) -> Result<(), Fail> {
+    let mut disk = StdDisk::new(rt);
+    text.push_str(answers(alloc, &mut disk, calls)?.as_str())?;
+    text.push_str("\n")?;
+    Ok(())
 }
 
-/// What each call answers of a path; a rename is to `target`.
-fn answers<R: Files>(rt: &R, path: &str, target: &str) -> [&'static str; 5] {
-    let mut disk = StdDisk::new(rt);
-    [
-        answer_of(disk.len(path)),
-        answer_of(disk.read(path, 0, &mut [0; 4])),
-        answer_of(disk.append(path, b"x")),
-        answer_of(disk.rename(path, target)),
-        answer_of(disk.create(path)),
-    ]
+const MISSED: &[Call<'static>] = &[
+    Call::Exists("no/such/file"),
+    Call::Len("no/such/file"),
+    Call::Read("no/such/file", 0),
+    Call::Append("no/such/file", b"x"),
+    Call::Rename("no/such/file", "other"),
+    Call::Create("no/such/file"),
+];
+
+const KEPT: &[Call<'static>] = &[
+    Call::Create("kept/log"),
+    Call::Append("kept/log", b"one"),
+    Call::Append("kept/log", b" two"),
+    Call::Len("kept/log"),
+    Call::Read("kept/log", 4),
+    Call::Read("kept/log", 7),
+    Call::Exists("kept/log"),
+    Call::Create("kept/log"),
+    Call::Len("kept/log"),
+];
+
+/// A rename in the place of a file.
+const RENAMED: &[Call<'static>] = &[
+    Call::Rename("renamed.tmp", "renamed"),
+    Call::Exists("renamed.tmp"),
+    Call::Read("renamed", 0),
+];
+
+/// Calls of a folder, and a rename of a file to it.
+const OF_FOLDER: &[Call<'static>] = &[
+    Call::Len("folder"),
+    Call::Read("folder", 0),
+    Call::Append("folder", b"x"),
+    Call::Rename("folder", "moved"),
+    Call::Create("folder"),
+    Call::Exists("folder"),
+    Call::Rename("beside", "folder"),
+    Call::Exists("beside"),
+];
+
+/// Calls of a path below a file.
+const BELOW_FILE: &[Call<'static>] = &[
+    Call::Len("plain/log"),
+    Call::Read("plain/log", 0),
+    Call::Append("plain/log", b"x"),
+    Call::Rename("plain/log", "moved"),
+    Call::Create("plain/log"),
+    Call::Exists("plain/log"),
+];
+
+/// What is answered of these.
+fn found<R: Files>(rt: &R, alloc: Global) -> Result<String, Fail> {
+    let mut text = String::new(alloc);
+    ask(rt, alloc, &mut text, MISSED)?;
+    fs::create_dir(rt, "kept")?;
+    ask(rt, alloc, &mut text, KEPT)?;
+    fs::write(rt, "renamed.tmp", b"new")?;
+    fs::write(rt, "renamed", b"older")?;
+    ask(rt, alloc, &mut text, RENAMED)?;
+    fs::create_dir(rt, "folder")?;
+    fs::write(rt, "beside", b"x")?;
+    ask(rt, alloc, &mut text, OF_FOLDER)?;
+    fs::write(rt, "plain", b"x")?;
+    ask(rt, alloc, &mut text, BELOW_FILE)?;
+    ask(rt, alloc, &mut text, &[Call::Append("/dev/full", b"x")])?;
+    Ok(text)
+}
+
+fn wanted() -> &'static str {
+    "false;missing;missing;missing;missing;failed;
+done;3;4;7;3 two.;0 ....;true;done;0;
+done;false;3 new.;
+missing;missing;missing;missing;failed;true;failed;true;
+missing;missing;missing;missing;failed;false;
+failed;
+"
 }
 
 #[test]
 fn files_are_kept(rt: HostRuntime) -> Result<(), Fail> {
-    let mut disk = StdDisk::new(&rt);
-    fs::create_dir(&rt, "kept")?;
-    assert_eq!(rt; disk.create("kept/log"), Ok(()));
-    assert_eq!(rt; disk.append("kept/log", b"one"), Ok(3));
-    assert_eq!(rt; disk.append("kept/log", b" two"), Ok(4));
-    assert_eq!(rt; disk.len("kept/log"), Ok(7));
-    let mut buf = [0; 4];
-    assert_eq!(rt; disk.read("kept/log", 4, &mut buf), Ok(3));
-    assert_eq!(rt; buf, *b"two\0");
-    assert_eq!(rt; disk.read("kept/log", 7, &mut buf), Ok(0));
-    assert_eq!(rt; disk.exists("kept/log"), Ok(true));
-    assert_eq!(rt; disk.create("kept/log"), Ok(()));
-    assert_eq!(rt; disk.len("kept/log"), Ok(0));
-    fs::remove_file(&rt, "kept/log")?;
-    fs::remove_dir(&rt, "kept")?;
-    Ok(())
-}
-
-#[test]
-fn a_rename_replaces_a_file(rt: HostRuntime) -> Result<(), Fail> {
-    let mut disk = StdDisk::new(&rt);
-    fs::write(&rt, "renamed.tmp", b"new")?;
-    fs::write(&rt, "renamed", b"older")?;
-    assert_eq!(rt; disk.rename("renamed.tmp", "renamed"), Ok(()));
-    assert_eq!(rt; disk.exists("renamed.tmp"), Ok(false));
-    let mut buf = [0; 8];
-    assert_eq!(rt; disk.read("renamed", 0, &mut buf), Ok(3));
-    assert_eq!(rt; buf, *b"new\0\0\0\0\0");
-    fs::remove_file(&rt, "renamed")?;
-    Ok(())
-}
-
-#[test]
-fn a_folder_is_no_file(rt: HostRuntime) -> Result<(), Fail> {
-    fs::create_dir(&rt, "folder")?;
-    let found = answers(&rt, "folder", "moved");
-    assert_eq!(rt;
-        found,
-        ["missing", "missing", "missing", "missing", "failed"]
-    );
-    let mut disk = StdDisk::new(&rt);
-    assert_eq!(rt; disk.exists("folder"), Ok(true));
-    fs::write(&rt, "beside", b"x")?;
-    assert_eq!(rt; disk.rename("beside", "folder"), Err(DiskError::DiskFailed));
-    assert_eq!(rt; disk.exists("beside"), Ok(true));
-    fs::remove_file(&rt, "beside")?;
-    fs::remove_dir(&rt, "folder")?;
-    Ok(())
-}
-
-#[test]
-fn nothing_is_below_a_file(rt: HostRuntime) -> Result<(), Fail> {
-    fs::write(&rt, "plain", b"x")?;
-    let found = answers(&rt, "plain/log", "moved");
-    assert_eq!(rt;
-        found,
-        ["missing", "missing", "missing", "missing", "failed"]
-    );
-    let mut disk = StdDisk::new(&rt);
-    assert_eq!(rt; disk.exists("plain/log"), Ok(false));
-    fs::remove_file(&rt, "plain")?;
-    Ok(())
-}
-
-#[test]
-fn a_full_device_takes_nothing(rt: HostRuntime) -> Result<(), Fail> {
-    let mut disk = StdDisk::new(&rt);
-    assert_eq!(rt; disk.append("/dev/full", b"x"), Err(DiskError::DiskFailed));
+    let found = found(&rt, rt.alloc())?;
+    assert!(rt; found.as_str() == wanted(), "{found}");
     Ok(())
 }

@@ -1,19 +1,31 @@
 //! Asks the reader of a directory, and prints what it answers.
 
-use rec_container::{ContainerWriter, Disk, GrowingSink};
+use rec_container::{Disk, GrowingSink};
 use rec_directory::{RecordEventIter, RecordReader};
 use rec_format::RerunInfo;
 use rec_forms::{Form, write_text};
 use rec_store::{RecordReadError, StoreReader};
 use std::alloc::{AllocError, Global};
+use std::str;
 use std::test::Fail;
 
 /// More than any of these stores has.
 pub(crate) const AMPLE: u64 = 100_000;
 
-/// A part of a store.
+/// The store of a run without tests that wrote two outputs.
+pub(crate) const STORE: &[u8] = b"nxtcont1\
+    \x01\x00\x13meta/test-list.json\x00\x00\x00\x00\x00\x00\x00\x0d{\"suites\":{}}\
+    \x01\x00\x18meta/cargo-metadata.json\x00\x00\x00\x00\x00\x00\x00\x02{}\
+    \x01\x00\x15meta/record-opts.json\x00\x00\x00\x00\x00\x00\x00\x13{\"run-mode\":\"test\"}\
+    \x01\x00\x15meta/build-scope.json\x00\x00\x00\x00\x00\x00\x00\x21{\"build-kind\":\"cargo\",\"scope\":{}}\
+    \x01\x00\x1bout/ba7816bf8f01cfea-stdout\x00\x00\x00\x00\x00\x00\x00\x03abc\
+    \x01\x00\x1bout/2cf24dba5fb0a30e-stdout\x00\x00\x00\x00\x00\x00\x00\x05hello\x00";
+
+/// A question to the reader of a directory.
 #[derive(Clone, Copy)]
-pub(crate) enum Part<'q> {
+pub(crate) enum Question<'q> {
+    RunDir,
+    Events,
     CargoMetadata,
     TestList,
     RecordOpts,
@@ -25,52 +37,17 @@ pub(crate) enum Part<'q> {
     Extracted(&'q str),
 }
 
-/// The store of a run without tests that wrote two outputs.
-pub(crate) fn store_of(alloc: Global, scope: &str) -> Result<Vec<u8>, Fail> {
-    let mut writer = ContainerWriter::new(alloc, GrowingSink::new(alloc));
-    writer.add("meta/test-list.json", br#"{"suites":{}}"#)?;
-    writer.add("meta/cargo-metadata.json", b"{}")?;
-    writer.add("meta/record-opts.json", br#"{"run-mode":"test"}"#)?;
-    writer.add("meta/build-scope.json", scope.as_bytes())?;
-    writer.add("out/ba7816bf8f01cfea-stdout", b"abc")?;
-    writer.add("out/2cf24dba5fb0a30e-stdout", b"hello")?;
-    Ok(writer.finish().sink.into_bytes())
-}
-
-/// Opens the directory `r`.
-pub(crate) fn open<D: Disk>(
-    alloc: Global,
-    disk: &mut D,
-) -> Result<RecordReader<'_, D>, RecordReadError> {
-    open_up_to(alloc, disk, AMPLE)
-}
-
-/// Opens the directory `r`, whose entries are read up to this length.
-pub(crate) fn open_up_to<D: Disk>(
+/// What the directory `r` answers, a line each, or why it isn't opened. Its entries are read up to a limit.
+pub(crate) fn answers<D: Disk>(
     alloc: Global,
     disk: &mut D,
     limit: u64,
-) -> Result<RecordReader<'_, D>, RecordReadError> {
-    let run_dir = String::from_str(alloc, "r")?;
-    RecordReader::open(alloc, disk, run_dir, limit)
-}
-
-/// Says why something wasn't read.
-pub(crate) fn fault_text(alloc: Global, fault: RecordReadError) -> Result<String, Fail> {
-    let text = format!(in alloc; "{fault}");
-    drop(fault);
-    Ok(text?)
-}
-
-/// A part of the store of the directory `r`, or why it isn't read.
-pub(crate) fn part_of<D: Disk>(
-    alloc: Global,
-    disk: &mut D,
-    part: Part<'_>,
+    questions: &[Question<'_>],
 ) -> Result<String, Fail> {
-    match open(alloc, disk) {
+    let run_dir = String::from_str(alloc, "r")?;
+    match RecordReader::open(alloc, disk, run_dir, limit) {
         Ok(mut reader) => {
-            let text = part_read(alloc, &mut reader, part);
+            let text = lines(alloc, &mut reader, questions);
             drop(reader);
             text
         }
@@ -78,26 +55,42 @@ pub(crate) fn part_of<D: Disk>(
     }
 }
 
-/// A part that a reader reads, or why it doesn't.
-pub(crate) fn part_read<R: StoreReader>(
+fn lines<D: Disk>(
     alloc: Global,
-    reader: &mut R,
-    part: Part<'_>,
+    reader: &mut RecordReader<'_, D>,
+    questions: &[Question<'_>],
 ) -> Result<String, Fail> {
-    match part {
-        Part::CargoMetadata => string_text(alloc, reader.read_cargo_metadata(alloc)),
-        Part::TestList => item_text(alloc, reader.read_test_list(alloc)),
-        Part::RecordOpts => item_text(alloc, reader.read_record_opts(alloc)),
-        Part::BuildScope => item_text(alloc, reader.read_build_scope(alloc)),
-        Part::RerunInfo => rerun_text(alloc, reader.read_rerun_info(alloc)),
-        Part::Output(name) => bytes_text(alloc, reader.read_output(alloc, name)),
-        Part::Extracted(path) => extracted_text(alloc, reader, path),
+    let mut text = String::new(alloc);
+    for question in questions {
+        text.push_str(answer(alloc, reader, *question)?.as_str())?;
+        text.push_str("\n")?;
+    }
+    Ok(text)
+}
+
+fn answer<D: Disk>(
+    alloc: Global,
+    reader: &mut RecordReader<'_, D>,
+    question: Question<'_>,
+) -> Result<String, Fail> {
+    match question {
+        Question::RunDir => Ok(String::from_str(alloc, reader.run_dir())?),
+        Question::Events => events_text(alloc, reader),
+        Question::CargoMetadata => string_text(alloc, reader.read_cargo_metadata(alloc)),
+        Question::TestList => item_text(alloc, reader.read_test_list(alloc)),
+        Question::RecordOpts => item_text(alloc, reader.read_record_opts(alloc)),
+        Question::BuildScope => item_text(alloc, reader.read_build_scope(alloc)),
+        Question::RerunInfo => rerun_text(alloc, reader.read_rerun_info(alloc)),
+        Question::Output(name) => bytes_text(alloc, reader.read_output(alloc, name)),
+        Question::Extracted(path) => extracted_text(alloc, reader, path),
     }
 }
 
-fn text(alloc: Global, bytes: &[u8]) -> Result<String, Fail> {
-    let text = std::str::from_utf8(bytes)?;
-    Ok(String::from_str(alloc, text.trim())?)
+/// Why something wasn't read.
+fn fault_text(alloc: Global, fault: RecordReadError) -> Result<String, Fail> {
+    let text = format!(in alloc; "{fault}");
+    drop(fault);
+    Ok(text?)
 }
 
 fn string_text(alloc: Global, answer: Result<String, RecordReadError>) -> Result<String, Fail> {
@@ -107,20 +100,15 @@ fn string_text(alloc: Global, answer: Result<String, RecordReadError>) -> Result
     }
 }
 
-fn written<T: Form>(alloc: Global, item: &T) -> Result<String, Fail> {
-    let bytes = write_text(alloc, item)?;
-    text(alloc, &bytes)
-}
-
 fn item_text<T: Form + Drop>(
     alloc: Global,
     answer: Result<T, RecordReadError>,
 ) -> Result<String, Fail> {
     match answer {
         Ok(item) => {
-            let text = written(alloc, &item);
+            let bytes = write_text(alloc, &item);
             drop(item);
-            text
+            text_of(alloc, &bytes?)
         }
         Err(fault) => fault_text(alloc, fault),
     }
@@ -139,28 +127,30 @@ fn rerun_text(
 
 fn bytes_text(alloc: Global, answer: Result<Vec<u8>, RecordReadError>) -> Result<String, Fail> {
     match answer {
-        Ok(bytes) => text(alloc, &bytes),
+        Ok(bytes) => text_of(alloc, &bytes),
         Err(fault) => fault_text(alloc, fault),
     }
 }
 
-fn extracted_text<R: StoreReader>(
+/// The length of an entry and its content, or why it isn't extracted.
+fn extracted_text<D: Disk>(
     alloc: Global,
-    reader: &mut R,
+    reader: &mut RecordReader<'_, D>,
     path: &str,
 ) -> Result<String, Fail> {
     let mut out = GrowingSink::new(alloc);
     match reader.extract_file_to_path(alloc, path, &mut out) {
-        Ok(length) => Ok(format!(in alloc; "{length}: {}", text(alloc, out.bytes())?)?),
+        Ok(length) => Ok(format!(in alloc; "{length}: {}", text_of(alloc, out.bytes())?)?),
         Err(fault) => fault_text(alloc, fault),
     }
 }
 
-/// The items of a log, or why it isn't read.
-pub(crate) fn events_of<D: Disk>(
-    alloc: Global,
-    reader: &mut RecordReader<'_, D>,
-) -> Result<String, Fail> {
+fn text_of(alloc: Global, bytes: &[u8]) -> Result<String, Fail> {
+    Ok(String::from_str(alloc, str::from_utf8(bytes)?)?)
+}
+
+/// The items of the log, or why it isn't read.
+fn events_text<D: Disk>(alloc: Global, reader: &mut RecordReader<'_, D>) -> Result<String, Fail> {
     match reader.events() {
         Ok(events) => Ok(items(alloc, events)?),
         Err(fault) => fault_text(alloc, fault),

@@ -1,135 +1,239 @@
-//! Directories that lack something.
+//! Directories in memory: what is read of them, what they lack, and what is answered where a call of the disk fails.
 
-use crate::asking::{Part, events_of, fault_text, open, open_up_to, part_of, part_read, store_of};
-use crate::texts::{log_text, scope_text};
+use crate::asking::{AMPLE, Question, STORE, answers};
 use rec_container::{Disk, DiskError, MemoryDisk};
-use rec_directory::RecordReader;
 use std::alloc::Global;
+use std::process::Abort;
 use std::test::Fail;
 
-/// A disk with these files, or without.
-fn disk_of(alloc: Global, store: Option<&[u8]>, log: Option<&str>) -> Result<MemoryDisk, Fail> {
-    let mut disk = MemoryDisk::new(alloc, Vec::new(alloc));
-    if let Some(store) = store {
-        disk.put("r/store.zip", store)?;
-    }
-    if let Some(log) = log {
-        disk.put("r/run.log.zst", log.as_bytes())?;
-    }
-    Ok(disk)
+/// A directory, what it is asked, and what it answers.
+#[derive(Clone, Copy)]
+struct Case<'c> {
+    /// The paths and the bytes of the disk's files.
+    files: &'c [(&'c str, &'c [u8])],
+    /// Which calls of the disk fail, from 1.
+    fails: &'c [u64],
+    /// The most bytes of an entry that is read.
+    limit: u64,
+    questions: &'c [Question<'c>],
+    answers: &'c str,
 }
 
-/// What a reader says of the directory, its test list and its events.
-fn answers(alloc: Global, mut disk: MemoryDisk) -> Result<String, Fail> {
-    match open(alloc, &mut disk) {
-        Ok(mut reader) => {
-            let list = part_read(alloc, &mut reader, Part::TestList)?;
-            let events = events_of(alloc, &mut reader)?;
-            let run_dir = String::from_str(alloc, reader.run_dir())?;
-            Ok(format!(in alloc; "{run_dir}\n{list}\n{events}")?)
-        }
-        Err(fault) => fault_text(alloc, fault),
+/// Two lines of a log, with a blank one and one that is no event between them.
+const LOG: &[u8] =
+    b"{\"elapsed\":{\"nanos\":0,\"secs\":2},\"kind\":\"run-paused\",\"running\":1,\"setup-scripts-running\":0,\"timestamp\":{\"nanos\":0,\"offset\":0,\"secs\":1002}}\n\
+    \n\
+    no event\n\
+    {\"elapsed\":{\"nanos\":0,\"secs\":3},\"kind\":\"run-continued\",\"running\":1,\"setup-scripts-running\":0,\"timestamp\":{\"nanos\":0,\"offset\":0,\"secs\":1003}}\n";
+
+const WHOLE: &[(&str, &[u8])] = &[("r/store.zip", STORE), ("r/run.log.zst", LOG)];
+
+const STORE_ALONE: &[(&str, &[u8])] = &[("r/store.zip", STORE)];
+
+const PARTS: &[Question<'static>] = &[
+    Question::CargoMetadata,
+    Question::TestList,
+    Question::RecordOpts,
+    Question::RerunInfo,
+    Question::BuildScope,
+    Question::Output("ba7816bf8f01cfea-stdout"),
+    Question::Output("2cf24dba5fb0a30e-stdout"),
+    Question::Output("x-unknown"),
+    Question::Extracted("out/2cf24dba5fb0a30e-stdout"),
+    Question::Extracted("x"),
+];
+
+/// What the parts are. Each default of the build scope is written.
+const PARTS_READ: &str = r#"{}
+{"suites":{}}
+{"run-mode":"test"}
+none
+{"build-kind":"cargo","scope":{"features":{"all-features":false,"features":[],"no-default-features":false},"packages":{"exclude":[],"specs":[],"workspace":false},"targets":{"all-targets":false,"benches":{"all":false,"names":[]},"bins":{"all":false,"names":[]},"examples":{"all":false,"names":[]},"lib":false,"tests":{"all":false,"names":[]}}}}
+abc
+hello
+the store has no entry out/x-unknown
+5: hello
+the store has no entry x
+"#;
+
+const LISTED: &[Question<'static>] = &[Question::RunDir, Question::TestList, Question::Events];
+
+/// The events, before and after them two outputs, of which the second is too long.
+const AROUND: &[Question<'static>] = &[
+    Question::Output("ba7816bf8f01cfea-stdout"),
+    Question::Output("2cf24dba5fb0a30e-stdout"),
+    Question::Events,
+    Question::Output("ba7816bf8f01cfea-stdout"),
+    Question::Output("2cf24dba5fb0a30e-stdout"),
+    Question::RunDir,
+];
+
+const TWICE: &[Question<'static>] = &[
+    Question::CargoMetadata,
+    Question::CargoMetadata,
+    Question::Events,
+    Question::Events,
+];
+
+const CASES: &[Case<'static>] = &[
+    Case {
+        files: STORE_ALONE,
+        fails: &[],
+        limit: AMPLE,
+        questions: PARTS,
+        answers: PARTS_READ,
+    },
+    // What is missing is said.
+    Case {
+        files: &[("rr/store.zip", STORE)],
+        fails: &[],
+        limit: AMPLE,
+        questions: LISTED,
+        answers: "there is no run at r",
+    },
+    Case {
+        files: &[("r/run.log.zst", LOG)],
+        fails: &[],
+        limit: AMPLE,
+        questions: LISTED,
+        answers: "r\nthere is no store at r/store.zip\nevent. line 3 is no event. event. \n",
+    },
+    Case {
+        files: STORE_ALONE,
+        fails: &[],
+        limit: AMPLE,
+        questions: LISTED,
+        answers: "r\n{\"suites\":{}}\nthere is no event log at r/run.log.zst\n",
+    },
+    Case {
+        files: &[("r/store.zip", b"PK")],
+        fails: &[],
+        limit: AMPLE,
+        questions: &[Question::Output("x-unknown")],
+        answers: "the store at r/store.zip is no container: not a container: it doesn't begin with nxtcont1\n",
+    },
+    // The events leave the reader as it was.
+    Case {
+        files: WHOLE,
+        fails: &[],
+        limit: 3,
+        questions: AROUND,
+        answers: "abc\n\
+            the entry out/2cf24dba5fb0a30e-stdout has 5 bytes, and the limit is 3\n\
+            event. line 3 is no event. event. \n\
+            abc\n\
+            the entry out/2cf24dba5fb0a30e-stdout has 5 bytes, and the limit is 3\n\
+            r\n",
+    },
+    Case {
+        files: STORE_ALONE,
+        fails: &[],
+        limit: 3,
+        questions: AROUND,
+        answers: "abc\n\
+            the entry out/2cf24dba5fb0a30e-stdout has 5 bytes, and the limit is 3\n\
+            there is no event log at r/run.log.zst\n\
+            abc\n\
+            the entry out/2cf24dba5fb0a30e-stdout has 5 bytes, and the limit is 3\n\
+            r\n",
+    },
+    // A refused open asks the disk only once, so that the next call is the second.
+    Case {
+        files: &[("rr/store.zip", b"nxtcont1\0")],
+        fails: &[2],
+        limit: AMPLE,
+        questions: &[],
+        answers: "there is no run at r, and the next call fails",
+    },
+    Case {
+        files: &[("rr/store.zip", b"nxtcont1\0")],
+        fails: &[1, 2],
+        limit: AMPLE,
+        questions: &[],
+        answers: "the disk failed at r, and the next call fails",
+    },
+    // Each call may fail.
+    Case {
+        files: WHOLE,
+        fails: &[1],
+        limit: AMPLE,
+        questions: TWICE,
+        answers: "the disk failed at r",
+    },
+    Case {
+        files: WHOLE,
+        fails: &[2],
+        limit: AMPLE,
+        questions: TWICE,
+        answers: "the disk failed at r/store.zip\n{}\nevent. line 3 is no event. event. \nevent. line 3 is no event. event. \n",
+    },
+    Case {
+        files: WHOLE,
+        fails: &[3],
+        limit: AMPLE,
+        questions: TWICE,
+        answers: "the disk failed at r/store.zip\n{}\nevent. line 3 is no event. event. \nevent. line 3 is no event. event. \n",
+    },
+    Case {
+        files: WHOLE,
+        fails: &[4],
+        limit: AMPLE,
+        questions: TWICE,
+        answers: "{}\n{}\nthe disk failed at r/run.log.zst\nevent. line 3 is no event. event. \n",
+    },
+    Case {
+        files: WHOLE,
+        fails: &[5],
+        limit: AMPLE,
+        questions: TWICE,
+        answers: "{}\n{}\nthe disk failed at r/run.log.zst. \nevent. line 3 is no event. event. \n",
+    },
+    Case {
+        files: WHOLE,
+        fails: &[6],
+        limit: AMPLE,
+        questions: TWICE,
+        answers: "{}\n{}\nevent. line 3 is no event. event. \nthe disk failed at r/run.log.zst\n",
+    },
+    Case {
+        files: WHOLE,
+        fails: &[7],
+        limit: AMPLE,
+        questions: TWICE,
+        answers: "{}\n{}\nevent. line 3 is no event. event. \nthe disk failed at r/run.log.zst. \n",
+    },
+    // The eighth call is the next one.
+    Case {
+        files: WHOLE,
+        fails: &[8],
+        limit: AMPLE,
+        questions: TWICE,
+        answers: "{}\n{}\nevent. line 3 is no event. event. \nevent. line 3 is no event. event. \n, and the next call fails",
+    },
+];
+
+/// What the directory of a case answers, and whether the next call of its disk fails.
+fn found(alloc: Global, case: &Case<'_>) -> Result<String, Fail> {
+    let mut disk = MemoryDisk::new(alloc, case.fails.to_vec(alloc)?);
+    for (path, bytes) in case.files {
+        disk.put(path, bytes)?;
     }
+    let mut text = answers(alloc, &mut disk, case.limit, case.questions)?;
+    if matches!(disk.exists("r"), Err(DiskError::DiskFailed)) {
+        text.push_str(", and the next call fails")?;
+    }
+    Ok(text)
 }
 
 #[test]
-fn what_is_missing_is_said(rt: HostRuntime) -> Result<(), Fail> {
-    let alloc = rt.alloc();
-    let store = store_of(alloc, scope_text())?;
-    let mut none = disk_of(alloc, None, None)?;
-    none.put("rr/store.zip", &store)?;
-    assert!(rt; answers(alloc, none)?.as_str() == "there is no run at r");
-    let log = disk_of(alloc, None, Some(log_text()))?;
-    assert!(rt;
-        answers(alloc, log)?.as_str()
-            == "r\nthere is no store at r/store.zip\nevent. line 3 is no event. event. "
-    );
-    let alone = disk_of(alloc, Some(&store), None)?;
-    assert!(rt;
-        answers(alloc, alone)?.as_str()
-            == "r\n{\"suites\":{}}\nthere is no event log at r/run.log.zst"
-    );
-    Ok(())
-}
-
-#[test]
-fn a_store_that_is_no_container_is_refused(rt: HostRuntime) -> Result<(), Fail> {
-    let alloc = rt.alloc();
-    let mut disk = disk_of(alloc, Some(b"PK"), None)?;
-    let refused =
-        "the store at r/store.zip is no container: not a container: it doesn't begin with nxtcont1";
-    let answer = part_of(alloc, &mut disk, Part::Output("x-unknown"))?;
-    assert!(rt; answer.as_str() == refused);
-    Ok(())
-}
-
-/// What a reader says of an output of three bytes, and of one of five.
-fn outputs(alloc: Global, reader: &mut RecordReader<'_, MemoryDisk>) -> Result<String, Fail> {
-    let short = part_read(alloc, reader, Part::Output("ba7816bf8f01cfea-stdout"))?;
-    let long = part_read(alloc, reader, Part::Output("2cf24dba5fb0a30e-stdout"))?;
-    Ok(format!(in alloc; "{short}, {long}")?)
-}
-
-/// What a reader of up to three bytes says of its events, and before and after them of two outputs.
-fn answers_around(alloc: Global, mut disk: MemoryDisk) -> Result<String, Fail> {
-    let mut reader = open_up_to(alloc, &mut disk, 3)?;
-    let before = outputs(alloc, &mut reader)?;
-    let events = events_of(alloc, &mut reader)?;
-    let after = outputs(alloc, &mut reader)?;
-    let run_dir = String::from_str(alloc, reader.run_dir())?;
-    Ok(format!(in alloc; "{before}\n{events}\n{after}\n{run_dir}")?)
-}
-
-/// What is said of the two outputs.
-fn outputs_text() -> &'static str {
-    "abc, the entry out/2cf24dba5fb0a30e-stdout has 5 bytes, and the limit is 3"
-}
-
-#[test]
-fn events_leave_the_reader(rt: HostRuntime) -> Result<(), Fail> {
-    let alloc = rt.alloc();
-    let store = store_of(alloc, scope_text())?;
-    let outputs = outputs_text();
-    let events = "event. line 3 is no event. event. ";
-    let whole = disk_of(alloc, Some(&store), Some(log_text()))?;
-    let answer = answers_around(alloc, whole)?;
-    assert!(rt; answer == format!(in alloc; "{outputs}\n{events}\n{outputs}\nr")?);
-    let refusal = "there is no event log at r/run.log.zst";
-    let alone = disk_of(alloc, Some(&store), None)?;
-    let answer = answers_around(alloc, alone)?;
-    assert!(rt; answer == format!(in alloc; "{outputs}\n{refusal}\n{outputs}\nr")?);
-    Ok(())
-}
-
-/// What `open` says of a disk with a directory `rr`, whose calls of these numbers fail; and whether it asked
-/// the disk only once, so that the next call is the second.
-fn refusal(alloc: Global, failing: Vec<u64>) -> Result<(String, bool), Fail> {
-    let mut disk = MemoryDisk::new(alloc, failing);
-    disk.put("rr/store.zip", b"nxtcont1\0")?;
-    let text = opened_text(alloc, &mut disk)?;
-    let asked_once = matches!(disk.exists("rr"), Err(DiskError::DiskFailed));
-    Ok((text, asked_once))
-}
-
-/// What `open` says of a disk.
-fn opened_text(alloc: Global, disk: &mut MemoryDisk) -> Result<String, Fail> {
-    match open(alloc, disk) {
-        Ok(reader) => {
-            drop(reader);
-            Ok(String::from_str(alloc, "opened")?)
-        }
-        Err(fault) => fault_text(alloc, fault),
+fn directories_answer_what_they_should(rt: HostRuntime) -> Result<(), Fail> {
+    for case in CASES {
+        let found = found(rt.alloc(), case)?;
+        assert!(rt;
+            found.as_str() == case.answers,
+            "{found}, and not {}",
+            case.answers
+        );
     }
-}
-
-#[test]
-fn a_refused_open_changes_no_file(rt: HostRuntime) -> Result<(), Fail> {
-    let alloc = rt.alloc();
-    let (text, asked_once) = refusal(alloc, vec![in alloc; 2]?)?;
-    assert!(rt; text.as_str() == "there is no run at r");
-    assert!(rt; asked_once);
-    let (text, asked_once) = refusal(alloc, vec![in alloc; 1, 2]?)?;
-    assert!(rt; text.as_str() == "the disk failed at r");
-    assert!(rt; asked_once);
     Ok(())
 }

@@ -6,12 +6,6 @@ mod asking;
 #[cfg(test)]
 mod directories;
 #[cfg(test)]
-mod faults;
-#[cfg(test)]
 mod logs;
 #[cfg(test)]
 mod real_files;
-#[cfg(test)]
-mod stores;
-#[cfg(test)]
-mod texts;

@@ -1,16 +1,15 @@
 //! Logs that change once their length was asked for.
 
-use crate::asking::{events_of, open};
+use crate::asking::{AMPLE, Question, answers};
 use rec_container::{Disk, DiskError};
-use std::alloc::Global;
 use std::process::Abort;
 use std::test::Fail;
 
-/// A disk whose one file has this length, and then these bytes, or is gone.
+/// A disk whose one file has this length, and then these bytes, or is gone where these are none.
 #[derive(Drop)]
 struct ChangingDisk {
     len: u64,
-    bytes: Option<&'static [u8]>,
+    bytes: &'static [u8],
 }
 
 impl Disk for ChangingDisk {
@@ -29,9 +28,10 @@ impl Disk for ChangingDisk {
     }
 
     fn read(&mut self, _path: &str, at: u64, buf: &mut [u8]) -> Result<usize, DiskError> {
-        let Some(bytes) = self.bytes else {
+        let bytes = self.bytes;
+        if bytes.is_empty() {
             return Err(DiskError::Missing);
-        };
+        }
         if at >= bytes.len() as u64 {
             return Ok(0);
         }
@@ -54,48 +54,26 @@ impl Disk for ChangingDisk {
     }
 }
 
-/// The items of the log.
-fn items(alloc: Global, len: u64, bytes: Option<&'static [u8]>) -> Result<String, Fail> {
-    let mut disk = ChangingDisk { len, bytes };
-    let mut reader = open(alloc, &mut disk)?;
-    events_of(alloc, &mut reader)
-}
+/// The length that a log had, its bytes, and its items. It is read up to that length, and missed where it
+/// had bytes and is gone.
+const LOGS: &[(u64, &[u8], &str)] = &[
+    (2, b"x\ny\nz\n", "line 1 is no event. \n"),
+    (
+        5,
+        b"x\ny\nz\n",
+        "line 1 is no event. line 2 is no event. line 3 is no event. \n",
+    ),
+    (9, b"x\ny", "line 1 is no event. line 2 is no event. \n"),
+    (9, b"", "there is no event log at r/run.log.zst. \n"),
+    (0, b"", "\n"),
+];
 
-// A log of this length, and then of these bytes, has the items that stand beside it.
-fn check(
-    rt: &impl Abort,
-    alloc: Global,
-    rows: &[(u64, &'static [u8], &'static str)],
-) -> Result<(), Fail> {
-    for (len, bytes, want) in rows {
-        let answer = items(alloc, *len, Some(bytes))?;
-        assert!(rt; answer.as_str() == *want, "{len}: {answer}");
+#[test]
+fn logs_are_read_up_to_the_length_that_they_had(rt: HostRuntime) -> Result<(), Fail> {
+    for (len, bytes, want) in LOGS {
+        let mut disk = ChangingDisk { len: *len, bytes };
+        let found = answers(rt.alloc(), &mut disk, AMPLE, &[Question::Events])?;
+        assert!(rt; found.as_str() == *want, "{len}: {found}");
     }
-    Ok(())
-}
-
-#[test]
-fn a_log_is_read_up_to_the_length_that_it_had(rt: HostRuntime) -> Result<(), Fail> {
-    check(
-        &rt,
-        rt.alloc(),
-        &[
-            (2, b"x\ny\nz\n", "line 1 is no event. "),
-            (
-                5,
-                b"x\ny\nz\n",
-                "line 1 is no event. line 2 is no event. line 3 is no event. ",
-            ),
-            (9, b"x\ny", "line 1 is no event. line 2 is no event. "),
-        ],
-    )
-}
-
-#[test]
-fn a_log_that_is_gone_is_missed_where_it_had_bytes(rt: HostRuntime) -> Result<(), Fail> {
-    let answer = items(rt.alloc(), 9, None)?;
-    assert_eq!(rt; answer.as_str(), "there is no event log at r/run.log.zst. ");
-    let answer = items(rt.alloc(), 0, None)?;
-    assert_eq!(rt; answer.as_str(), "");
     Ok(())
 }

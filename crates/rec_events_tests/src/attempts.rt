@@ -1,35 +1,32 @@
 //! The attempts of a test, and how they are described.
 
 use rec_events::{
-    ChildExecutionOutputDescription, ChildOutputDescription, ChildSingleOutput, Duration,
-    ExecuteStatus, ExecutionDescription, ExecutionResultDescription, ExecutionStatuses,
-    FlakyResult, LiveSpec, RetryData, Stamp,
+    ChildExecutionOutputDescription, ChildOutputDescription, Duration, ExecuteStatus,
+    ExecutionDescription, ExecutionResultDescription, ExecutionStatuses, FlakyResult, LiveSpec,
+    RetryData, Stamp,
 };
-use std::alloc::Global;
+use std::alloc::{AllocError, Global};
 use std::test::Fail;
 
-// An attempt that ended so.
-fn attempt(
-    alloc: Global,
-    attempt: u32,
-    outcome: ExecutionResultDescription,
-) -> Result<ExecuteStatus<LiveSpec>, Fail> {
+// The attempt of this number, which passed or could not be started.
+fn attempt(number: u32, passes: bool) -> ExecuteStatus<LiveSpec> {
     let no_time = Duration { secs: 0, nanos: 0 };
-    let mut bytes = Vec::new(alloc);
-    bytes.push(b'x')?;
-    Ok(ExecuteStatus {
+    let result = if passes {
+        ExecutionResultDescription::Pass
+    } else {
+        ExecutionResultDescription::ExecFail
+    };
+    ExecuteStatus {
         retry_data: RetryData {
-            attempt,
+            attempt: number,
             total_attempts: 3,
         },
         output: ChildExecutionOutputDescription::Output {
             result: None,
-            output: ChildOutputDescription::Combined {
-                output: ChildSingleOutput::new(bytes),
-            },
+            output: ChildOutputDescription::NotLoaded,
             errors: None,
         },
-        result: outcome,
+        result,
         start_time: Stamp {
             secs: 0,
             nanos: 0,
@@ -41,27 +38,31 @@ fn attempt(
         error_summary: None,
         output_error_slice: None,
         cpu_time: None,
-    })
+    }
 }
 
-// How attempts of which some pass are described: the kind, the first, the last, and how many others.
-fn described(alloc: Global, passes: &[bool]) -> Result<(&'static str, u32, u32, usize), Fail> {
+// Attempts of which some pass; none where there is none.
+fn attempts(
+    alloc: Global,
+    passes: &[bool],
+) -> Result<Option<ExecutionStatuses<LiveSpec>>, AllocError> {
     let mut statuses = Vec::new(alloc);
     let mut number = 0;
     for passes in passes {
-        let result = if *passes {
-            ExecutionResultDescription::Pass
-        } else {
-            ExecutionResultDescription::ExecFail
-        };
         number = u32::wrapping_add(number, 1);
-        statuses.push(attempt(alloc, number, result)?)?;
+        statuses.push(attempt(number, *passes))?;
     }
     if statuses.is_empty() {
-        return Ok(("none", 0, 0, 0));
+        return Ok(None);
     }
-    let statuses = ExecutionStatuses::new(statuses, FlakyResult::Fail);
-    Ok(match statuses.describe() {
+    Ok(Some(ExecutionStatuses::new(statuses, FlakyResult::Fail)))
+}
+
+// How attempts are described: the kind, the first, the last, and how many others.
+type Described = (&'static str, u32, u32, usize);
+
+fn described(statuses: &ExecutionStatuses<LiveSpec>) -> Described {
+    match statuses.describe() {
         ExecutionDescription::Success { single_status } => {
             ("success", 1, single_status.retry_data.attempt, 0)
         }
@@ -86,12 +87,31 @@ fn described(alloc: Global, passes: &[bool]) -> Result<(&'static str, u32, u32, 
             last_status.retry_data.attempt,
             retries.len(),
         ),
-    })
+    }
+}
+
+// Whether there are so many attempts, found by their places, which count as failed where they are flaky.
+fn are_numbered(statuses: &ExecutionStatuses<LiveSpec>, count: usize) -> bool {
+    count > 0
+        && statuses.len() == count
+        && statuses.status(0).retry_data.attempt == 1
+        && statuses.last_status().retry_data.attempt as usize == count
+        && statuses.flaky_result() == FlakyResult::Fail
+        && statuses == statuses
+}
+
+// Whether attempts of which some pass are numbered in their order, and are described so.
+fn are_described(alloc: Global, passes: &[bool], want: Described) -> Result<bool, AllocError> {
+    let Some(statuses) = attempts(alloc, passes)? else {
+        return Ok(false);
+    };
+    let fits = are_numbered(&statuses, passes.len()) && described(&statuses) == want;
+    drop(statuses);
+    Ok(fits)
 }
 
 #[test]
 fn attempts_are_described(rt: HostRuntime) -> Result<(), Fail> {
-    let alloc = rt.alloc();
     for (passes, want) in [
         ([true].as_slice(), ("success", 1, 1, 0)),
         (&[false], ("failure", 1, 1, 0)),
@@ -100,22 +120,7 @@ fn attempts_are_described(rt: HostRuntime) -> Result<(), Fail> {
         (&[true, false], ("failure", 1, 2, 1)),
         (&[false, false, false], ("failure", 1, 3, 2)),
     ] {
-        assert!(rt; described(alloc, passes)? == want, "{passes:?}");
+        assert!(rt; are_described(rt.alloc(), passes, want)?, "{passes:?}");
     }
-    Ok(())
-}
-
-#[test]
-fn attempts_by_number(rt: HostRuntime) -> Result<(), Fail> {
-    let alloc = rt.alloc();
-    let mut statuses = Vec::new(alloc);
-    statuses.push(attempt(alloc, 1, ExecutionResultDescription::ExecFail)?)?;
-    statuses.push(attempt(alloc, 2, ExecutionResultDescription::Pass)?)?;
-    let statuses = ExecutionStatuses::new(statuses, FlakyResult::Pass);
-    assert!(rt; statuses.len() == 2);
-    assert!(rt; statuses.status(0).retry_data.attempt == 1);
-    assert!(rt; statuses.last_status().retry_data.attempt == 2);
-    assert!(rt; statuses.flaky_result() == FlakyResult::Pass);
-    assert!(rt; statuses == statuses);
     Ok(())
 }

@@ -10,63 +10,30 @@ use std::alloc::{AllocError, Global};
 use std::test::Fail;
 use uuid::Uuid;
 
-/// An event of this kind, at second 1000 and two seconds after the run's start.
-fn live(kind: TestEventKind<'_>) -> TestEvent<'_> {
-    TestEvent {
-        timestamp: Stamp {
-            secs: 1000,
-            nanos: 0,
-            offset: 0,
-        },
-        elapsed: Duration { secs: 2, nanos: 0 },
-        kind,
-    }
-}
+// The instant of each event, and how long after the run's start it is.
+const INSTANT: Stamp = Stamp {
+    secs: 1000,
+    nanos: 0,
+    offset: 0,
+};
 
-/// What an event of this kind is recorded as, if it is recorded.
-fn recorded(
-    alloc: Global,
-    kind: TestEventKind<'_>,
-) -> Result<Option<TestEventSummary<LiveSpec>>, AllocError> {
-    let event = live(kind);
+const ELAPSED: Duration = Duration { secs: 2, nanos: 0 };
+
+// What an event of this kind is recorded as.
+type Recorded = Result<Option<TestEventSummary<LiveSpec>>, AllocError>;
+
+fn recorded(alloc: Global, kind: TestEventKind<'_>) -> Recorded {
+    let event = TestEvent {
+        timestamp: INSTANT,
+        elapsed: ELAPSED,
+        kind,
+    };
     let summary = TestEventSummary::from_test_event(alloc, &event);
     drop(event);
     summary
 }
 
-/// Whether an event of this kind is recorded as that of the other kind, at the same time.
-fn is_recorded_as(
-    alloc: Global,
-    kind: TestEventKind<'_>,
-    expected: CoreEventKind,
-) -> Result<bool, AllocError> {
-    let expected = TestEventSummary {
-        timestamp: Stamp {
-            secs: 1000,
-            nanos: 0,
-            offset: 0,
-        },
-        elapsed: Duration { secs: 2, nanos: 0 },
-        kind: TestEventKindSummary::Core(expected),
-    };
-    let summary = recorded(alloc, kind);
-    let is_equal = is_some_and_equal(&summary, &expected);
-    drop(summary);
-    drop(expected);
-    Ok(is_equal)
-}
-
-fn is_some_and_equal(
-    summary: &Result<Option<TestEventSummary<LiveSpec>>, AllocError>,
-    expected: &TestEventSummary<LiveSpec>,
-) -> bool {
-    match summary {
-        Ok(Some(summary)) => summary == expected,
-        _ => false,
-    }
-}
-
-/// A kind of event that only informs.
+// A kind of event that only informs.
 fn informing(number: u64) -> TestEventKind<'static> {
     match number {
         0 => TestEventKind::InfoStarted,
@@ -77,63 +44,81 @@ fn informing(number: u64) -> TestEventKind<'static> {
     }
 }
 
-/// Whether an event of this kind is recorded.
-fn is_recorded(alloc: Global, kind: TestEventKind<'_>) -> Result<bool, AllocError> {
-    let summary = recorded(alloc, kind);
-    let answer = match &summary {
-        Ok(found) => Ok(found.is_some()),
-        Err(_) => Err(AllocError),
-    };
-    drop(summary);
-    answer
+// Whether the event is not recorded.
+fn is_left_out(summary: &Recorded) -> bool {
+    matches!(summary, Ok(None))
 }
 
+// Here and below a value of that many kinds is lent, and goes by a call: let go in place it is a case for each kind.
 #[test]
-fn what_only_informs_is_not_recorded(rt: HostRuntime) -> Result<(), Fail> {
+fn what_only_informs_is_not_recorded(rt: HostRuntime) {
     for number in 0..5 {
-        assert!(rt; !is_recorded(rt.alloc(), informing(number))?);
+        let summary = recorded(rt.alloc(), informing(number));
+        let is_left_out = is_left_out(&summary);
+        drop(summary);
+        assert!(rt; is_left_out);
     }
-    Ok(())
 }
 
-/// The statistics of a run that is cancelled for this reason.
-fn cancelled(cancel_reason: Option<CancelReason>) -> RunStats {
-    let mut stats = RunStats::zero();
-    stats.cancel_reason = cancel_reason;
-    stats
+// What happened without outputs, where it is recorded at the event's own instant.
+fn core_of(summary: &Recorded) -> Option<&CoreEventKind> {
+    let Ok(Some(summary)) = summary else {
+        return None;
+    };
+    let is_there = summary.timestamp == INSTANT && summary.elapsed == ELAPSED;
+    match &summary.kind {
+        TestEventKindSummary::Core(kind) if is_there => Some(kind),
+        _ => None,
+    }
 }
 
-/// Whether the begin of a cancel is recorded with this reason, where the statistics have that one or none.
-fn has_reason(
-    alloc: Global,
-    cancel_reason: Option<CancelReason>,
-    reason: CancelReason,
-) -> Result<bool, AllocError> {
-    let kind = TestEventKind::RunBeginCancel {
+// The begin of a cancel, whose statistics have a reason or none.
+fn cancel(cancel_reason: Option<CancelReason>) -> TestEventKind<'static> {
+    TestEventKind::RunBeginCancel {
         setup_scripts_running: 1,
         running: 2,
-        current_stats: cancelled(cancel_reason),
-    };
-    let expected = CoreEventKind::RunBeginCancel {
-        setup_scripts_running: 1,
-        running: 2,
-        reason,
-    };
-    is_recorded_as(alloc, kind, expected)
+        current_stats: RunStats {
+            cancel_reason,
+            ..RunStats::zero()
+        },
+    }
 }
+
+// The reason of the begin of such a cancel.
+fn reason_of(kind: &CoreEventKind) -> Option<CancelReason> {
+    match kind {
+        CoreEventKind::RunBeginCancel {
+            setup_scripts_running: 1,
+            running: 2,
+            reason,
+        } => Some(*reason),
+        _ => None,
+    }
+}
+
+// Whether such a cancel is recorded for this reason.
+fn has_reason(alloc: Global, in_statistics: Option<CancelReason>, wanted: CancelReason) -> bool {
+    let summary = recorded(alloc, cancel(in_statistics));
+    let reason = core_of(&summary).and_then(reason_of);
+    drop(summary);
+    reason == Some(wanted)
+}
+
+/// Reasons in the statistics, and that of the recorded cancel.
+const REASONS: &[(Option<CancelReason>, CancelReason)] = &[
+    (Some(CancelReason::TestFailure), CancelReason::TestFailure),
+    (Some(CancelReason::Interrupt), CancelReason::Interrupt),
+    (None, CancelReason::Signal),
+];
 
 #[test]
-fn a_cancel_has_the_reason_of_its_statistics(rt: HostRuntime) -> Result<(), Fail> {
-    let alloc = rt.alloc();
-    let failure = CancelReason::TestFailure;
-    let interrupt = CancelReason::Interrupt;
-    assert!(rt; has_reason(alloc, Some(failure), failure)?);
-    assert!(rt; has_reason(alloc, Some(interrupt), interrupt)?);
-    assert!(rt; has_reason(alloc, None, CancelReason::Signal)?);
-    Ok(())
+fn a_cancel_has_the_reason_of_its_statistics(rt: HostRuntime) {
+    for (in_statistics, wanted) in REASONS {
+        assert!(rt; has_reason(rt.alloc(), *in_statistics, *wanted));
+    }
 }
 
-/// The start of a run of these tests, under a condition.
+// The start of a run of these tests, under a condition.
 fn run_started<'a>(
     alloc: Global,
     test_list: &'a TestList<'a>,
@@ -148,62 +133,91 @@ fn run_started<'a>(
     })
 }
 
-/// The recorded start of a run, under a condition.
-fn recorded_start(
-    alloc: Global,
-    stress_condition: Option<StressConditionSummary>,
-) -> Result<CoreEventKind, AllocError> {
-    Ok(CoreEventKind::RunStarted {
-        run_id: ReportUuid::new(Uuid::nil()),
-        profile_name: Text::from_str(alloc, "default")?,
-        cli_args: Items::empty(alloc),
-        stress_condition,
-    })
+// Whether it is the start of that run, under this condition.
+fn is_start(kind: &CoreEventKind, wanted: &Option<StressConditionSummary>) -> bool {
+    match kind {
+        CoreEventKind::RunStarted {
+            run_id,
+            profile_name,
+            cli_args,
+            stress_condition,
+        } => {
+            *run_id == ReportUuid::new(Uuid::nil())
+                && profile_name.as_str() == "default"
+                && cli_args.as_slice().is_empty()
+                && stress_condition == wanted
+        }
+        _ => false,
+    }
 }
 
-/// Whether the start of a run under a condition is recorded with the other one.
+// Whether the start of a run under a condition is recorded with the other one.
 fn is_kept<'a>(
     alloc: Global,
     test_list: &'a TestList<'a>,
     condition: Option<StressCondition>,
-    expected: Option<StressConditionSummary>,
+    wanted: &Option<StressConditionSummary>,
 ) -> Result<bool, AllocError> {
     let kind = run_started(alloc, test_list, condition)?;
-    match recorded_start(alloc, expected) {
-        Ok(expected) => is_recorded_as(alloc, kind, expected),
-        Err(error) => {
-            drop(kind);
-            Err(error)
-        }
+    let summary = recorded(alloc, kind);
+    let is_kept = core_of(&summary).is_some_and(|kind| is_start(kind, wanted));
+    drop(summary);
+    Ok(is_kept)
+}
+
+/// Lists the conditions that a run may have.
+#[derive(Clone, Copy)]
+enum Stress {
+    None,
+    Twice,
+    Always,
+    Minute,
+}
+
+const MINUTE: Duration = Duration { secs: 60, nanos: 0 };
+
+fn condition(stress: Stress) -> Option<StressCondition> {
+    match stress {
+        Stress::None => None,
+        Stress::Twice => NonZeroCount::new(2).map(|count| StressCondition::Count(
+            StressCount::Count { count },
+        )),
+        Stress::Always => Some(StressCondition::Count(StressCount::Infinite)),
+        Stress::Minute => Some(StressCondition::Duration(MINUTE)),
     }
 }
 
-/// Whether a count of two, none and a minute are each recorded as they are.
-fn keeps_each<'a>(alloc: Global, test_list: &'a TestList<'a>) -> Result<bool, AllocError> {
-    let two = NonZeroCount::new(2);
-    let two = two.map(|count| StressCondition::Count(StressCount::Count { count }));
-    let twice = StressConditionSummary::Count { count: Some(2) };
-    let endless = StressCondition::Count(StressCount::Infinite);
-    let uncounted = StressConditionSummary::Count { count: None };
-    let duration = Duration { secs: 60, nanos: 0 };
-    let minute = StressCondition::Duration(duration);
-    let lasting = StressConditionSummary::Duration { duration };
-    Ok(
-        is_kept(alloc, test_list, None, None)?
-            && is_kept(alloc, test_list, two, Some(twice))?
-            && is_kept(alloc, test_list, Some(endless), Some(uncounted))?
-            && is_kept(alloc, test_list, Some(minute), Some(lasting))?,
-    )
+fn condition_recorded(stress: Stress) -> Option<StressConditionSummary> {
+    match stress {
+        Stress::None => None,
+        Stress::Twice => Some(StressConditionSummary::Count { count: Some(2) }),
+        Stress::Always => Some(StressConditionSummary::Count { count: None }),
+        Stress::Minute => Some(StressConditionSummary::Duration { duration: MINUTE }),
+    }
+}
+
+// Whether a run of benchmarks keeps its mode, and is recorded with its condition.
+fn keeps(alloc: Global, stress: Stress) -> Result<bool, AllocError> {
+    let summary = TestListSummary {
+        suites: TextMap::empty(alloc),
+    };
+    let tests = TestList::from_summary(NextestRunMode::Benchmark, &summary);
+    let mode = tests.mode();
+    let kept = is_kept(
+        alloc,
+        &tests,
+        condition(stress),
+        &condition_recorded(stress),
+    );
+    drop(tests);
+    drop(summary);
+    kept.map(|kept| kept && mode == NextestRunMode::Benchmark)
 }
 
 #[test]
 fn a_run_keeps_its_stress_condition(rt: HostRuntime) -> Result<(), Fail> {
-    let alloc = rt.alloc();
-    let summary = TestListSummary {
-        suites: TextMap::empty(alloc),
-    };
-    let test_list = TestList::from_summary(NextestRunMode::Benchmark, &summary);
-    assert!(rt; test_list.mode() == NextestRunMode::Benchmark);
-    assert!(rt; keeps_each(alloc, &test_list)?);
+    for stress in [Stress::None, Stress::Twice, Stress::Always, Stress::Minute] {
+        assert!(rt; keeps(rt.alloc(), stress)?);
+    }
     Ok(())
 }

@@ -17,96 +17,93 @@ fn passed() -> RunStats {
     }
 }
 
+/// Names a count of a run, of its tests or of its scripts.
+#[derive(Clone, Copy)]
+enum Count {
+    Finished,
+    Failed,
+    ExecFailed,
+    FailedTimedOut,
+    FailedSlow,
+    Leaky,
+    Skipped,
+    ScriptsFinished,
+    ScriptsFailed,
+    ScriptsExecFailed,
+    ScriptsTimedOut,
+}
+
+fn set(stats: &mut RunStats, count: Count, number: usize) {
+    match count {
+        Count::Finished => stats.finished_count = number,
+        Count::Failed => stats.failed = number,
+        Count::ExecFailed => stats.exec_failed = number,
+        Count::FailedTimedOut => stats.failed_timed_out = number,
+        Count::FailedSlow => stats.failed_slow = number,
+        Count::Leaky => stats.leaky = number,
+        Count::Skipped => stats.skipped = number,
+        Count::ScriptsFinished => stats.setup_scripts_finished_count = number,
+        Count::ScriptsFailed => stats.setup_scripts_failed = number,
+        Count::ScriptsExecFailed => stats.setup_scripts_exec_failed = number,
+        Count::ScriptsTimedOut => stats.setup_scripts_timed_out = number,
+    }
+}
+
+// How such a run ends with other counts.
+fn ended(counts: &[(Count, usize)]) -> FinalRunStats {
+    let mut stats = passed();
+    for (count, number) in counts {
+        set(&mut stats, *count, *number);
+    }
+    stats.summarize_final()
+}
+
+/// Counts of such a run, and how it ends.
+const ENDED: &[(&[(Count, usize)], FinalRunStats)] = &[
+    (&[], FinalRunStats::Success),
+    // What is slow, leaked or was skipped failed nothing.
+    (
+        &[
+            (Count::FailedSlow, 1),
+            (Count::Leaky, 1),
+            (Count::Skipped, 1),
+        ],
+        FinalRunStats::Success,
+    ),
+    (&[(Count::Failed, 1)], FinalRunStats::Failed),
+    (&[(Count::ExecFailed, 1)], FinalRunStats::Failed),
+    (&[(Count::FailedTimedOut, 1)], FinalRunStats::Failed),
+    (&[(Count::ScriptsFailed, 1)], FinalRunStats::Failed),
+    (&[(Count::ScriptsExecFailed, 1)], FinalRunStats::Failed),
+    (&[(Count::ScriptsTimedOut, 1)], FinalRunStats::Failed),
+    // A failed script counts before a missing one, that before a failed test, and that before a
+    // missing test.
+    (&[(Count::Finished, 9)], FinalRunStats::Cancelled),
+    (
+        &[(Count::Finished, 9), (Count::Failed, 1)],
+        FinalRunStats::Failed,
+    ),
+    (
+        &[(Count::Finished, 9), (Count::ScriptsFailed, 1)],
+        FinalRunStats::Failed,
+    ),
+    (&[(Count::ScriptsFinished, 1)], FinalRunStats::Cancelled),
+    (
+        &[(Count::ScriptsFinished, 1), (Count::Failed, 1)],
+        FinalRunStats::Cancelled,
+    ),
+    (
+        &[(Count::ScriptsFinished, 1), (Count::ScriptsFailed, 1)],
+        FinalRunStats::Failed,
+    ),
+];
+
 #[test]
-fn a_run_without_tests(rt: HostRuntime) {
+fn runs_by_what_failed_and_what_is_missing(rt: HostRuntime) {
     assert!(rt; RunStats::zero().summarize_final() == FinalRunStats::NoTestsRun);
-}
-
-// Such a run, of which so many tests were slow and failed, leaked and were skipped.
-fn of_slow_leaky_and_skipped(failed_slow: usize, leaky: usize, skipped: usize) -> FinalRunStats {
-    let stats = RunStats {
-        failed_slow,
-        leaky,
-        skipped,
-        ..passed()
-    };
-    stats.summarize_final()
-}
-
-// What is slow, leaked or was skipped failed nothing.
-#[test]
-fn runs_without_failures(rt: HostRuntime) {
-    assert!(rt; of_slow_leaky_and_skipped(0, 0, 0) == FinalRunStats::Success);
-    assert!(rt; of_slow_leaky_and_skipped(1, 1, 1) == FinalRunStats::Success);
-}
-
-// Such a run, of which so many tests failed, couldn't be started, and took too long.
-fn of_tests(failed: usize, exec_failed: usize, failed_timed_out: usize) -> FinalRunStats {
-    let stats = RunStats {
-        failed,
-        exec_failed,
-        failed_timed_out,
-        ..passed()
-    };
-    stats.summarize_final()
-}
-
-#[test]
-fn runs_by_failed_tests(rt: HostRuntime) {
-    assert!(rt; of_tests(1, 0, 0) == FinalRunStats::Failed);
-    assert!(rt; of_tests(0, 1, 0) == FinalRunStats::Failed);
-    assert!(rt; of_tests(0, 0, 1) == FinalRunStats::Failed);
-}
-
-// Such a run, of which so many scripts failed, couldn't be started, and took too long.
-fn of_scripts(
-    setup_scripts_failed: usize,
-    setup_scripts_exec_failed: usize,
-    setup_scripts_timed_out: usize,
-) -> FinalRunStats {
-    let stats = RunStats {
-        setup_scripts_failed,
-        setup_scripts_exec_failed,
-        setup_scripts_timed_out,
-        ..passed()
-    };
-    stats.summarize_final()
-}
-
-#[test]
-fn runs_by_failed_scripts(rt: HostRuntime) {
-    assert!(rt; of_scripts(1, 0, 0) == FinalRunStats::Failed);
-    assert!(rt; of_scripts(0, 1, 0) == FinalRunStats::Failed);
-    assert!(rt; of_scripts(0, 0, 1) == FinalRunStats::Failed);
-}
-
-// Such a run of which so many tests and scripts finished, and so many failed.
-fn of_finished(
-    finished_count: usize,
-    setup_scripts_finished_count: usize,
-    failed: usize,
-    setup_scripts_failed: usize,
-) -> FinalRunStats {
-    let stats = RunStats {
-        finished_count,
-        setup_scripts_finished_count,
-        failed,
-        setup_scripts_failed,
-        ..passed()
-    };
-    stats.summarize_final()
-}
-
-// A failed script counts before a missing one, that before a failed test, and that before a
-// missing test.
-#[test]
-fn runs_by_what_is_missing(rt: HostRuntime) {
-    assert!(rt; of_finished(9, 2, 0, 0) == FinalRunStats::Cancelled);
-    assert!(rt; of_finished(9, 2, 1, 0) == FinalRunStats::Failed);
-    assert!(rt; of_finished(9, 2, 0, 1) == FinalRunStats::Failed);
-    assert!(rt; of_finished(10, 1, 0, 0) == FinalRunStats::Cancelled);
-    assert!(rt; of_finished(10, 1, 1, 0) == FinalRunStats::Cancelled);
-    assert!(rt; of_finished(10, 1, 0, 1) == FinalRunStats::Failed);
+    for (counts, want) in ENDED {
+        assert!(rt; ended(counts) == *want);
+    }
 }
 
 // Such a run that was cancelled for this reason, of which so many tests and scripts failed.

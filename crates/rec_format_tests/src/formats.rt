@@ -1,5 +1,6 @@
 //! Versions, paths, heads and what is known of runs.
 
+use crate::helpers::{check, check_changed};
 use rec_events::{RustBinaryId, TestNames};
 use rec_format::{
     CompletedRunStats, OutputDict, PORTABLE_RECORDING_FORMAT_VERSION,
@@ -9,8 +10,7 @@ use rec_format::{
     StoreFormatVersion, StoreVersionIncompatibility, StressCompletedRunStats,
     TooOldRecordingGuidance, has_zip_extension, store_format_version_for,
 };
-use rec_forms::{Form, FromValueError, read_text, write_text};
-use std::alloc::Global;
+use std::alloc::{AllocError, Global};
 use std::test::Fail;
 
 fn store_version(major: u32, minor: u32) -> StoreFormatVersion {
@@ -59,6 +59,14 @@ const STORES: [(u32, u32, &str); 8] = [
     ),
 ];
 
+// What stands in the way of a store of this version, `read` where nothing does.
+fn refused_store(alloc: Global, major: u32, minor: u32) -> Result<String, AllocError> {
+    match store_version(major, minor).check_readable_by(STORE_FORMAT_VERSION) {
+        Ok(()) => String::from_str(alloc, "read"),
+        Err(error) => format!(in alloc; "{error}"),
+    }
+}
+
 // The same of a bundle.
 const BUNDLES: [(u32, u32, &str); 5] = [
     (1, 1, "read"),
@@ -68,13 +76,35 @@ const BUNDLES: [(u32, u32, &str); 5] = [
     (0, 1, "major version 0 differs from supported version 1"),
 ];
 
+fn refused_bundle(alloc: Global, major: u32, minor: u32) -> Result<String, AllocError> {
+    match portable_version(major, minor).check_readable_by(PORTABLE_RECORDING_FORMAT_VERSION) {
+        Ok(()) => String::from_str(alloc, "read"),
+        Err(error) => format!(in alloc; "{error}"),
+    }
+}
+
 #[test]
-fn too_old_stores(rt: HostRuntime) {
-    let got = store_version(2, 0).check_readable_by(STORE_FORMAT_VERSION);
-    let want = StoreVersionIncompatibility::RecordingTooOld {
+fn versions_that_are_refused(rt: HostRuntime) -> Result<(), Fail> {
+    for (major, minor, want) in &STORES {
+        let got = refused_store(rt.alloc(), *major, *minor)?;
+        assert!(rt; got.as_str() == *want, "store {major}.{minor}");
+    }
+    for (major, minor, want) in &BUNDLES {
+        let got = refused_bundle(rt.alloc(), *major, *minor)?;
+        assert!(rt; got.as_str() == *want, "bundle {major}.{minor}");
+    }
+    Ok(())
+}
+
+const OLDER: &str =
+    "recording has major version 2, but this nextest requires version 3\n(use nextest <= 0.9.149 to replay this recording)";
+
+// What stands in the way of a store that an older program reads.
+fn older_store(alloc: Global) -> Result<String, AllocError> {
+    let older = StoreVersionIncompatibility::RecordingTooOld {
         recording_major: StoreFormatMajorVersion::new(2),
         supported_major: StoreFormatMajorVersion::new(3),
-        guidance: TooOldRecordingGuidance::Discard {
+        guidance: TooOldRecordingGuidance::UseOlderNextest {
             last_nextest_version: Release {
                 major: 0,
                 minor: 9,
@@ -82,34 +112,8 @@ fn too_old_stores(rt: HostRuntime) {
             },
         },
     };
-    assert!(rt; got == Err(want));
-    let future = StoreFormatMajorVersion::new(4).too_old_guidance();
-    assert!(rt; future == TooOldRecordingGuidance::Unknown);
+    format!(in alloc; "{older}")
 }
-
-#[test]
-fn versions(rt: HostRuntime) -> Result<(), Fail> {
-    let alloc = rt.alloc();
-    for (major, minor, want) in &STORES {
-        let got = match store_version(*major, *minor).check_readable_by(STORE_FORMAT_VERSION) {
-            Ok(()) => String::from_str(alloc, "read")?,
-            Err(error) => format!(in alloc; "{error}")?,
-        };
-        assert!(rt; got.as_str() == *want, "{got}");
-    }
-    for (major, minor, want) in &BUNDLES {
-        let version = portable_version(*major, *minor);
-        let got = match version.check_readable_by(PORTABLE_RECORDING_FORMAT_VERSION) {
-            Ok(()) => String::from_str(alloc, "read")?,
-            Err(error) => format!(in alloc; "{error}")?,
-        };
-        assert!(rt; got.as_str() == *want, "{got}");
-    }
-    Ok(())
-}
-
-const OLDER: &str =
-    "recording has major version 2, but this nextest requires version 3\n(use nextest <= 0.9.149 to replay this recording)";
 
 // The version that a text names, as it is printed.
 const VERSIONS: [(&str, &str); 12] = [
@@ -127,29 +131,25 @@ const VERSIONS: [(&str, &str); 12] = [
     ("", "none"),
 ];
 
+fn printed_version(alloc: Global, text: &str) -> Result<String, AllocError> {
+    match store_format_version_for(Some(text)) {
+        Some(version) => format!(in alloc; "{version}"),
+        None => String::from_str(alloc, "none"),
+    }
+}
+
 #[test]
 fn printed_versions(rt: HostRuntime) -> Result<(), Fail> {
-    let alloc = rt.alloc();
-    assert!(rt; store_format_version_for(None) == Some(store_version(3, 1)));
     for (text, want) in &VERSIONS {
-        let got = match store_format_version_for(Some(*text)) {
-            Some(version) => format!(in alloc; "{version}")?,
-            None => String::from_str(alloc, "none")?,
-        };
-        assert!(rt; got.as_str() == *want, "{text} is {got}");
+        assert!(rt;
+            printed_version(rt.alloc(), text)?.as_str() == *want,
+            "{text}"
+        );
     }
-    let older = StoreVersionIncompatibility::RecordingTooOld {
-        recording_major: StoreFormatMajorVersion::new(2),
-        supported_major: StoreFormatMajorVersion::new(3),
-        guidance: TooOldRecordingGuidance::UseOlderNextest {
-            last_nextest_version: Release {
-                major: 0,
-                minor: 9,
-                patch: 149,
-            },
-        },
-    };
-    assert!(rt; format!(in alloc; "{older}")?.as_str() == OLDER);
+    assert!(rt; older_store(rt.alloc())?.as_str() == OLDER);
+    assert!(rt; store_format_version_for(None) == Some(store_version(3, 1)));
+    let guidance = StoreFormatMajorVersion::new(4).too_old_guidance();
+    assert!(rt; guidance == TooOldRecordingGuidance::Unknown);
     Ok(())
 }
 
@@ -193,28 +193,8 @@ fn names_of_files(rt: HostRuntime) {
     }
 }
 
-fn written<T: Form>(alloc: Global, item: &T) -> Result<String, Fail> {
-    Ok(String::from_utf8(write_text(alloc, item)?)?)
-}
-
-// What a text is written as once it was read, or `refused`.
-fn rewritten<T: Form + Drop>(alloc: Global, text: &str) -> Result<String, Fail> {
-    match read_text::<T>(alloc, text.as_bytes()) {
-        Ok(item) => written(alloc, &item),
-        Err(FromValueError::NotAValue) => Ok(String::from_str(alloc, "refused")?),
-        Err(error) => Err(error.into()),
-    }
-}
-
 const HEAD: &str =
     r#"{"run-id":"550e8400-e29b-41d4-a716-446655440000","nextest-version":"0.9.111","started-at":{"secs":1000,"nanos":0,"offset":0},"last-written-at":{"secs":1011,"nanos":0,"offset":0},"status":{"status":"incomplete"},"cargo-metadata":"{}","test-list":{"suites":{}},"record-opts":{"run-mode":"test"},"build-scope":{"build-kind":"cargo","scope":{}}}"#;
-
-// The head with another text in the place of a part, read and written.
-fn changed(alloc: Global, part: &str, other: &str) -> Result<String, Fail> {
-    let (before, after) = HEAD.split_once(part).ok_or("no such part")?;
-    let head = format!(in alloc; "{before}{other}{after}")?;
-    rewritten::<SessionHead>(alloc, head.as_str())
-}
 
 const PLAIN: &str =
     r#"{"build-scope":{"build-kind":"cargo","scope":{"features":{"all-features":false,"features":[],"no-default-features":false},"packages":{"exclude":[],"specs":[],"workspace":false},"targets":{"all-targets":false,"benches":{"all":false,"names":[]},"bins":{"all":false,"names":[]},"examples":{"all":false,"names":[]},"lib":false,"tests":{"all":false,"names":[]}}}},"cargo-metadata":"{}","cli-args":[],"env-vars":{},"last-written-at":{"nanos":0,"offset":0,"secs":1011},"nextest-version":"0.9.111","record-opts":{"run-mode":"test"},"run-id":"550e8400-e29b-41d4-a716-446655440000","started-at":{"nanos":0,"offset":0,"secs":1000},"status":{"status":"incomplete"},"test-list":{"suites":{}}}"#;
@@ -233,11 +213,16 @@ const WITH_RERUN: &str =
 
 #[test]
 fn heads(rt: HostRuntime) -> Result<(), Fail> {
-    let alloc = rt.alloc();
-    assert!(rt; rewritten::<SessionHead>(alloc, HEAD)?.as_str() == PLAIN);
-    assert!(rt; changed(alloc, "\"status\":", FIELDS)?.as_str() == WITH_FIELDS);
-    assert!(rt; changed(alloc, "\"status\":{", RERUN)?.as_str() == WITH_RERUN);
-    Ok(())
+    check_changed::<SessionHead>(
+        &rt,
+        rt.alloc(),
+        HEAD,
+        &[
+            ("\"status\":", "\"status\":", PLAIN),
+            ("\"status\":", FIELDS, WITH_FIELDS),
+            ("\"status\":{", RERUN, WITH_RERUN),
+        ],
+    )
 }
 
 // A text, and what it is written as once it was read.
@@ -287,26 +272,11 @@ const STORE_VERSIONS: [(&str, &str); 4] = [
     (r#""3.0""#, "refused"),
 ];
 
-// The first text of a table that isn't written as is said beside it once it was read.
-fn first_other<T: Form + Drop>(
-    alloc: Global,
-    table: &[(&'static str, &'static str)],
-) -> Result<Option<&'static str>, Fail> {
-    for (text, want) in table {
-        if rewritten::<T>(alloc, *text)?.as_str() != *want {
-            return Ok(Some(*text));
-        }
-    }
-    Ok(None)
-}
-
 #[test]
-fn statistics(rt: HostRuntime) -> Result<(), Fail> {
-    let alloc = rt.alloc();
-    assert!(rt; first_other::<CompletedRunStats>(alloc, &STATS)? == None);
-    assert!(rt; first_other::<StressCompletedRunStats>(alloc, &STRESS_STATS)? == None);
-    assert!(rt; first_other::<StoreFormatVersion>(alloc, &STORE_VERSIONS)? == None);
-    Ok(())
+fn statistics(rt: HostRuntime) {
+    check::<CompletedRunStats>(&rt, rt.alloc(), &STATS);
+    check::<StressCompletedRunStats>(&rt, rt.alloc(), &STRESS_STATS);
+    check::<StoreFormatVersion>(&rt, rt.alloc(), &STORE_VERSIONS);
 }
 
 // The information on a run, and what it is written as once it was read.
@@ -316,24 +286,22 @@ const INFO: &str =
 const WRITTEN_INFO: &str =
     r#"{"cli-args":[],"env-vars":{},"last-written-at":{"nanos":0,"offset":0,"secs":1011},"nextest-version":"0.9.111","run-id":"550e8400-e29b-41d4-a716-446655440000","sizes":{"log":{"compressed":1,"entries":0,"uncompressed":2},"store":{"compressed":4,"entries":6,"uncompressed":5}},"started-at":{"nanos":0,"offset":0,"secs":1000},"status":{"exit-code":0,"failed":0,"initial-run-count":1,"passed":1,"status":"completed"},"store-format-version":{"major":3,"minor":0}}"#;
 
-// The information with another text in the place of a part, read and written.
-fn changed_info(alloc: Global, part: &str, other: &str) -> Result<String, Fail> {
-    let (before, after) = INFO.split_once(part).ok_or("no such part")?;
-    let info = format!(in alloc; "{before}{other}{after}")?;
-    rewritten::<RecordedRunInfo>(alloc, info.as_str())
-}
-
 #[test]
 fn run_info(rt: HostRuntime) -> Result<(), Fail> {
-    let alloc = rt.alloc();
-    assert!(rt; rewritten::<RecordedRunInfo>(alloc, INFO)?.as_str() == WRITTEN_INFO);
-    // The version of a run's own form is no version here.
-    assert!(rt; changed_info(alloc, r#"{"major":3,"minor":0}"#, "3")?.as_str() == "refused");
-    assert!(rt; changed_info(alloc, r#""sizes":"#, r#""size":"#)?.as_str() == "refused");
-    Ok(())
+    check_changed::<RecordedRunInfo>(
+        &rt,
+        rt.alloc(),
+        INFO,
+        &[
+            ("\"sizes\":", "\"sizes\":", WRITTEN_INFO),
+            // The version of a run's own form is no version here.
+            (r#"{"major":3,"minor":0}"#, "3", "refused"),
+            ("\"sizes\":", "\"size\":", "refused"),
+        ],
+    )
 }
 
-fn suite(alloc: Global, binary_id: &str) -> Result<RerunTestSuiteInfo, Fail> {
+fn suite(alloc: Global, binary_id: &str) -> Result<RerunTestSuiteInfo, AllocError> {
     Ok(RerunTestSuiteInfo {
         binary_id: RustBinaryId::new(String::from_str(alloc, binary_id)?),
         passing: TestNames::empty(alloc),
@@ -341,16 +309,39 @@ fn suite(alloc: Global, binary_id: &str) -> Result<RerunTestSuiteInfo, Fail> {
     })
 }
 
+// Whether one suite took the place of an equal one.
+fn is_equal(
+    replaced: Option<RerunTestSuiteInfo>,
+    suite: Result<RerunTestSuiteInfo, AllocError>,
+) -> bool {
+    match (&replaced, &suite) {
+        (Some(replaced), Ok(suite)) => replaced == suite,
+        _ => false,
+    }
+}
+
+// Puts the suite of a binary among others, and says whether that took the place of an equal one.
+fn put(alloc: Global, suites: &mut RerunSuites, binary_id: &str) -> Result<bool, AllocError> {
+    let replaced = suites.insert(suite(alloc, binary_id)?)?;
+    Ok(is_equal(replaced, suite(alloc, binary_id)))
+}
+
+fn has(alloc: Global, suites: &RerunSuites, binary_id: &str) -> Result<bool, AllocError> {
+    let sought = RustBinaryId::new(String::from_str(alloc, binary_id)?);
+    Ok(suites.get(&sought).is_some())
+}
+
 #[test]
 fn suites_by_binary(rt: HostRuntime) -> Result<(), Fail> {
     let alloc = rt.alloc();
     let mut suites = RerunSuites::new(alloc);
-    assert!(rt; suites.insert(suite(alloc, "b")?)?.is_none());
-    assert!(rt; suites.insert(suite(alloc, "a")?)?.is_none());
-    assert!(rt; suites.insert(suite(alloc, "b")?)? == Some(suite(alloc, "b")?));
-    assert_eq!(rt; suites.len(), 2);
-    assert!(rt; suites.suite(0).binary_id.as_str() == "a");
-    let sought = RustBinaryId::new(String::from_str(alloc, "b")?);
-    assert!(rt; suites.get(&sought).is_some());
+    for (binary_id, replaces) in [("b", false), ("a", false), ("b", true)] {
+        assert!(rt;
+            put(alloc, &mut suites, binary_id)? == replaces,
+            "{binary_id}"
+        );
+    }
+    let first = suites.len() == 2 && suites.suite(0).binary_id.as_str() == "a";
+    assert!(rt; first && has(alloc, &suites, "b")?);
     Ok(())
 }

@@ -4,6 +4,8 @@
 #[cfg(test)]
 mod formats;
 #[cfg(test)]
+mod helpers;
+#[cfg(test)]
 mod run_lists;
 #[cfg(test)]
 mod small_impls;

@@ -1,46 +1,42 @@
 //! The list of runs, and prefixes of their ids.
 
+use crate::helpers::is_rewritten;
 use rec_events::ReportUuid;
 use rec_format::{
     RUNS_JSON_FORMAT_VERSION, RecordedRunList, RunFilesExist, RunIdIndex, RunsJsonFormatVersion,
     RunsJsonWritePermission,
 };
-use rec_forms::{FromValueError, read_text, write_text};
-use std::alloc::Global;
+use rec_forms::{FromValueError, read_text};
+use std::alloc::{AllocError, Global};
+use std::process::Abort;
 use std::test::Fail;
 
-fn read(alloc: Global, text: &str) -> Result<RecordedRunList, FromValueError> {
-    read_text(alloc, text.as_bytes())
+// Whether the list of a text may be written as this says.
+fn permission(alloc: Global, text: &str) -> Option<RunsJsonWritePermission> {
+    match read_text::<RecordedRunList>(alloc, text.as_bytes()) {
+        Ok(list) => Some(permission_of(list)),
+        Err(_) => None,
+    }
+}
+
+fn permission_of(list: RecordedRunList) -> RunsJsonWritePermission {
+    list.write_permission()
 }
 
 #[test]
 fn permissions(rt: HostRuntime) -> Result<(), Fail> {
     let alloc = rt.alloc();
-    let newer = read(alloc, r#"{"format-version":99,"runs":[]}"#)?.write_permission();
-    let want = RunsJsonWritePermission::Denied {
+    let denied = RunsJsonWritePermission::Denied {
         file_version: RunsJsonFormatVersion::new(99),
         max_supported_version: RUNS_JSON_FORMAT_VERSION,
     };
-    assert!(rt; newer == want);
-    let known = read(alloc, r#"{"format-version":3}"#)?.write_permission();
-    assert!(rt; known == RunsJsonWritePermission::Allowed);
+    let newer = permission(alloc, r#"{"format-version":99,"runs":[]}"#);
+    assert!(rt; newer == Some(denied));
+    for text in [r#"{"format-version":3}"#, older_list()] {
+        assert!(rt; permission(alloc, text) == Some(RunsJsonWritePermission::Allowed));
+    }
     let printed = format!(in alloc; "{RUNS_JSON_FORMAT_VERSION}")?;
     assert!(rt; printed.as_str() == "3");
-    Ok(())
-}
-
-#[test]
-fn lists(rt: HostRuntime) -> Result<(), Fail> {
-    let alloc = rt.alloc();
-    let missing = read(alloc, r#"{"runs":[]}"#).err();
-    assert!(rt; missing == Some(FromValueError::NotAValue));
-    let list = read(
-        alloc,
-        r#"{"last-pruned-at":{"secs":5,"nanos":0,"offset":0},"format-version":3}"#,
-    )?;
-    let bytes = write_text(alloc, &list)?;
-    let want = r#"{"format-version":3,"last-pruned-at":{"nanos":0,"offset":0,"secs":5},"runs":[]}"#;
-    assert!(rt; bytes.as_slice() == want.as_bytes());
     Ok(())
 }
 
@@ -55,13 +51,20 @@ fn written_older_list() -> &'static str {
 }
 
 #[test]
-fn older_lists(rt: HostRuntime) -> Result<(), Fail> {
-    let alloc = rt.alloc();
-    let list = read(alloc, older_list())?;
-    assert!(rt; list.write_permission() == RunsJsonWritePermission::Allowed);
-    let bytes = write_text(alloc, &list)?;
-    assert!(rt; bytes.as_slice() == written_older_list().as_bytes());
-    Ok(())
+fn lists(rt: HostRuntime) {
+    for (text, want) in [
+        (r#"{"runs":[]}"#, "refused"),
+        (
+            r#"{"last-pruned-at":{"secs":5,"nanos":0,"offset":0},"format-version":3}"#,
+            r#"{"format-version":3,"last-pruned-at":{"nanos":0,"offset":0,"secs":5},"runs":[]}"#,
+        ),
+        (older_list(), written_older_list()),
+    ] {
+        assert!(rt;
+            is_rewritten::<RecordedRunList>(rt.alloc(), text, want),
+            "{text}"
+        );
+    }
 }
 
 #[derive(Drop)]
@@ -97,26 +100,49 @@ fn run_id(alloc: Global, text: &str) -> Result<ReportUuid, FromValueError> {
     read_text(alloc, text.as_bytes())
 }
 
-// The prefix of the second id in an index of the first two, and what follows it.
-fn cut(alloc: Global, first: &str, second: &str, other: &str) -> Result<String, Fail> {
-    let ids = [run_id(alloc, first)?, run_id(alloc, second)?];
-    let index = RunIdIndex::new(alloc, &ids)?;
-    match index.shortest_unique_prefix(alloc, run_id(alloc, other)?)? {
-        Some(cut) => Ok(format!(in alloc; "{} {}", cut.prefix, cut.rest)?),
-        None => Ok(String::from_str(alloc, "none")?),
+// The prefix of an id in an index of two, and what follows it.
+fn cut(alloc: Global, ids: &[ReportUuid], id: ReportUuid) -> Result<String, AllocError> {
+    let index = RunIdIndex::new(alloc, ids)?;
+    let cut = index.shortest_unique_prefix(alloc, id);
+    drop(index);
+    match cut? {
+        Some(cut) => format!(in alloc; "{} {}", cut.prefix, cut.rest),
+        None => String::from_str(alloc, "none"),
     }
 }
 
+// In an index of each two ids the third is cut as stands beside them.
+fn check_cuts(
+    rt: &impl Abort,
+    alloc: Global,
+    rows: &[(&str, &str, &str, &str)],
+) -> Result<(), Fail> {
+    for (first, second, id, want) in rows {
+        let ids = [run_id(alloc, first)?, run_id(alloc, second)?];
+        let got = cut(alloc, &ids, run_id(alloc, id)?)?;
+        assert!(rt; got.as_str() == *want, "{id}");
+    }
+    Ok(())
+}
+
+const FIRST: &str = r#""550e8400-e29b-41d4-a716-446655440000""#;
+
+const SECOND: &str = r#""550e7400-e29b-41d4-a716-446655440000""#;
+
 #[test]
 fn prefixes(rt: HostRuntime) -> Result<(), Fail> {
-    let alloc = rt.alloc();
-    let first = r#""550e8400-e29b-41d4-a716-446655440000""#;
-    let second = r#""550e7400-e29b-41d4-a716-446655440000""#;
-    let near = cut(alloc, first, second, first)?;
-    assert!(rt; near.as_str() == "550e8 400-e29b-41d4-a716-446655440000");
-    let alone = cut(alloc, first, first, first)?;
-    assert!(rt; alone.as_str() == "5 50e8400-e29b-41d4-a716-446655440000");
-    let missing = cut(alloc, first, first, second)?;
-    assert!(rt; missing.as_str() == "none");
-    Ok(())
+    check_cuts(
+        &rt,
+        rt.alloc(),
+        &[
+            (
+                FIRST,
+                SECOND,
+                FIRST,
+                "550e8 400-e29b-41d4-a716-446655440000",
+            ),
+            (FIRST, FIRST, FIRST, "5 50e8400-e29b-41d4-a716-446655440000"),
+            (FIRST, FIRST, SECOND, "none"),
+        ],
+    )
 }

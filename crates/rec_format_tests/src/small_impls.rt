@@ -9,71 +9,76 @@ use rec_format::{
     RunsJsonWritePermission, StoreFormatMajorVersion, StoreFormatMinorVersion, StoreFormatVersion,
     StoreVersionIncompatibility, TooOldRecordingGuidance,
 };
-use rec_forms::read_text;
-use std::alloc::Global;
+use rec_forms::{FromValueError, read_text};
+use std::alloc::{AllocError, Global};
 use std::fmt::{Debug, Display};
-use std::test::Fail;
 
-// Two version numbers as they are printed, and whether the second is the greater one.
-fn order<V: Copy + Clone + PartialEq + Eq + PartialOrd + Ord + Display + Debug>(
+// Whether two version numbers are printed as 2 and 10, and the second is the greater one.
+fn rises<V: Copy + Clone + PartialEq + Eq + PartialOrd + Ord + Display + Debug>(
     alloc: Global,
-    less: V,
-    greater: V,
-) -> Result<String, Fail> {
-    let copy = less;
-    let rises = less < greater && greater > less && less == copy && less != greater;
-    Ok(format!(in alloc; "{less} {greater} {rises}")?)
+    two: V,
+    ten: V,
+) -> bool {
+    let copy = two;
+    let text = format!(in alloc; "{two} {ten}");
+    let is_printed = matches!(&text, Ok(text) if text.as_str() == "2 10");
+    is_printed && two < ten && ten > two && two == copy && two != ten
 }
 
 #[test]
-fn version_numbers(rt: HostRuntime) -> Result<(), Fail> {
+fn version_numbers(rt: HostRuntime) {
     let alloc = rt.alloc();
-    let (two, ten) = (
-        StoreFormatMajorVersion::new(2),
-        StoreFormatMajorVersion::new(10),
-    );
-    assert!(rt; order(alloc, two, ten)?.as_str() == "2 10 true");
-    let (two, ten) = (
-        StoreFormatMinorVersion::new(2),
-        StoreFormatMinorVersion::new(10),
-    );
-    assert!(rt; order(alloc, two, ten)?.as_str() == "2 10 true");
-    let (two, ten) = (
-        PortableRecordingFormatMajorVersion::new(2),
-        PortableRecordingFormatMajorVersion::new(10),
-    );
-    assert!(rt; order(alloc, two, ten)?.as_str() == "2 10 true");
-    let (two, ten) = (
-        PortableRecordingFormatMinorVersion::new(2),
-        PortableRecordingFormatMinorVersion::new(10),
-    );
-    assert!(rt; order(alloc, two, ten)?.as_str() == "2 10 true");
-    let (two, ten) = (
-        RunsJsonFormatVersion::new(2),
-        RunsJsonFormatVersion::new(10),
-    );
-    assert!(rt; order(alloc, two, ten)?.as_str() == "2 10 true");
-    Ok(())
+    for rises in [
+        rises(
+            alloc,
+            StoreFormatMajorVersion::new(2),
+            StoreFormatMajorVersion::new(10),
+        ),
+        rises(
+            alloc,
+            StoreFormatMinorVersion::new(2),
+            StoreFormatMinorVersion::new(10),
+        ),
+        rises(
+            alloc,
+            PortableRecordingFormatMajorVersion::new(2),
+            PortableRecordingFormatMajorVersion::new(10),
+        ),
+        rises(
+            alloc,
+            PortableRecordingFormatMinorVersion::new(2),
+            PortableRecordingFormatMinorVersion::new(10),
+        ),
+        rises(
+            alloc,
+            RunsJsonFormatVersion::new(2),
+            RunsJsonFormatVersion::new(10),
+        ),
+    ] {
+        assert!(rt; rises);
+    }
 }
 
 #[test]
 fn defaults(rt: HostRuntime) {
-    assert!(rt; StoreFormatMinorVersion::default() == StoreFormatMinorVersion::new(0));
-    let minor = PortableRecordingFormatMinorVersion::default();
-    assert!(rt; minor == PortableRecordingFormatMinorVersion::new(0));
-    let nothing = ComponentSizesFormat {
+    let store_minor = StoreFormatMinorVersion::new(0);
+    let minor = PortableRecordingFormatMinorVersion::new(0);
+    let log = ComponentSizesFormat {
         compressed: 0,
         uncompressed: 0,
         entries: 0,
     };
-    assert!(rt; ComponentSizesFormat::default() == nothing);
-    assert!(rt; ComponentSizesFormat::from(ComponentSizes::default()) == nothing);
-    let sizes = RecordedSizesFormat {
-        log: nothing,
-        store: nothing,
-    };
-    assert!(rt; RecordedSizesFormat::default() == sizes);
-    assert!(rt; RecordedSizesFormat::from(RecordedSizes::default()) == sizes);
+    let sizes = RecordedSizesFormat { log, store: log };
+    for is_default in [
+        StoreFormatMinorVersion::default() == store_minor,
+        PortableRecordingFormatMinorVersion::default() == minor,
+        ComponentSizesFormat::default() == log,
+        ComponentSizesFormat::from(ComponentSizes::default()) == log,
+        RecordedSizesFormat::default() == sizes,
+        RecordedSizesFormat::from(RecordedSizes::default()) == sizes,
+    ] {
+        assert!(rt; is_default);
+    }
 }
 
 // Whether a value is its own copy, and differs from another one.
@@ -133,37 +138,40 @@ fn denied(version: u32) -> RunsJsonWritePermission {
 
 #[test]
 fn copies(rt: HostRuntime) {
-    assert!(rt; differ(store_version(3, 0), store_version(3, 1)));
-    assert!(rt; differ(portable_version(1, 1), portable_version(2, 1)));
-    assert!(rt; differ(release(130), release(149)));
-    assert!(rt; differ(discard(130), discard(149)));
-    assert!(rt; differ(discard(130), TooOldRecordingGuidance::Unknown));
-    assert!(rt; differ(store_minor(1), store_minor(2)));
-    assert!(rt; differ(portable_minor(1), portable_minor(2)));
-    assert!(rt; differ(denied(4), denied(5)));
-    assert!(rt; differ(denied(4), RunsJsonWritePermission::Allowed));
-    assert!(rt; differ(BuildKind::Cargo, BuildKind::Reused));
-    assert!(rt; differ(OutputDict::None, OutputDict::Stdout));
-    assert!(rt; differ(OutputDict::Stdout, OutputDict::Stderr));
+    for differs in [
+        differ(store_version(3, 0), store_version(3, 1)),
+        differ(portable_version(1, 1), portable_version(2, 1)),
+        differ(release(130), release(149)),
+        differ(discard(130), discard(149)),
+        differ(discard(130), TooOldRecordingGuidance::Unknown),
+        differ(store_minor(1), store_minor(2)),
+        differ(portable_minor(1), portable_minor(2)),
+        differ(denied(4), denied(5)),
+        differ(denied(4), RunsJsonWritePermission::Allowed),
+        differ(BuildKind::Cargo, BuildKind::Reused),
+        differ(OutputDict::None, OutputDict::Stdout),
+        differ(OutputDict::Stdout, OutputDict::Stderr),
+    ] {
+        assert!(rt; differs);
+    }
 }
 
-// Whether two values are equal.
-fn are_equal<T: PartialEq + Eq + Debug>(value: &T, other: &T) -> bool {
-    value == other
+// Whether two values were made, and are equal.
+fn are_equal<T: PartialEq + Eq + Debug + Drop, E: Drop>(
+    value: Result<T, E>,
+    other: Result<T, E>,
+) -> Option<bool> {
+    match (&value, &other) {
+        (Ok(value), Ok(other)) => Some(value == other),
+        _ => None,
+    }
 }
 
-fn scope(alloc: Global, text: &str) -> Result<RecordedBuildScope, Fail> {
-    Ok(read_text(alloc, text.as_bytes())?)
+fn scope(alloc: Global, text: &str) -> Result<RecordedBuildScope, FromValueError> {
+    read_text(alloc, text.as_bytes())
 }
 
-// Whether the scopes of two texts are equal.
-fn scopes_are_equal(alloc: Global, text: &str, other: &str) -> Result<bool, Fail> {
-    let value = scope(alloc, text)?;
-    let other = scope(alloc, other)?;
-    Ok(are_equal(&value, &other))
-}
-
-fn suite(alloc: Global, binary_id: &str) -> Result<RerunTestSuiteInfo, Fail> {
+fn suite(alloc: Global, binary_id: &str) -> Result<RerunTestSuiteInfo, AllocError> {
     Ok(RerunTestSuiteInfo {
         binary_id: RustBinaryId::new(String::from_str(alloc, binary_id)?),
         passing: TestNames::empty(alloc),
@@ -171,23 +179,15 @@ fn suite(alloc: Global, binary_id: &str) -> Result<RerunTestSuiteInfo, Fail> {
     })
 }
 
-// Whether the suites of two binaries, without tests, are equal.
-fn suites_are_equal(alloc: Global, binary_id: &str, other: &str) -> Result<bool, Fail> {
-    let value = suite(alloc, binary_id)?;
-    let other = suite(alloc, other)?;
-    Ok(are_equal(&value, &other))
-}
-
 const CARGO: &str = r#"{"build-kind":"cargo","scope":{}}"#;
 
 const REUSED: &str = r#"{"build-kind":"reused","scope":{}}"#;
 
 #[test]
-fn equal_scopes_and_suites(rt: HostRuntime) -> Result<(), Fail> {
+fn equal_scopes_and_suites(rt: HostRuntime) {
     let alloc = rt.alloc();
-    assert!(rt; scopes_are_equal(alloc, CARGO, CARGO)?);
-    assert!(rt; !scopes_are_equal(alloc, CARGO, REUSED)?);
-    assert!(rt; suites_are_equal(alloc, "a", "a")?);
-    assert!(rt; !suites_are_equal(alloc, "a", "b")?);
-    Ok(())
+    assert!(rt; are_equal(scope(alloc, CARGO), scope(alloc, CARGO)) == Some(true));
+    assert!(rt; are_equal(scope(alloc, CARGO), scope(alloc, REUSED)) == Some(false));
+    assert!(rt; are_equal(suite(alloc, "a"), suite(alloc, "a")) == Some(true));
+    assert!(rt; are_equal(suite(alloc, "a"), suite(alloc, "b")) == Some(false));
 }

@@ -2,10 +2,4 @@
 #![tactic(auto)]
 
 #[cfg(test)]
-mod outputs;
-#[cfg(test)]
-mod results;
-#[cfg(test)]
-mod run_ends;
-#[cfg(test)]
-mod values;
+mod forms;

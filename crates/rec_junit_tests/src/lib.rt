@@ -1,9 +1,7 @@
-//! The tests of `rec_junit`.
+//! The tests of `rec_junit` for which no case of the built program can stand; those are in `tools/cases`.
 #![tactic(auto)]
 
 #[cfg(test)]
 mod made;
 #[cfg(test)]
-mod suites;
-#[cfg(test)]
-mod test_ends;
+mod reports;

@@ -1,20 +1,17 @@
-//! Events of a run, made of short texts, and what a report says of them.
+//! Events of a run, made of short texts.
 
 use rec_events::{
     ChildExecutionOutputDescription, ChildOutputDescription, ChildSingleOutput, Duration,
     ExecuteStatus, ExecutionResultDescription, ExecutionStatuses, FailureDescription, FlakyResult,
-    Items, JunitFlakyFailStatus, LiveSpec, NextestRunMode, NonEmpty, OwnedTestInstanceId,
-    ReportUuid, RetryData, RunFinishedStats, RunStats, RustBinaryId, Stamp, TestCaseName,
-    TestEvent, TestEventKind, TestOutputDisplay, Text,
+    Items, JunitFlakyFailStatus, LiveSpec, NonEmpty, OwnedTestInstanceId, ReportUuid, RetryData,
+    RunFinishedStats, RunStats, RustBinaryId, ScriptId, SetupScriptExecuteStatus, Stamp,
+    TestCaseName, TestEvent, TestEventKind, TestOutputDisplay, Text, TextMap,
 };
-use rec_junit::{ErrorDescriber, JunitBuilder, JunitError, report_to_value};
-use serde_json::Value;
 use std::alloc::{AllocError, Global};
-use std::test::Fail;
 use uuid::Uuid;
 
-/// A second after the beginning of 1970.
-pub(crate) fn instant(secs: i64) -> Stamp {
+/// Seconds after the beginning of 1970.
+fn instant(secs: i64) -> Stamp {
     Stamp {
         secs,
         nanos: 0,
@@ -23,12 +20,12 @@ pub(crate) fn instant(secs: i64) -> Stamp {
 }
 
 /// Some seconds.
-pub(crate) fn seconds(secs: u64) -> Duration {
+fn seconds(secs: u64) -> Duration {
     Duration { secs, nanos: 0 }
 }
 
 /// An event of this kind, at second 1000.
-pub(crate) fn event(kind: TestEventKind<'_>) -> TestEvent<'_> {
+fn event(kind: TestEventKind<'_>) -> TestEvent<'_> {
     TestEvent {
         timestamp: instant(1000),
         elapsed: seconds(0),
@@ -36,16 +33,16 @@ pub(crate) fn event(kind: TestEventKind<'_>) -> TestEvent<'_> {
     }
 }
 
-/// A test of a binary.
-fn test(alloc: Global, binary: &str, name: &str) -> Result<OwnedTestInstanceId, AllocError> {
+/// A test of the binary `b`.
+pub(crate) fn test(alloc: Global, name: &str) -> Result<OwnedTestInstanceId, AllocError> {
     Ok(OwnedTestInstanceId {
-        binary_id: RustBinaryId::new(String::from_str(alloc, binary)?),
+        binary_id: RustBinaryId::new(String::from_str(alloc, "b")?),
         test_name: TestCaseName::new(String::from_str(alloc, name)?),
     })
 }
 
 /// How an attempt ended: `p` passed, `c` failed with exit code 101; any other could not be started.
-pub(crate) fn ending(letter: u8) -> ExecutionResultDescription {
+fn ending(letter: u8) -> ExecutionResultDescription {
     match letter {
         b'p' => ExecutionResultDescription::Pass,
         b'c' => ExecutionResultDescription::Fail {
@@ -57,7 +54,7 @@ pub(crate) fn ending(letter: u8) -> ExecutionResultDescription {
 }
 
 /// What came of a process: `s` wrote to both streams, `!` could not be started; any other was not loaded.
-pub(crate) fn output(
+fn output(
     alloc: Global,
     letter: u8,
 ) -> Result<ChildExecutionOutputDescription<LiveSpec>, AllocError> {
@@ -138,7 +135,7 @@ fn attempts(
 
 /// The end of a test whose attempts ended and wrote so. `f` in the flags says that it counts as failed
 /// where it is flaky, `+` and `-` that outputs of successes and of failures are stored.
-fn finished<'a>(
+pub(crate) fn finished<'a>(
     alloc: Global,
     test: &'a OwnedTestInstanceId,
     ended: &str,
@@ -165,8 +162,75 @@ fn finished<'a>(
     }))
 }
 
+/// The first byte of a text.
+fn letter(text: &str) -> u8 {
+    match text.as_bytes().first() {
+        Some(letter) => *letter,
+        None => b' ',
+    }
+}
+
+/// A run of a script that ended and wrote so.
+fn ran(
+    alloc: Global,
+    ended: &str,
+    wrote: &str,
+) -> Result<SetupScriptExecuteStatus<LiveSpec>, AllocError> {
+    let env_map = Some(variables(alloc)?);
+    Ok(SetupScriptExecuteStatus {
+        output: output(alloc, letter(wrote))?,
+        result: ending(letter(ended)),
+        start_time: instant(3),
+        time_taken: seconds(4),
+        is_slow: false,
+        env_map,
+        error_summary: None,
+    })
+}
+
+/// The end of a script that ended and wrote so, with the same flags.
+pub(crate) fn script(
+    alloc: Global,
+    ended: &str,
+    wrote: &str,
+    flags: &str,
+) -> Result<TestEvent<'static>, AllocError> {
+    let script_id = ScriptId::new(String::from_str(alloc, "db")?);
+    let program = Text::from_str(alloc, "./prepare db")?;
+    let args = args(alloc)?;
+    let run_status = ran(alloc, ended, wrote)?;
+    Ok(event(TestEventKind::SetupScriptFinished {
+        stress_index: None,
+        index: 0,
+        total: 1,
+        script_id,
+        program,
+        args,
+        no_capture: false,
+        junit_store_success_output: flags.contains('+'),
+        junit_store_failure_output: flags.contains('-'),
+        run_status,
+    }))
+}
+
+fn args(alloc: Global) -> Result<Items<Text>, AllocError> {
+    let mut args = Vec::new(alloc);
+    args.push(Text::from_str(alloc, "a b")?)?;
+    args.push(Text::from_str(alloc, "c")?)?;
+    Ok(Items::new(args))
+}
+
+fn variables(alloc: Global) -> Result<TextMap<Text>, AllocError> {
+    let mut variables = TextMap::empty(alloc);
+    let url = Text::from_str(alloc, "db://")?;
+    variables.insert(Text::from_str(alloc, "URL")?, url)?;
+    let port = Text::from_str(alloc, "1")?;
+    variables.insert(Text::from_str(alloc, "PORT")?, port)?;
+    Ok(variables)
+}
+
 /// The end of the run, which began at second 7 and took 9 seconds.
-fn run_end() -> TestEvent<'static> {
+pub(crate) fn run_end() -> TestEvent<'static> {
     event(TestEventKind::RunFinished {
         run_id: ReportUuid::new(Uuid::nil()),
         start_time: instant(7),
@@ -174,96 +238,4 @@ fn run_end() -> TestEvent<'static> {
         run_stats: RunFinishedStats::Single(RunStats::zero()),
         outstanding_not_seen: None,
     })
-}
-
-/// The name of a refusal.
-fn name_of(error: JunitError) -> &'static str {
-    match error {
-        JunitError::NotLoadedOutput => "NotLoadedOutput",
-        JunitError::SuccessAsFailure => "SuccessAsFailure",
-        JunitError::OutOfMemory => "OutOfMemory",
-    }
-}
-
-/// Writes an event, and answers the name of its refusal, or `accepted`, or `report`.
-pub(crate) fn written<D: ErrorDescriber>(
-    builder: &mut JunitBuilder<'_, D>,
-    event: &TestEvent<'_>,
-) -> &'static str {
-    match builder.write_event(event) {
-        Ok(Some(report)) => {
-            drop(report);
-            "report"
-        }
-        Ok(None) => "accepted",
-        Err(error) => name_of(error),
-    }
-}
-
-/// Ends a test whose attempts ended and wrote so, and answers what came of it.
-pub(crate) fn write_test<D: ErrorDescriber>(
-    alloc: Global,
-    builder: &mut JunitBuilder<'_, D>,
-    names: (&str, &str),
-    attempts: (&str, &str, &str),
-) -> Result<&'static str, AllocError> {
-    let test = test(alloc, names.0, names.1)?;
-    let event = finished(alloc, &test, attempts.0, attempts.1, attempts.2)?;
-    let answer = written(builder, &event);
-    drop(event);
-    Ok(answer)
-}
-
-/// Ends the run, and answers the value of its report.
-fn ended<D: ErrorDescriber>(
-    alloc: Global,
-    builder: &mut JunitBuilder<'_, D>,
-) -> Result<Value, Fail> {
-    let end = run_end();
-    let answer = builder.write_event(&end);
-    drop(end);
-    match answer {
-        Ok(Some(report)) => {
-            let value = report_to_value(alloc, &report);
-            drop(report);
-            Ok(value?)
-        }
-        Ok(None) => Ok(Value::Null),
-        Err(error) => Err(error.into()),
-    }
-}
-
-/// Ends the run after an event of which this came, and answers the text at a path of the report, empty
-/// where there is none; or what came of the event where it was not accepted.
-pub(crate) fn said<D: ErrorDescriber>(
-    alloc: Global,
-    builder: &mut JunitBuilder<'_, D>,
-    answer: &str,
-    path: &str,
-) -> Result<String, Fail> {
-    if answer != "accepted" {
-        return Ok(String::from_str(alloc, answer)?);
-    }
-    let report = ended(alloc, builder)?;
-    let text = text_at(alloc, &report, path);
-    drop(report);
-    Ok(text?)
-}
-
-/// Makes a builder whose reports are named `run`.
-pub(crate) fn builder<'d, D: ErrorDescriber>(
-    alloc: Global,
-    mode: NextestRunMode,
-    describer: &'d D,
-) -> Result<JunitBuilder<'d, D>, AllocError> {
-    let name = String::from_str(alloc, "run")?;
-    Ok(JunitBuilder::new(alloc, mode, name, describer))
-}
-
-/// The text of the value at a path, empty where there is none.
-fn text_at(alloc: Global, value: &Value, path: &str) -> Result<String, AllocError> {
-    match value.pointer(path) {
-        Some(value) => value.to_string(alloc),
-        None => Ok(String::new(alloc)),
-    }
 }

@@ -1,39 +1,55 @@
-//! The bytes of bundles.
+//! Makes bundles.
 
-use crate::texts::manifest;
-use rec_format::PortableManifest;
-use rec_forms::read_text;
-use rec_portable::bundle_text;
-use std::alloc::Global;
+use crate::texts::{after_versions, before_versions};
+use rec_container::{ContainerWriter, GrowingSink};
+use std::alloc::{AllocError, Global};
 use std::test::Fail;
 
-// The bundle that has this log and this store.
-fn bundled(alloc: Global, log: &[u8], store: &[u8]) -> Result<Vec<u8>, Fail> {
-    let manifest: PortableManifest = read_text(alloc, manifest().as_bytes())?;
-    Ok(bundle_text(alloc, &manifest, log, store)?)
+/// A bundle by its manifest, its other entries and its store.
+#[derive(Clone, Copy)]
+pub(crate) struct Bundle<'b> {
+    /// The version of its format, or nothing where it has no manifest.
+    pub(crate) format: &'b str,
+    /// The words and the variables of the run.
+    pub(crate) words: &'b str,
+    /// The version of the store.
+    pub(crate) store_version: &'b str,
+    /// The entries behind the manifest.
+    pub(crate) entries: &'b [(&'b str, &'b str)],
+    /// The entries of the store, which stand in the place of its content, or none.
+    pub(crate) store: &'b [(&'b str, &'b str)],
 }
 
-// The bytes before the manifest, whose length is 458.
-fn before_manifest() -> &'static [u8] {
-    b"nxtcont1\x01\x00\x0dmanifest.json\x00\x00\x00\x00\x00\x00\x01\xca"
+/// The bytes of a bundle.
+pub(crate) fn bytes_of(alloc: Global, bundle: &Bundle<'_>) -> Result<Vec<u8>, Fail> {
+    let manifest = manifest(alloc, bundle)?;
+    let store = store(alloc, bundle.store)?;
+    let mut writer = ContainerWriter::new(alloc, GrowingSink::new(alloc));
+    if !bundle.format.is_empty() {
+        writer.add("manifest.json", manifest.as_bytes())?;
+    }
+    for (name, content) in bundle.entries {
+        let is_store = *name == "store.zip" && !bundle.store.is_empty();
+        writer.add(name, if is_store { &store } else { content.as_bytes() })?;
+    }
+    Ok(writer.finish().sink.into_bytes())
 }
 
-// The bytes after it, where the log is `lo` and the store empty.
-fn after_manifest() -> &'static [u8] {
-    b"\x01\x00\x0brun.log.zst\x00\x00\x00\x00\x00\x00\x00\x02lo\x01\x00\x09store.zip\x00\x00\x00\x00\x00\x00\x00\x00\x00"
+fn manifest(alloc: Global, bundle: &Bundle<'_>) -> Result<String, AllocError> {
+    let mut text = String::from_str(alloc, "{\"format-version\":")?;
+    text.push_str(bundle.format)?;
+    text.push_str(",\"run\":{")?;
+    text.push_str(bundle.words)?;
+    text.push_str(before_versions())?;
+    text.push_str(bundle.store_version)?;
+    text.push_str(after_versions())?;
+    Ok(text)
 }
 
-// The bytes of the bundle of these contents.
-fn wanted(alloc: Global) -> Result<Vec<u8>, Fail> {
-    let mut bytes = before_manifest().to_vec(alloc)?;
-    bytes.extend_from_slice(manifest().as_bytes())?;
-    bytes.extend_from_slice(after_manifest())?;
-    Ok(bytes)
-}
-
-#[test]
-fn a_bundle_holds_manifest_log_and_store(rt: HostRuntime) -> Result<(), Fail> {
-    let alloc = rt.alloc();
-    assert!(rt; bundled(alloc, b"lo", b"")? == wanted(alloc)?);
-    Ok(())
+fn store(alloc: Global, entries: &[(&str, &str)]) -> Result<Vec<u8>, Fail> {
+    let mut writer = ContainerWriter::new(alloc, GrowingSink::new(alloc));
+    for (name, content) in entries {
+        writer.add(name, content.as_bytes())?;
+    }
+    Ok(writer.finish().sink.into_bytes())
 }

@@ -2,10 +2,8 @@
 #![tactic(auto)]
 
 #[cfg(test)]
-mod bundles;
-#[cfg(test)]
-mod faults;
-#[cfg(test)]
-mod helpers;
+mod directories;
 #[cfg(test)]
 mod real_files;
+#[cfg(test)]
+mod writing;

@@ -1,101 +1,87 @@
-//! The export of a session by a caller of its own: other namers, and counts.
+//! The export of a session by a caller of its own: a namer that doesn't tell outputs apart, and counts.
 
-use crate::running::line_of;
-use crate::texts::{abc, finished, hello, of_other_test, session_of, test_started};
-use rec_container::{MemorySink, SliceSource};
-use rec_events::Text;
-use rec_program::{RecordExportError, Refusal, Settings, record_and_export};
-use rec_store::{ConstantNamer, OutputNamer, Sha256Namer};
+use crate::lines::shown;
+use crate::running::{Sinks, sound_sinks};
+use crate::texts::{session_of, test_lines};
+use rec_container::SliceSource;
+use rec_program::{RecordExportError, Settings, record_and_export};
+use rec_store::ConstantNamer;
 use std::alloc::{AllocError, Global};
+use std::process::Abort;
 use std::test::Fail;
 
-/// What comes of a session, and whether both sinks took nothing.
-fn exported<N: OutputNamer>(alloc: Global, namer: &N, session: &str) -> Result<String, AllocError> {
+/// Exports a session whose outputs have one name, and returns how many events and outputs were counted.
+fn counts(
+    alloc: Global,
+    session: &str,
+    sinks: &mut Sinks,
+) -> Result<(u64, u64), RecordExportError> {
     let settings = Settings::default();
+    let namer = ConstantNamer { number: 0 };
     let mut source = SliceSource::new(session.as_bytes());
-    let mut bundle = room(alloc)?;
-    let mut trace = room(alloc)?;
-    let result = record_and_export(
+    let exported = record_and_export(
         alloc,
         &settings,
-        namer,
+        &namer,
         &mut source,
-        &mut bundle,
-        &mut trace,
-    );
-    let text = match result {
-        Ok(exported) => {
-            let events = exported.events;
-            let outputs = exported.outputs;
-            format!(in alloc; "{events} events, {outputs} outputs")
+        &mut sinks.bundle,
+        &mut sinks.out,
+    )?;
+    Ok((exported.events, exported.outputs))
+}
+
+/// The counts, or the status and the line of the refusal.
+fn answer(alloc: Global, session: &str, sinks: &mut Sinks) -> Result<String, AllocError> {
+    match counts(alloc, session, sinks) {
+        Ok((events, outputs)) => format!(in alloc; "{events} events, {outputs} outputs"),
+        Err(error) => {
+            let text = shown(alloc, &error);
+            drop(error);
+            text
         }
-        Err(fault) => line_of(alloc, &fault),
-    };
-    let text = text?;
-    let text = text.as_str();
-    let bundle = bundle.bytes().is_empty();
-    let trace = trace.bytes().is_empty();
-    format!(in alloc; "{text} {bundle} {trace}")
+    }
 }
 
-/// A sink with room.
-fn room(alloc: Global) -> Result<MemorySink, AllocError> {
-    let mut sink = MemorySink::new(alloc);
-    sink.reserve(16384)?;
-    Ok(sink)
+/// The same, and whether both sinks took nothing.
+fn exported(alloc: Global, session: &str) -> Result<String, AllocError> {
+    let mut sinks = sound_sinks(alloc)?;
+    let answer = answer(alloc, session, &mut sinks)?;
+    let answer = answer.as_str();
+    let bundle = sinks.bundle.bytes().is_empty();
+    let trace = sinks.out.bytes().is_empty();
+    format!(in alloc; "{answer} {bundle} {trace}")
 }
 
-/// The session of two tests, one after the other, with these outputs.
-fn session_of_two(alloc: Global, first: &str, second: &str) -> Result<String, AllocError> {
-    let ended = finished(alloc, first)?;
-    let other_started = of_other_test(alloc, test_started())?;
-    let second = finished(alloc, second)?;
-    let other_ended = of_other_test(alloc, second.as_str())?;
-    session_of(
-        alloc,
-        &[
-            test_started(),
-            ended.as_str(),
-            other_started.as_str(),
-            other_ended.as_str(),
-        ],
-    )
+/// What comes of two tests, one after the other, with these outputs.
+fn exported_outputs(alloc: Global, first: &str, second: &str) -> Result<String, AllocError> {
+    let first = test_lines(alloc, "\"t1\"", first)?;
+    let second = test_lines(alloc, "\"t2\"", second)?;
+    let lines = format!(in alloc; "{first}\n{second}")?;
+    let session = session_of(alloc, lines.as_str())?;
+    exported(alloc, session.as_str())
 }
 
-/// What comes of two tests with these outputs.
-fn exported_outputs<N: OutputNamer>(
-    alloc: Global,
-    namer: &N,
-    first: &str,
-    second: &str,
-) -> Result<String, AllocError> {
-    let session = session_of_two(alloc, first, second)?;
-    exported(alloc, namer, session.as_str())
+/// Asserts what comes of two tests of which the first wrote `abc`, and the second this.
+fn check(rt: &impl Abort, alloc: Global, second: &str, expected: &str) -> Result<(), Fail> {
+    let got = exported_outputs(alloc, abc(), second)?;
+    assert!(rt; got.as_str() == expected, "{got}");
+    Ok(())
 }
 
-fn clash() -> &'static str {
-    "NameCollision file_name=out/0000000000000000-stdout\n true true"
+/// `abc` on standard output, and nothing on standard error.
+fn abc() -> &'static str {
+    r#"{"split":{"stdout":"616263","stderr":""}}"#
 }
 
-/// The status of a clash.
-fn clash_status(alloc: Global) -> Result<u8, AllocError> {
-    let file_name = Text::from_str(alloc, "out/0000000000000000-stdout")?;
-    let error = RecordExportError::NameCollision { file_name };
-    let status = error.status();
-    drop(error);
-    Ok(status)
+/// `hello` on standard output.
+fn hello() -> &'static str {
+    r#"{"split":{"stdout":"68656c6c6f"}}"#
 }
 
 #[test]
 fn outputs_clash(rt: HostRuntime) -> Result<(), Fail> {
     let alloc = rt.alloc();
-    let zero = ConstantNamer { number: 0 };
-    let got = exported_outputs(alloc, &zero, abc(), hello())?;
-    assert!(rt; got.as_str() == clash(), "{got}");
-    let got = exported_outputs(alloc, &zero, abc(), abc())?;
-    assert!(rt; got.as_str() == "4 events, 1 outputs false false", "{got}");
-    let got = exported_outputs(alloc, &Sha256Namer, abc(), hello())?;
-    assert!(rt; got.as_str() == "4 events, 2 outputs false false", "{got}");
-    assert_eq!(rt; clash_status(alloc)?, 6);
-    Ok(())
+    let clash = "6 NameCollision file_name=out/0000000000000000-stdout\n true true";
+    check(&rt, alloc, hello(), clash)?;
+    check(&rt, alloc, abc(), "4 events, 1 outputs false false")
 }

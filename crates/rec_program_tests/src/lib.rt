@@ -1,4 +1,4 @@
-//! The tests of `rec_program`.
+//! The tests of `rec_program` for which no case of the built program can stand; those are in `tools/cases`.
 #![tactic(auto)]
 
 #[cfg(test)]
@@ -10,12 +10,6 @@ mod faults;
 #[cfg(test)]
 mod lines;
 #[cfg(test)]
-mod part_lines;
-#[cfg(test)]
 mod running;
-#[cfg(test)]
-mod samples;
-#[cfg(test)]
-mod sessions;
 #[cfg(test)]
 mod texts;

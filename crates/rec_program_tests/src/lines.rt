@@ -1,126 +1,185 @@
 //! The lines and the messages of faults that no input of the program brings about.
 
-use crate::running::line_of;
 use rec_codec::LineError;
+use rec_container::{ContainerError, GrowingSink};
 use rec_events::Text;
 use rec_junit::JunitError;
 use rec_portable::PortableRecordingReadError;
-use rec_program::{ReadingError, RecordExportError, Refusal};
+use rec_program::{ReadingError, RecordExportError, Refusal, write_fault};
+use rec_replay::ReplayConversionError;
+use rec_store::RecordReadError;
 use std::alloc::{AllocError, Global};
+use std::process::Abort;
 use std::test::Fail;
+use std::{fmt, str};
 
-/// A refusal of a session, by the number of its line.
-fn refusal(number: u64) -> RecordExportError {
-    match number {
-        0 => RecordExportError::CountOutOfRange { event: None },
-        1 => RecordExportError::CountOutOfRange {
-            event: Some(u64::MAX),
-        },
-        2 => RecordExportError::CountOutOfRange { event: Some(4) },
-        3 => RecordExportError::MissingStressSubRunStart { event: 5 },
-        _ => RecordExportError::OutOfMemory,
-    }
+/// The line of a fault.
+fn line_of<F: Refusal>(alloc: Global, fault: &F) -> Result<String, AllocError> {
+    let mut sink = GrowingSink::new(alloc);
+    write_fault(fault, &mut sink);
+    let line = String::from_str(alloc, str::from_utf8(sink.bytes()).unwrap_or("no text"));
+    drop(sink);
+    line
 }
 
-/// Its message, as a person sees it and as a developer does.
-fn message(alloc: Global, number: u64) -> Result<String, AllocError> {
-    let error = refusal(number);
-    format!(in alloc; "{error}, {error:?}")
-}
-
-/// Its line and its messages.
-fn refusal_shown(alloc: Global, number: u64) -> Result<String, AllocError> {
-    let line = line_of(alloc, &refusal(number))?;
-    let message = message(alloc, number)?;
-    format!(in alloc; "{line}{message}")
-}
-
-/// The line and the messages of each.
-fn refusals() -> [&'static str; 5] {
-    [
-        "CountOutOfRange event=None\na size or a number of entries is out of range, a size or a number of entries is out of range",
-        "CountOutOfRange event=18446744073709551615\na number of event 18446744073709551615 is out of range, a number of event 18446744073709551615 is out of range",
-        "CountOutOfRange event=4\na number of event 4 is out of range, a number of event 4 is out of range",
-        "MissingStressSubRunStart event=5\nevent 5 ends a sub-run, and none is running, event 5 ends a sub-run, and none is running",
-        "OutOfMemory\nout of memory, out of memory",
-    ]
-}
-
-#[test]
-fn refusals_of_sessions_are_shown(rt: HostRuntime) -> Result<(), Fail> {
-    let texts = refusals();
-    for i in 0..texts.len() {
-        let expected = texts[i];
-        let got = refusal_shown(rt.alloc(), i as u64)?;
-        assert!(rt; got.as_str() == expected, "{got}");
-    }
-    Ok(())
-}
-
-/// Why a command prints nothing of a bundle, by the number of its line.
-fn reading(alloc: Global, number: u64) -> Result<ReadingError, AllocError> {
-    Ok(match number {
-        0 => ReadingError::Bundle(PortableRecordingReadError::ExtractFile {
-            file_name: Text::from_str(alloc, "store.zip")?,
-        }),
-        1 => ReadingError::Line(LineError::OutOfMemory),
-        2 => ReadingError::Report(JunitError::NotLoadedOutput),
-        3 => ReadingError::Report(JunitError::OutOfMemory),
-        _ => ReadingError::OutOfMemory,
-    })
-}
-
-/// The status and the line.
-pub(crate) fn shown(alloc: Global, error: &ReadingError) -> Result<String, AllocError> {
+/// The status and the line of a refusal.
+pub(crate) fn shown<F: Refusal>(alloc: Global, error: &F) -> Result<String, AllocError> {
     let status = error.status();
     let line = line_of(alloc, error)?;
     format!(in alloc; "{status} {line}")
 }
 
-/// The status and the line of the error with a number.
-fn reading_shown(alloc: Global, number: u64) -> Result<String, AllocError> {
-    let error = reading(alloc, number)?;
-    let text = shown(alloc, &error);
+/// Asserts the status and the line of a refusal.
+fn check<F: Refusal + Drop>(
+    rt: &impl Abort,
+    alloc: Global,
+    error: F,
+    expected: &str,
+) -> Result<(), Fail> {
+    let got = shown(alloc, &error);
     drop(error);
-    text
+    let got = got?;
+    assert!(rt; got.as_str() == expected, "{got}");
+    Ok(())
 }
 
-/// The status and the line of each.
-fn readings() -> [&'static str; 5] {
-    [
-        "11 ExtractFile file_name=store.zip\n",
-        "70 OutOfMemory\n",
-        "13 NotLoadedOutput\n",
-        "70 OutOfMemory\n",
-        "70 OutOfMemory\n",
-    ]
+/// What an error prints, for its reader and for a developer.
+fn message<F: fmt::Display + fmt::Debug>(alloc: Global, error: &F) -> Result<String, AllocError> {
+    format!(in alloc; "{error}, {error:?}")
+}
+
+/// Asserts the status, the line and the message of a refusal.
+fn check_message<F: Refusal + fmt::Display + fmt::Debug + Drop>(
+    rt: &impl Abort,
+    alloc: Global,
+    error: F,
+    line: &str,
+    expected: &str,
+) -> Result<(), Fail> {
+    let got = message(alloc, &error);
+    check(rt, alloc, error, line)?;
+    let got = got?;
+    let expected = format!(in alloc; "{expected}, {expected}")?;
+    assert!(rt; got.as_str() == expected.as_str(), "{got}");
+    Ok(())
+}
+
+#[test]
+fn refusals_of_sessions_are_shown(rt: HostRuntime) -> Result<(), Fail> {
+    let alloc = rt.alloc();
+    let error = RecordExportError::CountOutOfRange { event: None };
+    let message = "a size or a number of entries is out of range";
+    check_message(&rt, alloc, error, "9 CountOutOfRange event=None\n", message)?;
+    let error = RecordExportError::CountOutOfRange {
+        event: Some(u64::MAX),
+    };
+    let line = "9 CountOutOfRange event=18446744073709551615\n";
+    let message = "a number of event 18446744073709551615 is out of range";
+    check_message(&rt, alloc, error, line, message)?;
+    let error = RecordExportError::CountOutOfRange { event: Some(4) };
+    let message = "a number of event 4 is out of range";
+    check_message(&rt, alloc, error, "9 CountOutOfRange event=4\n", message)?;
+    let error = RecordExportError::MissingStressSubRunStart { event: 5 };
+    let line = "8 MissingStressSubRunStart event=5\n";
+    let message = "event 5 ends a sub-run, and none is running";
+    check_message(&rt, alloc, error, line, message)?;
+    let error = RecordExportError::OutOfMemory;
+    check_message(&rt, alloc, error, "70 OutOfMemory\n", "out of memory")
 }
 
 #[test]
 fn refusals_of_bundles_are_shown(rt: HostRuntime) -> Result<(), Fail> {
-    let texts = readings();
-    for i in 0..texts.len() {
-        let expected = texts[i];
-        let got = reading_shown(rt.alloc(), i as u64)?;
-        assert!(rt; got.as_str() == expected, "{got}");
-    }
-    Ok(())
-}
-
-/// How want of memory is printed.
-fn want_of_memory(alloc: Global) -> Result<String, AllocError> {
-    let error = ReadingError::OutOfMemory;
-    let text = format!(in alloc; "{error}, {error:?}");
-    drop(error);
-    text
+    let alloc = rt.alloc();
+    let error = PortableRecordingReadError::ExtractFile {
+        file_name: Text::from_str(alloc, "store.zip")?,
+    };
+    let error = ReadingError::Bundle(error);
+    check(&rt, alloc, error, "11 ExtractFile file_name=store.zip\n")?;
+    let error = ReadingError::Line(LineError::OutOfMemory);
+    check(&rt, alloc, error, "70 OutOfMemory\n")?;
+    let error = ReadingError::Report(JunitError::NotLoadedOutput);
+    check(&rt, alloc, error, "13 NotLoadedOutput\n")?;
+    let error = ReadingError::Report(JunitError::OutOfMemory);
+    check(&rt, alloc, error, "70 OutOfMemory\n")
 }
 
 #[test]
 fn want_of_memory_is_shown(rt: HostRuntime) -> Result<(), Fail> {
     let alloc = rt.alloc();
+    let error = ReadingError::OutOfMemory;
+    check_message(&rt, alloc, error, "70 OutOfMemory\n", "out of memory")?;
     let line = line_of(alloc, &AllocError)?;
     assert!(rt; line.as_str() == "AllocError\n");
-    let text = want_of_memory(alloc)?;
-    assert!(rt; text.as_str() == "out of memory, out of memory");
+    Ok(())
+}
+
+/// Why a part of a store at a path isn't read.
+fn part_at_path(number: usize, path: Text) -> RecordReadError {
+    match number {
+        0 => RecordReadError::RunNotFound { path },
+        1 => RecordReadError::OpenArchive { path },
+        2 => RecordReadError::ParseArchive {
+            path,
+            fault: ContainerError::BadTag { at: 8 },
+        },
+        3 => RecordReadError::ParseArchive {
+            path,
+            fault: ContainerError::BadMagic,
+        },
+        4 => RecordReadError::OpenRunLog { path },
+        5 => RecordReadError::DiskFault { path },
+        _ => RecordReadError::ExtractFile { store_path: path },
+    }
+}
+
+/// Why a part of a store isn't read, by the number of its line.
+fn part(number: usize, file_name: Text) -> RecordReadError {
+    if number < 7 {
+        return part_at_path(number, file_name);
+    }
+    match number {
+        7 => RecordReadError::NotUtf8 { file_name },
+        8 => RecordReadError::DeserializeMetadata { file_name },
+        9 => RecordReadError::UnknownOutputType { file_name },
+        10 => RecordReadError::ReadRunLog { line_number: 3 },
+        _ => RecordReadError::ParseEvent { line_number: 3 },
+    }
+}
+
+/// Asserts what is shown of a part of a store, and of one that is an output of an event.
+fn check_part(rt: &impl Abort, alloc: Global, number: usize, line: &str) -> Result<(), Fail> {
+    let expected = format!(in alloc; "12 {line}\n")?;
+    let error = ReadingError::Part(part(number, Text::from_str(alloc, "a/b")?));
+    check(rt, alloc, error, expected.as_str())?;
+    let expected = format!(in alloc; "13 RecordRead {line}\n")?;
+    let part = part(number, Text::from_str(alloc, "a/b")?);
+    let error = ReadingError::Conversion(ReplayConversionError::RecordRead(part));
+    check(rt, alloc, error, expected.as_str())
+}
+
+/// The line of each reason, by its number.
+fn part_lines() -> &'static str {
+    "\
+RunNotFound path=a/b
+OpenArchive path=a/b
+ParseArchive path=a/b fault=BadTag at=8
+ParseArchive path=a/b fault=BadMagic
+OpenRunLog path=a/b
+DiskFault path=a/b
+ExtractFile store_path=a/b
+NotUtf8 file_name=a/b
+DeserializeMetadata file_name=a/b
+UnknownOutputType file_name=a/b
+ReadRunLog line_number=3
+ParseEvent line_number=3
+"
+}
+
+#[test]
+fn parts_and_outputs_that_are_not_read_are_shown(rt: HostRuntime) -> Result<(), Fail> {
+    let alloc = rt.alloc();
+    for (number, line) in part_lines().lines().enumerate() {
+        check_part(&rt, alloc, number, line)?;
+    }
     Ok(())
 }

@@ -1,143 +1,148 @@
-//! Runs the program, and shows what it did as texts.
+//! Runs the program over streams that fail, and shows what it did as a text.
 
-use rec_container::{FailingSink, MemorySink, Source};
-use rec_program::{Refusal, run_program, write_fault};
+use rec_container::{FailingSink, FailingSource};
+use rec_program::run_program;
 use std::alloc::{AllocError, Global};
 use std::str;
 
-/// How the sinks of a run take their bytes.
+/// A stream of a run.
 #[derive(Clone, Copy)]
-pub(crate) struct Faults {
-    /// The most bytes of a call, 0 for no bound.
-    pub(crate) piece: usize,
-    /// Which call of the bundle's sink fails, from 1, or none.
-    pub(crate) bundle: u64,
-    /// Which call of standard output fails.
-    pub(crate) out: u64,
-    /// Which call of `diag` fails.
-    pub(crate) diag: u64,
+pub(crate) enum Stream {
+    Source,
+    Bundle,
+    Out,
+    Diag,
+}
+
+/// Which call of each stream fails, from 1; none where it is 0.
+#[derive(Clone, Copy)]
+struct Faults {
+    read: u64,
+    bundle: u64,
+    out: u64,
+    diag: u64,
 }
 
 /// No call fails.
-pub(crate) const SOUND: Faults = Faults {
-    piece: 0,
+const SOUND: Faults = Faults {
+    read: 0,
     bundle: 0,
     out: 0,
     diag: 0,
 };
 
-/// What a run ended with, and what its sinks took.
+/// One call of a stream fails.
+fn one_fault(stream: Stream, call: u64) -> Faults {
+    match stream {
+        Stream::Source => Faults {
+            read: call,
+            ..SOUND
+        },
+        Stream::Bundle => Faults {
+            bundle: call,
+            ..SOUND
+        },
+        Stream::Out => Faults { out: call, ..SOUND },
+        Stream::Diag => Faults {
+            diag: call,
+            ..SOUND
+        },
+    }
+}
+
+/// What the sinks of a run took.
 #[derive(Drop)]
-pub(crate) struct Ran {
-    pub(crate) status: u8,
-    pub(crate) bundle: Vec<u8>,
-    pub(crate) out: Vec<u8>,
-    pub(crate) diag: Vec<u8>,
+pub(crate) struct Sinks {
+    pub(crate) bundle: FailingSink,
+    pub(crate) out: FailingSink,
+    diag: FailingSink,
 }
 
-impl Ran {
-    /// The line on `diag`.
-    pub(crate) fn line(&self) -> &str {
-        str::from_utf8(&self.diag).unwrap_or("no text")
-    }
-
-    /// The text on standard output.
-    pub(crate) fn printed(&self) -> &str {
-        str::from_utf8(&self.out).unwrap_or("no text")
-    }
-
-    /// The status, which sinks took something, and the line.
-    pub(crate) fn outcome(&self, alloc: Global) -> Result<String, AllocError> {
-        let status = self.status;
-        let bundle = if self.bundle.is_empty() {
-            ""
-        } else {
-            " bundle"
-        };
-        let out = if self.out.is_empty() { "" } else { " out" };
-        let line = self.line();
-        format!(in alloc; "{status}{bundle}{out} {line}")
-    }
-
-    /// The status, how many bytes the bundle and standard output took, and the line.
-    pub(crate) fn outcome_and_lengths(&self, alloc: Global) -> Result<String, AllocError> {
-        let status = self.status;
-        let bundle = self.bundle.len();
-        let out = self.out.len();
-        let line = self.line();
-        format!(in alloc; "{status} {bundle} {out} {line}")
+/// A sink with room, which takes at most `piece` bytes a call, and of which a call fails.
+fn sink(alloc: Global, piece: usize, fail_at: u64) -> Result<FailingSink, AllocError> {
+    let mut sink = FailingSink::new(alloc, piece, vec![in alloc; fail_at]?);
+    if sink.reserve(65536).is_ok() {
+        Ok(sink)
+    } else {
+        drop(sink);
+        Err(AllocError)
     }
 }
 
-fn words_of(alloc: Global, texts: &[&str]) -> Result<Vec<String>, AllocError> {
+/// The sinks of a run.
+fn failing_sinks(alloc: Global, piece: usize, faults: Faults) -> Result<Sinks, AllocError> {
+    let bundle = sink(alloc, piece, faults.bundle)?;
+    let out = sink(alloc, piece, faults.out)?;
+    let diag = sink(alloc, piece, faults.diag)?;
+    Ok(Sinks { bundle, out, diag })
+}
+
+/// Sinks of which no call fails.
+pub(crate) fn sound_sinks(alloc: Global) -> Result<Sinks, AllocError> {
+    failing_sinks(alloc, 0, SOUND)
+}
+
+/// The words of a text, with a blank between each two.
+pub(crate) fn words_in(alloc: Global, text: &str) -> Result<Vec<String>, AllocError> {
     let mut words = Vec::new(alloc);
-    for text in texts {
-        words.push(String::from_str(alloc, text)?)?;
+    for word in text.split(' ') {
+        words.push(String::from_str(alloc, word)?)?;
     }
     Ok(words)
 }
 
-/// Runs the program.
-pub(crate) fn run<S: Source>(
-    alloc: Global,
-    words: &[&str],
-    source: &mut S,
-    faults: Faults,
-) -> Result<Ran, AllocError> {
-    run_words(alloc, &words_of(alloc, words)?, source, faults)
-}
-
-fn run_words<S: Source>(
+/// Runs the program over these bytes in such pieces, of which a read fails, and returns the status.
+fn run(
     alloc: Global,
     words: &[String],
-    source: &mut S,
-    faults: Faults,
-) -> Result<Ran, AllocError> {
-    let mut bundle = sink(alloc, faults.piece, faults.bundle)?;
-    let mut out = sink(alloc, faults.piece, faults.out)?;
-    let mut diag = sink(alloc, faults.piece, faults.diag)?;
-    let status = run_program(alloc, words, source, &mut bundle, &mut out, &mut diag);
-    all_taken(alloc, status, &bundle, &out, &diag)
+    bytes: &[u8],
+    piece: usize,
+    failed_read: u64,
+    sinks: &mut Sinks,
+) -> u8 {
+    let fail_at = [failed_read];
+    let mut source = FailingSource::new(bytes, piece, &fail_at);
+    run_program(
+        alloc,
+        words,
+        &mut source,
+        &mut sinks.bundle,
+        &mut sinks.out,
+        &mut sinks.diag,
+    )
 }
 
-/// A sink with room, of which a call fails.
-fn sink(alloc: Global, piece: usize, fail_at: u64) -> Result<FailingSink, AllocError> {
-    let mut sink = FailingSink::new(alloc, piece, vec![in alloc; fail_at]?);
-    sink.reserve(65536)?;
-    Ok(sink)
+/// The status, how many bytes the bundle and standard output took, and the line. Each took the first bytes of those
+/// that it takes where no call fails.
+fn shown(alloc: Global, status: u8, sinks: &Sinks, sound: &Sinks) -> Result<String, AllocError> {
+    let bundle = sinks.bundle.bytes();
+    let out = sinks.out.bytes();
+    let is_front = sound.bundle.bytes().starts_with(bundle) && sound.out.bytes().starts_with(out);
+    let others = if is_front { "" } else { " of others" };
+    let bundle = bundle.len();
+    let out = out.len();
+    let line = str::from_utf8(sinks.diag.bytes()).unwrap_or("no text");
+    format!(in alloc; "{status} {bundle} {out}{others} {line}")
 }
 
-fn all_taken(
+/// What comes of the words of a text over these bytes, where a call of a stream takes at most `piece` bytes and the call
+/// of this number fails.
+pub(crate) fn outcome(
     alloc: Global,
-    status: u8,
-    bundle: &FailingSink,
-    out: &FailingSink,
-    diag: &FailingSink,
-) -> Result<Ran, AllocError> {
-    let bundle = bundle.bytes().to_vec(alloc)?;
-    let out = out.bytes().to_vec(alloc)?;
-    let diag = diag.bytes().to_vec(alloc)?;
-    Ok(Ran {
-        status,
-        bundle,
-        out,
-        diag,
-    })
-}
-
-/// What comes of these words over a source.
-pub(crate) fn outcome<S: Source>(
-    alloc: Global,
-    words: &[&str],
-    source: &mut S,
+    text: &str,
+    bytes: &[u8],
+    piece: usize,
+    stream: Stream,
+    call: u64,
 ) -> Result<String, AllocError> {
-    run(alloc, words, source, SOUND)?.outcome(alloc)
-}
-
-/// The line of a fault.
-pub(crate) fn line_of<F: Refusal>(alloc: Global, fault: &F) -> Result<String, AllocError> {
-    let mut sink = MemorySink::new(alloc);
-    sink.reserve(256)?;
-    write_fault(fault, &mut sink);
-    String::from_str(alloc, str::from_utf8(sink.bytes()).unwrap_or("no text"))
+    let words = words_in(alloc, text)?;
+    let faults = one_fault(stream, call);
+    let mut sound = sound_sinks(alloc)?;
+    let mut failing = failing_sinks(alloc, piece, faults)?;
+    run(alloc, &words, bytes, 0, 0, &mut sound);
+    let status = run(alloc, &words, bytes, piece, faults.read, &mut failing);
+    let outcome = shown(alloc, status, &failing, &sound);
+    drop(failing);
+    drop(sound);
+    outcome
 }

@@ -27,36 +27,47 @@ fn second() -> &'static str {
     "550e7400-e29b-41d4-a716-446655440000"
 }
 
-/// The header of a run of the id `first`.
-fn header(alloc: Global, index: Option<&RunIdIndex>) -> Result<ReplayHeader, Fail> {
-    let info = run(alloc)?;
+/// When a run of the id `first` started, and the prefix that its header has, with what follows it.
+fn header(alloc: Global, index: Option<&RunIdIndex>) -> Result<String, Fail> {
     let run_id = ReportUuid::new(Uuid::parse_str(first())?);
+    let info = run(alloc)?;
     let header = ReplayHeader::new(alloc, run_id, &info, index);
     drop(info);
-    Ok(header?)
+    let header = header?;
+    let text = shown(alloc, &header);
+    drop(header);
+    Ok(text?)
 }
 
-/// The prefix that a header has, and what follows it.
-fn prefix(alloc: Global, header: &ReplayHeader) -> Result<String, AllocError> {
+fn shown(alloc: Global, header: &ReplayHeader) -> Result<String, AllocError> {
+    let started = header.started_at.secs;
     match &header.unique_prefix {
-        Some(cut) => format!(in alloc; "{} {}", cut.prefix, cut.rest),
-        None => String::from_str(alloc, "none"),
+        Some(cut) => format!(in alloc; "{started} {} {}", cut.prefix, cut.rest),
+        None => format!(in alloc; "{started}"),
     }
+}
+
+/// An index of two runs.
+fn index(alloc: Global) -> Result<RunIdIndex, Fail> {
+    let ids = [
+        ReportUuid::new(Uuid::parse_str(first())?),
+        ReportUuid::new(Uuid::parse_str(second())?),
+    ];
+    Ok(RunIdIndex::new(alloc, &ids)?)
 }
 
 #[test]
 fn prefixes(rt: HostRuntime) -> Result<(), Fail> {
     let alloc = rt.alloc();
-    let ids = [
-        ReportUuid::new(Uuid::parse_str(first())?),
-        ReportUuid::new(Uuid::parse_str(second())?),
-    ];
-    let index = RunIdIndex::new(alloc, &ids)?;
-    let of_two = header(alloc, Some(&index))?;
-    let of_two = prefix(alloc, &of_two)?;
-    assert!(rt; of_two.as_str() == "550e8 400-e29b-41d4-a716-446655440000");
     let unknown = header(alloc, None)?;
-    assert!(rt; unknown.started_at.secs == 1000);
-    assert!(rt; prefix(alloc, &unknown)?.as_str() == "none");
+    assert!(rt; unknown.as_str() == "1000", "{unknown}");
+    let index = index(alloc)?;
+    let of_two = header(alloc, Some(&index));
+    drop(index);
+    let of_two = of_two?;
+    assert!(rt;
+        of_two.as_str() == "1000 550e8 400-e29b-41d4-a716-446655440000",
+        "{of_two}"
+    );
     Ok(())
 }

@@ -1,12 +1,10 @@
-//! The tests of `rec_replay`.
+//! The tests of `rec_replay` for which no case of the built program can stand; those are in `tools/cases`.
 #![tactic(auto)]
 
 #[cfg(test)]
 mod contexts;
 #[cfg(test)]
 mod headers;
-#[cfg(test)]
-mod lines;
 #[cfg(test)]
 mod refusals;
 #[cfg(test)]

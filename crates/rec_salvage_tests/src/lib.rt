@@ -4,12 +4,8 @@
 #[cfg(test)]
 mod directories;
 #[cfg(test)]
-mod helpers;
-#[cfg(test)]
-mod logs;
+mod made;
 #[cfg(test)]
 mod stops;
-#[cfg(test)]
-mod stores;
 #[cfg(test)]
 mod texts;

@@ -10,19 +10,9 @@ pub(crate) fn scope() -> &'static str {
     r#"{"build-kind":"cargo","scope":{"features":{"all-features":false,"features":[],"no-default-features":false},"packages":{"exclude":[],"specs":[],"workspace":false},"targets":{"all-targets":false,"benches":{"all":false,"names":[]},"bins":{"all":false,"names":[]},"examples":{"all":false,"names":[]},"lib":false,"tests":{"all":false,"names":[]}}}}"#
 }
 
-/// A rerun of the run.
-pub(crate) fn rerun() -> &'static str {
-    r#"{"parent-run-id":"550e8400-e29b-41d4-a716-446655440000","root-info":{"build-scope":{"build-kind":"cargo","scope":{"features":{"all-features":false,"features":[],"no-default-features":false},"packages":{"exclude":[],"specs":[],"workspace":false},"targets":{"all-targets":false,"benches":{"all":false,"names":[]},"bins":{"all":false,"names":[]},"examples":{"all":false,"names":[]},"lib":false,"tests":{"all":false,"names":[]}}}},"run-id":"550e8400-e29b-41d4-a716-446655440000"},"test-suites":[]}"#
-}
-
 /// The line of a run that is paused.
 pub(crate) fn paused() -> &'static str {
     r#"{"elapsed":{"nanos":0,"secs":2},"kind":"run-paused","running":1,"setup-scripts-running":0,"timestamp":{"nanos":0,"offset":0,"secs":1002}}"#
-}
-
-/// The line of a script that finished, whose output is `abc`.
-pub(crate) fn script() -> &'static str {
-    r#"{"args":["up"],"elapsed":{"nanos":0,"secs":0},"index":0,"kind":"setup-script-finished","no-capture":false,"program":"./db.sh","run-status":{"env-map":{"DB_URL":"db:1"},"is-slow":false,"output":{"output":{"output":{"split":{"stdout":{"full":"ba7816bf8f01cfea-stdout"}}}}},"result":"pass","start-time":{"nanos":0,"offset":0,"secs":1000},"time-taken":{"nanos":0,"secs":1}},"script-id":"db","timestamp":{"nanos":0,"offset":0,"secs":1000},"total":1}"#
 }
 
 /// The events of a session with a pause and a retry, in which `abc` and then `hello` are the outputs: they are stored

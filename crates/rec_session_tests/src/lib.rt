@@ -2,22 +2,12 @@
 #![tactic(auto)]
 
 #[cfg(test)]
-mod finalizing;
-#[cfg(test)]
-mod keepers;
+mod keeper;
 #[cfg(test)]
 mod made;
 #[cfg(test)]
-mod record_reporters;
+mod reporters;
 #[cfg(test)]
-mod reports;
+mod sessions;
 #[cfg(test)]
-mod runs;
-#[cfg(test)]
-mod setting_up;
-#[cfg(test)]
-mod statuses;
-#[cfg(test)]
-mod structured_reporters;
-#[cfg(test)]
-mod watched;
+mod told;

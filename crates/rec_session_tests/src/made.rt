@@ -1,28 +1,16 @@
-//! What the tests set sessions up with.
+//! What the tests set sessions up with, and end them with.
 
-use crate::watched::WatchedKeeper;
-use rec_container::MemorySink;
+use rec_container::FailingSink;
 use rec_events::{
     Duration, FinalRunStats, Items, ReportUuid, RunFinishedStats, RunStats, Stamp,
     StressIndexSummary, StressRunStats, TextMap, Version,
 };
 use rec_format::{ComponentSizes, RecordedBuildScope, RerunInfo, STORE_FORMAT_VERSION};
 use rec_forms::read_text;
-use rec_session::{
-    MemoryKeeper, RecordRetentionPolicy, RecordSession, RecordSessionConfig, RunFinishedInfo,
-};
-use rec_store::{ConstantNamer, StoreSizes};
-use std::alloc::Global;
+use rec_session::{RecordSessionConfig, RunFinishedInfo};
+use rec_store::StoreSizes;
+use std::alloc::{AllocError, Global};
 use std::test::Fail;
-use uuid::Uuid;
-
-pub(crate) fn first() -> &'static str {
-    "550e8400-e29b-41d4-a716-446655440000"
-}
-
-pub(crate) fn second() -> &'static str {
-    "550e8abc-e29b-41d4-a716-446655440000"
-}
 
 fn scope_text() -> &'static str {
     r#"{"build-kind":"cargo","scope":{}}"#
@@ -32,10 +20,6 @@ fn rerun_text() -> &'static str {
     r#"{"parent-run-id":"650e8400-e29b-41d4-a716-446655440000","root-info":{"build-scope":{"build-kind":"cargo","scope":{}},"run-id":"750e8400-e29b-41d4-a716-446655440000"},"test-suites":[]}"#
 }
 
-pub(crate) fn id(text: &str) -> Result<ReportUuid, Fail> {
-    Ok(ReportUuid::new(Uuid::parse_str(text)?))
-}
-
 fn rerun(alloc: Global, is_rerun: bool) -> Result<Option<RerunInfo>, Fail> {
     if !is_rerun {
         return Ok(None);
@@ -43,85 +27,56 @@ fn rerun(alloc: Global, is_rerun: bool) -> Result<Option<RerunInfo>, Fail> {
     Ok(Some(read_text(alloc, rerun_text().as_bytes())?))
 }
 
-fn scope(alloc: Global) -> Result<RecordedBuildScope, Fail> {
-    Ok(read_text(alloc, scope_text().as_bytes())?)
+fn built(alloc: Global) -> Result<(RecordedBuildScope, Version), Fail> {
+    let version = Version::parse(alloc, "0.9.200")?;
+    Ok((read_text(alloc, scope_text().as_bytes())?, version))
 }
 
-/// A run of this id below `/w`, which may be a rerun.
+/// Makes a run of this id below `/w`, which may be a rerun.
 pub(crate) fn config(
     alloc: Global,
-    run_id: &str,
+    run_id: ReportUuid,
     is_rerun: bool,
 ) -> Result<RecordSessionConfig<'static>, Fail> {
-    let run_id = id(run_id)?;
-    let nextest_version = Version::parse(alloc, "0.9.200")?;
-    let started_at = Stamp::new(1000, 5, 60).ok_or("no stamp")?;
-    // The largest come last, since what is held is a case at each exit.
-    let build_scope = scope(alloc)?;
     let rerun_info = rerun(alloc, is_rerun)?;
-    Ok(RecordSessionConfig {
-        workspace_root: "/w",
-        run_id,
-        store_format_version: STORE_FORMAT_VERSION,
-        nextest_version,
-        started_at,
-        cli_args: Items::empty(alloc),
-        build_scope,
-        env_vars: TextMap::empty(alloc),
-        max_output_size: 1000,
-        rerun_info,
-    })
+    match built(alloc) {
+        Ok((build_scope, nextest_version)) => Ok(RecordSessionConfig {
+            workspace_root: "/w",
+            run_id,
+            store_format_version: STORE_FORMAT_VERSION,
+            nextest_version,
+            started_at: Stamp {
+                secs: 1000,
+                nanos: 5,
+                offset: 60,
+            },
+            cli_args: Items::empty(alloc),
+            build_scope,
+            env_vars: TextMap::empty(alloc),
+            max_output_size: 1000,
+            rerun_info,
+        }),
+        Err(error) => {
+            drop(rerun_info);
+            Err(error)
+        }
+    }
 }
 
-/// A keeper in memory whose calls are written down, and of which these calls fail.
-pub(crate) fn keeper(alloc: Global, fail_at: &[u64]) -> Result<WatchedKeeper, Fail> {
-    Ok(WatchedKeeper {
-        alloc,
-        inner: MemoryKeeper::new(alloc, Vec::from_slice(alloc, fail_at)?),
-        calls: String::new(alloc),
-    })
-}
-
-/// A sink with room for so many bytes.
-pub(crate) fn sink(alloc: Global, room: usize) -> Result<MemorySink, Fail> {
-    let mut sink = MemorySink::new(alloc);
-    sink.reserve(room)?;
+fn sink(alloc: Global, fail_at: u64) -> Result<FailingSink, AllocError> {
+    let mut sink = FailingSink::new(alloc, 0, vec![in alloc; fail_at]?);
+    sink.reserve(4096)?;
     Ok(sink)
 }
 
-/// Sets a session up over sinks in memory with room, and lets its recorder go.
-fn set_up(
+/// Makes sinks with room, of which these writes fail, counted from 1, or none for 0.
+pub(crate) fn sinks(
     alloc: Global,
-    keeper: &mut WatchedKeeper,
-    config: RecordSessionConfig<'_>,
-    store: MemorySink,
-    log: MemorySink,
-) -> Option<RecordSession> {
-    let namer = ConstantNamer { number: 1 };
-    match RecordSession::setup(alloc, config, keeper, store, log, &namer) {
-        Ok(setup) => {
-            drop(setup.recorder);
-            Some(setup.session)
-        }
-        Err(failed) => {
-            drop(failed);
-            None
-        }
-    }
-}
-
-/// The session of this run, whose recorder has room.
-pub(crate) fn session(
-    alloc: Global,
-    keeper: &mut WatchedKeeper,
-    run_id: &str,
-) -> Result<RecordSession, Fail> {
-    let (store, log) = (sink(alloc, 4096)?, sink(alloc, 4096)?);
-    let config = config(alloc, run_id, false)?;
-    match set_up(alloc, keeper, config, store, log) {
-        Some(session) => Ok(session),
-        None => Err("no session".into()),
-    }
+    store_fails: u64,
+    log_fails: u64,
+) -> Result<(FailingSink, FailingSink), AllocError> {
+    let store = sink(alloc, store_fails)?;
+    Ok((store, sink(alloc, log_fails)?))
 }
 
 /// The sizes of a log of 10 bytes and a store of 30 that has 20 bytes of contents.
@@ -140,52 +95,60 @@ pub(crate) fn sizes() -> StoreSizes {
     }
 }
 
-pub(crate) fn policy(max_count: Option<usize>) -> RecordRetentionPolicy {
-    RecordRetentionPolicy { max_count }
+/// Says how a run ended.
+#[derive(Clone, Copy)]
+pub(crate) enum RunEnd {
+    /// No end is known.
+    Unknown,
+    /// Of 5 tests so many ended, 3 passed, so many failed, and so many each could not be started and timed out.
+    Tests {
+        ended: usize,
+        failed: usize,
+        others: usize,
+    },
+    /// 4 rounds of a stress run succeeded, so many failed, and the last one ended so.
+    Rounds {
+        failed: u32,
+        last: FinalRunStats,
+    },
 }
 
-/// A run of 5 tests, of which so many ended, 3 passed and so many failed. It took 7 seconds.
-pub(crate) fn single(finished_count: usize, failed: usize) -> Result<RunFinishedInfo, Fail> {
+/// What a session is given of a run that ended so, after 7 seconds.
+pub(crate) fn run_finished(end: RunEnd) -> Option<RunFinishedInfo> {
+    let stats = match end {
+        RunEnd::Unknown => return None,
+        RunEnd::Tests {
+            ended,
+            failed,
+            others,
+        } => RunFinishedStats::Single(run_stats(ended, failed, others)),
+        RunEnd::Rounds { failed, last } => RunFinishedStats::Stress(stress_stats(failed, last)),
+    };
+    Some(RunFinishedInfo {
+        stats,
+        elapsed: Duration { secs: 7, nanos: 0 },
+    })
+}
+
+fn run_stats(ended: usize, failed: usize, others: usize) -> RunStats {
     let mut stats = RunStats::zero();
     stats.initial_run_count = 5;
-    stats.finished_count = finished_count;
+    stats.finished_count = ended;
     stats.passed = 3;
     stats.failed = failed;
-    stats.exec_failed = 1;
-    stats.failed_timed_out = 1;
-    Ok(RunFinishedInfo {
-        stats: RunFinishedStats::Single(stats),
-        elapsed: Duration::new(7, 0).ok_or("no duration")?,
-    })
+    stats.exec_failed = others;
+    stats.failed_timed_out = others;
+    stats
 }
 
-/// A single run of 5 tests, of which 3 passed, none failed, and so many ended.
-pub(crate) fn unfailed(finished_count: usize) -> Result<RunFinishedInfo, Fail> {
-    let mut stats = RunStats::zero();
-    stats.initial_run_count = 5;
-    stats.finished_count = finished_count;
-    stats.passed = 3;
-    Ok(RunFinishedInfo {
-        stats: RunFinishedStats::Single(stats),
-        elapsed: Duration::new(7, 0).ok_or("no duration")?,
-    })
-}
-
-/// A stress run of 4 rounds that succeeded, so many that failed, and a last one that ended so.
-pub(crate) fn stress(
-    failed_count: u32,
-    last_final_stats: FinalRunStats,
-) -> Result<RunFinishedInfo, Fail> {
-    Ok(RunFinishedInfo {
-        stats: RunFinishedStats::Stress(StressRunStats {
-            completed: StressIndexSummary {
-                current: 0,
-                total: None,
-            },
-            success_count: 4,
-            failed_count,
-            last_final_stats,
-        }),
-        elapsed: Duration::new(7, 0).ok_or("no duration")?,
-    })
+fn stress_stats(failed: u32, last: FinalRunStats) -> StressRunStats {
+    StressRunStats {
+        completed: StressIndexSummary {
+            current: 0,
+            total: None,
+        },
+        success_count: 4,
+        failed_count: failed,
+        last_final_stats: last,
+    }
 }

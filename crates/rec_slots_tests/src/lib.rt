@@ -2,6 +2,4 @@
 #![tactic(auto)]
 
 #[cfg(test)]
-mod logs;
-#[cfg(test)]
-mod usages;
+mod errors;

@@ -1,21 +1,15 @@
-//! The tests of `rec_store`.
+//! The tests of `rec_store`: what no input of the program brings about.
 #![tactic(auto)]
 
 #[cfg(test)]
-mod bundles;
+mod answers;
 #[cfg(test)]
-mod cuts;
+mod errors;
 #[cfg(test)]
-mod events;
-#[cfg(test)]
-mod helpers;
-#[cfg(test)]
-mod metadata;
-#[cfg(test)]
-mod names;
-#[cfg(test)]
-mod parts;
+mod recording;
 #[cfg(test)]
 mod sizes;
 #[cfg(test)]
 mod texts;
+#[cfg(test)]
+mod unloaded;

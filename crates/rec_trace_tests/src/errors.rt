@@ -1,45 +1,43 @@
-//! What errors say, and which ones become others.
+//! What errors and spans say, which errors become others, and settings as values.
 
 use rec_codec::LineError;
 use rec_events::{OwnedTestInstanceId, RustBinaryId, ScriptId, TestCaseName};
-use rec_trace::{ChromeTraceError, SpanKey};
+use rec_trace::{ChromeTraceError, ChromeTraceGroupBy, ChromeTraceMessageFormat, SpanKey};
 use std::alloc::{AllocError, Global};
+use std::fmt;
 use std::process::Abort;
 use std::test::Fail;
 
-// The texts of an error, for its reader and for a developer.
-fn printed(alloc: Global, error: ChromeTraceError) -> Result<String, Fail> {
-    Ok(format!(in alloc; "{error}, {error:?}")?)
-}
-
-// Asserts that an error has this text for both.
+/// Asserts that an error has this text, for its reader and for a developer.
 fn check_message(
     rt: &impl Abort,
     alloc: Global,
     error: ChromeTraceError,
     message: &str,
 ) -> Result<(), Fail> {
-    let got = printed(alloc, error)?;
+    let got = format!(in alloc; "{error}, {error:?}");
+    drop(error);
+    let got = got?;
     let want = format!(in alloc; "{message}, {message}")?;
     assert!(rt; got.as_str() == want.as_str(), "{got}");
     Ok(())
 }
 
-fn binary(alloc: Global) -> Result<RustBinaryId, AllocError> {
-    Ok(RustBinaryId::new(String::from_str(alloc, "alpha::a")?))
-}
-
-fn name(alloc: Global) -> Result<TestCaseName, AllocError> {
-    Ok(TestCaseName::new(String::from_str(alloc, "t1")?))
+fn test(alloc: Global) -> Result<OwnedTestInstanceId, AllocError> {
+    Ok(OwnedTestInstanceId {
+        binary_id: RustBinaryId::new(String::from_str(alloc, "alpha::a")?),
+        test_name: TestCaseName::new(String::from_str(alloc, "t1")?),
+    })
 }
 
 #[test]
 fn errors_of_what_is_not_running(rt: HostRuntime) -> Result<(), Fail> {
     let alloc = rt.alloc();
+    let test = test(alloc)?;
     let error = ChromeTraceError::MissingTestStart {
         event: 1,
-        binary_id: binary(alloc)?,
-        test_name: name(alloc)?,
+        binary_id: test.binary_id,
+        test_name: test.test_name,
     };
     let message = "event 1 is of alpha::a t1, which isn't running";
     check_message(&rt, alloc, error, message)?;
@@ -63,13 +61,9 @@ fn errors_of_what_is_running(rt: HostRuntime) -> Result<(), Fail> {
     };
     let message = "event 2 starts the run, which is running already";
     check_message(&rt, alloc, error, message)?;
-    let test = OwnedTestInstanceId {
-        binary_id: binary(alloc)?,
-        test_name: name(alloc)?,
-    };
     let error = ChromeTraceError::SpanAlreadyOpen {
         event: 2,
-        span: SpanKey::Test(test),
+        span: SpanKey::Test(test(alloc)?),
     };
     let message = "event 2 starts alpha::a t1, which is running already";
     check_message(&rt, alloc, error, message)?;
@@ -85,6 +79,35 @@ fn errors_of_a_line(rt: HostRuntime) -> Result<(), Fail> {
     let message = "the events can't be read: line 1 isn't an event";
     check_message(&rt, alloc, error, message)?;
     let error = ChromeTraceError::from(LineError::OutOfMemory);
-    assert!(rt; error == ChromeTraceError::OutOfMemory);
+    check_message(&rt, alloc, error, "out of memory")
+}
+
+#[test]
+fn spans_without_a_test(rt: HostRuntime) -> Result<(), Fail> {
+    let sub_run = SpanKey::SubRun;
+    let script = SpanKey::Script(3);
+    let texts = format!(in rt.alloc(); "{sub_run}, {script}");
+    drop(script);
+    drop(sub_run);
+    assert!(rt; texts?.as_str() == "the sub-run, setup script 3");
+    Ok(())
+}
+
+/// A copy equals the value, and the value prints for a developer.
+fn is_plain<T: Copy + Clone + PartialEq + Eq + fmt::Debug>(
+    alloc: Global,
+    value: T,
+) -> Result<bool, AllocError> {
+    let copy = value;
+    let text = format!(in alloc; "{copy:?}")?;
+    Ok(copy == value && !text.is_empty())
+}
+
+#[test]
+fn settings_are_plain_values(rt: HostRuntime) -> Result<(), Fail> {
+    let alloc = rt.alloc();
+    assert!(rt; is_plain(alloc, ChromeTraceGroupBy::Binary)?);
+    assert!(rt; is_plain(alloc, ChromeTraceMessageFormat::Json)?);
+    assert!(rt; is_plain(alloc, ChromeTraceMessageFormat::JsonPretty)?);
     Ok(())
 }

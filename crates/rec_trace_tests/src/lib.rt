@@ -4,12 +4,8 @@
 #[cfg(test)]
 mod builder;
 #[cfg(test)]
-mod drawn;
-#[cfg(test)]
 mod errors;
 #[cfg(test)]
-mod lines;
+mod logs;
 #[cfg(test)]
 mod printed_trace;
-#[cfg(test)]
-mod values;
