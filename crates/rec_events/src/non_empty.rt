@@ -2,7 +2,7 @@
 ghost use Rattle.std.proofs.Common.{rules};
 ghost use Rattle.std.specs.Cmp.Lexicographic.{pointwise};
 ghost use Rattle.std.specs.Cmp.Rules.{comparing};
-ghost use Rattle.std.specs.Prelude.{◌≡◌, ◌++◌, ◌<◌, List, [], ◌∷◌, length, nat_lt, if◌then◌else◌, IfOk, Some, None};
+ghost use Rattle.std.specs.Prelude.{◌≡◌, ◌++◌, ◌<◌, ◌-◌, List, [], ◌∷◌, length, slice_get, nat_lt, if◌then◌else◌, IfOk, Some, None};
 
 use crate::{Items, TryClone};
 use std::alloc::{AllocError, Global};
@@ -60,6 +60,29 @@ impl<T> NonEmpty<T> {
         ensures not_empty { 0 < length self.now }
     {
         self.inner.as_slice()
+    }
+
+    /// Returns how many items there are.
+    pub fn len(&self) -> usize
+        ensures { result ≡ length self.now }
+    {
+        self.as_slice().len()
+    }
+
+    /// Returns the item with `i` others before it.
+    pub fn item(&self, i: usize) -> &T
+        requires within { i < length self.now }
+        ensures { slice_get self.now i ≡ Some result.now }
+    {
+        &self.as_slice()[i]
+    }
+
+    /// Returns the last item.
+    pub fn last(&self) -> &T
+        ensures { slice_get self.now (length self.now - 1) ≡ Some result.now }
+    {
+        let all = self.as_slice();
+        &all[all.len() - 1]
     }
 
     /// Returns the first item, and those after it.

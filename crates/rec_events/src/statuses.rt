@@ -89,7 +89,7 @@ impl<S: OutputSpec> ExecutionStatuses<S> {
     pub fn len(&self) -> usize
         ensures { result ≡ length self.now.statuses }
     {
-        self.statuses.as_slice().len()
+        self.statuses.len()
     }
 
     /// Returns the attempt with `i` others before it.
@@ -97,15 +97,14 @@ impl<S: OutputSpec> ExecutionStatuses<S> {
         requires within { i < length self.now.statuses }
         ensures { slice_get self.now.statuses i ≡ Some result.now }
     {
-        &self.statuses.as_slice()[i]
+        self.statuses.item(i)
     }
 
     /// Returns the last attempt.
     pub fn last_status(&self) -> &ExecuteStatus<S>
         ensures { slice_get self.now.statuses (length self.now.statuses - 1) ≡ Some result.now }
     {
-        let all = self.statuses.as_slice();
-        &all[all.len() - 1]
+        self.statuses.last()
     }
 
     /// Returns what the test counts as where it is flaky.
