@@ -1,5 +1,5 @@
 #!/usr/bin/env python3
-"""Runs `rt ci --anew` and measures what each crate costs there, in processor time, wall clock and memory.
+"""Runs `rt ci` from nothing and measures what each crate costs there, in processor time, wall clock and memory.
 
     tools/gate_cost.py                   prints the table
     tools/gate_cost.py --processors 2    the same on so many of the machine's processors
@@ -175,11 +175,17 @@ def children_seconds():
     return used.ru_utime + used.ru_stime
 
 
+def gate_words():
+    """The words that run a gate from nothing: a kit that keeps what passed has a flag for it, and others never keep anything."""
+    told = subprocess.run(["rt", "help"], stdin=subprocess.DEVNULL, stdout=subprocess.PIPE, stderr=subprocess.STDOUT, text=True)
+    return ["rt", "ci", *["--anew"] * ("--anew" in told.stdout)]
+
+
 def run_gate(processors):
     """Runs the gate on so many processors, by which `rt` chooses how much it does at a time."""
     usable = sorted(os.sched_getaffinity(0))[:processors]
     sampler, started, before = Sampler(), time.monotonic(), children_seconds()
-    gate = subprocess.Popen(["taskset", "--cpu-list", ",".join(map(str, usable)), "rt", "ci", "--anew"], cwd=TOP)
+    gate = subprocess.Popen(["taskset", "--cpu-list", ",".join(map(str, usable)), *gate_words()], cwd=TOP)
     while gate.poll() is None:
         sampler.look_below(lambda _: [gate.pid])
         time.sleep(PAUSE)
