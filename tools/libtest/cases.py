@@ -229,11 +229,44 @@ def try_cut(convert, options):
             yield f"a run that is cut, with {more}: {brief(values)}"
 
 
+# A test's end up to its output, and such ends into which something else was written, with what stands in the output then.
+PASSES = '={ "type": "test", "name": "x", "event": "ok", "exec_time": 2.0, "stdout": "a\\n\\"'
+FAILS = PASSES.replace('"ok"', '"failed"')
+TORN = [
+    ([PASSES + "bINFO", '=c\\n" }'], "passed", 'a\n"bINFO\nc\n'),
+    ([FAILS + 'b"INFO"', '=DEBUG {"x"}', '=c\\n" }'], "failed", 'a\n"b"INFO"\nDEBUG {"x"}\nc\n'),
+    ([PASSES + 'b"INFO"c\\u001b" }'], "passed", 'a\n"b"INFO"c\x1b'),
+    ([FAILS.replace("=", "=text ") + "bINFO", '=c", "message": "why" }'], "failed", 'a\n"bINFO\nc'),
+]
+
+
+def try_torn(convert, options):
+    """A test whose end is torn ends as it says there, and has what it printed."""
+    for lines, result_of_it, output in TORN:
+        words = " > ".join([INTEGRATION, "suite 2 > started x", *lines, "=text > started y > ok y > end"])
+        values = convert(stream(words), options(["--no-clock"]), lambda _: None)
+        ended = f"started x 0 > finished x {result_of_it} > started y 0 > finished y passed > 2 of 2"
+        (_, status), _ = finished(values)
+        found = bytes.fromhex(status["output"]["output"]["output"]["combined"]).decode()
+        if brief(values) != ended or found != output:
+            yield f"a torn end {lines}: {brief(values)}, with the output {found!r}"
+    crashed = f"{INTEGRATION} > suite 2 > started x > started y > {PASSES}b > =last words > {CRASHED}"
+    values = convert(stream(crashed), options(["--no-clock"]), lambda _: None)
+    if brief(values) != "started x 0 > started y 1 > finished x passed > finished y abort-11 > 2 of 2":
+        yield f"a binary that crashes while it prints: {brief(values)}"
+    if not any("last words" in error for error in errors_of(finished(values)[1][0])):
+        yield f"a binary that crashes while it prints has {values}"
+    printed = f"{INTEGRATION} > suite 1 > started y > {PASSES}b > ok y > end"
+    if brief(convert(stream(printed), options(["--no-clock"]), lambda _: None)) != "started y 0 > finished y passed > 1 of 1":
+        yield "a torn end of a test that doesn't run is believed"
+
+
 # Lines whose parts come often, on which a search that begins anew at each of them doesn't end.
 LONG_LINES = [
     "=" + "Running " * 50000, "=Running x (/a/" + "b-0123456789abcdef" * 20000 + "!",
     "=" + "Doc-tests " * 50000, '={"type":' * 50000,
     f"{FAILED} > =  process didn't exit successfully: `x` ({'a' * 300000}", "=" + "error: test failed, to rerun pass `" * 20000,
+    '={ "type": "test", ' * 20000, '={ "type": "test", ' + '"name": "x", ' * 30000,
 ]
 
 
@@ -366,7 +399,7 @@ def try_bytes(convert, options):
 def self_test(convert, options):
     """What is wrong with the tool, a line each."""
     tries = (
-        try_cases, try_names, try_cut, try_long_lines, try_texts, try_clock, try_ends, try_interruption, try_random_streams,
-        try_bytes, try_example,
+        try_cases, try_names, try_cut, try_torn, try_long_lines, try_texts, try_clock, try_ends, try_interruption,
+        try_random_streams, try_bytes, try_example,
     )
     return [fault for attempt in tries for fault in attempt(convert, options)]

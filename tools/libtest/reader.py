@@ -4,7 +4,7 @@ import json
 import re
 
 from ansi import without_escapes
-from libtest import cargo, ends, instants, nextest
+from libtest import cargo, ends, instants, nextest, torn
 from libtest.errors import errors_of
 from libtest.runs import (
     FAILED, MOST_SECONDS, SECOND, Attempt, BinaryRun, Mark, TestRun, clean, nanoseconds,
@@ -25,7 +25,7 @@ class Reader:
         self.binaries, self.runs, self.latest, self.prefixes = [], [], {}, {}
         self.line = self.unknown = 0
         self.nextest = self.announces = self.builds = self.is_cut = False
-        self.first = self.broken = None
+        self.first = self.broken = self.torn = None
         self.build_text, self.build_errors, self.other_text = [], [], []
 
     # ---- lines
@@ -49,9 +49,14 @@ class Reader:
             words = line.decode("utf-8", "replace")
             self.note("isn't UTF-8; read with replacement characters")
         if self.take(words):
-            return
-        self.keep(words)
-        self.is_cut = VALUE.match(words.lstrip()) is not None and words[-1] not in "}\n"
+            self.leave_torn()
+        elif not self.take_torn(words):
+            self.keep(words)
+            self.is_cut = VALUE.match(words.lstrip()) is not None and words[-1] not in "}\n"
+            self.hand_on(words)
+
+    def hand_on(self, words):
+        """Says a text that is no event."""
         if words.strip():
             self.unknown += 1
             self.say(words.rstrip("\r\n"))
@@ -227,6 +232,36 @@ class Reader:
             binary.failed_at = binary.ending = None
         return known
 
+    def take_torn(self, words):
+        """Whether the line begins the end of a test that runs, into which something else was written, or goes on with one."""
+        if self.torn is None:
+            return self.begin_torn(words)
+        self.torn.more.append(words)
+        if self.torn.is_whole():
+            value, self.torn = self.torn.value(), None
+            self.binaries[-1].suite.named[clean(value["name"])].attempts[-1].end = None
+            self.take_test(value)
+        return True
+
+    def begin_torn(self, words):
+        """Ends a test by the begin of the line of its end; the output comes with the rest."""
+        binary = self.binaries[-1] if self.binaries else None
+        found = torn.begun(words, binary) if binary and binary.suite else None
+        run = found and binary.suite.named.get(clean(found.head["name"]))
+        if run is None or not run.is_open() or not self.take_test(found.value()):
+            return False
+        self.note(f"the end of {run.name} isn't whole: something else that was printed into it stands in its output")
+        self.keep(words.removesuffix(found.text))
+        self.torn, self.is_cut = None if found.is_whole() else found, words[-1] != "\n"
+        return True
+
+    def leave_torn(self):
+        """Lets what came after the begin of a test's end be text, where its rest never came."""
+        left, self.torn = self.torn, None
+        for words in left.more if left else []:
+            left.binary.text.append(words)
+            self.hand_on(words)
+
     def start_one(self, binary, name):
         """Starts a test of a suite. One that failed when its binary ran before is tried again."""
         run = self.latest.get((binary.id, name))
@@ -351,6 +386,7 @@ class Reader:
         """Takes the end of the input with what cargo answered, if that is known, and says what is missing."""
         self.line += 1
         self.clock.tick()
+        self.leave_torn()
         ends.finish(self, status)
         if not self.nextest:
             instants.put_in_order(self.runs)
