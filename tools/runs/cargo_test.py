@@ -2,6 +2,7 @@
 
 import contextlib
 import os
+import re
 import signal
 import subprocess
 import time
@@ -10,6 +11,9 @@ from libtest.lines import LONGEST_WAIT, Lines
 from runs.fault import Fault
 
 EVENTS = ["-Z", "unstable-options", "--format", "json", "--report-time", "--show-output"]
+# Of the words for the binaries those with which they run no test, and of cargo's one for `--quiet`, perhaps with others.
+WITHOUT_TESTS = ("--list", "--help", "-h")
+QUIET = re.compile(r"--quiet|-[rv]*q.*")
 PAUSE = 0.2
 # How long the processes of a run that was broken off have to end by themselves.
 GRACE = 2
@@ -30,12 +34,24 @@ def cargo_words(words):
     own, of_tests = split(words)
     toolchain = own[:1] if own and own[0].startswith("+") else []
     own = own[len(toolchain):]
-    if has(of_tests, "--format"):
-        raise Fault("--format of the test binaries is what the front end sets: leave it out", 2)
+    refuse(own, of_tests)
     added = [] if has(own, "--no-fail-fast") else ["--no-fail-fast"]
-    added += [] if has(own, "--message-format") else ["--message-format", "json-render-diagnostics"]
+    added += ["--message-format", "json-render-diagnostics"]
     events = [word for word in EVENTS if word not in of_tests or not word.startswith("--")]
     return ["cargo", *toolchain, "test", *added, *own, "--", *events, *of_tests]
+
+
+def refuse(own, of_tests):
+    """Refuses words with which nothing tells which binary runs, why a build fails or how a test ends."""
+    if has(of_tests, "--format"):
+        raise Fault("--format of the test binaries is what the front end sets: leave it out", 2)
+    if has(own, "--message-format"):
+        raise Fault("--message-format is what the front end sets: leave it out", 2)
+    if any(QUIET.fullmatch(word) for word in own):
+        raise Fault("with --quiet cargo doesn't say which test binary runs: leave it out", 2)
+    found = next((word for word in of_tests if word in WITHOUT_TESTS), None)
+    if found:
+        raise Fault(f"with {found} no test runs, so there is nothing to record: hand it to `cargo test` itself", 2)
 
 
 def manifest_of(words):
@@ -74,7 +90,8 @@ class CargoTest(Lines):
         """Starts a run of cargo, whose lines come next."""
         self.until = None
         self.descriptor, writing = os.pipe()
-        environment = {"RUSTC_BOOTSTRAP": "1", **os.environ}
+        # A configuration may let cargo be quiet.
+        environment = {"RUSTC_BOOTSTRAP": "1", **os.environ, "CARGO_TERM_QUIET": "false"}
         try:
             self.process = subprocess.Popen(
                 command, stdin=subprocess.DEVNULL, stdout=writing, stderr=writing, env=environment, process_group=0,

@@ -16,16 +16,24 @@ class Words(unittest.TestCase):
             (["-p", "x", "name"], ["cargo", "test", *SET, "-p", "x", "name", "--", *EVENTS]),
             (["x", "--", "--ignored"], ["cargo", "test", *SET, "x", "--", *EVENTS, "--ignored"]),
             (["--", "--show-output"], ["cargo", "test", *SET, "--", *EVENTS[:-1], "--show-output"]),
-            (["+nightly", "-q"], ["cargo", "+nightly", "test", *SET, "-q", "--", *EVENTS]),
+            (["+nightly", "-v"], ["cargo", "+nightly", "test", *SET, "-v", "--", *EVENTS]),
+            (["x", "--", "-q"], ["cargo", "test", *SET, "x", "--", *EVENTS, "-q"]),
             (["--no-fail-fast"], ["cargo", "test", *SET[1:], "--no-fail-fast", "--", *EVENTS]),
-            (["--message-format=json"], ["cargo", "test", "--no-fail-fast", "--message-format=json", "--", *EVENTS]),
         ]:
             self.assertEqual(cargo_test.cargo_words(words), command)
 
-    def test_the_format_of_the_binaries_is_set(self):
-        for words in (["--", "--format", "pretty"], ["--", "--format=json"]):
+    def test_words_that_hide_what_happens(self):
+        for words in (
+            ["--", "--format", "pretty"], ["--", "--format=json"], ["--message-format=json"], ["--message-format", "short"],
+            ["-q"], ["--quiet"], ["+nightly", "-rq"], ["-qp", "x"],
+        ):
             with self.assertRaisesRegex(Fault, "leave it out"):
                 cargo_test.cargo_words(words)
+
+    def test_words_with_which_no_test_runs(self):
+        for word in ("--list", "--help", "-h"):
+            with self.assertRaisesRegex(Fault, f"with {word} no test runs"):
+                cargo_test.cargo_words(["-p", "x", "--", word])
 
     def test_the_manifest(self):
         for words, path in [

@@ -31,6 +31,8 @@ class RealRuns(unittest.TestCase):
         (cls.folder / "src").mkdir()
         (cls.folder / "src/lib.rs").write_text(SOURCE)
         (cls.folder / "Cargo.toml").write_text(MANIFEST)
+        (cls.folder / ".cargo").mkdir()
+        (cls.folder / ".cargo/config.toml").write_text("[term]\nquiet = true\n")
         left = {name: value for name, value in os.environ.items() if name not in ("RUSTC_BOOTSTRAP", "REZOVAMY_RUNS")}
         cls.environment = {
             **left, "CARGO_NET_OFFLINE": "true", "CARGO_INCREMENTAL": "0", "RUST_BACKTRACE": "0",
@@ -47,6 +49,7 @@ class RealRuns(unittest.TestCase):
         done = self.run_it("test")
         self.assertEqual(done.returncode, 101, done.stderr)
         self.assertIn("2 tests in ", done.stdout)
+        self.assertIn("] tiny fails (exit code 101)", done.stdout)
         self.assertIn("assertion `left == right` failed: one is not two", done.stdout)
         self.assertIn(f"in {self.folder}/target/rezovamy-runs/", done.stdout)
         self.assertIn("    fine\n", self.run_it("show", "passes").stdout)
