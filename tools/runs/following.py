@@ -58,6 +58,8 @@ class Following:
         """The session of the lines that came, of a rerun with its plan. The status is cargo's, None where it isn't known."""
         self.reader.broken = broken
         self.reader.finish(status)
+        if self.reader.first is None and broken:
+            raise Fault("the run was broken off before a test ran, so nothing is recorded", telling.BROKEN[broken])
         if self.reader.first is None:
             raise Fault("no test ran, so nothing is recorded: see what stands above, and what was asked for", status or 1)
         if status == REFUSED and all(run.name == ends.BUILD for run in self.reader.runs):

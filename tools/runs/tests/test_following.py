@@ -85,6 +85,10 @@ class Sessions(unittest.TestCase):
             self.session({"odd": 1}, status=0)
         self.assertEqual(caught.exception.status, 1)
         self.assertEqual(self.said, ['{"odd": 1}'])
+        for reason, status in (("interrupt", 130), ("signal", 143)):
+            with self.assertRaisesRegex(Fault, "broken off before a test ran") as caught:
+                self.session({"odd": 1}, broken=reason)
+            self.assertEqual(caught.exception.status, status)
 
 
 class Shown(unittest.TestCase):
