@@ -132,7 +132,7 @@ CASES = [
     (f"=error[E0425]: no > {NOT_BUILT} > =more", "started (build) 0 > finished (build) failed > 1 of 1", 4),
     ("=error: no such package", "started (build) 0 > finished (build) failed > 1 of 1", 2),
     ("=cargo: not found", "started (run) 0 > finished (run) exit-127 > 1 of 1", 2, "--status", "127"),
-    (f"{OTHER} > =no end| > {INTEGRATION} > suite 0 > end", "started t 0 > finished t passed > 1 of 1", 0),
+    (f"{OTHER} > =no end| > {INTEGRATION} > suite 0 > end", "started t 0 > finished t passed > 1 of 1", 1),
     # What a test prints is believed where it fits; a binary that runs again tries what failed.
     ("suite 1 > ok x 1 > end", "0 of 1", 3),
     (f"{INTEGRATION} > suite 2 > started a > {INNER} > ok a > started d > failed d > end 1",
@@ -156,7 +156,7 @@ CASES = [
     (f"suite 1 > started x > ={' ' * 100000}Running > ok x > end", "started x 0 > finished x passed > 1 of 1", 2),
     (
         'suite 1 > started x > =a text {{"type":"test","event":"ok","name":"x"} > end',
-        "started x 0 > finished x passed > 1 of 1", 0,
+        "started x 0 > finished x passed > 1 of 1", 1,
     ),
     (f"{UNIT} > suite 1 > started x > ok x > end > {INTEGRATION} > suite 1 > started x > failed x > end > "
      f"{DOC} > suite 0 > end > "

@@ -68,7 +68,7 @@ class Reader:
             places = [0] + [place for place in places if words[:place].strip()]
         for place in places:
             if self.take_value(words[place:]):
-                self.keep(words[:place])
+                self.keep_before(words[:place])
                 return True
         return self.take_cargo(words)
 
@@ -77,6 +77,12 @@ class Reader:
         runs = self.binaries and not self.binaries[-1].failed_at
         if words:
             (self.binaries[-1].text if runs else self.other_text).append(words)
+
+    def keep_before(self, text):
+        """Keeps and says a text that has left its line open, so that an event or cargo's words stand behind it."""
+        self.keep(text)
+        if text.strip():
+            self.say(text)
 
     def take_value(self, words):
         try:
@@ -109,7 +115,7 @@ class Reader:
         announced = None if self.nextest else self.targets.announced(words, self.running)
         if announced:
             target, text = announced
-            self.keep(text)
+            self.keep_before(text)
             self.announces = True
             self.begin_binary(target)
             return True
@@ -251,7 +257,7 @@ class Reader:
         if run is None or not run.is_open() or not self.take_test(found.value()):
             return False
         self.note(f"the end of {run.name} isn't whole: something else that was printed into it stands in its output")
-        self.keep(words.removesuffix(found.text))
+        self.keep_before(words.removesuffix(found.text))
         self.torn, self.is_cut = None if found.is_whole() else found, words[-1] != "\n"
         return True
 
