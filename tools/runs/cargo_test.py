@@ -15,8 +15,8 @@ EVENTS = ["-Z", "unstable-options", "--format", "json", "--report-time", "--show
 WITHOUT_TESTS = ("--list", "--help", "-h")
 QUIET = re.compile(r"--quiet|-[rv]*q.*")
 PAUSE = 0.2
-# How long the processes of a run that was broken off have to end by themselves.
-GRACE = 2
+# How long the processes of a run that was broken off have to end by themselves, and how long what cargo left running is heard.
+GRACE, LONGEST_HEARD = 2, 3
 
 
 def split(words):
@@ -113,6 +113,12 @@ class CargoTest(Lines):
         with contextlib.suppress(ProcessLookupError, PermissionError):
             if self.process:
                 os.killpg(self.process.pid, number)
+
+    def is_readable(self):
+        """Waits for what comes. What cargo left running may print without end, and is heard no longer than some seconds."""
+        if self.until is None and self.process.poll() is not None:
+            self.until = time.monotonic() + LONGEST_HEARD
+        return super().is_readable()
 
     def idle(self):
         """Shows how far the run is. Once cargo has ended, what it left running is waited for no longer than a moment."""

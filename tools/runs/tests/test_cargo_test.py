@@ -1,5 +1,7 @@
-"""The words with which cargo is run."""
+"""The words with which cargo is run, and what is heard of it."""
 
+import signal
+import time
 import unittest
 
 from runs import cargo_test
@@ -41,3 +43,17 @@ class Words(unittest.TestCase):
             (["--manifest-path"], None), (["--", "--manifest-path", "x"], None),
         ]:
             self.assertEqual(cargo_test.manifest_of(words), path)
+
+
+class Heard(unittest.TestCase):
+    def setUp(self):
+        for number in (signal.SIGINT, signal.SIGTERM, signal.SIGHUP):
+            self.addCleanup(signal.signal, number, signal.getsignal(number))
+
+    def test_what_is_left_running_is_not_waited_for(self):
+        for left in ("while echo tick; do sleep 0.05; done", "sleep 9 & echo"):
+            begin = time.monotonic()
+            lines = cargo_test.CargoTest([["sh", "-c", f"({left}) 2> /dev/null & echo first; exit 3"]], lambda: None)
+            self.assertIn(b"first\n", list(lines))
+            self.assertEqual(lines.end(), 3)
+            self.assertLess(time.monotonic() - begin, 20)
