@@ -124,7 +124,7 @@ class Bundle:
         return {
             "id": run["run-id"], "bundle": self.path, "size": self.size, "started": instant(run["started-at"]),
             "status": run["status"]["status"], "exit_code": run["status"].get("exit-code"),
-            "nextest_version": run["nextest-version"],
+            "nextest_version": run["nextest-version"], "parent": run.get("parent-run-id"),
         }
 
     def run(self, outputs):

@@ -67,6 +67,8 @@ def text_of(first, second, found, after):
     for run in (first, second):
         if run.status in BROKEN_OFF:
             lines.append(f"run {run.id} was broken off or isn't known whole, so tests may seem gone or new")
+        if run.parent:
+            lines.append(f"run {run.id} ran again only what hadn't passed, so other tests may seem gone or new")
     for title, field, colour in PARTS:
         keys = getattr(found, field)
         if keys:

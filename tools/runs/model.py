@@ -135,6 +135,8 @@ class Summary:
     counts: Counts
     nextest_version: str
     cli_args: list[str]
+    # The id of the run of which this one ran again what hadn't passed, None where it ran all.
+    parent: str | None = dataclasses.field(default=None, kw_only=True)
 
 
 @dataclasses.dataclass

@@ -128,11 +128,11 @@ def container_of(run, events, outputs, version=(1, 1), store=(3, 1)):
     return container([(b"manifest.json", json.dumps(manifest).encode()), (b"run.log.zst", log), (b"store.zip", stored)])
 
 
-def bundle(*events, outputs=(), ended=None, at=0, run_id=ID, version=(1, 1), store=(3, 1)):
-    """A bundle of these events as they are logged, with outputs by their files' names."""
+def bundle(*events, outputs=(), ended=None, at=0, run_id=ID, version=(1, 1), store=(3, 1), **more):
+    """A bundle of these events as they are logged, with outputs by their files' names, and further members of its run."""
     run = {
         "run-id": run_id, "nextest-version": "0.9.111", "started-at": instant(at), "last-written-at": instant(at),
-        "status": ended or {"status": "incomplete"}, "sizes": {},
+        "status": ended or {"status": "incomplete"}, "sizes": {}, **more,
     }
     return container_of(run, events, outputs, version, store)
 

@@ -116,6 +116,13 @@ class Reading(Case):
             "new": [{"binary": "alpha", "test": "t2"}], "gone": [], "slower": [],
         })
 
+    def test_a_rerun_says_that_it_is_one(self):
+        rerun = made.bundle(made.run_started(), made.run_finished(1, 1), ended=made.completed(0, 0), at=1, **{"parent-run-id": OTHER})
+        (self.runs / f"{made.ID}.bundle").write_bytes(rerun)
+        said = self.out("compare", OTHER, made.ID).splitlines()
+        self.assertEqual(said[1], f"run {made.ID} ran again only what hadn't passed, so other tests may seem gone or new")
+        self.assertEqual(said[2], "gone: 3 tests")
+
     def test_outside_of_workspaces_bundles_are_taken_by_their_paths(self):
         for name, run_id in (("one", made.ID), ("other", OTHER)):
             (self.runs / f"{run_id}.bundle").rename(self.folder / f"{name}.bundle")
