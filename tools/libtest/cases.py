@@ -124,6 +124,7 @@ CASES = [
     (f"{INTEGRATION} > =no end of a line| > {FAILED} > {CAUSE % 'exit status: 3'} > {OTHER} > =well",
      "started s 0 > finished s exit-3 > started t 0 > finished t passed > 2 of 2", 4),
     (f"suite 0 > end > {FAILED} > {CAUSE % 'exit status: 3'}", "started s 0 > finished s exit-3 > 1 of 1", 2),
+    (f'{INTEGRATION} > ={{"reason":"mine"}} > ={{"type":"report"}}', "started s 0 > finished s passed > 1 of 1", 3),
     (f"{INTEGRATION} > =running 1 test", "started s 0 > finished s passed > 1 of 1", 3),
     (f"{DOC} > =error: no > =error: doctest failed, to rerun pass `--doc` > {CAUSE % 'exit status: 1'}",
      "started s 0 > finished s exit-1 > 1 of 1", 4),

@@ -95,10 +95,10 @@ class Reader:
             return self.take_suite(value)
         if value.get("type") in ("test", "bench") and isinstance(value.get("name"), str):
             return self.take_test(value)
-        if isinstance(value.get("reason"), str) and not self.running():
+        if str(value.get("reason")) in cargo.REASONS and not self.running():
             self.targets.learn(value)
             return True
-        return value.get("type") == "report"
+        return value.get("type") == "report" and bool(self.binaries and self.binaries[-1].suites)
 
     # ---- what cargo says
 
