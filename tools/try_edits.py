@@ -1,44 +1,52 @@
 #!/usr/bin/env python3
-"""Shows that the prover refuses each wrong body which the gate doesn't try.
+"""Shows that the checker refuses wrong bodies: each edit in `tools/edits/CRATE`, by the proof of the function that it changes.
 
-    tools/try_edits.py [--only WORD]
-    tools/try_edits.py --write FOLDER
+    tools/try_edits.py [--only WORD]     tries the edits with this word in `CRATE/NAME.edit`
+    tools/try_edits.py --refusals        tries those besides that are made of the refusals of `record`
 
-These are the edits in `tools/edits/CRATE`, and for each refusal of `record` that has no edit `always_..` one that is made here,
-by which a session that was judged gets this refusal all the same. Those that `rt ci` tries stand in `crates/CRATE/must-fail`;
-docs/CONTRIBUTING.md says which edit belongs where.
+It checks copies of the crates over the libraries that `rt ci` built in this clone, or `rt lib` in their folders, and builds none
+itself. It is to be run behind a gate that passed: where a function isn't proved anyway, each edit of it counts as refused. What
+isn't refused is printed, and nothing where all is well: status 0, and 1 otherwise. Those in `crates/CRATE/must-fail` are left to
+`rt ci`. docs/CONTRIBUTING.md says how an edit is written.
 
-`rt must-fail` tries them in a temporary copy of the clone, in place of those there, over what `rt check` kept. What isn't
-refused is printed, and nothing where all is well: status 0, and 1 otherwise. One that only a limit refuses counts as refused.
-An edit whose `old:` text doesn't stand once in its file is named at once, and then none is tried. `--only` takes the edits with
-this word in `CRATE/NAME.edit`, and `--write` puts them into folders of their crates, and tries none.
+`--refusals` takes, for each refusal of `record` that has no edit `always_..`, one that is made here, by which a session that was
+judged gets this refusal all the same. `--summary` prints a line for each check: its crate, its processor seconds, its memory, and its
+edits. One that is refused `only by names`, as its proof names what the edit took away, says little of the contract.
 
-It takes some gigabytes, and half a minute to two minutes of processor time an edit, beside one proof of each crate that was
-changed since `rt check`; where nothing is kept, the crates below are proved first, which takes an hour.
+Crates are tried side by side, one a processor where each has 3 GB of free memory. An edit takes some 25 seconds of processor
+time, and more where its function calls many others of its crate.
 """
 
+import concurrent.futures
+import os
 import pathlib
 import re
-import shutil
-import subprocess
+import signal
 import sys
 import tempfile
 
+import edit_checks
+import gate_cost
 import refusals
-from command_line import command_line, say
+from command_line import command_line, say, whole
+from edit_checks import Checker, Clone, Unready, Verdict
+from edit_files import Misfit, misfit
 
 TOP = pathlib.Path(__file__).resolve().parent.parent
 CRATES = TOP / "crates"
 EDITS = TOP / "tools/edits"
-REFUSED = re.compile(r"must-fail (\S+): refused, as it must be")
+# What a check may need, in kB.
+MEMORY = 3_000_000
+INTERRUPTED = 130
+SETTLED = {Verdict.REFUSED, Verdict.PROVED}
 
 
-def left_out():
-    """The texts of the edits that the gate leaves out, by their crates and names."""
+def edits_there(with_refusals=False):
+    """The texts of the edits that are tried here, by their crates and names."""
     found = {f"{path.parent.name}/{path.name}": path.read_text() for path in sorted(EDITS.glob("*/*.edit"))}
-    crate = CRATES / refusals.CRATE
-    edited = refusals.edited(crate / "must-fail") | refusals.edited(EDITS / refusals.CRATE)
-    made = refusals.edits((crate / refusals.ENUM_FILE).read_text(), edited)
+    if not with_refusals:
+        return found
+    made = refusals.edits((CRATES / refusals.CRATE / refusals.ENUM_FILE).read_text(), refusals.edited(EDITS / refusals.CRATE))
     return found | {f"{refusals.CRATE}/{name}": text for name, text in made.items()}
 
 
@@ -46,80 +54,114 @@ def crate_of(name):
     return name.partition("/")[0]
 
 
-def misfit(text, folder):
-    """Why an edit can't be applied to the crate in a folder, as `rt` judges it; None where it can."""
-    path, old, before, after = "", "", {}, {}
-    for line in text.split("\n"):
-        word, _, rest = line.partition(" ")
-        if word == "file:":
-            path = rest.strip()
-            if not path.startswith(("src/", "specs/", "proofs/")):
-                return f"{path} is not below src/, specs/ or proofs/"
-        elif word == "old:":
-            old = rest
-        elif word == "new:":
-            if not (folder / path).is_file():
-                return f"no file {path} is there"
-            if path not in after:
-                before[path] = after[path] = (folder / path).read_text()
-            count = after[path].count(old) if old else 0
-            if count != 1:
-                return f"{old!r} stands {count} times in {path}"
-            after[path], old = after[path].replace(old, rest), ""
-    return None if before != after else "it changes nothing"
-
-
 def misfits(edits):
-    """A line for each edit that can't be applied."""
+    """A line for each edit that can't be applied, or whose function isn't found."""
     found = {name: misfit(text, CRATES / crate_of(name)) for name, text in edits.items()}
     return "".join(f"{name}: {why}\n" for name, why in found.items() if why)
 
 
-def write(edits, folder, inside=""):
-    """Puts edits into folders of their crates, or into a folder inside of these."""
+def fault(verdict, words):
+    """What is said of an edit that isn't refused."""
+    if verdict is Verdict.PROVED:
+        return "NOT REFUSED: the function is still proved with it"
+    if verdict is Verdict.WAITS:
+        return f"not tried, since more than this edit is wrong: {words}"
+    return f"BAD EDIT, which doesn't come to the proof of its function: {words}"
+
+
+def faults(edits, folder, check):
+    """A line for each edit of a crate that isn't refused, by checks of rounds of them."""
+    found, todo = {}, edit_checks.rounds(edits, folder)
+    while todo:
+        later, alone = {}, {}
+        for each in todo:
+            said = check(each)
+            kinds = {verdict for verdict, _ in said.values()}
+            for name, (verdict, words) in said.items():
+                if verdict is Verdict.WAITS and kinds & SETTLED:
+                    later[name] = edits[name]
+                elif verdict not in SETTLED and len(said) > 1:
+                    alone[name] = edits[name]
+                elif verdict is not Verdict.REFUSED:
+                    found[name] = f"{name}: {fault(verdict, words)}\n"
+        todo = edit_checks.rounds(later, folder)
+        for name, text in alone.items():
+            todo += edit_checks.rounds({name: text}, folder)
+    return "".join(found[name] for name in edits if name in found)
+
+
+def try_crate(crate, edits, checker, summary):
+    """What is wrong of a crate's edits. What one check has proved of other functions the next one takes from a folder."""
+    def check(each):
+        said = checker.check(crate, each, kept)
+        found = edit_checks.verdicts(said, crate, each.functions)
+        if summary:
+            say(summary_of(crate, said, each, found))
+        return found
+
+    with tempfile.TemporaryDirectory(prefix="edits-") as kept:
+        try:
+            return faults(edits, CRATES / crate, check)
+        except Unready as why:
+            return f"{crate}: {why}\n"
+
+
+def summary_of(crate, said, each, found):
+    """A line of what a check took, and of the edits that it has settled. What is refused only by names may be a poor edit."""
+    shown = []
+    for name, functions in each.functions.items():
+        is_poor = found[name][0] is Verdict.REFUSED and any(map(said.is_by_names, functions))
+        shown.append(f"{name.rpartition('/')[2]} {'only by names' if is_poor else found[name][0].name.lower()}")
+    return f"{crate}: {said.seconds:.0f} s, {said.memory / 1e6:.1f} GB: {', '.join(shown)}"
+
+
+def most_at_once():
+    """How many checks run at a time: as many as there are processors, and as free memory holds."""
+    free = re.search(r"^MemAvailable: +(\d+)", pathlib.Path("/proc/meminfo").read_text(), re.M)
+    return max(1, min(len(os.sched_getaffinity(0)), int(free[1]) // MEMORY if free else 1))
+
+
+def try_all(edits, clone, jobs, summary):
+    """What is wrong of edits, the crates with most of them first."""
+    parted = {crate: {} for crate in clone.uses}
     for name, text in edits.items():
-        path = folder / crate_of(name) / inside / pathlib.Path(name).name
-        path.parent.mkdir(parents=True, exist_ok=True)
-        path.write_text(text)
-
-
-def wrong(edits, status, said):
-    """What `rt must-fail` says beside that an edit is refused, and which edits it doesn't name; empty where it refuses all."""
-    refused = set(REFUSED.findall(said))
-    if status == 0 and refused >= edits.keys():
-        return ""
-    lines = [line for line in said.splitlines() if not REFUSED.search(line)]
-    lines += [f"{name} was not tried" for name in edits if name not in said]
-    return "".join(f"{line}\n" for line in lines or [f"rt must-fail ended with status {status}"])
-
-
-def try_all(edits):
-    """What is wrong of edits, tried in a copy of the clone."""
-    with tempfile.TemporaryDirectory(prefix="edits-") as name:
-        copy = pathlib.Path(name) / "clone"
-        shutil.copytree(TOP, copy, symlinks=True, ignore=shutil.ignore_patterns(".git", "__pycache__", "must-fail"))
-        write(edits, copy / "crates", "must-fail")
-        words = ["rt", "must-fail", *dict.fromkeys(map(crate_of, edits))]
-        done = subprocess.run(words, cwd=copy, stdout=subprocess.PIPE, stderr=subprocess.STDOUT, text=True)
-    return wrong(edits, done.returncode, done.stdout)
+        parted[crate_of(name)][name] = text
+    crates = sorted((crate for crate in parted if parted[crate]), key=lambda crate: -len(parted[crate]))
+    unbuilt = list(clone.unbuilt(crates))
+    if unbuilt:
+        raise Unready("\n".join([*unbuilt, edit_checks.BUILD]))
+    checker = Checker(clone)
+    with concurrent.futures.ThreadPoolExecutor(jobs) as pool:
+        try:
+            tasks = [pool.submit(try_crate, crate, parted[crate], checker, summary) for crate in crates]
+            return "".join(task.result() for task in tasks)
+        except BaseException:
+            pool.shutdown(wait=False, cancel_futures=True)
+            checker.stop()
+            raise
 
 
 def main():
+    for number in (signal.SIGINT, signal.SIGTERM, signal.SIGHUP):
+        # Each comes as an interrupt, by which the checks are ended too.
+        signal.signal(number, signal.default_int_handler)
     parser = command_line(__doc__)
     parser.add_argument("--only", metavar="WORD", default="", help="only edits with this word in their crates and names")
-    parser.add_argument("--write", type=pathlib.Path, metavar="FOLDER", help="put the edits there, and try none")
+    parser.add_argument("--refusals", action="store_true", help="also those that are made of the refusals of `record`")
+    parser.add_argument("--jobs", type=whole(1, 100), metavar="N", help="how many checks run at a time")
+    parser.add_argument("--summary", action="store_true", help="print what each check took, on standard error")
     words = parser.parse_args()
     try:
-        edits = {name: text for name, text in left_out().items() if words.only in name}
+        edits = {name: text for name, text in edits_there(words.refusals).items() if words.only in name}
         if not edits:
             parser.error(f"no edit has {words.only!r} in its name")
-        if words.write:
-            write(edits, words.write)
-            return 0
-        found = misfits(edits) or try_all(edits)
-    except (OSError, refusals.Unknown) as error:
+        clone = Clone(CRATES, gate_cost.crates((TOP / "crates.txt").read_text()), edit_checks.kit())
+        found = misfits(edits) or try_all(edits, clone, words.jobs or most_at_once(), words.summary)
+    except (OSError, Misfit, Unready, refusals.Unknown) as error:
         say(f"try_edits: {error}")
         return 1
+    except KeyboardInterrupt:
+        return INTERRUPTED
     print(found, end="")
     return int(bool(found))
 
