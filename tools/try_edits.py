@@ -3,9 +3,10 @@
 
     tools/try_edits.py [--only WORD]     tries the edits with this word in `CRATE/NAME.edit`
     tools/try_edits.py --refusals        tries those besides that are made of the refusals of `record`
+    tools/try_edits.py --build           builds the libraries anew where one is missing or old, which takes hours
 
 It checks copies of the crates over the libraries that `rt ci` built in this clone, or `rt lib` in their folders, and builds none
-itself. It is to be run behind a gate that passed: where a function isn't proved anyway, each edit of it counts as refused. What
+without `--build`. It is to be run behind a gate that passed: where a function isn't proved anyway, each edit of it counts as refused. What
 isn't refused is printed, and nothing where all is well: status 0, and 1 otherwise. Those in `crates/CRATE/must-fail` are left to
 `rt ci`. docs/CONTRIBUTING.md says how an edit is written.
 
@@ -22,6 +23,7 @@ import os
 import pathlib
 import re
 import signal
+import subprocess
 import sys
 import tempfile
 
@@ -121,19 +123,30 @@ def most_at_once():
     return max(1, min(len(os.sched_getaffinity(0)), int(free[1]) // MEMORY if free else 1))
 
 
-def try_all(edits, clone, jobs, summary):
+def build(clone, crates):
+    """Builds the libraries that some crates use; `rt` builds first those below each."""
+    for name in sorted({used for crate in crates for used in clone.uses[crate] if used in clone.uses}):
+        # Standard output is for what is found of the edits.
+        done = subprocess.run(["rt", "lib"], cwd=CRATES / name, stdin=subprocess.DEVNULL, stdout=sys.stderr)
+        if done.returncode:
+            raise Unready(f"the library {name} can't be built")
+
+
+def try_all(edits, clone, words):
     """What is wrong of edits, the crates with most of them first."""
     parted = {crate: {} for crate in clone.uses}
     for name, text in edits.items():
         parted[crate_of(name)][name] = text
     crates = sorted((crate for crate in parted if parted[crate]), key=lambda crate: -len(parted[crate]))
+    if words.build and list(clone.unbuilt(crates)):
+        build(clone, crates)
     unbuilt = list(clone.unbuilt(crates))
     if unbuilt:
         raise Unready("\n".join([*unbuilt, edit_checks.BUILD]))
     checker = Checker(clone)
-    with concurrent.futures.ThreadPoolExecutor(jobs) as pool:
+    with concurrent.futures.ThreadPoolExecutor(words.jobs or most_at_once()) as pool:
         try:
-            tasks = [pool.submit(try_crate, crate, parted[crate], checker, summary) for crate in crates]
+            tasks = [pool.submit(try_crate, crate, parted[crate], checker, words.summary) for crate in crates]
             return "".join(task.result() for task in tasks)
         except BaseException:
             pool.shutdown(wait=False, cancel_futures=True)
@@ -148,6 +161,7 @@ def main():
     parser = command_line(__doc__)
     parser.add_argument("--only", metavar="WORD", default="", help="only edits with this word in their crates and names")
     parser.add_argument("--refusals", action="store_true", help="also those that are made of the refusals of `record`")
+    parser.add_argument("--build", action="store_true", help="build the libraries anew where one is missing or old")
     parser.add_argument("--jobs", type=whole(1, 100), metavar="N", help="how many checks run at a time")
     parser.add_argument("--summary", action="store_true", help="print what each check took, on standard error")
     words = parser.parse_args()
@@ -156,7 +170,7 @@ def main():
         if not edits:
             parser.error(f"no edit has {words.only!r} in its name")
         clone = Clone(CRATES, gate_cost.crates((TOP / "crates.txt").read_text()), edit_checks.kit())
-        found = misfits(edits) or try_all(edits, clone, words.jobs or most_at_once(), words.summary)
+        found = misfits(edits) or try_all(edits, clone, words)
     except (OSError, Misfit, Unready, refusals.Unknown) as error:
         say(f"try_edits: {error}")
         return 1
