@@ -64,5 +64,5 @@ def edits(text, edited):
 
 
 def edited(folder):
-    """The variants of which a folder has an edit."""
-    return {name for path in folder.glob("always_*.edit") for name in re.findall(rf"Err\({ENUM}::(\w+)", path.read_text())}
+    """The variants of which a folder, or one in it, has an edit."""
+    return {name for path in folder.rglob("always_*.edit") for name in re.findall(rf"Err\({ENUM}::(\w+)", path.read_text())}

@@ -2,7 +2,7 @@
 """Shows that the checker refuses wrong bodies: each edit in `tools/edits/CRATE`, by the proof of the function that it changes.
 
     tools/try_edits.py [--only WORD]     tries the edits with this word in `CRATE/NAME.edit`
-    tools/try_edits.py --refusals        tries those besides that are made of the refusals of `record`
+    tools/try_edits.py --refusals        tries besides one for each refusal of `record`
     tools/try_edits.py --build           builds the libraries anew where one is missing or old, which takes hours
 
 It checks copies of the crates over the libraries that `rt ci` built in this clone, or `rt lib` in their folders, and builds none
@@ -10,8 +10,8 @@ without `--build`. It is to be run behind a gate that passed: where a function i
 isn't refused is printed, and nothing where all is well: status 0, and 1 otherwise. Those in `crates/CRATE/must-fail` are left to
 `rt ci`. docs/CONTRIBUTING.md says how an edit is written.
 
-`--refusals` takes, for each refusal of `record` that has no edit `always_..`, one that is made here, by which a session that was
-judged gets this refusal all the same. `--summary` prints a line for each check: its crate, its processor seconds, its memory, and its
+`--refusals` takes edits by which a session that was judged is refused all the same, one for each refusal of `record`: those in
+`tools/edits/rec_export/refusals`, and for a refusal without an edit `always_..` one that is made here. `--summary` prints a line for each check: its crate, its processor seconds, its memory, and its
 edits. One that is refused `only by names`, as its proof names what the edit took away, says little of the contract.
 
 Crates are tried side by side, one a processor where each has 3 GB of free memory. An edit takes some 25 seconds of processor
@@ -45,7 +45,8 @@ SETTLED = {Verdict.REFUSED, Verdict.PROVED}
 
 def edits_there(with_refusals=False):
     """The texts of the edits that are tried here, by their crates and names."""
-    found = {f"{path.parent.name}/{path.name}": path.read_text() for path in sorted(EDITS.glob("*/*.edit"))}
+    paths = [*EDITS.glob("*/*.edit"), *(EDITS.glob("*/refusals/*.edit") if with_refusals else [])]
+    found = {f"{path.relative_to(EDITS).parts[0]}/{path.name}": path.read_text() for path in sorted(paths)}
     if not with_refusals:
         return found
     made = refusals.edits((CRATES / refusals.CRATE / refusals.ENUM_FILE).read_text(), refusals.edited(EDITS / refusals.CRATE))
@@ -160,7 +161,7 @@ def main():
         signal.signal(number, signal.default_int_handler)
     parser = command_line(__doc__)
     parser.add_argument("--only", metavar="WORD", default="", help="only edits with this word in their crates and names")
-    parser.add_argument("--refusals", action="store_true", help="also those that are made of the refusals of `record`")
+    parser.add_argument("--refusals", action="store_true", help="also one for each refusal of `record`")
     parser.add_argument("--build", action="store_true", help="build the libraries anew where one is missing or old")
     parser.add_argument("--jobs", type=whole(1, 100), metavar="N", help="how many checks run at a time")
     parser.add_argument("--summary", action="store_true", help="print what each check took, on standard error")
