@@ -184,7 +184,7 @@ def judged(words):
     """The verdict of what is said of one function. What else it says of one that calls an unproved function may be for that alone."""
     if words == "proved":
         return Verdict.PROVED, words
-    if re.search(r"\bit calls `[^`]*`, which is not proved", words):
+    if re.search(r"\bit calls `.*`, which (?:is|are) not proved", words):
         return Verdict.WAITS, words
     if words == "not proved" or re.match("no proof: .*did not prove", words):
         return Verdict.REFUSED, words

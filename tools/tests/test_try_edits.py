@@ -18,8 +18,10 @@ fn rec_a::text::quoted: proved
 fn rec_a::lookup::find: not proved
 fn rec_a::front::next: not proved; it calls `rec_a::lookup::find`, which is not proved
 fn rec_a::front::all: no proof: it calls `rec_a::front::next`, which is not proved
+fn rec_a::front::both: not proved; it calls `rec_a::front::next` and `rec_a::lookup::find`, which are not proved
+fn rec_a::front::some: no proof: expected answers in ./proofs/a; `search` did not prove `b`; it calls `c` and `d`, which are not proved
 fn rec_a::front::loops: no proof: expected a measure in ./proofs/front/loops/Invariants.antt
-only=6 proved=1
+only=8 proved=1
 """
 NAMES_GONE = """./proofs/a/find/Answers.antt:6:15: error: `returns`: module `Goals` has no `returns` that can be named from here
 ./proofs/a/find/Answers.antt:9:1: error: 1 declaration that depends on `returns`, which was not admitted, was not checked: found
@@ -74,7 +76,8 @@ class Judged(unittest.TestCase):
         self.assertEqual(found, {"x": Verdict.REFUSED, "y": Verdict.PROVED, "z": Verdict.REFUSED})
 
     def test_what_calls_an_edited_function_waits(self):
-        self.assertEqual(self.verdicts(REFUSED, x=["front::next"], y=["front::all"]), {"x": Verdict.WAITS, "y": Verdict.WAITS})
+        functions = {name: [f"front::{name}"] for name in ("next", "all", "both", "some")}
+        self.assertEqual(self.verdicts(REFUSED, **functions), dict.fromkeys(functions, Verdict.WAITS))
 
     def test_no_proof_was_tried(self):
         self.assertEqual(self.verdicts(REFUSED, x=["front::loops"], y=["front::unknown"]), {"x": Verdict.NONE, "y": Verdict.NONE})
