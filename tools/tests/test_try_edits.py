@@ -3,11 +3,12 @@
 import os
 import pathlib
 import unittest
+from unittest import mock
 
 import edit_checks
 import gate_cost
 import try_edits
-from edit_checks import Clone, Said, Verdict
+from edit_checks import Clone, Said, Unready, Verdict
 from tests.test_edit_files import InFolder
 
 # What the checker prints.
@@ -167,6 +168,16 @@ class Libraries(InFolder):
         self.changed("rec_a/specs/A.antt", 22)
         self.assertEqual(len(list(self.clone.unbuilt(["rec_c"]))), 2)
         self.assertEqual(list(self.clone.unbuilt(["rec_a"])), [])
+
+    def test_what_is_built(self):
+        with mock.patch.object(try_edits, "CRATES", self.folder), mock.patch.object(try_edits.subprocess, "run") as run:
+            run.return_value.returncode = 0
+            try_edits.build(self.clone, ["rec_c", "rec_b"])
+            self.assertEqual([call.args[0] for call in run.call_args_list], [["rt", "lib"]] * 2)
+            self.assertEqual([call.kwargs["cwd"].name for call in run.call_args_list], ["rec_a", "rec_b"])
+            run.return_value.returncode = 1
+            with self.assertRaisesRegex(Unready, "the library rec_a can't be built"):
+                try_edits.build(self.clone, ["rec_b"])
 
     def test_words(self):
         rlib = f"{self.folder}/rec_%s/out/rlib"
