@@ -8,7 +8,7 @@ import itertools
 import re
 
 CRATE = "rec_export"
-ENUM_FILE = "src/refusal.rt"
+ENUM_FILE = "rec_errors/src/export_error.rt"
 ENUM = "RecordExportError"
 LEFT_OUT = {"OutOfMemory"}
 # A field's values, by its type.

@@ -49,7 +49,7 @@ def edits_there(with_refusals=False):
     found = {f"{path.relative_to(EDITS).parts[0]}/{path.name}": path.read_text() for path in sorted(paths)}
     if not with_refusals:
         return found
-    made = refusals.edits((CRATES / refusals.CRATE / refusals.ENUM_FILE).read_text(), refusals.edited(EDITS / refusals.CRATE))
+    made = refusals.edits((CRATES / refusals.ENUM_FILE).read_text(), refusals.edited(EDITS / refusals.CRATE))
     return found | {f"{refusals.CRATE}/{name}": text for name, text in made.items()}
 
 

@@ -8,7 +8,7 @@ there.
   `rec_portable_tests`: `refusals_are_printed`.
 - Sinks in pieces, of which a write fails: `rec_program_tests`: `faults_of_the_bundle_leave_no_trace`,
   `faults_of_the_trace_leave_the_bundle_whole`, `faults_of_standard_output`, `faults_of_other_sinks`.
-- Names that don't tell the outputs of two tests apart: `rec_program_tests`: `outputs_clash`.
+- Names that don't tell the outputs of two tests apart: `rec_faults_tests`: `outputs_clash`.
 """
 
 from cases.case import SOME, Case

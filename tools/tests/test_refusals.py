@@ -57,7 +57,7 @@ class Edits(unittest.TestCase):
             self.assertEqual(refusals.edited(folder), {"TwoParts", "CountOutOfRange"})
 
     def test_each_refusal_has_an_edit(self):
-        enum = (try_edits.CRATES / refusals.CRATE / refusals.ENUM_FILE).read_text()
+        enum = (try_edits.CRATES / refusals.ENUM_FILE).read_text()
         edits = try_edits.edits_there(with_refusals=True)
         texts = [text for name, text in edits.items() if name.startswith("rec_export/always_")]
         for name in refusals.variants(enum).keys() - refusals.LEFT_OUT:

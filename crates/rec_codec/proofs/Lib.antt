@@ -6,3 +6,4 @@ pub mod ReadEventLaws
 pub mod LineItemLemmas
 pub mod LineReadings
 pub mod KindTables
+pub mod Added

@@ -10,6 +10,8 @@ pub mod ScriptStatus
 pub mod ScriptStatusLaws
 pub mod CoreKinds
 pub mod EventParts
+pub mod Adding
+pub mod Several
 pub mod CoreKindForms
 pub mod CoreKindLaws
 pub mod OutputKinds

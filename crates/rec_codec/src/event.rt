@@ -13,9 +13,10 @@ use crate::core_kinds::{core_from, write_core};
 use crate::output_kinds::{
     attempt_failed_from, script_finished_from, test_finished_from, write_output,
 };
+use crate::several::required_two;
 use crate::{OutputForm, ToValueError};
 use rec_events::{TestEventKindSummary, TestEventSummary};
-use rec_forms::{FromValueError, required_field, value_of_text};
+use rec_forms::{FromValueError, value_of_text};
 use rec_json::{JsonText, Node, member};
 use serde_json::Value;
 use std::alloc::Global;
@@ -193,9 +194,11 @@ fn event_from<S: OutputForm>(
     let Some(object) = node.as_object() else {
         return Err(FromValueError::NotAValue);
     };
+    let (timestamp, elapsed) = required_two(alloc, object, "timestamp", "elapsed")?;
+    let kind = kind_from(alloc, object)?;
     Ok(TestEventSummary {
-        timestamp: required_field(alloc, object, "timestamp")?,
-        elapsed: required_field(alloc, object, "elapsed")?,
-        kind: kind_from(alloc, object)?,
+        timestamp,
+        elapsed,
+        kind,
     })
 }

@@ -1,24 +1,20 @@
 //! The kinds of events that hold outputs.
-ghost use Rattle.std.specs.Prelude.{◌≡◌, OnOk, IfSome, codes};
+ghost use Rattle.std.specs.Prelude.{◌≡◌, OnOk, codes};
 ghost use Rattle.rec_json.specs.Nodes.{members_view};
 ghost use Rattle.rec_json.specs.Tokens.{with_fields};
 ghost use Rattle.rec_forms.specs.Gives.{Gives};
-ghost use Rattle.rec_forms.specs.Instances.{IsStressIndex, IsTestInstance};
-ghost use Rattle.rec_forms.specs.Times.{IsStamp};
-ghost use Rattle.rec_codec.specs.OutputKinds.{output_name, reporting_part, reporting_form, finished_part, output_event_fields, output_loaded, IsOutputEvent, script_finished_form, attempt_failed_form, test_finished_form};
+ghost use Rattle.rec_codec.specs.OutputKinds.{output_name, reporting_form, output_event_fields, output_loaded, IsOutputEvent, script_finished_form, attempt_failed_form, test_finished_form};
 ghost use Rattle.rec_codec.specs.Writes.{WritesLoaded};
 
-use crate::event_parts::{write_args_to_index, write_script, write_test};
+use crate::event_parts::Fields;
 use crate::loaded_form::{required_loaded, write_loaded};
 use crate::script_kinds::{Command, Place};
+use crate::several::{required_five, required_four, required_three};
 use crate::{OutputForm, ToValueError};
-use rec_events::{
-    Duration, JunitFlakyFailStatus, OutputEventKind, OwnedTestInstanceId, Stamp,
-    StressIndexSummary, TestOutputDisplay,
-};
-use rec_forms::{FromValueError, optional_field, required_field, write_field, write_optional};
+use rec_events::{Duration, JunitFlakyFailStatus, OutputEventKind, Stamp, TestOutputDisplay};
+use rec_forms::{FromValueError, optional_field, required_field};
 use rec_json::{JsonText, Node};
-use std::alloc::{AllocError, Global};
+use std::alloc::Global;
 
 /// How a finished test is reported.
 #[derive(Drop)]
@@ -35,20 +31,27 @@ impl Reporting {
     fn read<'a>(alloc: Global, object: &[(&'a str, Node<'a>)]) -> Result<Reporting, FromValueError>
         ensures { Gives result (reporting_form (members_view object.now)) }
     {
+        let (
+            success_output,
+            failure_output,
+            junit_store_success_output,
+            junit_store_failure_output,
+            junit_flaky_fail_status,
+        ) = required_five(
+            alloc,
+            object,
+            "success-output",
+            "failure-output",
+            "junit-store-success-output",
+            "junit-store-failure-output",
+            "junit-flaky-fail-status",
+        )?;
         Ok(Reporting {
-            success_output: required_field(alloc, object, "success-output")?,
-            failure_output: required_field(alloc, object, "failure-output")?,
-            junit_store_success_output: required_field(
-                alloc,
-                object,
-                "junit-store-success-output",
-            )?,
-            junit_store_failure_output: required_field(
-                alloc,
-                object,
-                "junit-store-failure-output",
-            )?,
-            junit_flaky_fail_status: required_field(alloc, object, "junit-flaky-fail-status")?,
+            success_output,
+            failure_output,
+            junit_store_success_output,
+            junit_store_failure_output,
+            junit_flaky_fail_status,
         })
     }
 }
@@ -80,12 +83,16 @@ fn write_script_finished<S: OutputForm>(
     else {
         unreachable!()
     };
-    write_args_to_index(alloc, text, args, elapsed, *index)?;
-    text.string_field("kind", "setup-script-finished")?;
-    write_field(alloc, text, "no-capture", no_capture)?;
-    write_field(alloc, text, "program", program)?;
+    Fields::new()
+        .args_to_index(alloc, text, args, elapsed, *index)
+        .name(text, "kind", "setup-script-finished")
+        .field(alloc, text, "no-capture", no_capture)
+        .field(alloc, text, "program", program)
+        .end()?;
     write_loaded(alloc, text, "run-status", run_status)?;
-    write_script(alloc, text, script_id, stress_index, timestamp, *total)?;
+    Fields::new()
+        .script(alloc, text, script_id, stress_index, timestamp, *total)
+        .end()?;
     Ok(())
 }
 
@@ -114,60 +121,22 @@ fn write_attempt_failed<S: OutputForm>(
     else {
         unreachable!()
     };
-    write_field(
-        alloc,
-        text,
-        "delay-before-next-attempt",
-        delay_before_next_attempt,
-    )?;
-    write_field(alloc, text, "elapsed", elapsed)?;
-    write_field(alloc, text, "failure-output", failure_output)?;
-    text.string_field("kind", "test-attempt-failed-will-retry")?;
+    Fields::new()
+        .field(
+            alloc,
+            text,
+            "delay-before-next-attempt",
+            delay_before_next_attempt,
+        )
+        .field(alloc, text, "elapsed", elapsed)
+        .field(alloc, text, "failure-output", failure_output)
+        .name(text, "kind", "test-attempt-failed-will-retry")
+        .end()?;
     write_loaded(alloc, text, "run-status", run_status)?;
-    write_field(alloc, text, "running", running)?;
-    write_test(alloc, text, stress_index, test_instance, timestamp)?;
-    Ok(())
-}
-
-/// Writes how a finished test is reported, from `failure-output` to `junit-store-success-output`.
-fn write_reporting(
-    alloc: Global,
-    text: &mut JsonText,
-    failure_output: &TestOutputDisplay,
-    flaky_fail_status: &JunitFlakyFailStatus,
-    store_failure_output: bool,
-    store_success_output: bool,
-) -> Result<(), AllocError>
-    ensures { OnOk result (text.new
-        ≡ with_fields text.old
-        (reporting_part failure_output.now flaky_fail_status.now store_failure_output store_success_output)) }
-{
-    write_field(alloc, text, "failure-output", failure_output)?;
-    write_field(alloc, text, "junit-flaky-fail-status", flaky_fail_status)?;
-    text.boolean_field("junit-store-failure-output", store_failure_output)?;
-    text.boolean_field("junit-store-success-output", store_success_output)?;
-    Ok(())
-}
-
-/// Writes which finished test it is, how its output is shown, and when it ended.
-fn write_finished(
-    alloc: Global,
-    text: &mut JsonText,
-    stress_index: &Option<StressIndexSummary>,
-    success_output: &TestOutputDisplay,
-    test_instance: &OwnedTestInstanceId,
-    timestamp: &Stamp,
-) -> Result<(), AllocError>
-    ensures written { OnOk result (text.new
-        ≡ with_fields text.old
-        (finished_part stress_index.now success_output.now test_instance.now timestamp.now)) }
-    ensures known { OnOk result
-        (IfSome stress_index.now IsStressIndex × IsTestInstance test_instance.now × IsStamp timestamp.now) }
-{
-    write_optional(alloc, text, "stress-index", stress_index)?;
-    write_field(alloc, text, "success-output", success_output)?;
-    write_field(alloc, text, "test-instance", test_instance)?;
-    write_field(alloc, text, "timestamp", timestamp)?;
+    Fields::new()
+        .field(alloc, text, "running", running)
+        .test(alloc, text, stress_index, test_instance, timestamp)
+        .end()?;
     Ok(())
 }
 
@@ -200,27 +169,31 @@ fn write_test_finished<S: OutputForm>(
     else {
         unreachable!()
     };
-    write_field(alloc, text, "current-stats", current_stats)?;
-    write_field(alloc, text, "elapsed", elapsed)?;
-    write_reporting(
-        alloc,
-        text,
-        failure_output,
-        junit_flaky_fail_status,
-        *junit_store_failure_output,
-        *junit_store_success_output,
-    )?;
-    text.string_field("kind", "test-finished")?;
+    Fields::new()
+        .field(alloc, text, "current-stats", current_stats)
+        .field(alloc, text, "elapsed", elapsed)
+        .reporting(
+            alloc,
+            text,
+            failure_output,
+            junit_flaky_fail_status,
+            *junit_store_failure_output,
+            *junit_store_success_output,
+        )
+        .name(text, "kind", "test-finished")
+        .end()?;
     write_loaded(alloc, text, "run-statuses", run_statuses)?;
-    write_field(alloc, text, "running", running)?;
-    write_finished(
-        alloc,
-        text,
-        stress_index,
-        success_output,
-        test_instance,
-        timestamp,
-    )?;
+    Fields::new()
+        .field(alloc, text, "running", running)
+        .finished(
+            alloc,
+            text,
+            stress_index,
+            success_output,
+            test_instance,
+            timestamp,
+        )
+        .end()?;
     Ok(())
 }
 
@@ -290,10 +263,14 @@ pub fn attempt_failed_from<'a, S: OutputForm>(
     ensures { Gives result (attempt_failed_form S.output_form (members_view object.now)) }
 {
     let stress_index = optional_field(alloc, object, "stress-index")?;
-    let delay_before_next_attempt = required_field(alloc, object, "delay-before-next-attempt")?;
-    let failure_output = required_field(alloc, object, "failure-output")?;
-    let running = required_field(alloc, object, "running")?;
-    let test_instance = required_field(alloc, object, "test-instance")?;
+    let (delay_before_next_attempt, failure_output, running, test_instance) = required_four(
+        alloc,
+        object,
+        "delay-before-next-attempt",
+        "failure-output",
+        "running",
+        "test-instance",
+    )?;
     let run_status = match required_loaded(alloc, object, "run-status") {
         Ok(run_status) => run_status,
         Err(error) => {
@@ -321,9 +298,13 @@ pub fn test_finished_from<'a, S: OutputForm>(
 {
     let reporting = Reporting::read(alloc, object)?;
     let stress_index = optional_field(alloc, object, "stress-index")?;
-    let current_stats = required_field(alloc, object, "current-stats")?;
-    let running = required_field(alloc, object, "running")?;
-    let test_instance = required_field(alloc, object, "test-instance")?;
+    let (current_stats, running, test_instance) = required_three(
+        alloc,
+        object,
+        "current-stats",
+        "running",
+        "test-instance",
+    )?;
     let run_statuses = match required_loaded(alloc, object, "run-statuses") {
         Ok(run_statuses) => run_statuses,
         Err(error) => {

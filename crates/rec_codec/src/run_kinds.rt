@@ -7,9 +7,10 @@ ghost use Rattle.rec_codec.specs.CoreKindForms.{run_started_form, stress_sub_run
 ghost use Rattle.rec_codec.specs.CoreKinds.{core_name};
 ghost use Rattle.rec_codec.specs.EventParts.{core_event_fields, IsCoreEvent};
 
-use crate::event_parts::{write_elapsed_and_kind, write_running};
+use crate::event_parts::Fields;
+use crate::several::{required_four, required_three, required_two};
 use rec_events::{CoreEventKind, Duration, Stamp};
-use rec_forms::{FromValueError, optional_field, required_field, write_field, write_optional};
+use rec_forms::{FromValueError, optional_field, required_field};
 use rec_json::{JsonText, Node};
 use std::alloc::{AllocError, Global};
 
@@ -35,13 +36,14 @@ pub fn write_run_started(
     else {
         unreachable!()
     };
-    write_field(alloc, text, "cli-args", cli_args)?;
-    write_elapsed_and_kind(alloc, text, elapsed, "run-started")?;
-    write_field(alloc, text, "profile-name", profile_name)?;
-    write_field(alloc, text, "run-id", run_id)?;
-    write_optional(alloc, text, "stress-condition", stress_condition)?;
-    write_field(alloc, text, "timestamp", timestamp)?;
-    Ok(())
+    Fields::new()
+        .field(alloc, text, "cli-args", cli_args)
+        .elapsed_and_kind(alloc, text, elapsed, "run-started")
+        .field(alloc, text, "profile-name", profile_name)
+        .field(alloc, text, "run-id", run_id)
+        .optional(alloc, text, "stress-condition", stress_condition)
+        .field(alloc, text, "timestamp", timestamp)
+        .end()
 }
 
 /// Reads the members of a run's start.
@@ -52,11 +54,19 @@ pub fn run_started_from<'a>(
 ) -> Result<CoreEventKind, FromValueError>
     ensures { Gives result (run_started_form (members_view object.now)) }
 {
+    let stress_condition = optional_field(alloc, object, "stress-condition")?;
+    let (run_id, profile_name, cli_args) = required_three(
+        alloc,
+        object,
+        "run-id",
+        "profile-name",
+        "cli-args",
+    )?;
     Ok(CoreEventKind::RunStarted {
-        run_id: required_field(alloc, object, "run-id")?,
-        profile_name: required_field(alloc, object, "profile-name")?,
-        cli_args: required_field(alloc, object, "cli-args")?,
-        stress_condition: optional_field(alloc, object, "stress-condition")?,
+        run_id,
+        profile_name,
+        cli_args,
+        stress_condition,
     })
 }
 
@@ -76,10 +86,11 @@ pub fn write_stress_sub_run_started(
     let CoreEventKind::StressSubRunStarted { progress } = kind else {
         unreachable!()
     };
-    write_elapsed_and_kind(alloc, text, elapsed, "stress-sub-run-started")?;
-    write_field(alloc, text, "progress", progress)?;
-    write_field(alloc, text, "timestamp", timestamp)?;
-    Ok(())
+    Fields::new()
+        .elapsed_and_kind(alloc, text, elapsed, "stress-sub-run-started")
+        .field(alloc, text, "progress", progress)
+        .field(alloc, text, "timestamp", timestamp)
+        .end()
 }
 
 /// Reads the members of the start of one of a stress run's runs.
@@ -116,10 +127,11 @@ pub fn write_run_begin_cancel(
     else {
         unreachable!()
     };
-    write_elapsed_and_kind(alloc, text, elapsed, "run-begin-cancel")?;
-    write_field(alloc, text, "reason", reason)?;
-    write_running(alloc, text, *running, *setup_scripts_running, timestamp)?;
-    Ok(())
+    Fields::new()
+        .elapsed_and_kind(alloc, text, elapsed, "run-begin-cancel")
+        .field(alloc, text, "reason", reason)
+        .running(alloc, text, *running, *setup_scripts_running, timestamp)
+        .end()
 }
 
 /// Reads the members of a cancel.
@@ -130,10 +142,17 @@ pub fn run_begin_cancel_from<'a>(
 ) -> Result<CoreEventKind, FromValueError>
     ensures { Gives result (run_begin_cancel_form (members_view object.now)) }
 {
+    let (setup_scripts_running, running, reason) = required_three(
+        alloc,
+        object,
+        "setup-scripts-running",
+        "running",
+        "reason",
+    )?;
     Ok(CoreEventKind::RunBeginCancel {
-        setup_scripts_running: required_field(alloc, object, "setup-scripts-running")?,
-        running: required_field(alloc, object, "running")?,
-        reason: required_field(alloc, object, "reason")?,
+        setup_scripts_running,
+        running,
+        reason,
     })
 }
 
@@ -157,9 +176,10 @@ pub fn write_run_paused(
     else {
         unreachable!()
     };
-    write_elapsed_and_kind(alloc, text, elapsed, "run-paused")?;
-    write_running(alloc, text, *running, *setup_scripts_running, timestamp)?;
-    Ok(())
+    Fields::new()
+        .elapsed_and_kind(alloc, text, elapsed, "run-paused")
+        .running(alloc, text, *running, *setup_scripts_running, timestamp)
+        .end()
 }
 
 /// Reads the members of a pause.
@@ -170,9 +190,15 @@ pub fn run_paused_from<'a>(
 ) -> Result<CoreEventKind, FromValueError>
     ensures { Gives result (run_paused_form (members_view object.now)) }
 {
+    let (setup_scripts_running, running) = required_two(
+        alloc,
+        object,
+        "setup-scripts-running",
+        "running",
+    )?;
     Ok(CoreEventKind::RunPaused {
-        setup_scripts_running: required_field(alloc, object, "setup-scripts-running")?,
-        running: required_field(alloc, object, "running")?,
+        setup_scripts_running,
+        running,
     })
 }
 
@@ -196,9 +222,10 @@ pub fn write_run_continued(
     else {
         unreachable!()
     };
-    write_elapsed_and_kind(alloc, text, elapsed, "run-continued")?;
-    write_running(alloc, text, *running, *setup_scripts_running, timestamp)?;
-    Ok(())
+    Fields::new()
+        .elapsed_and_kind(alloc, text, elapsed, "run-continued")
+        .running(alloc, text, *running, *setup_scripts_running, timestamp)
+        .end()
 }
 
 /// Reads the members of a continuation.
@@ -209,9 +236,15 @@ pub fn run_continued_from<'a>(
 ) -> Result<CoreEventKind, FromValueError>
     ensures { Gives result (run_continued_form (members_view object.now)) }
 {
+    let (setup_scripts_running, running) = required_two(
+        alloc,
+        object,
+        "setup-scripts-running",
+        "running",
+    )?;
     Ok(CoreEventKind::RunContinued {
-        setup_scripts_running: required_field(alloc, object, "setup-scripts-running")?,
-        running: required_field(alloc, object, "running")?,
+        setup_scripts_running,
+        running,
     })
 }
 
@@ -236,12 +269,13 @@ pub fn write_stress_sub_run_finished(
     else {
         unreachable!()
     };
-    write_elapsed_and_kind(alloc, text, elapsed, "stress-sub-run-finished")?;
-    write_field(alloc, text, "progress", progress)?;
-    write_field(alloc, text, "sub-elapsed", sub_elapsed)?;
-    write_field(alloc, text, "sub-stats", sub_stats)?;
-    write_field(alloc, text, "timestamp", timestamp)?;
-    Ok(())
+    Fields::new()
+        .elapsed_and_kind(alloc, text, elapsed, "stress-sub-run-finished")
+        .field(alloc, text, "progress", progress)
+        .field(alloc, text, "sub-elapsed", sub_elapsed)
+        .field(alloc, text, "sub-stats", sub_stats)
+        .field(alloc, text, "timestamp", timestamp)
+        .end()
 }
 
 /// Reads the members of the end of one of a stress run's runs.
@@ -252,10 +286,17 @@ pub fn stress_sub_run_finished_from<'a>(
 ) -> Result<CoreEventKind, FromValueError>
     ensures { Gives result (stress_sub_run_finished_form (members_view object.now)) }
 {
+    let (progress, sub_elapsed, sub_stats) = required_three(
+        alloc,
+        object,
+        "progress",
+        "sub-elapsed",
+        "sub-stats",
+    )?;
     Ok(CoreEventKind::StressSubRunFinished {
-        progress: required_field(alloc, object, "progress")?,
-        sub_elapsed: required_field(alloc, object, "sub-elapsed")?,
-        sub_stats: required_field(alloc, object, "sub-stats")?,
+        progress,
+        sub_elapsed,
+        sub_stats,
     })
 }
 
@@ -282,14 +323,15 @@ pub fn write_run_finished(
     else {
         unreachable!()
     };
-    write_elapsed_and_kind(alloc, text, elapsed, "run-finished")?;
-    write_optional(alloc, text, "outstanding-not-seen", outstanding_not_seen)?;
-    write_field(alloc, text, "run-elapsed", run_elapsed)?;
-    write_field(alloc, text, "run-id", run_id)?;
-    write_field(alloc, text, "run-stats", run_stats)?;
-    write_field(alloc, text, "start-time", start_time)?;
-    write_field(alloc, text, "timestamp", timestamp)?;
-    Ok(())
+    Fields::new()
+        .elapsed_and_kind(alloc, text, elapsed, "run-finished")
+        .optional(alloc, text, "outstanding-not-seen", outstanding_not_seen)
+        .field(alloc, text, "run-elapsed", run_elapsed)
+        .field(alloc, text, "run-id", run_id)
+        .field(alloc, text, "run-stats", run_stats)
+        .field(alloc, text, "start-time", start_time)
+        .field(alloc, text, "timestamp", timestamp)
+        .end()
 }
 
 /// Reads the members of a run's end.
@@ -300,11 +342,20 @@ pub fn run_finished_from<'a>(
 ) -> Result<CoreEventKind, FromValueError>
     ensures { Gives result (run_finished_form (members_view object.now)) }
 {
+    let (run_id, start_time, elapsed, run_stats) = required_four(
+        alloc,
+        object,
+        "run-id",
+        "start-time",
+        "run-elapsed",
+        "run-stats",
+    )?;
+    let outstanding_not_seen = optional_field(alloc, object, "outstanding-not-seen")?;
     Ok(CoreEventKind::RunFinished {
-        run_id: required_field(alloc, object, "run-id")?,
-        start_time: required_field(alloc, object, "start-time")?,
-        elapsed: required_field(alloc, object, "run-elapsed")?,
-        run_stats: required_field(alloc, object, "run-stats")?,
-        outstanding_not_seen: optional_field(alloc, object, "outstanding-not-seen")?,
+        run_id,
+        start_time,
+        elapsed,
+        run_stats,
+        outstanding_not_seen,
     })
 }

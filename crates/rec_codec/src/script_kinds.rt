@@ -7,9 +7,10 @@ ghost use Rattle.rec_codec.specs.CoreKindForms.{place_form, command_form, setup_
 ghost use Rattle.rec_codec.specs.CoreKinds.{core_name};
 ghost use Rattle.rec_codec.specs.EventParts.{core_event_fields, IsCoreEvent};
 
-use crate::event_parts::{write_args_to_index, write_elapsed_and_kind, write_script};
+use crate::event_parts::Fields;
+use crate::several::{required_three, required_two};
 use rec_events::{CoreEventKind, Duration, Items, ScriptId, Stamp, StressIndexSummary, Text};
-use rec_forms::{FromValueError, optional_field, required_field, write_field, write_optional};
+use rec_forms::{FromValueError, optional_field, required_field};
 use rec_json::{JsonText, Node};
 use std::alloc::{AllocError, Global};
 
@@ -26,10 +27,12 @@ impl Place {
     pub fn read<'a>(alloc: Global, object: &[(&'a str, Node<'a>)]) -> Result<Place, FromValueError>
         ensures { Gives result (place_form (members_view object.now)) }
     {
+        let stress_index = optional_field(alloc, object, "stress-index")?;
+        let (index, total) = required_two(alloc, object, "index", "total")?;
         Ok(Place {
-            stress_index: optional_field(alloc, object, "stress-index")?,
-            index: required_field(alloc, object, "index")?,
-            total: required_field(alloc, object, "total")?,
+            stress_index,
+            index,
+            total,
         })
     }
 }
@@ -50,10 +53,17 @@ impl Command {
     ) -> Result<Command, FromValueError>
         ensures { Gives result (command_form (members_view object.now)) }
     {
+        let (script_id, program, args) = required_three(
+            alloc,
+            object,
+            "script-id",
+            "program",
+            "args",
+        )?;
         Ok(Command {
-            script_id: required_field(alloc, object, "script-id")?,
-            program: required_field(alloc, object, "program")?,
-            args: required_field(alloc, object, "args")?,
+            script_id,
+            program,
+            args,
         })
     }
 }
@@ -83,12 +93,13 @@ pub fn write_setup_script_started(
     else {
         unreachable!()
     };
-    write_args_to_index(alloc, text, args, elapsed, *index)?;
-    text.string_field("kind", "setup-script-started")?;
-    write_field(alloc, text, "no-capture", no_capture)?;
-    write_field(alloc, text, "program", program)?;
-    write_script(alloc, text, script_id, stress_index, timestamp, *total)?;
-    Ok(())
+    Fields::new()
+        .args_to_index(alloc, text, args, elapsed, *index)
+        .name(text, "kind", "setup-script-started")
+        .field(alloc, text, "no-capture", no_capture)
+        .field(alloc, text, "program", program)
+        .script(alloc, text, script_id, stress_index, timestamp, *total)
+        .end()
 }
 
 /// Reads the members of a setup script's start.
@@ -137,15 +148,16 @@ pub fn write_setup_script_slow(
     else {
         unreachable!()
     };
-    write_field(alloc, text, "args", args)?;
-    write_elapsed_and_kind(alloc, text, elapsed, "setup-script-slow")?;
-    write_field(alloc, text, "program", program)?;
-    write_field(alloc, text, "script-id", script_id)?;
-    write_field(alloc, text, "slow-elapsed", slow_elapsed)?;
-    write_optional(alloc, text, "stress-index", stress_index)?;
-    write_field(alloc, text, "timestamp", timestamp)?;
-    write_field(alloc, text, "will-terminate", will_terminate)?;
-    Ok(())
+    Fields::new()
+        .field(alloc, text, "args", args)
+        .elapsed_and_kind(alloc, text, elapsed, "setup-script-slow")
+        .field(alloc, text, "program", program)
+        .field(alloc, text, "script-id", script_id)
+        .field(alloc, text, "slow-elapsed", slow_elapsed)
+        .optional(alloc, text, "stress-index", stress_index)
+        .field(alloc, text, "timestamp", timestamp)
+        .field(alloc, text, "will-terminate", will_terminate)
+        .end()
 }
 
 /// Reads the members of a slow setup script.
@@ -157,8 +169,7 @@ pub fn setup_script_slow_from<'a>(
     ensures { Gives result (setup_script_slow_form (members_view object.now)) }
 {
     let stress_index = optional_field(alloc, object, "stress-index")?;
-    let elapsed = required_field(alloc, object, "slow-elapsed")?;
-    let will_terminate = required_field(alloc, object, "will-terminate")?;
+    let (elapsed, will_terminate) = required_two(alloc, object, "slow-elapsed", "will-terminate")?;
     let command = Command::read(alloc, object)?;
     Ok(CoreEventKind::SetupScriptSlow {
         stress_index,

@@ -1,9 +1,11 @@
 //! The runs of setup scripts, with their outputs.
 
+use crate::event_parts::Fields;
 use crate::loaded_form::{LoadedForm, required_loaded, write_loaded};
+use crate::several::{optional_two, required_four};
 use crate::{OutputForm, ToValueError};
 use rec_events::SetupScriptExecuteStatus;
-use rec_forms::{FromValueError, optional_field, required_field, write_field, write_optional};
+use rec_forms::FromValueError;
 use rec_json::{JsonText, Node};
 use std::alloc::Global;
 
@@ -30,13 +32,17 @@ impl<S: OutputForm> LoadedForm for SetupScriptExecuteStatus<S> {
 
     fn write(&self, alloc: Global, text: &mut JsonText) -> Result<(), ToValueError> {
         text.begin_object()?;
-        write_optional(alloc, text, "env-map", &self.env_map)?;
-        write_optional(alloc, text, "error-summary", &self.error_summary)?;
-        write_field(alloc, text, "is-slow", &self.is_slow)?;
+        Fields::new()
+            .optional(alloc, text, "env-map", &self.env_map)
+            .optional(alloc, text, "error-summary", &self.error_summary)
+            .field(alloc, text, "is-slow", &self.is_slow)
+            .end()?;
         write_loaded(alloc, text, "output", &self.output)?;
-        write_field(alloc, text, "result", &self.result)?;
-        write_field(alloc, text, "start-time", &self.start_time)?;
-        write_field(alloc, text, "time-taken", &self.time_taken)?;
+        Fields::new()
+            .field(alloc, text, "result", &self.result)
+            .field(alloc, text, "start-time", &self.start_time)
+            .field(alloc, text, "time-taken", &self.time_taken)
+            .end()?;
         text.end_struct()?;
         Ok(())
     }
@@ -49,16 +55,25 @@ impl<S: OutputForm> LoadedForm for SetupScriptExecuteStatus<S> {
         let Some(object) = node.as_object() else {
             return Err(FromValueError::NotAValue);
         };
-        let start_time = required_field(alloc, object, "start-time")?;
-        let time_taken = required_field(alloc, object, "time-taken")?;
-        let is_slow = required_field(alloc, object, "is-slow")?;
-        let error_summary = optional_field(alloc, object, "error-summary")?;
-        let env_map = optional_field(alloc, object, "env-map")?;
-        let result = required_field(alloc, object, "result")?;
+        let (env_map, error_summary) = optional_two(alloc, object, "env-map", "error-summary")?;
+        let (start_time, time_taken, is_slow, result) = match required_four(
+            alloc,
+            object,
+            "start-time",
+            "time-taken",
+            "is-slow",
+            "result",
+        ) {
+            Ok(fields) => fields,
+            Err(error) => {
+                // by a call: in place, each case of what is let go is one of the proof
+                drop((env_map, error_summary));
+                return Err(error);
+            }
+        };
         let output = match required_loaded(alloc, object, "output") {
             Ok(output) => output,
             Err(error) => {
-                // by a call: in place, each case of what is let go is one of the proof
                 drop((error_summary, env_map, result));
                 return Err(error);
             }

@@ -8,7 +8,9 @@ ghost use Rattle.rec_forms.specs.Shape.{required};
 ghost use Rattle.rec_codec.specs.Status.{description_value, IsDescription, output_case_form, before_output, before_output_fields, before_output_form, IsBeforeOutput, after_output, after_output_fields, after_output_form, IsAfterOutput, attempts_form};
 ghost use Rattle.rec_codec.specs.Writes.{WritesLoaded};
 
+use crate::event_parts::Fields;
 use crate::loaded_form::{LoadedForm, required_loaded, required_some, write_each, write_loaded};
+use crate::several::{optional_two, required_four, required_two};
 use crate::{OutputForm, ToValueError};
 use rec_events::{
     ChildExecutionOutputDescription, Duration, ErrorSummary, ExecuteStatus,
@@ -86,10 +88,19 @@ fn output_from<S: OutputForm>(
     let Some(fields) = node.as_object() else {
         return Err(FromValueError::NotAValue);
     };
+    let (result, errors) = optional_two(alloc, fields, "result", "errors")?;
+    let output = match required_output::<S>(alloc, fields, "output") {
+        Ok(output) => output,
+        Err(error) => {
+            // by a call: in place, each case of what is let go is one of the proof
+            drop((result, errors));
+            return Err(error);
+        }
+    };
     Ok(ChildExecutionOutputDescription::Output {
-        errors: optional_field(alloc, fields, "errors")?,
-        result: optional_field(alloc, fields, "result")?,
-        output: required_output::<S>(alloc, fields, "output")?,
+        result,
+        output,
+        errors,
     })
 }
 
@@ -155,7 +166,6 @@ struct BeforeOutput {
 }
 
 impl BeforeOutput {
-    /// Reads the fields, the small ones first.
     #[tactic(auto, unfolding(crate::specs::Status::before_output_form))]
     fn read<'a>(
         alloc: Global,
@@ -163,11 +173,18 @@ impl BeforeOutput {
     ) -> Result<BeforeOutput, FromValueError>
         ensures { Gives result (before_output_form (members_view object.now)) }
     {
+        let (delay_before_start, is_slow) = required_two(
+            alloc,
+            object,
+            "delay-before-start",
+            "is-slow",
+        )?;
+        let (cpu_time, error_summary) = optional_two(alloc, object, "cpu-time", "error-summary")?;
         Ok(BeforeOutput {
-            cpu_time: optional_field(alloc, object, "cpu-time")?,
-            delay_before_start: required_field(alloc, object, "delay-before-start")?,
-            is_slow: required_field(alloc, object, "is-slow")?,
-            error_summary: optional_field(alloc, object, "error-summary")?,
+            cpu_time,
+            delay_before_start,
+            error_summary,
+            is_slow,
         })
     }
 }
@@ -182,16 +199,17 @@ fn write_before_output<S: OutputForm>(
         (text.new ≡ with_fields text.old (before_output_fields (before_output status.now))) }
     ensures known { OnOk result (IsBeforeOutput (before_output status.now)) }
 {
-    write_optional(alloc, text, "cpu-time", &status.cpu_time)?;
-    write_field(
-        alloc,
-        text,
-        "delay-before-start",
-        &status.delay_before_start,
-    )?;
-    write_optional(alloc, text, "error-summary", &status.error_summary)?;
-    write_field(alloc, text, "is-slow", &status.is_slow)?;
-    Ok(())
+    Fields::new()
+        .optional(alloc, text, "cpu-time", &status.cpu_time)
+        .field(
+            alloc,
+            text,
+            "delay-before-start",
+            &status.delay_before_start,
+        )
+        .optional(alloc, text, "error-summary", &status.error_summary)
+        .field(alloc, text, "is-slow", &status.is_slow)
+        .end()
 }
 
 /// Holds what stands after the output of an attempt, in the order of the keys.
@@ -205,7 +223,6 @@ struct AfterOutput {
 }
 
 impl AfterOutput {
-    /// Reads the fields, the small ones first.
     #[tactic(auto, unfolding(crate::specs::Status::after_output_form))]
     fn read<'a>(
         alloc: Global,
@@ -213,12 +230,21 @@ impl AfterOutput {
     ) -> Result<AfterOutput, FromValueError>
         ensures { Gives result (after_output_form (members_view object.now)) }
     {
+        let output_error_slice = optional_field(alloc, object, "output-error-slice")?;
+        let (retry_data, start_time, time_taken, result) = required_four(
+            alloc,
+            object,
+            "retry-data",
+            "start-time",
+            "time-taken",
+            "result",
+        )?;
         Ok(AfterOutput {
-            retry_data: required_field(alloc, object, "retry-data")?,
-            start_time: required_field(alloc, object, "start-time")?,
-            time_taken: required_field(alloc, object, "time-taken")?,
-            output_error_slice: optional_field(alloc, object, "output-error-slice")?,
-            result: required_field(alloc, object, "result")?,
+            output_error_slice,
+            result,
+            retry_data,
+            start_time,
+            time_taken,
         })
     }
 }
@@ -233,17 +259,18 @@ fn write_after_output<S: OutputForm>(
         (text.new ≡ with_fields text.old (after_output_fields (after_output status.now))) }
     ensures known { OnOk result (IsAfterOutput (after_output status.now)) }
 {
-    write_optional(
-        alloc,
-        text,
-        "output-error-slice",
-        &status.output_error_slice,
-    )?;
-    write_field(alloc, text, "result", &status.result)?;
-    write_field(alloc, text, "retry-data", &status.retry_data)?;
-    write_field(alloc, text, "start-time", &status.start_time)?;
-    write_field(alloc, text, "time-taken", &status.time_taken)?;
-    Ok(())
+    Fields::new()
+        .optional(
+            alloc,
+            text,
+            "output-error-slice",
+            &status.output_error_slice,
+        )
+        .field(alloc, text, "result", &status.result)
+        .field(alloc, text, "retry-data", &status.retry_data)
+        .field(alloc, text, "start-time", &status.start_time)
+        .field(alloc, text, "time-taken", &status.time_taken)
+        .end()
 }
 
 impl<S: OutputForm> LoadedForm for ExecuteStatus<S> {

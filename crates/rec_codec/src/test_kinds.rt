@@ -7,9 +7,10 @@ ghost use Rattle.rec_codec.specs.CoreKindForms.{test_started_form, test_slow_for
 ghost use Rattle.rec_codec.specs.CoreKinds.{core_name};
 ghost use Rattle.rec_codec.specs.EventParts.{core_event_fields, IsCoreEvent};
 
-use crate::event_parts::{write_elapsed_and_kind, write_test};
+use crate::event_parts::Fields;
+use crate::several::{required_five, required_four, required_three};
 use rec_events::{CoreEventKind, Duration, Stamp};
-use rec_forms::{FromValueError, optional_field, required_field, write_field};
+use rec_forms::{FromValueError, optional_field};
 use rec_json::{JsonText, Node};
 use std::alloc::{AllocError, Global};
 
@@ -37,13 +38,14 @@ pub fn write_test_started(
     else {
         unreachable!()
     };
-    write_field(alloc, text, "command-line", command_line)?;
-    write_field(alloc, text, "current-stats", current_stats)?;
-    write_elapsed_and_kind(alloc, text, elapsed, "test-started")?;
-    write_field(alloc, text, "running", running)?;
-    write_field(alloc, text, "slot-assignment", slot_assignment)?;
-    write_test(alloc, text, stress_index, test_instance, timestamp)?;
-    Ok(())
+    Fields::new()
+        .field(alloc, text, "command-line", command_line)
+        .field(alloc, text, "current-stats", current_stats)
+        .elapsed_and_kind(alloc, text, elapsed, "test-started")
+        .field(alloc, text, "running", running)
+        .field(alloc, text, "slot-assignment", slot_assignment)
+        .test(alloc, text, stress_index, test_instance, timestamp)
+        .end()
 }
 
 /// Reads the members of a test's start.
@@ -54,13 +56,23 @@ pub fn test_started_from<'a>(
 ) -> Result<CoreEventKind, FromValueError>
     ensures { Gives result (test_started_form (members_view object.now)) }
 {
+    let stress_index = optional_field(alloc, object, "stress-index")?;
+    let (test_instance, slot_assignment, current_stats, running, command_line) = required_five(
+        alloc,
+        object,
+        "test-instance",
+        "slot-assignment",
+        "current-stats",
+        "running",
+        "command-line",
+    )?;
     Ok(CoreEventKind::TestStarted {
-        stress_index: optional_field(alloc, object, "stress-index")?,
-        current_stats: required_field(alloc, object, "current-stats")?,
-        running: required_field(alloc, object, "running")?,
-        slot_assignment: required_field(alloc, object, "slot-assignment")?,
-        command_line: required_field(alloc, object, "command-line")?,
-        test_instance: required_field(alloc, object, "test-instance")?,
+        stress_index,
+        test_instance,
+        slot_assignment,
+        current_stats,
+        running,
+        command_line,
     })
 }
 
@@ -87,12 +99,13 @@ pub fn write_test_slow(
     else {
         unreachable!()
     };
-    write_elapsed_and_kind(alloc, text, elapsed, "test-slow")?;
-    write_field(alloc, text, "retry-data", retry_data)?;
-    write_field(alloc, text, "slow-elapsed", slow_elapsed)?;
-    write_test(alloc, text, stress_index, test_instance, timestamp)?;
-    write_field(alloc, text, "will-terminate", will_terminate)?;
-    Ok(())
+    Fields::new()
+        .elapsed_and_kind(alloc, text, elapsed, "test-slow")
+        .field(alloc, text, "retry-data", retry_data)
+        .field(alloc, text, "slow-elapsed", slow_elapsed)
+        .test(alloc, text, stress_index, test_instance, timestamp)
+        .field(alloc, text, "will-terminate", will_terminate)
+        .end()
 }
 
 /// Reads the members of a slow test.
@@ -103,12 +116,21 @@ pub fn test_slow_from<'a>(
 ) -> Result<CoreEventKind, FromValueError>
     ensures { Gives result (test_slow_form (members_view object.now)) }
 {
+    let stress_index = optional_field(alloc, object, "stress-index")?;
+    let (test_instance, retry_data, elapsed, will_terminate) = required_four(
+        alloc,
+        object,
+        "test-instance",
+        "retry-data",
+        "slow-elapsed",
+        "will-terminate",
+    )?;
     Ok(CoreEventKind::TestSlow {
-        stress_index: optional_field(alloc, object, "stress-index")?,
-        retry_data: required_field(alloc, object, "retry-data")?,
-        elapsed: required_field(alloc, object, "slow-elapsed")?,
-        will_terminate: required_field(alloc, object, "will-terminate")?,
-        test_instance: required_field(alloc, object, "test-instance")?,
+        stress_index,
+        test_instance,
+        retry_data,
+        elapsed,
+        will_terminate,
     })
 }
 
@@ -136,13 +158,14 @@ pub fn write_test_retry_started(
     else {
         unreachable!()
     };
-    write_field(alloc, text, "command-line", command_line)?;
-    write_elapsed_and_kind(alloc, text, elapsed, "test-retry-started")?;
-    write_field(alloc, text, "retry-data", retry_data)?;
-    write_field(alloc, text, "running", running)?;
-    write_field(alloc, text, "slot-assignment", slot_assignment)?;
-    write_test(alloc, text, stress_index, test_instance, timestamp)?;
-    Ok(())
+    Fields::new()
+        .field(alloc, text, "command-line", command_line)
+        .elapsed_and_kind(alloc, text, elapsed, "test-retry-started")
+        .field(alloc, text, "retry-data", retry_data)
+        .field(alloc, text, "running", running)
+        .field(alloc, text, "slot-assignment", slot_assignment)
+        .test(alloc, text, stress_index, test_instance, timestamp)
+        .end()
 }
 
 /// Reads the members of the start of a further attempt.
@@ -153,13 +176,23 @@ pub fn test_retry_started_from<'a>(
 ) -> Result<CoreEventKind, FromValueError>
     ensures { Gives result (test_retry_started_form (members_view object.now)) }
 {
+    let stress_index = optional_field(alloc, object, "stress-index")?;
+    let (test_instance, slot_assignment, retry_data, running, command_line) = required_five(
+        alloc,
+        object,
+        "test-instance",
+        "slot-assignment",
+        "retry-data",
+        "running",
+        "command-line",
+    )?;
     Ok(CoreEventKind::TestRetryStarted {
-        stress_index: optional_field(alloc, object, "stress-index")?,
-        retry_data: required_field(alloc, object, "retry-data")?,
-        running: required_field(alloc, object, "running")?,
-        slot_assignment: required_field(alloc, object, "slot-assignment")?,
-        command_line: required_field(alloc, object, "command-line")?,
-        test_instance: required_field(alloc, object, "test-instance")?,
+        stress_index,
+        test_instance,
+        slot_assignment,
+        retry_data,
+        running,
+        command_line,
     })
 }
 
@@ -185,12 +218,13 @@ pub fn write_test_skipped(
     else {
         unreachable!()
     };
-    write_field(alloc, text, "elapsed", elapsed)?;
-    write_field(alloc, text, "junit-report-skipped", junit_report_skipped)?;
-    text.string_field("kind", "test-skipped")?;
-    write_field(alloc, text, "reason", reason)?;
-    write_test(alloc, text, stress_index, test_instance, timestamp)?;
-    Ok(())
+    Fields::new()
+        .field(alloc, text, "elapsed", elapsed)
+        .field(alloc, text, "junit-report-skipped", junit_report_skipped)
+        .name(text, "kind", "test-skipped")
+        .field(alloc, text, "reason", reason)
+        .test(alloc, text, stress_index, test_instance, timestamp)
+        .end()
 }
 
 /// Reads the members of a skipped test.
@@ -201,10 +235,18 @@ pub fn test_skipped_from<'a>(
 ) -> Result<CoreEventKind, FromValueError>
     ensures { Gives result (test_skipped_form (members_view object.now)) }
 {
+    let stress_index = optional_field(alloc, object, "stress-index")?;
+    let (test_instance, reason, junit_report_skipped) = required_three(
+        alloc,
+        object,
+        "test-instance",
+        "reason",
+        "junit-report-skipped",
+    )?;
     Ok(CoreEventKind::TestSkipped {
-        stress_index: optional_field(alloc, object, "stress-index")?,
-        reason: required_field(alloc, object, "reason")?,
-        junit_report_skipped: required_field(alloc, object, "junit-report-skipped")?,
-        test_instance: required_field(alloc, object, "test-instance")?,
+        stress_index,
+        test_instance,
+        reason,
+        junit_report_skipped,
     })
 }

@@ -91,6 +91,10 @@ entries_of-insert old new mid k v name content absent same key items inserted =
     ap entries_of (inserted ∙ insert_entry-new string_eq mid k v there ∙ ap (λ l. l ++ (k, v) ∷ []) same)
     ∙ map-append entry_of old.entries ((k, v) ∷ []) ∙ ap (λ n. entries_of old.entries ++ entry_named n v.items ∷ []) key ∙ ap (λ l. entries_of old.entries ++ entry_named name l ∷ []) items
 
+-- one more entry, where the entries before were kept
+pub one_more : (old mid new : List (String Global × Vec ℕ Global)) (made e : Entry) → mid ≡ old → made ≡ e → entries_of new ≡ entries_of mid ++ made ∷ [] → entries_of new ≡ entries_of old ++ e ∷ []
+one_more old mid new made e same is h = h ∙ ap (λ l. entries_of l ++ made ∷ []) same ∙ ap (λ e. entries_of old ++ e ∷ []) is
+
 -- the sums after one more entry
 pub HasSizes-push : (es : List Entry) (name content : List ℕ) (compressed uncompressed size : ℕ) → HasSizes es compressed uncompressed → size ≡ length (spell (es ++ entry_named name content ∷ []))
     → HasSizes (es ++ entry_named name content ∷ []) size (uncompressed + length content)
@@ -106,6 +110,14 @@ IsSound-push es fs name content compressed uncompressed size h some short text a
     let is : IsEntry (entry_named name content) = record { name = record { some = some; short = omega (arith, short); text = text }; content = omega (arith, longer, e, small) } in
     subst (λ (l : List Entry). IsSound l size (uncompressed + length content)) (sym same)
     (record { entries = AreFrom-push [] es (entry_named name content) h.entries is absent; sizes = HasSizes-push es name content compressed uncompressed size h.sizes e })
+
+-- the same for the entries of a map, as they are seen, where they were kept until the new one was put behind them
+pub IsSound-one_more : (es : List Entry) (old mid new : List (String Global × Vec ℕ Global)) (made : Entry) (name content : List ℕ) (compressed uncompressed size : ℕ) → entries_of old ≡ es
+    → IsSound (entries_of old) compressed uncompressed → 0 < length name → length name < 65536 → IsUtf8 name → content_of es name ≡ None → size ≡ length (spell (es ++ entry_named name content ∷ [])) → size < 2 ^ 64
+    → mid ≡ old → made ≡ entry_named name content → entries_of new ≡ entries_of mid ++ made ∷ [] → IsSound (entries_of new) size (uncompressed + length content)
+IsSound-one_more es old mid new made name content compressed uncompressed size seen h some short text absent e small same is more =
+    IsSound-push (entries_of old) (entries_of new) name content compressed uncompressed size h some short text (ap (λ l. content_of l name) seen ∙ absent)
+    (e ∙ ap (λ l. length (spell (l ++ entry_named name content ∷ []))) (sym seen)) small (one_more old mid new made (entry_named name content) same is more)
 
 -- the entry of the map at an index, and what it has
 pub entry_of_pair : (es : List Entry) (ps : List (String Global × Vec ℕ Global)) (i : ℕ) (p : String Global × Vec ℕ Global) → es ≡ entries_of ps → slice_get ps i ≡ Some p

@@ -2,7 +2,6 @@ pub mod Ascending
 pub mod Contents
 pub mod ContentsLeft
 pub mod Entries
-pub mod FileMaps
 pub mod Prefixes
 pub mod Fronts
 pub mod Grammar

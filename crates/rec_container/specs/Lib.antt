@@ -1,10 +1,8 @@
 pub mod Causes
 pub mod Container
 pub mod NamedContents
-pub mod Disks
 pub mod Fronts
 pub mod Memory
-pub mod MemoryDisks
 pub mod Placed
 pub mod Reading
 pub mod Sorted

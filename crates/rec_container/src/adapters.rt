@@ -73,7 +73,7 @@ impl<W: Write> StdSink<W> {
 
 /// Writes the first bytes of a piece, flushes, and returns how many: at least one, unless the piece is
 /// empty. `None` where the write or the flush failed, or where the write took nothing of a piece.
-pub(crate) fn write_flushed<W: Write>(writer: &mut W, piece: &[u8]) -> Option<usize>
+pub fn write_flushed<W: Write>(writer: &mut W, piece: &[u8]) -> Option<usize>
     ensures bound { IfSome result (λ n. n ≤ length piece.now) }
     ensures progress { IfSome result (λ n. 0 < length piece.now → 0 < n) }
     ensures passed { IfSome result (λ n. Appends (W.contents writer.old) (W.contents writer.new) (take n piece.now)) }

@@ -4,29 +4,39 @@ ghost use Rattle.rec_container.specs.declared.errors.ContainerError.TheVariants 
 ghost use Rattle.rec_container.specs.declared.errors.ContainerWriteError.TheVariants.{OutOfMemory};
 
 use std::alloc::{AllocError, AllocFailed};
+use std::fmt;
 use thiserror::Error;
 
 /// Says why a container was not written further.
 #[derive(Clone, Copy, Debug, PartialEq, Eq, Error)]
 pub enum ContainerWriteError {
     /// The sink failed at a call before this one.
-    #[error("the sink failed earlier, so nothing more is written")]
     Failed,
     /// The name has no byte, or more than 65535.
-    #[error("an entry's name must have 1 to 65535 bytes")]
     BadName,
     /// An entry of this name with other bytes is there.
-    #[error("an entry of this name with other bytes is there already")]
     NameCollision,
     /// With the entry the container would have 2^64 bytes or more.
-    #[error("the container would have 2^64 bytes or more")]
     CountOutOfRange,
     /// The sink failed. It took a proper prefix of what was to be written.
-    #[error("the sink failed")]
     SinkFault,
     /// Memory ran out. Nothing was written.
-    #[error("out of memory")]
     OutOfMemory,
+}
+
+impl fmt::Display for ContainerWriteError {
+    fn fmt<W: fmt::Write>(&self, f: &mut fmt::Formatter<W>) -> fmt::Result {
+        f.write_str(match self {
+            ContainerWriteError::Failed => "the sink failed earlier, so nothing more is written",
+            ContainerWriteError::BadName => "an entry's name must have 1 to 65535 bytes",
+            ContainerWriteError::NameCollision => {
+                "an entry of this name with other bytes is there already"
+            }
+            ContainerWriteError::CountOutOfRange => "the container would have 2^64 bytes or more",
+            ContainerWriteError::SinkFault => "the sink failed",
+            ContainerWriteError::OutOfMemory => "out of memory",
+        })
+    }
 }
 
 impl From<AllocError> for ContainerWriteError {

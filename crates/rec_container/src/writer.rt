@@ -2,11 +2,12 @@
 ghost use Rattle.std.specs.declared.option.Option.{Option};
 ghost use Rattle.std.specs.Io.KnownBytes.{Appends};
 ghost use Rattle.std.specs.Option.{SomeIff};
-ghost use Rattle.std.specs.Prelude.{List, ℕ, ◌≡◌, ◌↔◌, IsTrue, map, slice_get, ◌<◌, [], ◌∷◌, ◌++◌, if◌then◌else◌, false, true, IfSome, IfOk, IfErr, OnOk, OnErr, None, Some, length, ◌+◌, ◌^◌, ◌≤◌};
+ghost use Rattle.std.specs.Prelude.{List, ℕ, ◌≡◌, ◌↔◌, IsTrue, map, slice_get, ◌<◌, [], ◌∷◌, ◌++◌, if◌then◌else◌, false, true, IfSome, IfOk, IfErr, OnOk, OnErr, None, Some, length, ◌+◌, ◌^◌, ◌≤◌, string_bytes};
+ghost use Rattle.indexmap.specs.IndexMap.{spare};
 ghost use Rattle.rec_container.specs.Causes.{HasCause, Rose};
-ghost use Rattle.rec_container.specs.Container.{entry_head, addition, ending, magic, content_of, prefix, spell, AreFrom};
+ghost use Rattle.rec_container.specs.Container.{Entry, entry_head, addition, ending, magic, content_of, prefix, spell, AreFrom};
 ghost use Rattle.rec_container.specs.Taking.{TookPart};
-ghost use Rattle.rec_container.specs.Writing.{entry_named, refusal, Accepts, Adds, Refuses, RefusesLate, HasSizesOf, Unfinished, entries_of};
+ghost use Rattle.rec_container.specs.Writing.{entry_named, entry_of, refusal, Accepts, Adds, Refuses, RefusesLate, HasSizesOf, Unfinished, entries_of};
 
 use crate::errors::{ContainerSizes, ContainerWriteError};
 use crate::named_contents::{NamedContent, write_content, write_magic};
@@ -26,6 +27,14 @@ pub struct ContainerWriter<K: Sink> {
     compressed: u64,
     uncompressed: u64,
     failed: bool,
+}
+
+/// Holds a new entry, and what goes before its content.
+#[derive(Drop)]
+struct NewEntry {
+    name: String,
+    content: Vec<u8>,
+    head: Vec<u8>,
 }
 
 /// Says how the writing ended, and holds the sink.
@@ -232,17 +241,15 @@ impl<K: Sink> ContainerWriter<K> {
         ensures later { K.faults self.old.sink ≤ K.faults self.new.sink }
         ensures spelled { AreFrom [] self.new.entries }
     {
-        let key = String::from_str(self.alloc, name)?;
-        let content = Vec::from_slice(self.alloc, bytes)?;
-        self.entries.reserve(1)?;
-        let head = head(self.alloc, self.entries.is_empty(), name, bytes.len())?;
-        if write_two(&mut self.sink, &head, bytes).is_err() {
+        let Ok(entry) = prepare(self.alloc, &mut self.entries, name, bytes) else {
+            return Err(ContainerWriteError::OutOfMemory);
+        };
+        let Ok(()) = append(&mut self.sink, &mut self.entries, entry) else {
             self.failed = true;
             return Err(ContainerWriteError::SinkFault);
-        }
+        };
         self.uncompressed += bytes.len() as u64;
         self.compressed = compressed;
-        let _ = self.entries.insert(key, content).unwrap();
         Ok(())
     }
 
@@ -264,35 +271,11 @@ impl<K: Sink> ContainerWriter<K> {
         ensures whole { (start : Option (List ℕ)) → Appends start (K.taken self.sink) (prefix self.entries) →
             OnOk result.result (Appends start (K.taken result.sink) (spell self.entries)) }
     {
-        let ContainerWriter {
-            alloc: _,
-            mut sink,
-            entries,
-            compressed,
-            uncompressed,
-            failed,
-        } = self;
-        if failed {
-            return ContainerEnd {
-                result: Err(ContainerWriteError::Failed),
-                sink,
-            };
-        }
-        let count = entries.len() as u64;
-        match write_all(&mut sink, end_of(count == 0)) {
-            Err(_) => ContainerEnd {
-                result: Err(ContainerWriteError::SinkFault),
-                sink,
-            },
-            Ok(()) => ContainerEnd {
-                result: Ok(ContainerSizes {
-                    compressed,
-                    uncompressed,
-                    entries: count,
-                }),
-                sink,
-            },
-        }
+        let failed = self.is_failed();
+        let sizes = self.sizes();
+        let mut sink = self.into_sink();
+        let result = write_end(&mut sink, failed, sizes);
+        ContainerEnd { result, sink }
     }
 
     /// Hands the sink back without an end mark.
@@ -301,6 +284,102 @@ impl<K: Sink> ContainerWriter<K> {
         ensures entries { AreFrom [] self.entries }
     {
         self.sink
+    }
+}
+
+/// Makes room for one more entry, and what [`append`] takes of it.
+fn prepare(
+    alloc: Global,
+    entries: &mut IndexMap<String, Vec<u8>>,
+    name: &str,
+    bytes: &[u8],
+) -> Result<NewEntry, AllocError>
+    requires { length name.now < 65536 }
+    ensures kept { entries.new.entries ≡ entries.old.entries }
+    ensures room { OnOk result (0 < spare entries.new) }
+    ensures entry { IfOk result (λ e. entry_of (e.name, e.content) ≡ entry_named name.now bytes.now) }
+    ensures bytes { IfOk result (λ e. e.head.items ++ e.content.items
+        ≡ addition (entries_of entries.old.entries) (entry_named name.now bytes.now)) }
+{
+    entries.reserve(1)?;
+    new_entry(alloc, entries.is_empty(), name, bytes)
+}
+
+/// Copies a name and a content, and makes what goes before the content.
+fn new_entry(
+    alloc: Global,
+    is_first: bool,
+    name: &str,
+    bytes: &[u8],
+) -> Result<NewEntry, AllocError>
+    requires { length name.now < 65536 }
+    ensures entry { IfOk result (λ e. entry_of (e.name, e.content) ≡ entry_named name.now bytes.now) }
+    ensures head { IfOk result (λ e. e.head.items ≡ (if is_first then magic else []) ++ entry_head name.now (length bytes.now)) }
+{
+    let head = head(alloc, is_first, name, bytes.len())?;
+    let name = String::from_str(alloc, name)?;
+    let content = Vec::from_slice(alloc, bytes)?;
+    Ok(NewEntry {
+        name,
+        content,
+        head,
+    })
+}
+
+/// Writes an entry, and keeps it after the others. Where the sink fails these stay as they are.
+fn append<K: Sink>(
+    sink: &mut K,
+    entries: &mut IndexMap<String, Vec<u8>>,
+    entry: NewEntry,
+) -> Result<(), SinkFailed>
+    requires room { 0 < spare entries.old }
+    requires absent { content_of (entries_of entries.old.entries) (string_bytes entry.name) ≡ None }
+    ensures ok { OnOk result (Appends (K.taken sink.old) (K.taken sink.new) (entry.head.items ++ entry.content.items)) }
+    ensures fault { OnErr result (TookPart (K.taken sink.old) (K.taken sink.new) (entry.head.items ++ entry.content.items)) }
+    ensures cause { HasCause (K.faults sink.old) (K.faults sink.new) result }
+    ensures entries { OnOk result (entries_of entries.new.entries ≡ entries_of entries.old.entries ++ entry_of (entry.name, entry.content) ∷ []) }
+    ensures kept { OnErr result (entries.new.entries ≡ entries.old.entries) }
+{
+    match write_two(sink, &entry.head, &entry.content) {
+        Ok(()) => {
+            keep(entries, entry);
+            Ok(())
+        }
+        Err(fault) => {
+            drop(entry);
+            Err(fault)
+        }
+    }
+}
+
+/// Keeps an entry after the others.
+fn keep(entries: &mut IndexMap<String, Vec<u8>>, entry: NewEntry)
+    requires room { 0 < spare entries.old }
+    requires absent { content_of (entries_of entries.old.entries) (string_bytes entry.name) ≡ None }
+    ensures { entries_of entries.new.entries ≡ entries_of entries.old.entries ++ entry_of (entry.name, entry.content) ∷ [] }
+{
+    let NewEntry { name, content, .. } = entry;
+    drop(entries.insert(name, content).unwrap());
+}
+
+/// Writes the end mark after entries of these sizes, unless the sink has failed.
+fn write_end<K: Sink>(
+    sink: &mut K,
+    failed: bool,
+    sizes: ContainerSizes,
+) -> Result<ContainerSizes, ContainerWriteError>
+    ensures ok { IfOk result (λ s. (failed ≡ false) × (s ≡ sizes)) }
+    ensures taken { (es : List Entry) → length es ≡ sizes.entries → OnOk result (Appends (K.taken sink.old) (K.taken sink.new) (ending es)) }
+    ensures refused { (es : List Entry) → length es ≡ sizes.entries →
+        IfErr result (Unfinished K.taken K.faults (record { entries = es; sink = sink.old; failed = failed }) sink.new) }
+    ensures later { K.faults sink.old ≤ K.faults sink.new }
+{
+    if failed {
+        return Err(ContainerWriteError::Failed);
+    }
+    match write_all(sink, end_of(sizes.entries == 0)) {
+        Ok(()) => Ok(sizes),
+        Err(_) => Err(ContainerWriteError::SinkFault),
     }
 }
 

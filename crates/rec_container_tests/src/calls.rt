@@ -1,6 +1,6 @@
 //! Asks a disk, and prints what it answers.
 
-use rec_container::{Disk, DiskError};
+use rec_disk::{Disk, DiskError};
 use std::alloc::{AllocError, Global};
 use std::str;
 

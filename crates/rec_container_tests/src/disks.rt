@@ -1,7 +1,7 @@
 //! What a disk in memory keeps and answers.
 
 use crate::calls::{Call, answers};
-use rec_container::MemoryDisk;
+use rec_disk::MemoryDisk;
 use std::alloc::{AllocError, Global};
 use std::test::Fail;
 

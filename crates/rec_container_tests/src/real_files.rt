@@ -1,7 +1,7 @@
 //! What a disk over the machine's own files answers. Contracts can't say what such a disk holds.
 
 use crate::calls::{Call, answers};
-use rec_container::StdDisk;
+use rec_disk::StdDisk;
 use std::alloc::Global;
 use std::fs;
 use std::process::Abort;

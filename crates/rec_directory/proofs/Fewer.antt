@@ -3,7 +3,7 @@ use Rattle.std.proofs.Common.{zero, suc, ◌≡◌, ℕ, ◌+◌, ◌<◌, ◌�
 use Rattle.std.specs.List.{onto_first}
 use Rattle.std.specs.Prelude.{MatchBool, OnSome}
 use Rattle.serde_json.specs.Data.{Data}
-use Rattle.rec_container.specs.Disks.{Files}
+use Rattle.rec_disk.specs.Disks.{Files}
 use Rattle.rec_codec.proofs.LineItemLemmas.{length-left_after}
 use Rattle.rec_codec.specs.declared.line_events.LineError.{LineError}
 use Rattle.rec_codec.specs.LineEvents.{blank}

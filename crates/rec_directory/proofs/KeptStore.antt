@@ -2,7 +2,7 @@
 use Rattle.std.proofs.Common.{◌≡◌, ℕ, List, Option, Some, None, Result, Err, refl, sym, ap, subst, ◌∙◌}
 use Rattle.std.specs.Prelude.{◌↔◌}
 use Rattle.rec_container.specs.Container.{Entry, IsContainer}
-use Rattle.rec_container.specs.Disks.{Files}
+use Rattle.rec_disk.specs.Disks.{Files}
 use Rattle.rec_store.proofs.PartRefusals.{answers_part}
 use Rattle.rec_store.specs.declared.read_error.RecordReadError.TheVariants.{RunNotFound, OpenArchive, ParseArchive, FileNotFound, FileTooLarge, NotUtf8, DeserializeMetadata, UnknownOutputType, ExtractFile, OpenRunLog, DiskFault, ReadRunLog, ParseEvent, OutOfMemory}
 use Rattle.rec_store.specs.declared.read_error.RecordReadError.{RecordReadError}

@@ -2,7 +2,7 @@
 use Rattle.std.proofs.Common.{◌≡◌, ℕ, ◌+◌, List, ◌++◌, length, take, drop, Option, Some, None, Ok, sym, ap, subst, ◌∙◌, length-append, take-append-drop}
 use Rattle.std.proofs.lemmas.List.{length-take-le}
 use Rattle.std.proofs.Math.Seq.{take-append-add}
-use Rattle.rec_container.specs.Disks.{Files, ReadsAt, ReadsBytes}
+use Rattle.rec_disk.specs.Disks.{Files, ReadsAt, ReadsBytes}
 use Rattle.rec_directory.specs.Files.{IsStart, IsStartOf}
 
 start_of_more : (file : Option (List ℕ)) (bytes buf : List ℕ) (count : ℕ) → IsStartOf file bytes → ReadsBytes file (length bytes) (Ok count) buf → IsStartOf file (bytes ++ take count buf)

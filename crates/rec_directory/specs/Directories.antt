@@ -5,8 +5,8 @@ use Rattle.rec_container.specs.Causes.{Rose}
 use Rattle.rec_container.specs.Container.{Entry, IsContainer}
 use Rattle.rec_container.specs.declared.errors.ContainerError.TheVariants as faults
 use Rattle.rec_container.specs.declared.errors.ContainerError.{ContainerError}
-use Rattle.rec_container.specs.Disks.{Files, IsThere}
 use Rattle.rec_container.specs.Reading.{IsFault}
+use Rattle.rec_disk.specs.Disks.{Files, IsThere}
 use Rattle.rec_store.specs.declared.read_error.RecordReadError.TheVariants.{RunNotFound, OpenArchive, ParseArchive, ExtractFile, DiskFault, OutOfMemory}
 use Rattle.rec_store.specs.declared.read_error.RecordReadError.{RecordReadError}
 use Rattle.rec_directory.specs.Files.{IsMissing, IsWhole}

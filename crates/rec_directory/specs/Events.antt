@@ -3,9 +3,9 @@ use Rattle.std.specs.Borrow.{MutBor}
 use Rattle.std.specs.Prelude.{◌≡◌, ℕ, ◌+◌, ◌≤◌, List, [], length, Option, Some, None, Result, Ok, Err, ◌⊎◌}
 use Rattle.serde_json.specs.Data.{Data}
 use Rattle.rec_container.specs.Causes.{Rose}
-use Rattle.rec_container.specs.declared.disk.DiskError.TheVariants as disk
-use Rattle.rec_container.specs.declared.disk.DiskError.{DiskError}
-use Rattle.rec_container.specs.Disks.{Files}
+use Rattle.rec_disk.specs.declared.disk.DiskError.TheVariants as disk
+use Rattle.rec_disk.specs.declared.disk.DiskError.{DiskError}
+use Rattle.rec_disk.specs.Disks.{Files}
 use Rattle.rec_codec.specs.declared.line_events.LineError.TheVariants as line
 use Rattle.rec_codec.specs.declared.line_events.LineError.{LineError}
 use Rattle.rec_codec.specs.LineItems.{GivesNext}

@@ -1,7 +1,7 @@
 -- What is read of a file.
 use Rattle.std.specs.Prelude.{◌≡◌, ℕ, List, [], length, take, Option, Some, None}
-use Rattle.rec_container.specs.declared.disk.DiskError.{DiskError}
-use Rattle.rec_container.specs.Disks.{Files, Refuses}
+use Rattle.rec_disk.specs.declared.disk.DiskError.{DiskError}
+use Rattle.rec_disk.specs.Disks.{Files, Refuses}
 
 -- as many bytes as these stand at the start of the file; of a file that isn't there none are read
 abbrev pub IsStartOf : Option (List ℕ) → List ℕ → Type 0

@@ -9,7 +9,7 @@ ghost use Rattle.rec_directory.specs.Logs.{IsPlace, left_at};
 use crate::file::read_prefix;
 use crate::log::{LogPlace, next_event};
 use rec_codec::LineError;
-use rec_container::{Disk, DiskError};
+use rec_disk::{Disk, DiskError};
 use rec_events::{RecordingSpec, TestEventSummary, Text};
 use rec_json::Scratch;
 use rec_store::RecordReadError;

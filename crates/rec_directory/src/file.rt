@@ -1,9 +1,9 @@
 //! Files that are read into memory.
 ghost use Rattle.std.specs.Prelude.{◌≡◌, ◌≤◌, IfOk, IfErr, vec_len};
-ghost use Rattle.rec_container.specs.Disks.{HasDiskCause};
+ghost use Rattle.rec_disk.specs.Disks.{HasDiskCause};
 ghost use Rattle.rec_directory.specs.Files.{IsPrefix, IsUnread, IsWhole};
 
-use rec_container::{Disk, DiskError};
+use rec_disk::{Disk, DiskError};
 use std::alloc::Global;
 
 // The most bytes that are asked for at once.

@@ -1,7 +1,7 @@
 //! The reader of a run's directory.
 ghost use Rattle.std.specs.Prelude.{◌≡◌, List, IfOk, IfErr, IsSome, None, OnErr, OnOk, Some, string_bytes};
 ghost use Rattle.rec_container.specs.Container.{Entry};
-ghost use Rattle.rec_container.specs.Disks.{Exists, HasDiskCause};
+ghost use Rattle.rec_disk.specs.Disks.{Exists, HasDiskCause};
 ghost use Rattle.rec_forms.specs.Recording.{test_list_form, record_opts_form};
 ghost use Rattle.rec_format.specs.ScopeForms.{recorded_scope_form};
 ghost use Rattle.rec_store.specs.Entries.{build_scope_path, cargo_metadata_path, test_list_path, record_opts_path};
@@ -15,7 +15,8 @@ use crate::events::{RecordEventIter, log_error};
 use crate::paths::join;
 use crate::store::read_store;
 use crate::store_parts::StoreBytes;
-use rec_container::{Disk, DiskError, Sink};
+use rec_container::Sink;
+use rec_disk::{Disk, DiskError};
 use rec_events::{RecordOpts, TestListSummary, Text};
 use rec_format::{
     BUILD_SCOPE_JSON_PATH, CARGO_METADATA_JSON_PATH, RECORD_OPTS_JSON_PATH, RUN_LOG_FILE_NAME,

@@ -8,7 +8,8 @@ ghost use Rattle.rec_directory.specs.Paths.{path_of_store};
 
 use crate::file::read_file;
 use crate::paths::join;
-use rec_container::{Container, ContainerError, Disk, DiskError};
+use rec_container::{Container, ContainerError};
+use rec_disk::{Disk, DiskError};
 use rec_events::Text;
 use rec_format::STORE_ZIP_FILE_NAME;
 use rec_store::RecordReadError;

@@ -1,7 +1,8 @@
 //! Asks the reader of a directory, and prints what it answers.
 
-use rec_container::{Disk, GrowingSink};
+use rec_container::GrowingSink;
 use rec_directory::{RecordEventIter, RecordReader};
+use rec_disk::Disk;
 use rec_format::RerunInfo;
 use rec_forms::{Form, write_text};
 use rec_store::{RecordReadError, StoreReader};

@@ -1,7 +1,7 @@
 //! Directories in memory: what is read of them, what they lack, and what is answered where a call of the disk fails.
 
 use crate::asking::{AMPLE, Question, STORE, answers};
-use rec_container::{Disk, DiskError, MemoryDisk};
+use rec_disk::{Disk, DiskError, MemoryDisk};
 use std::alloc::Global;
 use std::process::Abort;
 use std::test::Fail;

@@ -1,7 +1,7 @@
 //! Logs that change once their length was asked for.
 
 use crate::asking::{AMPLE, Question, answers};
-use rec_container::{Disk, DiskError};
+use rec_disk::{Disk, DiskError};
 use std::process::Abort;
 use std::test::Fail;
 

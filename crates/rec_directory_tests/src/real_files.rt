@@ -1,7 +1,7 @@
 //! Directories of runs in the machine's own files.
 
 use crate::asking::{AMPLE, Question, STORE, answers};
-use rec_container::StdDisk;
+use rec_disk::StdDisk;
 use std::alloc::Global;
 use std::fs;
 use std::process::Abort;

@@ -8,7 +8,7 @@ use Rattle.std.specs.declared.alloc.Global.{Global}
 use Rattle.std.specs.List.Sorted.{IsStrictlySortedBy}
 use Rattle.std.specs.List.{AllByRecursion}
 use Rattle.std.specs.Ordering.{nat_cmp, match_ordering, ordering_reverse}
-use Rattle.std.specs.Prelude.{◌≡◌, ◌==◌, ◌&&◌, ℕ, Bool, List, [], ◌∷◌, ◌++◌, map, String, string_bytes, string_cmp, string_eq, refl}
+use Rattle.std.specs.Prelude.{◌≡◌, ◌==◌, ℕ, List, [], ◌∷◌, ◌++◌, map, String, string_bytes, string_cmp, string_eq, refl}
 use Rattle.rec_events.specs.Names.{Rise, texts, with_name, AreTexts}
 use Rattle.rec_events.specs.Pairs.{pairs, put_pair, keys, KeysRise}
 
@@ -65,14 +65,6 @@ texts-eq [] [] = refl
 texts-eq [] (l ∷ ls) = refl
 texts-eq (k ∷ ks) [] = refl
 texts-eq (k ∷ ks) (l ∷ ls) = rw (texts-eq ks ls)
-
--- and so are maps, where their values are
-pub pairs-eq : {V : Type 0} (same : V → V → Bool) (es fs : List (String Global × V))
-    → pointwise (λ p q. string_eq p.0 q.0 && same p.1 q.1) es fs ≡ pointwise (λ p q. pointwise ◌==◌ p.0 q.0 && same p.1 q.1) (pairs es) (pairs fs)
-pairs-eq same [] [] = refl
-pairs-eq same [] (f ∷ fs) = refl
-pairs-eq same (e ∷ es) [] = refl
-pairs-eq same (e ∷ es) (f ∷ fs) = rw (pairs-eq same es fs)
 
 -- ---- what goes last
 

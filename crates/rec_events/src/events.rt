@@ -9,7 +9,7 @@ use crate::{
 
 /// Says what happened, without outputs. `running` is how many tests run after the event, and
 /// `setup_scripts_running` how many setup scripts.
-#[derive(PartialEq, Eq, Drop)]
+#[derive(Drop)]
 pub enum CoreEventKind {
     /// The run began.
     RunStarted {
@@ -162,7 +162,6 @@ pub enum CoreEventKind {
 
 /// Says what happened, with outputs.
 #[derive(Drop)]
-#[derive_where(PartialEq; S::ChildOutput)]
 pub enum OutputEventKind<S: OutputSpec> {
     /// A setup script ended.
     SetupScriptFinished {
@@ -225,7 +224,6 @@ pub enum OutputEventKind<S: OutputSpec> {
 
 /// Says what happened.
 #[derive(Drop)]
-#[derive_where(PartialEq; S::ChildOutput)]
 pub enum TestEventKindSummary<S: OutputSpec> {
     /// An event without outputs.
     Core(CoreEventKind),
@@ -235,7 +233,6 @@ pub enum TestEventKindSummary<S: OutputSpec> {
 
 /// Holds an event of a run: when it happened, how long after the run's start, and what it is.
 #[derive(Drop)]
-#[derive_where(PartialEq; S::ChildOutput)]
 pub struct TestEventSummary<S: OutputSpec> {
     /// When it happened.
     pub timestamp: Stamp,

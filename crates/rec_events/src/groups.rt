@@ -12,7 +12,7 @@ use std::marker::Model;
 const GLOBAL_GROUP: &str = "@global";
 
 /// Names a test group of one's own: any text but `@global`.
-#[derive(PartialEq, Eq, Drop)]
+#[derive(Drop)]
 pub struct GroupName {
     text: Text,
 }
@@ -49,7 +49,7 @@ impl TryClone for GroupName {
 }
 
 /// Names the group that a test is in.
-#[derive(PartialEq, Eq, Drop)]
+#[derive(Drop)]
 pub enum TestGroup {
     /// The group of all tests that are in no other group.
     Global,

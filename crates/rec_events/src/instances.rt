@@ -16,7 +16,7 @@ pub struct OwnedTestInstanceId {
 
 /// Says where a test runs: its slot among all tests, and its slot within its group, if the group
 /// has slots.
-#[derive(PartialEq, Eq, Drop)]
+#[derive(Drop)]
 pub struct TestSlotAssignment {
     /// The slot among all tests, from 0.
     pub global_slot: u64,
@@ -27,7 +27,7 @@ pub struct TestSlotAssignment {
 }
 
 /// Says which attempt it is, of how many.
-#[derive(Clone, Copy, PartialEq, Eq, Drop)]
+#[derive(Clone, Copy, Drop)]
 pub struct RetryData {
     /// The number of the attempt, from 1 to `total_attempts`.
     pub attempt: u32,
@@ -36,7 +36,7 @@ pub struct RetryData {
 }
 
 /// Says which run of a stress run it is, and of how many where that is known.
-#[derive(Clone, Copy, PartialEq, Eq, Drop)]
+#[derive(Clone, Copy, Drop)]
 pub struct StressIndexSummary {
     /// How many sub-runs came before it, from 0.
     pub current: u32,
@@ -46,10 +46,7 @@ pub struct StressIndexSummary {
 
 impl TryClone for OwnedTestInstanceId {
     fn try_clone(&self, alloc: Global) -> Result<OwnedTestInstanceId, AllocError> {
-        Ok(OwnedTestInstanceId {
-            binary_id: self.binary_id.try_clone(alloc)?,
-            test_name: self.test_name.try_clone(alloc)?,
-        })
+        self.as_id().to_owned(alloc)
     }
 }
 

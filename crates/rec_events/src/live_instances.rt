@@ -1,7 +1,7 @@
 //! Tests, as events name them while a run is going on.
 ghost use Rattle.std.specs.Prelude.{◌≡◌, IfOk};
 
-use crate::{OwnedTestInstanceId, RustBinaryId, TestCaseName, TryClone};
+use crate::{OwnedTestInstanceId, RustBinaryId, TestCaseName, clone_both};
 use std::alloc::{AllocError, Global};
 use std::marker::Model;
 
@@ -32,9 +32,10 @@ impl TestInstanceId<'_> {
     pub fn to_owned(&self, alloc: Global) -> Result<OwnedTestInstanceId, AllocError>
         ensures { IfOk result (λ t. t ≡ self.now) }
     {
+        let (binary_id, test_name) = clone_both(alloc, self.binary_id, self.test_name)?;
         Ok(OwnedTestInstanceId {
-            binary_id: self.binary_id.try_clone(alloc)?,
-            test_name: self.test_name.try_clone(alloc)?,
+            binary_id,
+            test_name,
         })
     }
 }

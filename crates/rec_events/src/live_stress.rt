@@ -1,11 +1,11 @@
 //! Stress runs, as events name them while a run is going on.
-ghost use Rattle.std.specs.Prelude.{◌≡◌, option_map};
+ghost use Rattle.std.specs.Prelude.{◌≡◌};
 ghost use Rattle.rec_events.specs.LiveStress.{stress_index_summary, condition_summary};
 
 use crate::{Duration, NonZeroCount, StressConditionSummary, StressIndexSummary};
 
 /// Says which run of a stress run it is, and of how many where that is known.
-#[derive(Clone, Copy, PartialEq, Eq, Drop)]
+#[derive(Clone, Copy, Drop)]
 pub struct StressIndex {
     /// How many sub-runs came before it, from 0.
     pub current: u32,
@@ -14,7 +14,7 @@ pub struct StressIndex {
 }
 
 /// Says how many runs a stress run has.
-#[derive(Clone, Copy, PartialEq, Eq, Drop)]
+#[derive(Clone, Copy, Drop)]
 pub enum StressCount {
     /// It has so many.
     Count { count: NonZeroCount },
@@ -23,7 +23,7 @@ pub enum StressCount {
 }
 
 /// Says what ends a stress run.
-#[derive(Clone, Copy, PartialEq, Eq, Drop)]
+#[derive(Clone, Copy, Drop)]
 pub enum StressCondition {
     /// So many sub-runs.
     Count(StressCount),
@@ -43,16 +43,6 @@ impl StressIndex {
     }
 }
 
-/// Gives an index that may not be there, as it is recorded.
-pub(crate) fn recorded_index(index: &Option<StressIndex>) -> Option<StressIndexSummary>
-    ensures { result ≡ option_map stress_index_summary index.now }
-{
-    match index {
-        Some(index) => Some(index.summary()),
-        None => None,
-    }
-}
-
 impl StressCondition {
     /// Gives the condition as it is recorded.
     pub fn summary(&self) -> StressConditionSummary
@@ -69,17 +59,5 @@ impl StressCondition {
                 duration: *duration,
             },
         }
-    }
-}
-
-/// Gives a condition that may not be there, as it is recorded.
-pub(crate) fn recorded_condition(
-    condition: &Option<StressCondition>,
-) -> Option<StressConditionSummary>
-    ensures { result ≡ option_map condition_summary condition.now }
-{
-    match condition {
-        Some(condition) => Some(condition.summary()),
-        None => None,
     }
 }

@@ -1,11 +1,7 @@
 //! A list that is not empty.
-ghost use Rattle.std.proofs.Common.{rules};
-ghost use Rattle.std.specs.Cmp.Lexicographic.{pointwise};
-ghost use Rattle.std.specs.Cmp.Rules.{comparing};
-ghost use Rattle.std.specs.Prelude.{◌≡◌, ◌++◌, ◌<◌, ◌-◌, List, [], ◌∷◌, length, slice_get, nat_lt, if◌then◌else◌, IfOk, Some, None};
+ghost use Rattle.std.specs.Prelude.{◌≡◌, ◌++◌, ◌<◌, ◌-◌, List, [], ◌∷◌, length, slice_get, nat_lt, if◌then◌else◌, Some, None};
 
-use crate::{Items, TryClone};
-use std::alloc::{AllocError, Global};
+use crate::Items;
 use std::marker::Model;
 
 /// Holds a list of at least one item. Contracts see the items in order.
@@ -101,31 +97,4 @@ impl<T> NonEmpty<T> {
         let end = all.len() - 1;
         (&all[end], &all[..end])
     }
-}
-
-impl<T: PartialEq> PartialEq for NonEmpty<T> {
-    ghost eq = { pointwise T.eq };
-
-    ghost laws = { Prim.search (comparing, rules, T.PartialEq.laws) };
-
-    fn eq(&self, other: &NonEmpty<T>) -> bool {
-        self.inner.as_slice() == other.inner.as_slice()
-    }
-}
-
-impl<T: TryClone + Drop> TryClone for NonEmpty<T> {
-    fn try_clone(&self, alloc: Global) -> Result<NonEmpty<T>, AllocError> {
-        Ok(NonEmpty::new(copies_of(self.as_slice(), alloc)?))
-    }
-}
-
-/// Copies these items.
-fn copies_of<T: TryClone + Drop>(items: &[T], alloc: Global) -> Result<Vec<T>, AllocError>
-    ensures { IfOk result (λ copies. copies.items ≡ items.now) }
-{
-    let mut copies = Vec::new(alloc);
-    for item in items {
-        copies.push(item.try_clone(alloc)?)?;
-    }
-    Ok(copies)
 }

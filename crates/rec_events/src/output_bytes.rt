@@ -1,8 +1,5 @@
 //! The bytes that a process wrote.
-ghost use Rattle.std.proofs.Common.{rules};
-ghost use Rattle.std.specs.Cmp.Lexicographic.{pointwise};
-ghost use Rattle.std.specs.Cmp.Rules.{comparing};
-ghost use Rattle.std.specs.Prelude.{◌≡◌, ◌==◌, ◌<◌, ℕ, slice_index};
+ghost use Rattle.std.specs.Prelude.{◌≡◌, ◌<◌, ℕ, slice_index};
 
 use crate::TryClone;
 use std::alloc::{AllocError, Global};
@@ -45,20 +42,6 @@ fn known_octets(bytes: &[u8]) -> &[u8]
     ensures octets { (i : ℕ) → slice_index bytes.now i < 256 }
 {
     bytes
-}
-
-impl PartialEq for ChildSingleOutput {
-    ghost eq = { pointwise ◌==◌ };
-
-    ghost laws = { Prim.search (comparing, rules) };
-
-    fn eq(&self, other: &ChildSingleOutput) -> bool {
-        self.bytes.as_slice() == other.bytes.as_slice()
-    }
-}
-
-impl Eq for ChildSingleOutput {
-    ghost laws = { Prim.search (comparing, rules) };
 }
 
 impl TryClone for ChildSingleOutput {

@@ -1,7 +1,8 @@
 //! What an attempt wrote, as it runs and as it is stored.
-ghost use Rattle.std.specs.Prelude.{◌≡◌, IfOk};
-
-use crate::{ChildSingleOutput, ExecutionResultDescription, Items, OutputFileName, Text, TryClone};
+use crate::{
+    ChildSingleOutput, ExecutionResultDescription, Items, OutputFileName, Text, TryClone,
+    clone_both,
+};
 use std::alloc::{AllocError, Global};
 
 /// Says in which form an event has its outputs.
@@ -25,7 +26,7 @@ impl OutputSpec for RecordingSpec {
 }
 
 /// Holds what a process wrote. An output that was not captured is None.
-#[derive(PartialEq, Eq, Drop)]
+#[derive(Drop)]
 pub enum ChildOutputDescription {
     /// The two streams apart.
     Split {
@@ -44,7 +45,7 @@ pub enum ChildOutputDescription {
 }
 
 /// Says where an output is in a store.
-#[derive(Clone, Copy, PartialEq, Eq, Drop)]
+#[derive(Clone, Copy, Drop)]
 pub enum ZipStoreOutput {
     /// No bytes; no file holds it.
     Empty,
@@ -63,7 +64,7 @@ pub enum ZipStoreOutput {
 }
 
 /// Names the files that hold what a process wrote. An output that was not captured is None.
-#[derive(Clone, Copy, PartialEq, Eq, Drop)]
+#[derive(Clone, Copy, Drop)]
 pub enum ZipStoreOutputDescription {
     /// The two streams apart.
     Split {
@@ -81,7 +82,6 @@ pub enum ZipStoreOutputDescription {
 
 /// Says what came of starting a process.
 #[derive(Drop)]
-#[derive_where(PartialEq; S::ChildOutput)]
 pub enum ChildExecutionOutputDescription<S: OutputSpec> {
     /// It was started.
     Output {
@@ -103,8 +103,7 @@ impl TryClone for ChildOutputDescription {
     fn try_clone(&self, alloc: Global) -> Result<ChildOutputDescription, AllocError> {
         match self {
             ChildOutputDescription::Split { stdout, stderr } => {
-                let stdout = stdout.try_clone(alloc)?;
-                let stderr = stderr.try_clone(alloc)?;
+                let (stdout, stderr) = clone_both(alloc, stdout, stderr)?;
                 Ok(ChildOutputDescription::Split { stdout, stderr })
             }
             ChildOutputDescription::Combined { output } => {
@@ -114,51 +113,4 @@ impl TryClone for ChildOutputDescription {
             ChildOutputDescription::NotLoaded => Ok(ChildOutputDescription::NotLoaded),
         }
     }
-}
-
-impl TryClone for ChildExecutionOutputDescription<LiveSpec> {
-    fn try_clone(
-        &self,
-        alloc: Global,
-    ) -> Result<ChildExecutionOutputDescription<LiveSpec>, AllocError> {
-        match self {
-            ChildExecutionOutputDescription::Output {
-                result,
-                output,
-                errors,
-            } => {
-                let errors = errors.try_clone(alloc)?;
-                let result = result.try_clone(alloc)?;
-                let output = output.try_clone(alloc)?;
-                Ok(ChildExecutionOutputDescription::Output {
-                    result,
-                    output,
-                    errors,
-                })
-            }
-            ChildExecutionOutputDescription::StartError { message } => {
-                let message = message.try_clone(alloc)?;
-                Ok(ChildExecutionOutputDescription::StartError { message })
-            }
-        }
-    }
-}
-
-/// Copies what came of starting a process, and how it ended.
-pub(crate) fn copy_outcome(
-    output: &ChildExecutionOutputDescription<LiveSpec>,
-    ending: &ExecutionResultDescription,
-    alloc: Global,
-) -> Result<
-    (
-        ChildExecutionOutputDescription<LiveSpec>,
-        ExecutionResultDescription,
-    ),
-    AllocError,
->
-    ensures { IfOk result (λ copies. copies ≡ (output.now, ending.now)) }
-{
-    let ending = ending.try_clone(alloc)?;
-    let output = output.try_clone(alloc)?;
-    Ok((output, ending))
 }

@@ -29,7 +29,7 @@ impl TryClone for TestListSummary {
 }
 
 /// Says what a replay has to know of how the run was made.
-#[derive(Clone, Copy, PartialEq, Eq, Drop)]
+#[derive(Clone, Copy, Drop)]
 pub struct RecordOpts {
     /// What the run does with its tests.
     pub run_mode: NextestRunMode,

@@ -2,7 +2,7 @@
 ghost use Rattle.std.specs.Prelude.{◌≡◌, IfOk, option_map, string_bytes};
 ghost use Rattle.rec_events.specs.Results.{succeeded, flaky_text};
 
-use crate::{Text, TryClone};
+use crate::{Text, TryClone, clone_both};
 use std::alloc::{AllocError, Global};
 
 /// Says what a test counts as that failed at first and passed at last.
@@ -57,7 +57,7 @@ pub enum SlowTimeoutResult {
 }
 
 /// Says how a process failed.
-#[derive(PartialEq, Eq, Drop)]
+#[derive(Drop)]
 pub enum FailureDescription {
     /// It ended by itself, with an exit code that stands for a failure.
     ExitCode { code: i32 },
@@ -66,7 +66,7 @@ pub enum FailureDescription {
 }
 
 /// Says how an attempt ended.
-#[derive(PartialEq, Eq, Drop)]
+#[derive(Drop)]
 pub enum ExecutionResultDescription {
     /// It passed.
     Pass,
@@ -107,7 +107,7 @@ impl ExecutionResultDescription {
 }
 
 /// Says what an error is, shortly and at length.
-#[derive(PartialEq, Eq, Drop)]
+#[derive(Drop)]
 pub struct ErrorSummary {
     /// The error in a few words.
     pub short_message: Text,
@@ -116,7 +116,7 @@ pub struct ErrorSummary {
 }
 
 /// Holds the piece of an output that shows an error, and at which byte it begins there.
-#[derive(PartialEq, Eq, Drop)]
+#[derive(Drop)]
 pub struct OutputErrorSlice {
     /// The piece that shows the error.
     pub slice: Text,
@@ -165,9 +165,14 @@ impl TryClone for ExecutionResultDescription {
 
 impl TryClone for ErrorSummary {
     fn try_clone(&self, alloc: Global) -> Result<ErrorSummary, AllocError> {
+        let (short_message, description) = clone_both(
+            alloc,
+            &self.short_message,
+            &self.description,
+        )?;
         Ok(ErrorSummary {
-            short_message: self.short_message.try_clone(alloc)?,
-            description: self.description.try_clone(alloc)?,
+            short_message,
+            description,
         })
     }
 }

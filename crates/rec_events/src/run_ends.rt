@@ -32,7 +32,7 @@ pub enum StressFinalRunStats {
 }
 
 /// Holds the counts of a stress run.
-#[derive(Clone, Copy, PartialEq, Eq, Drop)]
+#[derive(Clone, Copy, Drop)]
 pub struct StressRunStats {
     /// The last of its runs.
     pub completed: StressIndexSummary,
@@ -62,7 +62,7 @@ impl StressRunStats {
 }
 
 /// Holds the counts of a run that ended.
-#[derive(Clone, Copy, PartialEq, Eq, Drop)]
+#[derive(Clone, Copy, Drop)]
 pub enum RunFinishedStats {
     /// The counts of a run that is no stress run.
     Single(RunStats),
@@ -71,7 +71,7 @@ pub enum RunFinishedStats {
 }
 
 /// Names tests that a run didn't come to.
-#[derive(PartialEq, Eq, Drop)]
+#[derive(Drop)]
 pub struct TestsNotSeenSummary {
     /// Some of them.
     pub not_seen: Items<OwnedTestInstanceId>,

@@ -2,7 +2,7 @@
 ghost use Rattle.std.specs.Prelude.{◌≡◌};
 ghost use Rattle.rec_events.specs.Selections.{no_named_targets, no_package_selection, no_target_selection, no_feature_selection};
 
-use crate::{Items, Text, TryClone};
+use crate::{Items, Text, TryClone, clone_both};
 use std::alloc::{AllocError, Global};
 
 /// Selects targets of one kind: those named, or all.
@@ -61,10 +61,11 @@ impl PackageSelection {
 
 impl TryClone for PackageSelection {
     fn try_clone(&self, alloc: Global) -> Result<PackageSelection, AllocError> {
+        let (specs, exclude) = clone_both(alloc, &self.specs, &self.exclude)?;
         Ok(PackageSelection {
-            specs: self.specs.try_clone(alloc)?,
+            specs,
             workspace: self.workspace,
-            exclude: self.exclude.try_clone(alloc)?,
+            exclude,
         })
     }
 }
@@ -104,12 +105,18 @@ impl TargetSelection {
 
 impl TryClone for TargetSelection {
     fn try_clone(&self, alloc: Global) -> Result<TargetSelection, AllocError> {
+        let programs = clone_both(alloc, &self.bins, &self.examples)?;
+        let Ok((tests, benches)) = clone_both(alloc, &self.tests, &self.benches) else {
+            drop(programs);
+            return Err(AllocError);
+        };
+        let (bins, examples) = programs;
         Ok(TargetSelection {
             lib: self.lib,
-            bins: self.bins.try_clone(alloc)?,
-            examples: self.examples.try_clone(alloc)?,
-            tests: self.tests.try_clone(alloc)?,
-            benches: self.benches.try_clone(alloc)?,
+            bins,
+            examples,
+            tests,
+            benches,
             all_targets: self.all_targets,
         })
     }
@@ -162,10 +169,15 @@ pub struct BuildScope {
 
 impl TryClone for BuildScope {
     fn try_clone(&self, alloc: Global) -> Result<BuildScope, AllocError> {
+        let targets = self.targets.try_clone(alloc)?;
+        let Ok((packages, features)) = clone_both(alloc, &self.packages, &self.features) else {
+            drop(targets);
+            return Err(AllocError);
+        };
         Ok(BuildScope {
-            packages: self.packages.try_clone(alloc)?,
-            targets: self.targets.try_clone(alloc)?,
-            features: self.features.try_clone(alloc)?,
+            packages,
+            targets,
+            features,
         })
     }
 }

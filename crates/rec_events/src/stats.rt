@@ -6,7 +6,7 @@ ghost use Rattle.rec_events.specs.Summaries.{failed_or_cancelled, has_failed_scr
 use crate::{CancelReason, FinalRunStats};
 
 /// Counts the tests and setup scripts that ran, and says how they ended.
-#[derive(Clone, Copy, PartialEq, Eq, Drop)]
+#[derive(Clone, Copy, Drop)]
 pub struct RunStats {
     /// How many tests were to run when the run began.
     pub initial_run_count: usize,

@@ -2,16 +2,13 @@
 ghost use Rattle.std.specs.Prelude.{◌≡◌, ◌<◌, ◌-◌, length, slice_get, Some};
 ghost use Rattle.rec_events.specs.Attempts.{Describes};
 
-use crate::outputs::copy_outcome;
 use crate::{
     ChildExecutionOutputDescription, Duration, ErrorSummary, ExecutionResultDescription,
-    FlakyResult, LiveSpec, NonEmpty, OutputErrorSlice, OutputSpec, RetryData, Stamp, TryClone,
+    FlakyResult, NonEmpty, OutputErrorSlice, OutputSpec, RetryData, Stamp,
 };
-use std::alloc::{AllocError, Global};
 
 /// Holds one attempt of a test.
 #[derive(Drop)]
-#[derive_where(PartialEq; S::ChildOutput)]
 pub struct ExecuteStatus<S: OutputSpec> {
     /// Which attempt it is, of how many.
     pub retry_data: RetryData,
@@ -37,7 +34,6 @@ pub struct ExecuteStatus<S: OutputSpec> {
 
 /// Holds all attempts of a test, in order. There is at least one.
 #[derive(Drop)]
-#[derive_where(PartialEq; S::ChildOutput)]
 pub struct ExecutionStatuses<S: OutputSpec> {
     /// The attempts, the first one first.
     pub statuses: NonEmpty<ExecuteStatus<S>>,
@@ -137,34 +133,5 @@ impl<S: OutputSpec> ExecutionStatuses<S> {
             prior_statuses,
             result: self.flaky_result,
         }
-    }
-}
-
-impl TryClone for ExecuteStatus<LiveSpec> {
-    fn try_clone(&self, alloc: Global) -> Result<ExecuteStatus<LiveSpec>, AllocError> {
-        let error_summary = self.error_summary.try_clone(alloc)?;
-        let output_error_slice = self.output_error_slice.try_clone(alloc)?;
-        let (output, result) = copy_outcome(&self.output, &self.result, alloc)?;
-        Ok(ExecuteStatus {
-            retry_data: self.retry_data,
-            output,
-            result,
-            start_time: self.start_time,
-            time_taken: self.time_taken,
-            is_slow: self.is_slow,
-            delay_before_start: self.delay_before_start,
-            error_summary,
-            output_error_slice,
-            cpu_time: self.cpu_time,
-        })
-    }
-}
-
-impl TryClone for ExecutionStatuses<LiveSpec> {
-    fn try_clone(&self, alloc: Global) -> Result<ExecutionStatuses<LiveSpec>, AllocError> {
-        Ok(ExecutionStatuses {
-            statuses: self.statuses.try_clone(alloc)?,
-            flaky_result: self.flaky_result,
-        })
     }
 }

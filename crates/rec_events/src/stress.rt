@@ -12,7 +12,7 @@ pub enum StressConditionSummary {
 
 /// Says how far a stress run got. `elapsed` is the time since it began, and `completed` the number
 /// of its runs that ended.
-#[derive(Clone, Copy, PartialEq, Eq, Drop)]
+#[derive(Clone, Copy, Drop)]
 pub enum StressProgress {
     /// Of so many runs; without a total it goes on until it is stopped.
     Count {

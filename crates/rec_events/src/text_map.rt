@@ -1,9 +1,5 @@
 //! A map from texts, seen as its pairs.
-ghost use Rattle.std.proofs.Common.{rules};
-ghost use Rattle.std.specs.Cmp.Lexicographic.{pointwise, lists_per};
-ghost use Rattle.std.specs.Cmp.Rules.{comparing};
-ghost use Rattle.std.specs.Cmp.{on_per, and_per};
-ghost use Rattle.std.specs.Prelude.{◌≡◌, ◌==◌, ◌&&◌, ℕ, List, [], OnOk, OnErr};
+ghost use Rattle.std.specs.Prelude.{◌≡◌, [], OnOk, OnErr, string_bytes};
 ghost use Rattle.rec_events.specs.Names.{AreTexts};
 ghost use Rattle.rec_events.specs.Pairs.{pairs, put_pair, keys, KeysRise};
 
@@ -70,24 +66,30 @@ impl<V> TextMap<V> {
     }
 }
 
-impl<V: PartialEq> PartialEq for TextMap<V> {
-    ghost eq = { pointwise (λ p q. pointwise ◌==◌ p.0 q.0 && V.eq p.1 q.1) };
-
-    ghost laws = { lists_per (and_per (on_per (λ p. p.0) (Prim.search (comparing, rules))) (on_per (λ p. p.1) V.PartialEq.laws)) };
-
-    fn eq(&self, other: &TextMap<V>) -> bool {
-        self.inner == other.inner
-    }
-}
-
 impl<V: TryClone + Drop> TryClone for TextMap<V> {
     #[tactic(auto, using(crate::specs::PairLaws::put_next))]
     fn try_clone(&self, alloc: Global) -> Result<TextMap<V>, AllocError> {
         let mut copy = TextMap::empty(alloc);
         for (key, value) in self.as_map() {
-            let key = Text::from_str(alloc, key.as_str())?;
-            copy.insert(key, value.try_clone(alloc)?)?;
+            put_copy(alloc, &mut copy, key, value)?;
         }
         Ok(copy)
     }
+}
+
+/// Puts copies of a key and its value into a map.
+fn put_copy<V: TryClone + Drop>(
+    alloc: Global,
+    map: &mut TextMap<V>,
+    key: &String,
+    value: &V,
+) -> Result<(), AllocError>
+    ensures { OnOk result (map.new ≡ put_pair (string_bytes key.now) value.now map.old) }
+{
+    let key = Text::from_str(alloc, key.as_str())?;
+    let Ok(value) = value.try_clone(alloc) else {
+        drop(key);
+        return Err(AllocError);
+    };
+    map.insert(key, value)
 }

@@ -22,3 +22,23 @@ impl<T: TryClone> TryClone for Option<T> {
         }
     }
 }
+
+/// Copies two values.
+///
+/// # Errors
+///
+/// `AllocError` means that there was not enough memory.
+pub fn clone_both<A: TryClone + Drop, B: TryClone + Drop>(
+    alloc: Global,
+    first: &A,
+    second: &B,
+) -> Result<(A, B), AllocError>
+    ensures copies { IfOk result (λ copies. copies ≡ (first.now, second.now)) }
+{
+    let first = first.try_clone(alloc)?;
+    let Ok(second) = second.try_clone(alloc) else {
+        drop(first);
+        return Err(AllocError);
+    };
+    Ok((first, second))
+}

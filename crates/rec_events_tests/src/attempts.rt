@@ -97,7 +97,6 @@ fn are_numbered(statuses: &ExecutionStatuses<LiveSpec>, count: usize) -> bool {
         && statuses.status(0).retry_data.attempt == 1
         && statuses.last_status().retry_data.attempt as usize == count
         && statuses.flaky_result() == FlakyResult::Fail
-        && statuses == statuses
 }
 
 // Whether attempts of which some pass are numbered in their order, and are described so.

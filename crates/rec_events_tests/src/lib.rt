@@ -1,4 +1,4 @@
-//! The tests of `rec_events`.
+//! The tests of `rec_events` and `rec_summaries`.
 #![tactic(auto)]
 
 #[cfg(test)]

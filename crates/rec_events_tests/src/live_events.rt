@@ -6,6 +6,7 @@ use rec_events::{
     TestEventKind, TestEventKindSummary, TestEventSummary, TestList, TestListSummary, Text,
     TextMap,
 };
+use rec_summaries::from_test_event;
 use std::alloc::{AllocError, Global};
 use std::test::Fail;
 use uuid::Uuid;
@@ -28,7 +29,7 @@ fn recorded(alloc: Global, kind: TestEventKind<'_>) -> Recorded {
         elapsed: ELAPSED,
         kind,
     };
-    let summary = TestEventSummary::from_test_event(alloc, &event);
+    let summary = from_test_event(alloc, &event);
     drop(event);
     summary
 }

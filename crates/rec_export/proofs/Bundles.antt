@@ -12,8 +12,8 @@ use Rattle.rec_codec.specs.Event.{LiveEvent}
 use Rattle.rec_store.specs.Bundle.{manifest_text, run_bundle, run_entries, run_log, run_sizes, run_store}
 use Rattle.rec_store.specs.Entries.{bundle_entries, log_name, manifest_name}
 use Rattle.rec_store.specs.SizesJudged.{first_too_large, too_large}
+use Rattle.rec_errors.specs.declared.export_error.RecordExportError.{RecordExportError}
 use Rattle.rec_export.specs.Bundle.{sizes_refusal}
-use Rattle.rec_export.specs.declared.refusal.RecordExportError.{RecordExportError}
 use Rattle.rec_export.specs.declared.settings.Settings.{Settings}
 use Rattle.rec_export.specs.Prepared.{contents_refusal, length_refusal}
 use Rattle.rec_export.specs.Sizes.{entries_refusal, entry_refusal, size_fault}

@@ -2,9 +2,9 @@
 use Rattle.std.proofs.Common.{◌≡◌, ℕ, ◌≤◌, List, ◌++◌, length, Option, Some, None, Result, Ok, Err, IfErr, ap, sym, refl, ◌∙◌, arith, inl, inr, append-nil, length-append}
 use Rattle.std.specs.Io.KnownBytes.{Consumes, IsAtEnd}
 use Rattle.rec_container.specs.Causes.{Rose}
+use Rattle.rec_errors.specs.declared.export_error.RecordExportError.TheVariants.{SourceFault, SessionTooLarge, ParseHead, ReadRunLog, ParseEvent, NameCollision, CountOutOfRange, FileTooLarge, MissingTestStart, MissingScriptStart, MissingStressSubRunStart, SpanAlreadyOpen, SlotBusy, TimestampOutOfRange, RowOutOfRange, BundleFault, TraceFault, OutOfMemory}
+use Rattle.rec_errors.specs.declared.export_error.RecordExportError.{RecordExportError}
 use Rattle.rec_export.specs.Bundle.{session_refusal}
-use Rattle.rec_export.specs.declared.refusal.RecordExportError.TheVariants.{SourceFault, SessionTooLarge, ParseHead, ReadRunLog, ParseEvent, NameCollision, CountOutOfRange, FileTooLarge, MissingTestStart, MissingScriptStart, MissingStressSubRunStart, SpanAlreadyOpen, SlotBusy, TimestampOutOfRange, RowOutOfRange, BundleFault, TraceFault, OutOfMemory}
-use Rattle.rec_export.specs.declared.refusal.RecordExportError.{RecordExportError}
 use Rattle.rec_export.specs.declared.settings.Settings.{Settings}
 use Rattle.rec_export.specs.Export.{Undelivered, Fails}
 use Rattle.rec_export.specs.Reading.{Unread}

@@ -3,9 +3,9 @@ use Rattle.std.proofs.Common.{◌≡◌, ℕ, List, [], Option, Some, None, ap, 
 use Rattle.std.specs.Option.{option_or}
 use Rattle.rec_format.specs.declared.head.SessionHead.{SessionHead}
 use Rattle.rec_codec.specs.Lines.{NumberedLine}
+use Rattle.rec_errors.specs.declared.export_error.RecordExportError.TheVariants.{OutOfMemory, ParseHead}
+use Rattle.rec_errors.specs.declared.export_error.RecordExportError.{RecordExportError}
 use Rattle.rec_export.specs.Bundle.{count_refusal, session_refusal, refusal_after, session_events, session_head, size_refusal, sizes_refusal}
-use Rattle.rec_export.specs.declared.refusal.RecordExportError.TheVariants.{OutOfMemory, ParseHead}
-use Rattle.rec_export.specs.declared.refusal.RecordExportError.{RecordExportError}
 use Rattle.rec_export.specs.declared.settings.Settings.{Settings}
 use Rattle.rec_export.specs.Session.{event_lines, events_of, lines_refusal, session_lines}
 use Rattle.rec_export.specs.SessionTraces.{trace_refusal}

@@ -25,8 +25,8 @@ use Rattle.rec_store.specs.EventOutputs.{event_entries, event_recorded}
 use Rattle.rec_store.specs.Logging.{Logs, Unlogged}
 use Rattle.rec_store.specs.Recording.{AddsEach, Recording, Stores, has_failed}
 use Rattle.rec_store.specs.Store.{metadata_of, store_entries}
+use Rattle.rec_errors.specs.declared.export_error.RecordExportError.TheVariants as refusals
 use Rattle.rec_export.specs.declared.discarding.DiscardingSink.{DiscardingSink}
-use Rattle.rec_export.specs.declared.refusal.RecordExportError.TheVariants as refusals
 use Rattle.rec_export.specs.Recorded.{HasRecorded, IsRunOf}
 use Rattle.rec_export.specs.RecorderFaults.{event_fault}
 

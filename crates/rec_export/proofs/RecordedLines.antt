@@ -21,9 +21,9 @@ use Rattle.rec_store.specs.Bundle.{outputs_stored}
 use Rattle.rec_store.specs.Clashes.{clash, with_entries}
 use Rattle.rec_store.specs.EventOutputs.{event_entries}
 use Rattle.rec_store.specs.Recording.{Recording}
-use Rattle.rec_export.specs.declared.refusal.RecordExportError.TheVariants.{NameCollision, OutOfMemory, ParseEvent, ReadRunLog}
-use Rattle.rec_export.specs.declared.refusal.RecordExportError.{RecordExportError}
-use Rattle.rec_export.specs.LineFaults.{line_fault}
+use Rattle.rec_errors.specs.declared.export_error.RecordExportError.TheVariants.{NameCollision, OutOfMemory, ParseEvent, ReadRunLog}
+use Rattle.rec_errors.specs.declared.export_error.RecordExportError.{RecordExportError}
+use Rattle.rec_errors.specs.LineFaults.{line_fault}
 use Rattle.rec_export.specs.Recorded.{HasRecorded, RecordsEvent, RecordsLine, RecordsLines}
 use Rattle.rec_export.specs.Session.{event_at, event_refusal, events_of, line_refusal, lines_refusal, outputs_at, text_refusal}
 

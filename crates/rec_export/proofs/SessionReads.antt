@@ -19,13 +19,13 @@ use Rattle.rec_store.specs.Clashes.{clash}
 use Rattle.rec_store.specs.EventOutputs.{event_entries}
 use Rattle.rec_store.specs.Reading.{IsReading, recorded}
 use Rattle.rec_store.specs.Recordable.{HasLength, IsRecordable, event_outputs}
+use Rattle.rec_errors.specs.declared.export_error.RecordExportError.TheVariants.{CountOutOfRange, NameCollision}
 use Rattle.rec_export.proofs.Judging.{events_after}
 use Rattle.rec_export.proofs.RecordedLines.{events_next, refusal_next}
 use Rattle.rec_export.proofs.ShortLines.{AreWithin, numbered_lines_short, text_of_short}
 use Rattle.rec_export.proofs.ShortOutputs.{outputs_short}
 use Rattle.rec_export.proofs.ShortTexts.{AllAtMost, AtMost, all_longer, longer}
 use Rattle.rec_export.specs.Bundle.{count_refusal, head_in, session_events, session_head}
-use Rattle.rec_export.specs.declared.refusal.RecordExportError.TheVariants.{CountOutOfRange, NameCollision}
 use Rattle.rec_export.specs.declared.settings.Settings.{Settings}
 use Rattle.rec_export.specs.Session.{event_at, event_lines, event_refusal, events_of, head_text, line_refusal, lines_refusal, outputs_at, session_lines, text_refusal}
 

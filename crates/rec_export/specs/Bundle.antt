@@ -11,8 +11,8 @@ use Rattle.rec_store.specs.Bundle.{manifest_text, run_bundle, run_log, run_store
 use Rattle.rec_store.specs.Entries.{log_name, manifest_name}
 use Rattle.rec_store.specs.Reading.{IsReading, recorded}
 use Rattle.rec_spans.specs.Plain.{plain}
-use Rattle.rec_export.specs.declared.refusal.RecordExportError.TheVariants.{ParseHead, CountOutOfRange}
-use Rattle.rec_export.specs.declared.refusal.RecordExportError.{RecordExportError}
+use Rattle.rec_errors.specs.declared.export_error.RecordExportError.TheVariants.{ParseHead, CountOutOfRange}
+use Rattle.rec_errors.specs.declared.export_error.RecordExportError.{RecordExportError}
 use Rattle.rec_export.specs.declared.settings.Settings.{Settings}
 use Rattle.rec_export.specs.Session.{session_lines, head_text, event_lines, lines_refusal, events_of}
 use Rattle.rec_export.specs.SessionTraces.{run_trace, trace_refusal}

@@ -5,10 +5,10 @@ use Rattle.rec_container.specs.Causes.{Rose}
 use Rattle.rec_container.specs.Taking.{TookPart}
 use Rattle.rec_container.specs.Within.{Gave}
 use Rattle.rec_store.specs.Bundle.{outputs_stored}
+use Rattle.rec_errors.specs.declared.export_error.RecordExportError.TheVariants.{BundleFault, TraceFault}
+use Rattle.rec_errors.specs.declared.export_error.RecordExportError.{RecordExportError}
 use Rattle.rec_export.specs.Bundle.{session_events, session_refusal, AreOf}
 use Rattle.rec_export.specs.declared.counts.Exported.{Exported}
-use Rattle.rec_export.specs.declared.refusal.RecordExportError.TheVariants.{BundleFault, TraceFault}
-use Rattle.rec_export.specs.declared.refusal.RecordExportError.{RecordExportError}
 use Rattle.rec_export.specs.declared.settings.Settings.{Settings}
 use Rattle.rec_export.specs.Reading.{Unread}
 

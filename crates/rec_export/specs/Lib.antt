@@ -1,6 +1,5 @@
 pub mod Bundle
 pub mod Export
-pub mod LineFaults
 pub mod Prepared
 pub mod Reading
 pub mod Recorded
@@ -10,4 +9,3 @@ pub mod SessionTraces
 pub mod Settings
 pub mod Sizes
 pub mod Timelines
-pub mod TraceFaults

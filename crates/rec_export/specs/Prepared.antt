@@ -4,9 +4,9 @@ use Rattle.std.specs.Prelude.{ℕ, ◌^◌, List, length, nat_lt, Option, Some, 
 use Rattle.rec_container.specs.Container.{spell}
 use Rattle.rec_container.specs.Writing.{entry_named}
 use Rattle.rec_store.specs.Entries.{bundle_entries, log_name, manifest_name}
+use Rattle.rec_errors.specs.declared.export_error.RecordExportError.TheVariants.{CountOutOfRange}
+use Rattle.rec_errors.specs.declared.export_error.RecordExportError.{RecordExportError}
 use Rattle.rec_export.specs.declared.prepare.Prepared.{Prepared}
-use Rattle.rec_export.specs.declared.refusal.RecordExportError.TheVariants.{CountOutOfRange}
-use Rattle.rec_export.specs.declared.refusal.RecordExportError.{RecordExportError}
 use Rattle.rec_export.specs.Sizes.{entry_refusal}
 
 -- the bundle of these three contents

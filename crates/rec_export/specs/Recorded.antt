@@ -13,8 +13,8 @@ use Rattle.rec_store.specs.Bundle.{events_recorded, outputs_stored, run_log, run
 use Rattle.rec_store.specs.Clashes.{clash}
 use Rattle.rec_store.specs.EventOutputs.{event_entries}
 use Rattle.rec_store.specs.Recording.{Recording, has_failed}
-use Rattle.rec_export.specs.declared.refusal.RecordExportError.TheVariants.{NameCollision, OutOfMemory}
-use Rattle.rec_export.specs.declared.refusal.RecordExportError.{RecordExportError}
+use Rattle.rec_errors.specs.declared.export_error.RecordExportError.TheVariants.{NameCollision, OutOfMemory}
+use Rattle.rec_errors.specs.declared.export_error.RecordExportError.{RecordExportError}
 use Rattle.rec_export.specs.Session.{event_at, events_of, line_refusal, lines_refusal}
 
 -- outputs are numbered by their bytes, and cut at m bytes

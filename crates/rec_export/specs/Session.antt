@@ -6,8 +6,8 @@ use Rattle.rec_codec.specs.Event.{LiveEvent, live_event, live_event_of}
 use Rattle.rec_codec.specs.Lines.{NumberedLine, lines, numbered, text_of, is_blank}
 use Rattle.rec_store.specs.Clashes.{clash, with_entries}
 use Rattle.rec_store.specs.EventOutputs.{event_entries}
-use Rattle.rec_export.specs.declared.refusal.RecordExportError.TheVariants.{ReadRunLog, ParseEvent, NameCollision}
-use Rattle.rec_export.specs.declared.refusal.RecordExportError.{RecordExportError}
+use Rattle.rec_errors.specs.declared.export_error.RecordExportError.TheVariants.{ReadRunLog, ParseEvent, NameCollision}
+use Rattle.rec_errors.specs.declared.export_error.RecordExportError.{RecordExportError}
 
 -- the lines of a session, numbered from 1
 abbrev pub session_lines : List ℕ → List NumberedLine

@@ -11,11 +11,11 @@ use Rattle.rec_spans.specs.Refusals.{events_refusal}
 use Rattle.rec_trace.specs.declared.printed_trace.PrintedTrace.{PrintedTrace}
 use Rattle.rec_trace.specs.declared.settings.ChromeTraceMessageFormat.{ChromeTraceMessageFormat}
 use Rattle.rec_trace.specs.Traces.{HasTraced, trace_text}
-use Rattle.rec_export.specs.declared.refusal.RecordExportError.TheVariants.{OutOfMemory}
-use Rattle.rec_export.specs.declared.refusal.RecordExportError.{RecordExportError}
+use Rattle.rec_errors.specs.declared.export_error.RecordExportError.TheVariants.{OutOfMemory}
+use Rattle.rec_errors.specs.declared.export_error.RecordExportError.{RecordExportError}
+use Rattle.rec_errors.specs.TraceFaults.{trace_fault}
 use Rattle.rec_export.specs.declared.settings.Settings.{Settings}
 use Rattle.rec_export.specs.declared.trace.SessionTrace.{SessionTrace}
-use Rattle.rec_export.specs.TraceFaults.{trace_fault}
 
 -- why events have no trace, if they have none
 abbrev pub trace_refusal : Settings → List LiveEvent → Option RecordExportError

@@ -3,8 +3,8 @@ use Rattle.std.specs.Prelude.{◌≡◌, List, ℕ, Option, None, option_map, Re
 use Rattle.rec_container.specs.Container.{Entry}
 use Rattle.rec_store.specs.declared.sizes_judged.TooLarge.{TooLarge}
 use Rattle.rec_store.specs.SizesJudged.{first_too_large, too_large}
-use Rattle.rec_export.specs.declared.refusal.RecordExportError.TheVariants.{FileTooLarge, OutOfMemory}
-use Rattle.rec_export.specs.declared.refusal.RecordExportError.{RecordExportError}
+use Rattle.rec_errors.specs.declared.export_error.RecordExportError.TheVariants.{FileTooLarge, OutOfMemory}
+use Rattle.rec_errors.specs.declared.export_error.RecordExportError.{RecordExportError}
 
 abbrev pub size_fault : TooLarge → RecordExportError
 size_fault t = FileTooLarge t.file_name t.size t.limit

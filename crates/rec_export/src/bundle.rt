@@ -11,9 +11,9 @@ ghost use Rattle.rec_export.specs.Prepared.{bundle_of_contents, contents_refusal
 ghost use Rattle.rec_export.specs.Sizes.{AnswersRefusal, entry_refusal};
 
 use crate::discarding::DiscardingSink;
-use crate::refusal::RecordExportError;
 use crate::sizes::judge_size;
 use rec_container::ContainerWriter;
+use rec_errors::RecordExportError;
 use rec_format::{PORTABLE_MANIFEST_FILE_NAME, RUN_LOG_FILE_NAME, RecordedSizes, SessionHead};
 use rec_store::{recorded_bundle_length, write_manifest};
 use std::alloc::{AllocError, Global};

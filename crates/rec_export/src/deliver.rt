@@ -5,8 +5,8 @@ ghost use Rattle.rec_export.specs.Export.{Undelivered};
 ghost use Rattle.rec_export.specs.Prepared.{prepared_bundle};
 
 use crate::prepare::Prepared;
-use crate::refusal::RecordExportError;
 use rec_container::{Sink, write_all};
+use rec_errors::RecordExportError;
 use rec_store::write_recorded_bundle;
 
 /// Writes the whole bundle, and then the whole trace. It takes no memory, and copies nothing.

@@ -1,17 +1,17 @@
 //! From a session to its bundle and its trace.
 ghost use Rattle.std.specs.Prelude.{◌≡◌, ◌≤◌, ℕ, List, length, IfOk, IfErr, Some, None};
 ghost use Rattle.rec_container.specs.Causes.{Rose};
+ghost use Rattle.rec_errors.specs.declared.export_error.RecordExportError.TheVariants.{OutOfMemory};
 ghost use Rattle.rec_export.specs.Bundle.{session_refusal};
-ghost use Rattle.rec_export.specs.declared.refusal.RecordExportError.TheVariants.{OutOfMemory};
 ghost use Rattle.rec_export.specs.Export.{Exports, Fails};
 
 use crate::counts::Exported;
 use crate::deliver::deliver;
 use crate::prepare::prepare;
 use crate::read::read_session;
-use crate::refusal::RecordExportError;
 use crate::settings::Settings;
 use rec_container::{Sink, Source};
+use rec_errors::RecordExportError;
 use rec_store::OutputNamer;
 use std::alloc::Global;
 

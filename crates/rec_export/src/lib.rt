@@ -14,12 +14,11 @@ pub mod laws;
 mod prepare;
 mod read;
 mod record;
-mod refusal;
 mod settings;
 mod sizes;
 mod trace;
 
 pub use counts::Exported;
 pub use export::record_and_export;
-pub use refusal::RecordExportError;
+pub use rec_errors::RecordExportError;
 pub use settings::Settings;

@@ -3,8 +3,8 @@ ghost use Rattle.std.specs.Prelude.{IfOk, IfErr};
 ghost use Rattle.rec_container.specs.Within.{Gave};
 ghost use Rattle.rec_export.specs.Reading.{Unread};
 
-use crate::refusal::RecordExportError;
 use rec_container::{ReadError, Source, read_within};
+use rec_errors::RecordExportError;
 use std::alloc::Global;
 
 /// Reads the source to its end. It asks for at most `limit + 1` bytes.

@@ -5,8 +5,8 @@ ghost use Rattle.rec_container.specs.Writing.{entry_named};
 ghost use Rattle.rec_export.specs.Sizes.{entries_refusal, entry_refusal, size_fault, AnswersRefusal};
 
 use crate::discarding::DiscardingSink;
-use crate::refusal::RecordExportError;
 use rec_container::ContainerWriter;
+use rec_errors::RecordExportError;
 use rec_store::TooLarge;
 use std::alloc::{AllocError, Global};
 

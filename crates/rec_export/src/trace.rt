@@ -8,7 +8,7 @@ ghost use Rattle.rec_trace.specs.declared.settings.ChromeTraceMessageFormat.{Chr
 ghost use Rattle.rec_trace.specs.Traces.{trace_text};
 ghost use Rattle.rec_export.specs.SessionTraces.{IsTraceOf, AnswersTrace};
 
-use crate::refusal::RecordExportError;
+use rec_errors::RecordExportError;
 use rec_events::{LiveSpec, TestEventSummary, Version};
 use rec_trace::{ChromeTraceError, ChromeTraceGroupBy, ChromeTraceMessageFormat, PrintedTrace};
 use std::alloc::{AllocError, Global};

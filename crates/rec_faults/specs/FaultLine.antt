@@ -5,10 +5,10 @@ use Rattle.rec_container.specs.declared.errors.ContainerError.TheVariants as con
 use Rattle.rec_container.specs.declared.errors.ContainerError.{ContainerError}
 use Rattle.rec_spans.specs.declared.spans.SpanKey.TheVariants as spans
 use Rattle.rec_spans.specs.declared.spans.SpanKey.{SpanKey}
-use Rattle.rec_export.specs.declared.refusal.RecordExportError.TheVariants.{SourceFault, SessionTooLarge, ParseHead, ReadRunLog, ParseEvent, NameCollision, CountOutOfRange, FileTooLarge, MissingTestStart, MissingScriptStart, MissingStressSubRunStart, SpanAlreadyOpen, SlotBusy, TimestampOutOfRange, RowOutOfRange, BundleFault, TraceFault, OutOfMemory}
-use Rattle.rec_export.specs.declared.refusal.RecordExportError.{RecordExportError}
-use Rattle.rec_words.specs.declared.words.WordsError.TheVariants.{NoCommand, UnknownCommand, MissingPositional, BadNumber, UnknownOption, RepeatedOption, MissingValue, BadValue}
-use Rattle.rec_words.specs.declared.words.WordsError.{WordsError}
+use Rattle.rec_errors.specs.declared.export_error.RecordExportError.TheVariants.{SourceFault, SessionTooLarge, ParseHead, ReadRunLog, ParseEvent, NameCollision, CountOutOfRange, FileTooLarge, MissingTestStart, MissingScriptStart, MissingStressSubRunStart, SpanAlreadyOpen, SlotBusy, TimestampOutOfRange, RowOutOfRange, BundleFault, TraceFault, OutOfMemory}
+use Rattle.rec_errors.specs.declared.export_error.RecordExportError.{RecordExportError}
+use Rattle.rec_errors.specs.declared.words_error.WordsError.TheVariants.{NoCommand, UnknownCommand, MissingPositional, BadNumber, UnknownOption, RepeatedOption, MissingValue, BadValue}
+use Rattle.rec_errors.specs.declared.words_error.WordsError.{WordsError}
 
 mutual
   -- what a line shows: a text or an id, a number, or a variant with its fields in order of declaration

@@ -15,10 +15,10 @@ use Rattle.rec_spans.specs.declared.errors.ChromeTraceError.TheVariants.{ReadErr
 use Rattle.rec_spans.specs.declared.errors.ChromeTraceError.{ChromeTraceError}
 use Rattle.rec_slots.specs.declared.report.SlotError.TheVariants as slots
 use Rattle.rec_slots.specs.declared.report.SlotError.{SlotError}
-use Rattle.rec_reading.specs.declared.errors.ReadingError.TheVariants as reading
-use Rattle.rec_reading.specs.declared.errors.ReadingError.{ReadingError}
-use Rattle.rec_export.specs.LineFaults.{line_fault}
-use Rattle.rec_export.specs.TraceFaults.{trace_fault}
+use Rattle.rec_errors.specs.declared.reading_error.ReadingError.TheVariants as reading
+use Rattle.rec_errors.specs.declared.reading_error.ReadingError.{ReadingError}
+use Rattle.rec_errors.specs.LineFaults.{line_fault}
+use Rattle.rec_errors.specs.TraceFaults.{trace_fault}
 use Rattle.rec_faults.specs.FaultLine.{Shown, Fields, text, number, variant, no_fields, field, unnamed, export_shown, container_shown}
 use Rattle.rec_faults.specs.ReplayLine.{part_shown, conversion_shown, junit_shown}
 

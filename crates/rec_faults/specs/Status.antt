@@ -11,13 +11,13 @@ use Rattle.rec_junit.specs.declared.errors.JunitError.{JunitError}
 use Rattle.rec_spans.specs.declared.errors.ChromeTraceError.{ChromeTraceError}
 use Rattle.rec_slots.specs.declared.report.SlotError.TheVariants as slots
 use Rattle.rec_slots.specs.declared.report.SlotError.{SlotError}
-use Rattle.rec_reading.specs.declared.errors.ReadingError.TheVariants as reading
-use Rattle.rec_reading.specs.declared.errors.ReadingError.{ReadingError}
-use Rattle.rec_export.specs.declared.refusal.RecordExportError.TheVariants.{SourceFault, SessionTooLarge, ParseHead, ReadRunLog, ParseEvent, NameCollision, CountOutOfRange, FileTooLarge, MissingTestStart, MissingScriptStart, MissingStressSubRunStart, SpanAlreadyOpen, SlotBusy, TimestampOutOfRange, RowOutOfRange, BundleFault, TraceFault, OutOfMemory}
-use Rattle.rec_export.specs.declared.refusal.RecordExportError.{RecordExportError}
-use Rattle.rec_export.specs.LineFaults.{line_fault}
-use Rattle.rec_export.specs.TraceFaults.{trace_fault}
-use Rattle.rec_words.specs.declared.words.WordsError.{WordsError}
+use Rattle.rec_errors.specs.declared.export_error.RecordExportError.TheVariants.{SourceFault, SessionTooLarge, ParseHead, ReadRunLog, ParseEvent, NameCollision, CountOutOfRange, FileTooLarge, MissingTestStart, MissingScriptStart, MissingStressSubRunStart, SpanAlreadyOpen, SlotBusy, TimestampOutOfRange, RowOutOfRange, BundleFault, TraceFault, OutOfMemory}
+use Rattle.rec_errors.specs.declared.export_error.RecordExportError.{RecordExportError}
+use Rattle.rec_errors.specs.declared.reading_error.ReadingError.TheVariants as reading
+use Rattle.rec_errors.specs.declared.reading_error.ReadingError.{ReadingError}
+use Rattle.rec_errors.specs.declared.words_error.WordsError.{WordsError}
+use Rattle.rec_errors.specs.LineFaults.{line_fault}
+use Rattle.rec_errors.specs.TraceFaults.{trace_fault}
 
 -- the status for faulty words
 abbrev pub words_status : WordsError → ℕ

@@ -1,6 +1,6 @@
 //! A log that has no trace or no report of its slots, and an event that isn't read, replayed or reported.
 ghost use Rattle.std.specs.Prelude.{◌≡◌};
-ghost use Rattle.rec_export.specs.LineFaults.{line_fault};
+ghost use Rattle.rec_errors.specs.LineFaults.{line_fault};
 ghost use Rattle.rec_faults.specs.ReadingLine.{line_shown, slots_shown, trace_shown};
 ghost use Rattle.rec_faults.specs.ReplayLine.{conversion_shown, junit_shown};
 ghost use Rattle.rec_faults.specs.Status.{conversion_status, export_status, junit_status, slots_status, trace_status};
@@ -14,7 +14,7 @@ use rec_container::Sink;
 use rec_junit::JunitError;
 use rec_replay::ReplayConversionError;
 use rec_slots::SlotError;
-use rec_trace::ChromeTraceError;
+use rec_spans::ChromeTraceError;
 
 impl Refusal for LineError {
     ghost shown = { line_shown };

@@ -1,6 +1,6 @@
 //! A session that isn't exported.
 ghost use Rattle.std.specs.Prelude.{◌≡◌};
-ghost use Rattle.rec_export.specs.declared.refusal.RecordExportError.TheVariants.{CountOutOfRange};
+ghost use Rattle.rec_errors.specs.declared.export_error.RecordExportError.TheVariants.{CountOutOfRange};
 ghost use Rattle.rec_faults.specs.FaultLine.{export_shown, shown_text};
 ghost use Rattle.rec_faults.specs.Status.{export_status};
 ghost use Rattle.rec_faults.specs.WritingFaults.{Writes};
@@ -13,7 +13,7 @@ use crate::status::{
     OUT_OF_RANGE, OUTPUT_FAILED, SOURCE_FAILED, TOO_LONG,
 };
 use rec_container::Sink;
-use rec_export::RecordExportError;
+use rec_errors::RecordExportError;
 
 impl Refusal for RecordExportError {
     ghost shown = { export_shown };

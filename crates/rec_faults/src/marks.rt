@@ -1,14 +1,14 @@
 //! What the lines of a session and of a trace that are refused have in common.
 ghost use Rattle.std.specs.Prelude.{◌≡◌, ◌++◌, ℕ, List, codes, decimal};
 ghost use Rattle.rec_spans.specs.declared.spans.SpanKey.{SpanKey};
-ghost use Rattle.rec_export.specs.declared.refusal.RecordExportError.TheVariants.{MissingScriptStart, MissingTestStart, SpanAlreadyOpen};
+ghost use Rattle.rec_errors.specs.declared.export_error.RecordExportError.TheVariants.{MissingScriptStart, MissingTestStart, SpanAlreadyOpen};
 ghost use Rattle.rec_faults.specs.FaultLine.{export_shown, shown_text, span_shown};
 ghost use Rattle.rec_faults.specs.WritingFaults.{Writes};
 
 use crate::line::Line;
 use rec_container::Sink;
 use rec_events::{RustBinaryId, ScriptId, TestCaseName};
-use rec_trace::SpanKey;
+use rec_spans::SpanKey;
 
 /// Writes the test that had not started at an event.
 pub fn missing_test<G: Sink>(

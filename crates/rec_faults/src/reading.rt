@@ -7,7 +7,7 @@ use crate::line::Line;
 use crate::refusal::Refusal;
 use crate::status::OUT_OF_MEMORY;
 use rec_container::Sink;
-use rec_reading::ReadingError;
+use rec_errors::ReadingError;
 
 impl Refusal for ReadingError {
     ghost shown = { reading_shown };

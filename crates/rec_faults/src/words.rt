@@ -7,7 +7,7 @@ use crate::line::Line;
 use crate::refusal::Refusal;
 use crate::status::{FAULTY_WORDS, OUT_OF_MEMORY, OUTPUT_FAILED};
 use rec_container::{Sink, SinkFailed};
-use rec_words::WordsError;
+use rec_errors::WordsError;
 use std::alloc::AllocError;
 
 impl Refusal for WordsError {

@@ -6,3 +6,4 @@ pub mod WrittenVersion
 pub mod SharedTexts
 pub mod RunIdMaps
 pub mod TextLaws
+pub mod FieldLaws

@@ -33,3 +33,4 @@ pub mod RunIdEntries
 pub mod RunListForms
 pub mod RunListFormLaws
 pub mod HeadTexts
+pub mod FieldLists

@@ -11,3 +11,4 @@ mod stats;
 mod status;
 mod suites;
 mod versions;
+mod written_fields;

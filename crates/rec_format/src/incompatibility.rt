@@ -6,7 +6,7 @@ use crate::{
 use std::fmt;
 
 /// Names a release of nextest, printed as three numbers with dots between them.
-#[derive(Copy, Clone, PartialEq, Eq, Debug)]
+#[derive(Copy, Clone, PartialEq, Eq)]
 pub struct Release {
     /// The first number.
     pub major: u64,
@@ -29,7 +29,7 @@ impl fmt::Display for Release {
 }
 
 /// Says what to do with a recording that is too old.
-#[derive(Copy, Clone, PartialEq, Eq, Debug)]
+#[derive(Copy, Clone, PartialEq, Eq)]
 pub enum TooOldRecordingGuidance {
     /// This release and those before it read the recording. No version has this guidance today.
     UseOlderNextest { last_nextest_version: Release },
@@ -40,7 +40,7 @@ pub enum TooOldRecordingGuidance {
 }
 
 /// Says why a store isn't read, with the two numbers that differ.
-#[derive(Copy, Clone, PartialEq, Eq, Debug)]
+#[derive(Copy, Clone, PartialEq, Eq)]
 pub enum StoreVersionIncompatibility {
     /// The store's major version is below the supported one.
     RecordingTooOld {
@@ -104,8 +104,15 @@ impl fmt::Display for StoreVersionIncompatibility {
     }
 }
 
+/// Prints the incompatibility as `Display` does.
+impl fmt::Debug for StoreVersionIncompatibility {
+    fn fmt<W: fmt::Write>(&self, f: &mut fmt::Formatter<W>) -> fmt::Result {
+        fmt::Display::fmt(self, f)
+    }
+}
+
 /// Says why a bundle isn't read, with the two numbers that differ.
-#[derive(Copy, Clone, PartialEq, Eq, Debug)]
+#[derive(Copy, Clone, PartialEq, Eq)]
 pub enum PortableRecordingVersionIncompatibility {
     /// The bundle's major version is another one.
     MajorMismatch {
@@ -146,6 +153,13 @@ impl fmt::Display for PortableRecordingVersionIncompatibility {
                 "minor version {recording_minor} is newer than supported version {supported_minor}"
             ),
         }
+    }
+}
+
+/// Prints the incompatibility as `Display` does.
+impl fmt::Debug for PortableRecordingVersionIncompatibility {
+    fn fmt<W: fmt::Write>(&self, f: &mut fmt::Formatter<W>) -> fmt::Result {
+        fmt::Display::fmt(self, f)
     }
 }
 

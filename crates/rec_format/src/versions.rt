@@ -10,7 +10,7 @@ use std::fmt;
 use std::marker::Model;
 
 /// Numbers a major version of the store's format. A store of another one isn't read.
-#[derive(Copy, Clone, PartialEq, Eq, PartialOrd, Ord, Debug)]
+#[derive(Copy, Clone, PartialEq, Eq, PartialOrd, Ord)]
 pub struct StoreFormatMajorVersion {
     version: u32,
 }
@@ -54,7 +54,7 @@ impl fmt::Display for StoreFormatMajorVersion {
 }
 
 /// Numbers a minor version of the store's format. A store of an older one is still read.
-#[derive(Copy, Clone, PartialEq, Eq, PartialOrd, Ord, Debug)]
+#[derive(Copy, Clone, PartialEq, Eq, PartialOrd, Ord)]
 pub struct StoreFormatMinorVersion {
     version: u32,
 }
@@ -108,7 +108,7 @@ impl fmt::Display for StoreFormatMinorVersion {
 }
 
 /// Numbers a major version of the bundle's format. A bundle of another one isn't read.
-#[derive(Copy, Clone, PartialEq, Eq, PartialOrd, Ord, Debug)]
+#[derive(Copy, Clone, PartialEq, Eq, PartialOrd, Ord)]
 pub struct PortableRecordingFormatMajorVersion {
     version: u32,
 }
@@ -152,7 +152,7 @@ impl fmt::Display for PortableRecordingFormatMajorVersion {
 }
 
 /// Numbers a minor version of the bundle's format. A bundle of an older one is still read.
-#[derive(Copy, Clone, PartialEq, Eq, PartialOrd, Ord, Debug)]
+#[derive(Copy, Clone, PartialEq, Eq, PartialOrd, Ord)]
 pub struct PortableRecordingFormatMinorVersion {
     version: u32,
 }
@@ -212,7 +212,7 @@ pub const STORE_FORMAT_VERSION: StoreFormatVersion = StoreFormatVersion {
 };
 
 /// Names a version of the store's format, printed as `major.minor`.
-#[derive(Copy, Clone, PartialEq, Eq, Debug)]
+#[derive(Copy, Clone, PartialEq, Eq)]
 pub struct StoreFormatVersion {
     /// The major version.
     pub major: StoreFormatMajorVersion,
@@ -285,7 +285,7 @@ pub const PORTABLE_RECORDING_FORMAT_VERSION: PortableRecordingFormatVersion =
     };
 
 /// Names a version of the bundle's format, printed as `major.minor`.
-#[derive(Copy, Clone, PartialEq, Eq, Debug)]
+#[derive(Copy, Clone, PartialEq, Eq)]
 pub struct PortableRecordingFormatVersion {
     /// The major version.
     pub major: PortableRecordingFormatMajorVersion,
@@ -350,7 +350,7 @@ impl fmt::Display for PortableRecordingFormatVersion {
 pub const RUNS_JSON_FORMAT_VERSION: RunsJsonFormatVersion = RunsJsonFormatVersion { version: 3 };
 
 /// Numbers a version of the run list's format. A list of a newer one isn't written back.
-#[derive(Copy, Clone, PartialEq, Eq, PartialOrd, Ord, Debug)]
+#[derive(Copy, Clone, PartialEq, Eq, PartialOrd, Ord)]
 pub struct RunsJsonFormatVersion {
     version: u32,
 }

@@ -11,10 +11,10 @@ use rec_format::{
 };
 use rec_forms::{FromValueError, read_text};
 use std::alloc::{AllocError, Global};
-use std::fmt::{Debug, Display};
+use std::fmt::Display;
 
 // Whether two version numbers are printed as 2 and 10, and the second is the greater one.
-fn rises<V: Copy + Clone + PartialEq + Eq + PartialOrd + Ord + Display + Debug>(
+fn rises<V: Copy + Clone + PartialEq + Eq + PartialOrd + Ord + Display>(
     alloc: Global,
     two: V,
     ten: V,
@@ -82,7 +82,7 @@ fn defaults(rt: HostRuntime) {
 }
 
 // Whether a value is its own copy, and differs from another one.
-fn differ<T: Copy + Clone + PartialEq + Eq + Debug>(value: T, other: T) -> bool {
+fn differ<T: Copy + Clone + PartialEq + Eq>(value: T, other: T) -> bool {
     let copy = value;
     value == copy && value != other
 }
@@ -157,7 +157,7 @@ fn copies(rt: HostRuntime) {
 }
 
 // Whether two values were made, and are equal.
-fn are_equal<T: PartialEq + Eq + Debug + Drop, E: Drop>(
+fn are_equal<T: PartialEq + Eq + Drop, E: Drop>(
     value: Result<T, E>,
     other: Result<T, E>,
 ) -> Option<bool> {

@@ -18,6 +18,7 @@ pub mod NameLaws
 pub mod Names
 pub mod NumberLaws
 pub mod Numbers
+pub mod ObjectWriting
 pub mod OutputLaws
 pub mod OutputNameLaws
 pub mod OutputNames
@@ -40,6 +41,7 @@ pub mod Stats
 pub mod StatsLaws
 pub mod Stress
 pub mod StressLaws
+pub mod Tables
 pub mod TextForm
 pub mod TextLaws
 pub mod TimeLaws

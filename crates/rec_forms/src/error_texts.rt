@@ -1,5 +1,6 @@
 //! What is said of errors.
-use crate::fields::{required_field, write_field};
+use crate::fields::required_field;
+use crate::objects::ObjectWriter;
 use crate::{Form, FromValueError};
 use rec_events::{ErrorSummary, OutputErrorSlice};
 use rec_json::{JsonText, Node};
@@ -28,11 +29,10 @@ impl Form for ErrorSummary {
     ghost shallow = { within_depth refl };
 
     fn write(&self, alloc: Global, text: &mut JsonText) -> Result<(), AllocError> {
-        text.begin_object()?;
-        write_field(alloc, text, "description", &self.description)?;
-        write_field(alloc, text, "short-message", &self.short_message)?;
-        text.end_struct()?;
-        Ok(())
+        let object = ObjectWriter::begin(text);
+        let object = object.field(alloc, text, "description", &self.description);
+        let object = object.field(alloc, text, "short-message", &self.short_message);
+        object.end(text)
     }
 
     #[tactic(auto, unfolding(crate::specs::ErrorTexts::error_summary_form))]
@@ -70,11 +70,10 @@ impl Form for OutputErrorSlice {
     ghost shallow = { within_depth refl };
 
     fn write(&self, alloc: Global, text: &mut JsonText) -> Result<(), AllocError> {
-        text.begin_object()?;
-        write_field(alloc, text, "slice", &self.slice)?;
-        write_field(alloc, text, "start", &self.start)?;
-        text.end_struct()?;
-        Ok(())
+        let object = ObjectWriter::begin(text);
+        let object = object.field(alloc, text, "slice", &self.slice);
+        let object = object.field(alloc, text, "start", &self.start);
+        object.end(text)
     }
 
     #[tactic(auto, unfolding(crate::specs::ErrorTexts::error_slice_form))]

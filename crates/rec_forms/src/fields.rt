@@ -103,7 +103,7 @@ pub fn optional_field<'a, T: Form>(
     match member(object, key) {
         None => Ok(None),
         Some(Node::Null) => Ok(None),
-        Some(node) => Ok(Some(T::from_node(alloc, node)?)),
+        Some(node) => T::from_node(alloc, node).map(Some),
     }
 }
 

@@ -45,7 +45,7 @@ pub trait Form: Sized {
     /// # Errors
     ///
     /// `AllocError` if memory runs out.
-    fn to_value(&self, alloc: Global) -> Result<Value, AllocError>
+    final fn to_value(&self, alloc: Global) -> Result<Value, AllocError>
         ensures value { IfOk result (λ v. view v ≡ value_of self.now) }
         ensures value_known { IfOk result (λ _. well_formed self.now) }
     {
@@ -71,7 +71,7 @@ pub trait Form: Sized {
     ///
     /// - `NotAValue` exactly where `value` stands for no item.
     /// - `OutOfMemory` if memory runs out.
-    fn from_value(alloc: Global, value: &Value) -> Result<Self, FromValueError>
+    final fn from_value(alloc: Global, value: &Value) -> Result<Self, FromValueError>
         ensures read { Gives result (form_of (view value.now)) }
     {
         let node = Node::of_value(alloc, value)?;

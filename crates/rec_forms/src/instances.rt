@@ -1,5 +1,6 @@
 //! Which test ran, where, and which time.
-use crate::fields::{optional_field, required_field, write_field, write_optional};
+use crate::fields::{optional_field, required_field};
+use crate::objects::ObjectWriter;
 use crate::{Form, FromValueError, ItemForm};
 use rec_events::{OwnedTestInstanceId, RetryData, StressIndexSummary, TestSlotAssignment};
 use rec_json::{JsonText, Node};
@@ -28,11 +29,10 @@ impl Form for OwnedTestInstanceId {
     ghost shallow = { within_depth refl };
 
     fn write(&self, alloc: Global, text: &mut JsonText) -> Result<(), AllocError> {
-        text.begin_object()?;
-        write_field(alloc, text, "binary-id", &self.binary_id)?;
-        write_field(alloc, text, "test-name", &self.test_name)?;
-        text.end_struct()?;
-        Ok(())
+        let object = ObjectWriter::begin(text);
+        let object = object.field(alloc, text, "binary-id", &self.binary_id);
+        let object = object.field(alloc, text, "test-name", &self.test_name);
+        object.end(text)
     }
 
     #[tactic(auto, unfolding(crate::specs::Instances::test_instance_form))]
@@ -77,12 +77,11 @@ impl Form for TestSlotAssignment {
     ghost shallow = { within_depth refl };
 
     fn write(&self, alloc: Global, text: &mut JsonText) -> Result<(), AllocError> {
-        text.begin_object()?;
-        write_field(alloc, text, "global-slot", &self.global_slot)?;
-        write_optional(alloc, text, "group-slot", &self.group_slot)?;
-        write_field(alloc, text, "test-group", &self.test_group)?;
-        text.end_struct()?;
-        Ok(())
+        let object = ObjectWriter::begin(text);
+        let object = object.field(alloc, text, "global-slot", &self.global_slot);
+        let object = object.optional(alloc, text, "group-slot", &self.group_slot);
+        let object = object.field(alloc, text, "test-group", &self.test_group);
+        object.end(text)
     }
 
     #[tactic(auto, unfolding(crate::specs::Instances::slot_assignment_form))]
@@ -121,11 +120,10 @@ impl Form for RetryData {
     ghost shallow = { within_depth refl };
 
     fn write(&self, alloc: Global, text: &mut JsonText) -> Result<(), AllocError> {
-        text.begin_object()?;
-        write_field(alloc, text, "attempt", &self.attempt)?;
-        write_field(alloc, text, "total-attempts", &self.total_attempts)?;
-        text.end_struct()?;
-        Ok(())
+        let object = ObjectWriter::begin(text);
+        let object = object.field(alloc, text, "attempt", &self.attempt);
+        let object = object.field(alloc, text, "total-attempts", &self.total_attempts);
+        object.end(text)
     }
 
     #[tactic(auto, unfolding(crate::specs::Instances::retry_data_form))]
@@ -163,11 +161,10 @@ impl Form for StressIndexSummary {
     ghost shallow = { within_depth refl };
 
     fn write(&self, alloc: Global, text: &mut JsonText) -> Result<(), AllocError> {
-        text.begin_object()?;
-        write_field(alloc, text, "current", &self.current)?;
-        write_optional(alloc, text, "total", &self.total)?;
-        text.end_struct()?;
-        Ok(())
+        let object = ObjectWriter::begin(text);
+        let object = object.field(alloc, text, "current", &self.current);
+        let object = object.optional(alloc, text, "total", &self.total);
+        object.end(text)
     }
 
     #[tactic(auto, unfolding(crate::specs::Instances::stress_index_form))]

@@ -1,4 +1,5 @@
 //! Kinds of outputs, and the names of their files.
+use crate::names::named_item;
 use crate::{Form, FromValueError};
 use rec_events::{OutputFileName, OutputKind};
 use rec_json::{JsonText, Node};
@@ -38,12 +39,14 @@ impl Form for OutputKind {
 
     #[tactic(auto, unfolding(crate::specs::OutputNames::output_kind_form))]
     fn from_node(_alloc: Global, node: &Node<'_>) -> Result<OutputKind, FromValueError> {
-        match node.as_str() {
-            Some("stdout") => Ok(OutputKind::Stdout),
-            Some("stderr") => Ok(OutputKind::Stderr),
-            Some("combined") => Ok(OutputKind::Combined),
-            _ => Err(FromValueError::NotAValue),
-        }
+        named_item(
+            node,
+            &[
+                ("stdout", OutputKind::Stdout),
+                ("stderr", OutputKind::Stderr),
+                ("combined", OutputKind::Combined),
+            ],
+        )
     }
 }
 

@@ -6,7 +6,8 @@ ghost use Rattle.rec_events.specs.declared.outputs.ZipStoreOutput.TheVariants.{T
 ghost use Rattle.rec_forms.specs.Gives.{Gives};
 ghost use Rattle.rec_forms.specs.Outputs.{stored_output_value, truncated_form, split_form, IsStoredOutput};
 
-use crate::fields::{optional_field, required_field, write_field, write_optional, write_tagged};
+use crate::fields::{optional_field, required_field, write_tagged};
+use crate::objects::ObjectWriter;
 use crate::{Form, FromValueError};
 use hex::FromHexError;
 use rec_events::{ChildSingleOutput, OutputFileName, ZipStoreOutput, ZipStoreOutputDescription};
@@ -93,13 +94,10 @@ fn write_truncated(
         ++ value_tokens (stored_output_value (Truncated file_name.now original_size.now))) }
     ensures known { OnOk result (IsStoredOutput (Truncated file_name.now original_size.now)) }
 {
-    text.begin_tagged("truncated")?;
-    text.begin_object()?;
-    write_field(alloc, text, "file-name", file_name)?;
-    write_field(alloc, text, "original-size", original_size)?;
-    text.end_struct()?;
-    text.end_tagged()?;
-    Ok(())
+    let object = ObjectWriter::begin_tagged(text, "truncated");
+    let object = object.field(alloc, text, "file-name", file_name);
+    let object = object.field(alloc, text, "original-size", original_size);
+    object.end_tagged(text)
 }
 
 impl Form for ZipStoreOutput {
@@ -147,9 +145,9 @@ impl Form for ZipStoreOutput {
             return Err(FromValueError::NotAValue);
         };
         match only_member(object) {
-            Some(("full", node)) => Ok(ZipStoreOutput::Full {
-                file_name: OutputFileName::from_node(alloc, node)?,
-            }),
+            Some(("full", node)) => OutputFileName::from_node(alloc, node).map(
+                |file_name| ZipStoreOutput::Full { file_name },
+            ),
             Some(("truncated", node)) => truncated_from(alloc, node),
             _ => Err(FromValueError::NotAValue),
         }
@@ -181,13 +179,10 @@ impl Form for ZipStoreOutputDescription {
     fn write(&self, alloc: Global, text: &mut JsonText) -> Result<(), AllocError> {
         match self {
             ZipStoreOutputDescription::Split { stdout, stderr } => {
-                text.begin_tagged("split")?;
-                text.begin_object()?;
-                write_optional(alloc, text, "stderr", stderr)?;
-                write_optional(alloc, text, "stdout", stdout)?;
-                text.end_struct()?;
-                text.end_tagged()?;
-                Ok(())
+                let object = ObjectWriter::begin_tagged(text, "split");
+                let object = object.optional(alloc, text, "stderr", stderr);
+                let object = object.optional(alloc, text, "stdout", stdout);
+                object.end_tagged(text)
             }
             ZipStoreOutputDescription::Combined { output } => {
                 write_tagged(alloc, text, "combined", output)
@@ -205,9 +200,9 @@ impl Form for ZipStoreOutputDescription {
         };
         match only_member(object) {
             Some(("split", node)) => split_from(alloc, node),
-            Some(("combined", node)) => Ok(ZipStoreOutputDescription::Combined {
-                output: ZipStoreOutput::from_node(alloc, node)?,
-            }),
+            Some(("combined", node)) => ZipStoreOutput::from_node(alloc, node).map(
+                |output| ZipStoreOutputDescription::Combined { output },
+            ),
             _ => Err(FromValueError::NotAValue),
         }
     }

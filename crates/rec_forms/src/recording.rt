@@ -1,5 +1,7 @@
 //! What a recording says of the whole run.
-use crate::fields::{required_field, write_field};
+use crate::fields::required_field;
+use crate::names::named_item;
+use crate::objects::ObjectWriter;
 use crate::{Form, FromValueError};
 use rec_events::{NextestRunMode, RecordOpts, TestListSummary};
 use rec_json::{JsonText, Node};
@@ -38,11 +40,13 @@ impl Form for NextestRunMode {
 
     #[tactic(auto, unfolding(crate::specs::Recording::run_mode_form))]
     fn from_node(_alloc: Global, node: &Node<'_>) -> Result<NextestRunMode, FromValueError> {
-        match node.as_str() {
-            Some("test") => Ok(NextestRunMode::Test),
-            Some("benchmark") => Ok(NextestRunMode::Benchmark),
-            _ => Err(FromValueError::NotAValue),
-        }
+        named_item(
+            node,
+            &[
+                ("test", NextestRunMode::Test),
+                ("benchmark", NextestRunMode::Benchmark),
+            ],
+        )
     }
 }
 
@@ -70,10 +74,9 @@ impl Form for RecordOpts {
     ghost shallow = { within_depth refl };
 
     fn write(&self, alloc: Global, text: &mut JsonText) -> Result<(), AllocError> {
-        text.begin_object()?;
-        write_field(alloc, text, "run-mode", &self.run_mode)?;
-        text.end_struct()?;
-        Ok(())
+        let object = ObjectWriter::begin(text);
+        let object = object.field(alloc, text, "run-mode", &self.run_mode);
+        object.end(text)
     }
 
     #[tactic(auto, unfolding(crate::specs::Recording::record_opts_form))]
@@ -110,10 +113,9 @@ impl Form for TestListSummary {
     ghost shallow = { within_depth refl };
 
     fn write(&self, alloc: Global, text: &mut JsonText) -> Result<(), AllocError> {
-        text.begin_object()?;
-        write_field(alloc, text, "suites", &self.suites)?;
-        text.end_struct()?;
-        Ok(())
+        let object = ObjectWriter::begin(text);
+        let object = object.field(alloc, text, "suites", &self.suites);
+        object.end(text)
     }
 
     #[tactic(auto, unfolding(crate::specs::Recording::test_list_form))]

@@ -1,4 +1,5 @@
 //! How the outcome of a test is shown and reported.
+use crate::names::named_item;
 use crate::{Form, FromValueError};
 use rec_events::{CancelReason, JunitFlakyFailStatus, TestOutputDisplay};
 use rec_json::{JsonText, Node};
@@ -39,13 +40,15 @@ impl Form for TestOutputDisplay {
 
     #[tactic(auto, unfolding(crate::specs::Reporting::output_display_form))]
     fn from_node(_alloc: Global, node: &Node<'_>) -> Result<TestOutputDisplay, FromValueError> {
-        match node.as_str() {
-            Some("immediate") => Ok(TestOutputDisplay::Immediate),
-            Some("final") => Ok(TestOutputDisplay::Final),
-            Some("immediate-final") => Ok(TestOutputDisplay::ImmediateFinal),
-            Some("never") => Ok(TestOutputDisplay::Never),
-            _ => Err(FromValueError::NotAValue),
-        }
+        named_item(
+            node,
+            &[
+                ("immediate", TestOutputDisplay::Immediate),
+                ("final", TestOutputDisplay::Final),
+                ("immediate-final", TestOutputDisplay::ImmediateFinal),
+                ("never", TestOutputDisplay::Never),
+            ],
+        )
     }
 }
 
@@ -82,11 +85,13 @@ impl Form for JunitFlakyFailStatus {
 
     #[tactic(auto, unfolding(crate::specs::Reporting::flaky_fail_status_form))]
     fn from_node(_alloc: Global, node: &Node<'_>) -> Result<JunitFlakyFailStatus, FromValueError> {
-        match node.as_str() {
-            Some("failure") => Ok(JunitFlakyFailStatus::Failure),
-            Some("success") => Ok(JunitFlakyFailStatus::Success),
-            _ => Err(FromValueError::NotAValue),
-        }
+        named_item(
+            node,
+            &[
+                ("failure", JunitFlakyFailStatus::Failure),
+                ("success", JunitFlakyFailStatus::Success),
+            ],
+        )
     }
 }
 
@@ -129,16 +134,18 @@ impl Form for CancelReason {
 
     #[tactic(auto, unfolding(crate::specs::Reporting::cancel_reason_form))]
     fn from_node(_alloc: Global, node: &Node<'_>) -> Result<CancelReason, FromValueError> {
-        match node.as_str() {
-            Some("setup-script-failure") => Ok(CancelReason::SetupScriptFailure),
-            Some("test-failure") => Ok(CancelReason::TestFailure),
-            Some("report-error") => Ok(CancelReason::ReportError),
-            Some("global-timeout") => Ok(CancelReason::GlobalTimeout),
-            Some("test-failure-immediate") => Ok(CancelReason::TestFailureImmediate),
-            Some("signal") => Ok(CancelReason::Signal),
-            Some("interrupt") => Ok(CancelReason::Interrupt),
-            Some("second-signal") => Ok(CancelReason::SecondSignal),
-            _ => Err(FromValueError::NotAValue),
-        }
+        named_item(
+            node,
+            &[
+                ("setup-script-failure", CancelReason::SetupScriptFailure),
+                ("test-failure", CancelReason::TestFailure),
+                ("report-error", CancelReason::ReportError),
+                ("global-timeout", CancelReason::GlobalTimeout),
+                ("test-failure-immediate", CancelReason::TestFailureImmediate),
+                ("signal", CancelReason::Signal),
+                ("interrupt", CancelReason::Interrupt),
+                ("second-signal", CancelReason::SecondSignal),
+            ],
+        )
     }
 }

@@ -4,7 +4,9 @@ ghost use Rattle.rec_json.specs.Nodes.{view};
 ghost use Rattle.rec_forms.specs.Gives.{Gives};
 ghost use Rattle.rec_forms.specs.Results.{abort_form, fail_form};
 
-use crate::fields::{optional_field, required_field, write_field, write_optional, write_tagged};
+use crate::fields::{optional_field, required_field, write_tagged};
+use crate::names::named_item;
+use crate::objects::ObjectWriter;
 use crate::{Form, FromValueError};
 use rec_events::{
     ExecutionResultDescription, FailureDescription, FlakyResult, LeakTimeoutResult,
@@ -46,11 +48,10 @@ impl Form for FlakyResult {
 
     #[tactic(auto, unfolding(crate::specs::Results::flaky_result_form))]
     fn from_node(_alloc: Global, node: &Node<'_>) -> Result<FlakyResult, FromValueError> {
-        match node.as_str() {
-            Some("pass") => Ok(FlakyResult::Pass),
-            Some("fail") => Ok(FlakyResult::Fail),
-            _ => Err(FromValueError::NotAValue),
-        }
+        named_item(
+            node,
+            &[("pass", FlakyResult::Pass), ("fail", FlakyResult::Fail)],
+        )
     }
 }
 
@@ -87,11 +88,13 @@ impl Form for LeakTimeoutResult {
 
     #[tactic(auto, unfolding(crate::specs::Results::leak_result_form))]
     fn from_node(_alloc: Global, node: &Node<'_>) -> Result<LeakTimeoutResult, FromValueError> {
-        match node.as_str() {
-            Some("pass") => Ok(LeakTimeoutResult::Pass),
-            Some("fail") => Ok(LeakTimeoutResult::Fail),
-            _ => Err(FromValueError::NotAValue),
-        }
+        named_item(
+            node,
+            &[
+                ("pass", LeakTimeoutResult::Pass),
+                ("fail", LeakTimeoutResult::Fail),
+            ],
+        )
     }
 }
 
@@ -128,11 +131,13 @@ impl Form for SlowTimeoutResult {
 
     #[tactic(auto, unfolding(crate::specs::Results::slow_result_form))]
     fn from_node(_alloc: Global, node: &Node<'_>) -> Result<SlowTimeoutResult, FromValueError> {
-        match node.as_str() {
-            Some("pass") => Ok(SlowTimeoutResult::Pass),
-            Some("fail") => Ok(SlowTimeoutResult::Fail),
-            _ => Err(FromValueError::NotAValue),
-        }
+        named_item(
+            node,
+            &[
+                ("pass", SlowTimeoutResult::Pass),
+                ("fail", SlowTimeoutResult::Fail),
+            ],
+        )
     }
 }
 
@@ -164,13 +169,10 @@ impl Form for FailureDescription {
                 write_tagged(alloc, text, "exit-code", code)
             }
             FailureDescription::Abort { signal, name } => {
-                text.begin_tagged("abort")?;
-                text.begin_object()?;
-                write_optional(alloc, text, "name", name)?;
-                write_field(alloc, text, "signal", signal)?;
-                text.end_struct()?;
-                text.end_tagged()?;
-                Ok(())
+                let object = ObjectWriter::begin_tagged(text, "abort");
+                let object = object.optional(alloc, text, "name", name);
+                let object = object.field(alloc, text, "signal", signal);
+                object.end_tagged(text)
             }
         }
     }
@@ -181,9 +183,9 @@ impl Form for FailureDescription {
             return Err(FromValueError::NotAValue);
         };
         match only_member(object) {
-            Some(("exit-code", node)) => Ok(FailureDescription::ExitCode {
-                code: i32::from_node(alloc, node)?,
-            }),
+            Some(("exit-code", node)) => {
+                i32::from_node(alloc, node).map(|code| FailureDescription::ExitCode { code })
+            }
             Some(("abort", node)) => abort_from(alloc, node),
             _ => Err(FromValueError::NotAValue),
         }
@@ -233,13 +235,10 @@ impl Form for ExecutionResultDescription {
                 write_tagged(alloc, text, "leak", result)
             }
             ExecutionResultDescription::Fail { failure, leaked } => {
-                text.begin_tagged("fail")?;
-                text.begin_object()?;
-                write_field(alloc, text, "failure", failure)?;
-                write_field(alloc, text, "leaked", leaked)?;
-                text.end_struct()?;
-                text.end_tagged()?;
-                Ok(())
+                let object = ObjectWriter::begin_tagged(text, "fail");
+                let object = object.field(alloc, text, "failure", failure);
+                let object = object.field(alloc, text, "leaked", leaked);
+                object.end_tagged(text)
             }
             ExecutionResultDescription::ExecFail => text.string("exec-fail"),
             ExecutionResultDescription::Timeout { result } => {
@@ -264,13 +263,13 @@ impl Form for ExecutionResultDescription {
             return Err(FromValueError::NotAValue);
         };
         match only_member(object) {
-            Some(("leak", node)) => Ok(ExecutionResultDescription::Leak {
-                result: LeakTimeoutResult::from_node(alloc, node)?,
-            }),
+            Some(("leak", node)) => LeakTimeoutResult::from_node(alloc, node).map(
+                |outcome| ExecutionResultDescription::Leak { result: outcome },
+            ),
             Some(("fail", node)) => fail_from(alloc, node),
-            Some(("timeout", node)) => Ok(ExecutionResultDescription::Timeout {
-                result: SlowTimeoutResult::from_node(alloc, node)?,
-            }),
+            Some(("timeout", node)) => SlowTimeoutResult::from_node(alloc, node).map(
+                |outcome| ExecutionResultDescription::Timeout { result: outcome },
+            ),
             _ => Err(FromValueError::NotAValue),
         }
     }

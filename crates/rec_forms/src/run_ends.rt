@@ -1,5 +1,7 @@
 //! How a run ended.
-use crate::fields::{required_field, write_field, write_tagged};
+use crate::fields::{required_field, write_tagged};
+use crate::names::named_item;
+use crate::objects::ObjectWriter;
 use crate::{Form, FromValueError};
 use rec_events::{
     FinalRunStats, RunFinishedStats, RunStats, StressFinalRunStats, StressRunStats,
@@ -43,13 +45,15 @@ impl Form for FinalRunStats {
 
     #[tactic(auto, unfolding(crate::specs::RunEnds::final_stats_form))]
     fn from_node(_alloc: Global, node: &Node<'_>) -> Result<FinalRunStats, FromValueError> {
-        match node.as_str() {
-            Some("success") => Ok(FinalRunStats::Success),
-            Some("no-tests-run") => Ok(FinalRunStats::NoTestsRun),
-            Some("failed") => Ok(FinalRunStats::Failed),
-            Some("cancelled") => Ok(FinalRunStats::Cancelled),
-            _ => Err(FromValueError::NotAValue),
-        }
+        named_item(
+            node,
+            &[
+                ("success", FinalRunStats::Success),
+                ("no-tests-run", FinalRunStats::NoTestsRun),
+                ("failed", FinalRunStats::Failed),
+                ("cancelled", FinalRunStats::Cancelled),
+            ],
+        )
     }
 }
 
@@ -88,13 +92,15 @@ impl Form for StressFinalRunStats {
 
     #[tactic(auto, unfolding(crate::specs::RunEnds::stress_final_stats_form))]
     fn from_node(_alloc: Global, node: &Node<'_>) -> Result<StressFinalRunStats, FromValueError> {
-        match node.as_str() {
-            Some("success") => Ok(StressFinalRunStats::Success),
-            Some("no-tests-run") => Ok(StressFinalRunStats::NoTestsRun),
-            Some("failed") => Ok(StressFinalRunStats::Failed),
-            Some("cancelled") => Ok(StressFinalRunStats::Cancelled),
-            _ => Err(FromValueError::NotAValue),
-        }
+        named_item(
+            node,
+            &[
+                ("success", StressFinalRunStats::Success),
+                ("no-tests-run", StressFinalRunStats::NoTestsRun),
+                ("failed", StressFinalRunStats::Failed),
+                ("cancelled", StressFinalRunStats::Cancelled),
+            ],
+        )
     }
 }
 
@@ -121,13 +127,12 @@ impl Form for StressRunStats {
     ghost shallow = { within_depth refl };
 
     fn write(&self, alloc: Global, text: &mut JsonText) -> Result<(), AllocError> {
-        text.begin_object()?;
-        write_field(alloc, text, "completed", &self.completed)?;
-        write_field(alloc, text, "failed-count", &self.failed_count)?;
-        write_field(alloc, text, "last-final-stats", &self.last_final_stats)?;
-        write_field(alloc, text, "success-count", &self.success_count)?;
-        text.end_struct()?;
-        Ok(())
+        let object = ObjectWriter::begin(text);
+        let object = object.field(alloc, text, "completed", &self.completed);
+        let object = object.field(alloc, text, "failed-count", &self.failed_count);
+        let object = object.field(alloc, text, "last-final-stats", &self.last_final_stats);
+        let object = object.field(alloc, text, "success-count", &self.success_count);
+        object.end(text)
     }
 
     #[tactic(auto, unfolding(crate::specs::RunEnds::stress_run_stats_form))]
@@ -213,11 +218,10 @@ impl Form for TestsNotSeenSummary {
     ghost shallow = { within_depth refl };
 
     fn write(&self, alloc: Global, text: &mut JsonText) -> Result<(), AllocError> {
-        text.begin_object()?;
-        write_field(alloc, text, "not-seen", &self.not_seen)?;
-        write_field(alloc, text, "total-not-seen", &self.total_not_seen)?;
-        text.end_struct()?;
-        Ok(())
+        let object = ObjectWriter::begin(text);
+        let object = object.field(alloc, text, "not-seen", &self.not_seen);
+        let object = object.field(alloc, text, "total-not-seen", &self.total_not_seen);
+        object.end(text)
     }
 
     #[tactic(auto, unfolding(crate::specs::RunEnds::tests_not_seen_form))]

@@ -1,5 +1,6 @@
 //! What of a workspace is built.
-use crate::fields::{defaulted_field, write_field};
+use crate::fields::defaulted_field;
+use crate::objects::ObjectWriter;
 use crate::{Form, FromValueError};
 use rec_events::{
     BuildScope, FeatureSelection, Items, NamedTargets, PackageSelection, TargetSelection,
@@ -30,11 +31,10 @@ impl Form for NamedTargets {
     ghost shallow = { within_depth refl };
 
     fn write(&self, alloc: Global, text: &mut JsonText) -> Result<(), AllocError> {
-        text.begin_object()?;
-        write_field(alloc, text, "all", &self.all)?;
-        write_field(alloc, text, "names", &self.names)?;
-        text.end_struct()?;
-        Ok(())
+        let object = ObjectWriter::begin(text);
+        let object = object.field(alloc, text, "all", &self.all);
+        let object = object.field(alloc, text, "names", &self.names);
+        object.end(text)
     }
 
     #[tactic(auto, unfolding(crate::specs::Selections::named_targets_form))]
@@ -72,12 +72,11 @@ impl Form for PackageSelection {
     ghost shallow = { within_depth refl };
 
     fn write(&self, alloc: Global, text: &mut JsonText) -> Result<(), AllocError> {
-        text.begin_object()?;
-        write_field(alloc, text, "exclude", &self.exclude)?;
-        write_field(alloc, text, "specs", &self.specs)?;
-        write_field(alloc, text, "workspace", &self.workspace)?;
-        text.end_struct()?;
-        Ok(())
+        let object = ObjectWriter::begin(text);
+        let object = object.field(alloc, text, "exclude", &self.exclude);
+        let object = object.field(alloc, text, "specs", &self.specs);
+        let object = object.field(alloc, text, "workspace", &self.workspace);
+        object.end(text)
     }
 
     #[tactic(auto, unfolding(crate::specs::Selections::package_selection_form))]
@@ -116,15 +115,14 @@ impl Form for TargetSelection {
     ghost shallow = { within_depth refl };
 
     fn write(&self, alloc: Global, text: &mut JsonText) -> Result<(), AllocError> {
-        text.begin_object()?;
-        write_field(alloc, text, "all-targets", &self.all_targets)?;
-        write_field(alloc, text, "benches", &self.benches)?;
-        write_field(alloc, text, "bins", &self.bins)?;
-        write_field(alloc, text, "examples", &self.examples)?;
-        write_field(alloc, text, "lib", &self.lib)?;
-        write_field(alloc, text, "tests", &self.tests)?;
-        text.end_struct()?;
-        Ok(())
+        let object = ObjectWriter::begin(text);
+        let object = object.field(alloc, text, "all-targets", &self.all_targets);
+        let object = object.field(alloc, text, "benches", &self.benches);
+        let object = object.field(alloc, text, "bins", &self.bins);
+        let object = object.field(alloc, text, "examples", &self.examples);
+        let object = object.field(alloc, text, "lib", &self.lib);
+        let object = object.field(alloc, text, "tests", &self.tests);
+        object.end(text)
     }
 
     #[tactic(auto, unfolding(crate::specs::Selections::target_selection_form))]
@@ -166,17 +164,16 @@ impl Form for FeatureSelection {
     ghost shallow = { within_depth refl };
 
     fn write(&self, alloc: Global, text: &mut JsonText) -> Result<(), AllocError> {
-        text.begin_object()?;
-        write_field(alloc, text, "all-features", &self.all_features)?;
-        write_field(alloc, text, "features", &self.features)?;
-        write_field(
+        let object = ObjectWriter::begin(text);
+        let object = object.field(alloc, text, "all-features", &self.all_features);
+        let object = object.field(alloc, text, "features", &self.features);
+        let object = object.field(
             alloc,
             text,
             "no-default-features",
             &self.no_default_features,
-        )?;
-        text.end_struct()?;
-        Ok(())
+        );
+        object.end(text)
     }
 
     #[tactic(auto, unfolding(crate::specs::Selections::feature_selection_form))]
@@ -215,12 +212,11 @@ impl Form for BuildScope {
     ghost shallow = { within_depth refl };
 
     fn write(&self, alloc: Global, text: &mut JsonText) -> Result<(), AllocError> {
-        text.begin_object()?;
-        write_field(alloc, text, "features", &self.features)?;
-        write_field(alloc, text, "packages", &self.packages)?;
-        write_field(alloc, text, "targets", &self.targets)?;
-        text.end_struct()?;
-        Ok(())
+        let object = ObjectWriter::begin(text);
+        let object = object.field(alloc, text, "features", &self.features);
+        let object = object.field(alloc, text, "packages", &self.packages);
+        let object = object.field(alloc, text, "targets", &self.targets);
+        object.end(text)
     }
 
     #[tactic(auto, unfolding(crate::specs::Selections::build_scope_form))]

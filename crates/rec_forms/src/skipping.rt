@@ -1,4 +1,5 @@
 //! Why tests are skipped, and which of these a report names.
+use crate::names::named_item;
 use crate::{Form, FromValueError};
 use rec_events::{MismatchReason, ReportSkipPolicy};
 use rec_json::{JsonText, Node};
@@ -42,16 +43,18 @@ impl Form for MismatchReason {
 
     #[tactic(auto, unfolding(crate::specs::Skipping::mismatch_reason_form))]
     fn from_node(_alloc: Global, node: &Node<'_>) -> Result<MismatchReason, FromValueError> {
-        match node.as_str() {
-            Some("not-benchmark") => Ok(MismatchReason::NotBenchmark),
-            Some("ignored") => Ok(MismatchReason::Ignored),
-            Some("string") => Ok(MismatchReason::String),
-            Some("expression") => Ok(MismatchReason::Expression),
-            Some("partition") => Ok(MismatchReason::Partition),
-            Some("rerun-already-passed") => Ok(MismatchReason::RerunAlreadyPassed),
-            Some("default-filter") => Ok(MismatchReason::DefaultFilter),
-            _ => Err(FromValueError::NotAValue),
-        }
+        named_item(
+            node,
+            &[
+                ("not-benchmark", MismatchReason::NotBenchmark),
+                ("ignored", MismatchReason::Ignored),
+                ("string", MismatchReason::String),
+                ("expression", MismatchReason::Expression),
+                ("partition", MismatchReason::Partition),
+                ("rerun-already-passed", MismatchReason::RerunAlreadyPassed),
+                ("default-filter", MismatchReason::DefaultFilter),
+            ],
+        )
     }
 }
 
@@ -89,11 +92,13 @@ impl Form for ReportSkipPolicy {
 
     #[tactic(auto, unfolding(crate::specs::Skipping::skip_policy_form))]
     fn from_node(_alloc: Global, node: &Node<'_>) -> Result<ReportSkipPolicy, FromValueError> {
-        match node.as_str() {
-            Some("none") => Ok(ReportSkipPolicy::None),
-            Some("ignored") => Ok(ReportSkipPolicy::Ignored),
-            Some("all") => Ok(ReportSkipPolicy::All),
-            _ => Err(FromValueError::NotAValue),
-        }
+        named_item(
+            node,
+            &[
+                ("none", ReportSkipPolicy::None),
+                ("ignored", ReportSkipPolicy::Ignored),
+                ("all", ReportSkipPolicy::All),
+            ],
+        )
     }
 }

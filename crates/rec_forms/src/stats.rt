@@ -1,10 +1,10 @@
 //! The counts of a run, in three parts that follow the order of the keys.
-ghost use Rattle.std.specs.Prelude.{◌≡◌, OnOk};
 ghost use Rattle.rec_json.specs.Nodes.{members_view};
-ghost use Rattle.rec_json.specs.Tokens.{with_fields};
 ghost use Rattle.rec_forms.specs.Gives.{Gives};
+ghost use Rattle.rec_forms.specs.ObjectWriting.{Writes};
 
-use crate::fields::{optional_field, required_field, write_field, write_optional};
+use crate::fields::{optional_field, required_field};
+use crate::objects::ObjectWriter;
 use crate::{Form, FromValueError};
 use rec_events::RunStats;
 use rec_json::{JsonText, Node};
@@ -25,17 +25,21 @@ impl FirstCounts {
     ghost use Rattle.rec_forms.specs.Stats.{first_counts_fields, first_counts_form, AreFirstCounts};
 
     /// Writes this part of `stats`.
-    fn write(alloc: Global, text: &mut JsonText, stats: &RunStats) -> Result<(), AllocError>
-        ensures written { OnOk result (text.new ≡ with_fields text.old (first_counts_fields stats.now)) }
-        ensures known { OnOk result (AreFirstCounts stats.now) }
+    fn write(
+        object: ObjectWriter,
+        alloc: Global,
+        text: &mut JsonText,
+        stats: &RunStats,
+    ) -> ObjectWriter
+        ensures { Writes object.is_failed text.old result.is_failed text.new
+            (first_counts_fields stats.now) (AreFirstCounts stats.now) }
     {
-        write_field(alloc, text, "exec-failed", &stats.exec_failed)?;
-        write_field(alloc, text, "failed", &stats.failed)?;
-        write_field(alloc, text, "failed-slow", &stats.failed_slow)?;
-        write_field(alloc, text, "failed-timed-out", &stats.failed_timed_out)?;
-        write_field(alloc, text, "finished-count", &stats.finished_count)?;
-        write_field(alloc, text, "flaky", &stats.flaky)?;
-        Ok(())
+        let object = object.field(alloc, text, "exec-failed", &stats.exec_failed);
+        let object = object.field(alloc, text, "failed", &stats.failed);
+        let object = object.field(alloc, text, "failed-slow", &stats.failed_slow);
+        let object = object.field(alloc, text, "failed-timed-out", &stats.failed_timed_out);
+        let object = object.field(alloc, text, "finished-count", &stats.finished_count);
+        object.field(alloc, text, "flaky", &stats.flaky)
     }
 
     /// Reads this part.
@@ -72,17 +76,21 @@ impl MiddleCounts {
     ghost use Rattle.rec_forms.specs.Stats.{middle_counts_fields, middle_counts_form, AreMiddleCounts};
 
     /// Writes this part of `stats`.
-    fn write(alloc: Global, text: &mut JsonText, stats: &RunStats) -> Result<(), AllocError>
-        ensures written { OnOk result (text.new ≡ with_fields text.old (middle_counts_fields stats.now)) }
-        ensures known { OnOk result (AreMiddleCounts stats.now) }
+    fn write(
+        object: ObjectWriter,
+        alloc: Global,
+        text: &mut JsonText,
+        stats: &RunStats,
+    ) -> ObjectWriter
+        ensures { Writes object.is_failed text.old result.is_failed text.new
+            (middle_counts_fields stats.now) (AreMiddleCounts stats.now) }
     {
-        write_field(alloc, text, "initial-run-count", &stats.initial_run_count)?;
-        write_field(alloc, text, "leaky", &stats.leaky)?;
-        write_field(alloc, text, "leaky-failed", &stats.leaky_failed)?;
-        write_field(alloc, text, "passed", &stats.passed)?;
-        write_field(alloc, text, "passed-slow", &stats.passed_slow)?;
-        write_field(alloc, text, "passed-timed-out", &stats.passed_timed_out)?;
-        Ok(())
+        let object = object.field(alloc, text, "initial-run-count", &stats.initial_run_count);
+        let object = object.field(alloc, text, "leaky", &stats.leaky);
+        let object = object.field(alloc, text, "leaky-failed", &stats.leaky_failed);
+        let object = object.field(alloc, text, "passed", &stats.passed);
+        let object = object.field(alloc, text, "passed-slow", &stats.passed_slow);
+        object.field(alloc, text, "passed-timed-out", &stats.passed_timed_out)
     }
 
     /// Reads this part.
@@ -120,48 +128,52 @@ impl LastCounts {
     ghost use Rattle.rec_forms.specs.Stats.{last_counts_fields, last_counts_form, AreLastCounts};
 
     /// Writes this part of `stats`.
-    fn write(alloc: Global, text: &mut JsonText, stats: &RunStats) -> Result<(), AllocError>
-        ensures written { OnOk result (text.new ≡ with_fields text.old (last_counts_fields stats.now)) }
-        ensures known { OnOk result (AreLastCounts stats.now) }
+    fn write(
+        object: ObjectWriter,
+        alloc: Global,
+        text: &mut JsonText,
+        stats: &RunStats,
+    ) -> ObjectWriter
+        ensures { Writes object.is_failed text.old result.is_failed text.new
+            (last_counts_fields stats.now) (AreLastCounts stats.now) }
     {
-        write_field(
+        let object = object.field(
             alloc,
             text,
             "setup-scripts-exec-failed",
             &stats.setup_scripts_exec_failed,
-        )?;
-        write_field(
+        );
+        let object = object.field(
             alloc,
             text,
             "setup-scripts-failed",
             &stats.setup_scripts_failed,
-        )?;
-        write_field(
+        );
+        let object = object.field(
             alloc,
             text,
             "setup-scripts-finished-count",
             &stats.setup_scripts_finished_count,
-        )?;
-        write_field(
+        );
+        let object = object.field(
             alloc,
             text,
             "setup-scripts-initial-count",
             &stats.setup_scripts_initial_count,
-        )?;
-        write_field(
+        );
+        let object = object.field(
             alloc,
             text,
             "setup-scripts-passed",
             &stats.setup_scripts_passed,
-        )?;
-        write_field(
+        );
+        let object = object.field(
             alloc,
             text,
             "setup-scripts-timed-out",
             &stats.setup_scripts_timed_out,
-        )?;
-        write_field(alloc, text, "skipped", &stats.skipped)?;
-        Ok(())
+        );
+        object.field(alloc, text, "skipped", &stats.skipped)
     }
 
     /// Reads this part.
@@ -212,13 +224,12 @@ impl Form for RunStats {
     ghost shallow = { within_depth refl };
 
     fn write(&self, alloc: Global, text: &mut JsonText) -> Result<(), AllocError> {
-        text.begin_object()?;
-        write_optional(alloc, text, "cancel-reason", &self.cancel_reason)?;
-        FirstCounts::write(alloc, text, self)?;
-        MiddleCounts::write(alloc, text, self)?;
-        LastCounts::write(alloc, text, self)?;
-        text.end_struct()?;
-        Ok(())
+        let object = ObjectWriter::begin(text);
+        let object = object.optional(alloc, text, "cancel-reason", &self.cancel_reason);
+        let object = FirstCounts::write(object, alloc, text, self);
+        let object = MiddleCounts::write(object, alloc, text, self);
+        let object = LastCounts::write(object, alloc, text, self);
+        object.end(text)
     }
 
     #[tactic(auto, unfolding(crate::specs::Stats::run_stats_form))]

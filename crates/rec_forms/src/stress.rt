@@ -6,7 +6,8 @@ ghost use Rattle.rec_events.specs.declared.stress.StressProgress.TheVariants.{Co
 ghost use Rattle.rec_forms.specs.Gives.{Gives};
 ghost use Rattle.rec_forms.specs.Stress.{count_progress_form, time_progress_form, stress_progress_value, IsStressProgress};
 
-use crate::fields::{optional_field, required_field, write_field, write_optional, write_tagged};
+use crate::fields::{optional_field, required_field, write_tagged};
+use crate::objects::ObjectWriter;
 use crate::{Form, FromValueError};
 use rec_events::{Duration, StressConditionSummary, StressProgress};
 use rec_json::{JsonText, Node, only_member};
@@ -58,12 +59,12 @@ impl Form for StressConditionSummary {
         };
         match only_member(object) {
             Some(("count", Node::Null)) => Ok(StressConditionSummary::Count { count: None }),
-            Some(("count", node)) => Ok(StressConditionSummary::Count {
-                count: Some(u32::from_node(alloc, node)?),
-            }),
-            Some(("duration", node)) => Ok(StressConditionSummary::Duration {
-                duration: Duration::from_node(alloc, node)?,
-            }),
+            Some(("count", node)) => u32::from_node(alloc, node).map(
+                |count| StressConditionSummary::Count { count: Some(count) },
+            ),
+            Some(("duration", node)) => Duration::from_node(alloc, node).map(
+                |duration| StressConditionSummary::Duration { duration },
+            ),
             _ => Err(FromValueError::NotAValue),
         }
     }
@@ -81,14 +82,11 @@ fn write_count(
         ++ value_tokens (stress_progress_value (Count total.now elapsed.now completed.now))) }
     ensures known { OnOk result (IsStressProgress (Count total.now elapsed.now completed.now)) }
 {
-    text.begin_tagged("count")?;
-    text.begin_object()?;
-    write_field(alloc, text, "completed", completed)?;
-    write_field(alloc, text, "elapsed", elapsed)?;
-    write_optional(alloc, text, "total", total)?;
-    text.end_struct()?;
-    text.end_tagged()?;
-    Ok(())
+    let object = ObjectWriter::begin_tagged(text, "count");
+    let object = object.field(alloc, text, "completed", completed);
+    let object = object.field(alloc, text, "elapsed", elapsed);
+    let object = object.optional(alloc, text, "total", total);
+    object.end_tagged(text)
 }
 
 /// Writes how far a stress run of some length has come.
@@ -103,14 +101,11 @@ fn write_time(
         ++ value_tokens (stress_progress_value (Time total.now elapsed.now completed.now))) }
     ensures known { OnOk result (IsStressProgress (Time total.now elapsed.now completed.now)) }
 {
-    text.begin_tagged("time")?;
-    text.begin_object()?;
-    write_field(alloc, text, "completed", completed)?;
-    write_field(alloc, text, "elapsed", elapsed)?;
-    write_field(alloc, text, "total", total)?;
-    text.end_struct()?;
-    text.end_tagged()?;
-    Ok(())
+    let object = ObjectWriter::begin_tagged(text, "time");
+    let object = object.field(alloc, text, "completed", completed);
+    let object = object.field(alloc, text, "elapsed", elapsed);
+    let object = object.field(alloc, text, "total", total);
+    object.end_tagged(text)
 }
 
 impl Form for StressProgress {

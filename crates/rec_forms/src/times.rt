@@ -1,5 +1,6 @@
 //! Instants and spans of time.
-use crate::fields::{required_field, write_field};
+use crate::fields::required_field;
+use crate::objects::ObjectWriter;
 use crate::{Form, FromValueError, Held};
 use rec_events::{Duration, Stamp};
 use rec_json::{JsonText, Node};
@@ -28,12 +29,11 @@ impl Form for Stamp {
     ghost shallow = { within_depth refl };
 
     fn write(&self, alloc: Global, text: &mut JsonText) -> Result<(), AllocError> {
-        text.begin_object()?;
-        write_field(alloc, text, "nanos", &self.nanos)?;
-        write_field(alloc, text, "offset", &self.offset)?;
-        write_field(alloc, text, "secs", &self.secs)?;
-        text.end_struct()?;
-        Ok(())
+        let object = ObjectWriter::begin(text);
+        let object = object.field(alloc, text, "nanos", &self.nanos);
+        let object = object.field(alloc, text, "offset", &self.offset);
+        let object = object.field(alloc, text, "secs", &self.secs);
+        object.end(text)
     }
 
     #[tactic(auto, unfolding(crate::specs::Times::stamp_form))]
@@ -79,11 +79,10 @@ impl Form for Duration {
     ghost shallow = { within_depth refl };
 
     fn write(&self, alloc: Global, text: &mut JsonText) -> Result<(), AllocError> {
-        text.begin_object()?;
-        write_field(alloc, text, "nanos", &self.nanos)?;
-        write_field(alloc, text, "secs", &self.secs)?;
-        text.end_struct()?;
-        Ok(())
+        let object = ObjectWriter::begin(text);
+        let object = object.field(alloc, text, "nanos", &self.nanos);
+        let object = object.field(alloc, text, "secs", &self.secs);
+        object.end(text)
     }
 
     #[tactic(auto, unfolding(crate::specs::Times::duration_form))]

@@ -3,6 +3,7 @@ pub mod Attempts
 pub mod Cases
 pub mod Describing
 pub mod Failing
+pub mod Failures
 pub mod Histories
 pub mod Judging
 pub mod Reports

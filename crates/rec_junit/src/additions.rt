@@ -1,9 +1,10 @@
 //! What an event adds to a report.
-ghost use Rattle.std.specs.Prelude.{◌≡◌, ◌++◌, codes, Some, Ok, IfOk, OnOk};
+ghost use Rattle.std.specs.Prelude.{◌≡◌, ◌++◌, ◌∷◌, [], codes, Some, Ok, IfOk, OnOk};
 ghost use Rattle.rec_events.specs.LiveEvents.{kind_name};
 ghost use Rattle.rec_junit.specs.Additions.{addition_of, finished_addition, property, script_addition, script_properties, test_addition, variables};
-ghost use Rattle.rec_junit.specs.Cases.{script_case};
+ghost use Rattle.rec_junit.specs.Cases.{script_case, skipped_case};
 ghost use Rattle.rec_junit.specs.Failing.{script_unit};
+ghost use Rattle.rec_junit.specs.Failures.{script_parts};
 ghost use Rattle.rec_junit.specs.Judging.{Judges};
 ghost use Rattle.rec_junit.specs.Suites.{suite_name};
 
@@ -15,8 +16,9 @@ use crate::suite_keys::SuiteKey;
 use crate::suites::Addition;
 use crate::{ErrorDescriber, JunitCase, JunitError, JunitProperty};
 use rec_events::{
-    ExecutionStatuses, Items, JunitFlakyFailStatus, LiveSpec, NextestRunMode, ScriptId,
-    SetupScriptExecuteStatus, StressIndex, TestEventKind, TestInstanceId, Text, TextMap, TryClone,
+    ExecutionStatuses, Items, JunitFlakyFailStatus, LiveSpec, MismatchReason, NextestRunMode,
+    ScriptId, SetupScriptExecuteStatus, StressIndex, TestEventKind, TestInstanceId, Text, TextMap,
+    TryClone,
 };
 use std::alloc::{AllocError, Global};
 
@@ -89,13 +91,42 @@ fn script_addition<D: ErrorDescriber>(
     requires unit { maker.now.unit.now ≡ script_unit }
     ensures { Judges result (script_addition (D.text_of maker.now.describer.now) maker.now.storing key script.now program.now args.now ran.now) }
 {
+    match script_parts(maker, &key, script, program, args, ran) {
+        Ok(parts) => {
+            let (case, properties) = parts;
+            Ok(Some(Addition {
+                key,
+                case,
+                properties,
+            }))
+        }
+        Err(error) => {
+            drop(key);
+            Err(error)
+        }
+    }
+}
+
+/// Makes the case of a finished setup script, and what is said of its suite.
+fn script_parts<D: ErrorDescriber>(
+    maker: &CaseMaker<'_, D>,
+    key: &SuiteKey,
+    script: &ScriptId,
+    program: &Text,
+    args: &[Text],
+    ran: &SetupScriptExecuteStatus<LiveSpec>,
+) -> Result<(JunitCase, Items<JunitProperty>), JunitError>
+    requires unit { maker.now.unit.now ≡ script_unit }
+    ensures { Judges result (script_parts (D.text_of maker.now.describer.now) maker.now.storing key.now script.now program.now args.now ran.now) }
+{
     let properties = script_properties(maker.alloc, program, args, &ran.env_map)?;
-    let case = case_in_suite(maker, &key, script, ran)?;
-    Ok(Some(Addition {
-        key,
-        case,
-        properties,
-    }))
+    match case_in_suite(maker, key, script, ran) {
+        Ok(case) => Ok((case, properties)),
+        Err(error) => {
+            drop(properties);
+            Err(error)
+        }
+    }
 }
 
 /// Makes the case of a finished setup script, in the suite of this key.
@@ -189,8 +220,20 @@ fn test_skipped<D: ErrorDescriber>(
     if !junit_report_skipped.should_report(*reason) {
         return Ok(None);
     }
-    let case = skipped_case(alloc, test_instance, *reason)?;
-    Ok(Some(test_addition(alloc, stress_index, test_instance, case)?))
+    skipped_addition(alloc, stress_index, test_instance, *reason).map(Some)
+}
+
+/// Adds the case of a test that doesn't run.
+fn skipped_addition(
+    alloc: Global,
+    stress_index: &Option<StressIndex>,
+    test: &TestInstanceId<'_>,
+    reason: MismatchReason,
+) -> Result<Addition, AllocError>
+    ensures { IfOk result (λ added. added ≡ test_addition stress_index.now test.now (skipped_case test.now reason)) }
+{
+    let case = skipped_case(alloc, test, reason)?;
+    test_addition(alloc, stress_index, test, case)
 }
 
 /// Adds a case to the suite of a test's binary.
@@ -202,7 +245,10 @@ fn test_addition(
 ) -> Result<Addition, AllocError>
     ensures { IfOk result (λ added. added ≡ test_addition stress_index.now test.now case) }
 {
-    let key = SuiteKey::of_binary(alloc, test.binary_id, stress_index)?;
+    let Ok(key) = SuiteKey::of_binary(alloc, test.binary_id, stress_index) else {
+        drop(case);
+        return Err(AllocError);
+    };
     Ok(Addition {
         key,
         case,
@@ -220,20 +266,42 @@ fn script_properties(
     ensures { IfOk result (λ properties. properties ≡ script_properties program.now args.now env_map.now) }
 {
     let mut properties = Vec::new(alloc);
-    properties.push(property(alloc, "command", program.try_clone(alloc)?)?)?;
-    properties.push(property(alloc, "args", join_texts(alloc, args)?)?)?;
-    if let Some(env_map) = env_map {
-        put_variables(alloc, &mut properties, env_map)?;
-    }
+    put_command(alloc, &mut properties, program, args, env_map)?;
     Ok(Items::new(properties))
 }
 
-/// Says one thing of a suite.
-fn property(alloc: Global, name: &str, value: Text) -> Result<JunitProperty, AllocError>
-    ensures { IfOk result (λ p. p ≡ property name.now value) }
+/// Adds what was run, and the variables that it set.
+fn put_command(
+    alloc: Global,
+    properties: &mut Vec<JunitProperty>,
+    program: &Text,
+    args: &[Text],
+    env_map: &Option<TextMap<Text>>,
+) -> Result<(), AllocError>
+    ensures { OnOk result (properties.new.items ≡ properties.old.items ++ script_properties program.now args.now env_map.now) }
+{
+    let program = program.try_clone(alloc)?;
+    put_property(alloc, properties, "command", program)?;
+    let args = join_texts(alloc, args)?;
+    put_property(alloc, properties, "args", args)?;
+    match env_map {
+        Some(env_map) => put_variables(alloc, properties, env_map),
+        None => Ok(()),
+    }
+}
+
+/// Adds one thing that is said of a suite.
+fn put_property(
+    alloc: Global,
+    properties: &mut Vec<JunitProperty>,
+    name: &str,
+    value: Text,
+) -> Result<(), AllocError>
+    ensures { OnOk result (properties.new.items ≡ properties.old.items ++ (property name.now value ∷ [])) }
 {
     let name = Text::from_str(alloc, name)?;
-    Ok(JunitProperty { name, value })
+    properties.push(JunitProperty { name, value })?;
+    Ok(())
 }
 
 /// Adds the variables that a script set, in the order of their names.

@@ -4,11 +4,12 @@ ghost use Rattle.std.specs.Prelude.{◌≡◌, ◌∷◌, Option, IfOk, codes};
 ghost use Rattle.rec_junit.specs.declared.describer.ErrorText.{ErrorText};
 ghost use Rattle.rec_junit.specs.Describing.{Execution, errors_text, plain_text};
 
+use crate::texts::two_texts;
 use rec_events::{ChildExecutionOutputDescription, LiveSpec, Text, TryClone};
 use std::alloc::{AllocError, Global};
 
 /// Says what went wrong, shortly and at length.
-#[derive(PartialEq, Eq, Drop)]
+#[derive(Drop)]
 pub struct ErrorText {
     pub message: Text,
     pub description: Text,
@@ -61,9 +62,10 @@ impl ErrorDescriber for PlainDescriber {
 fn same_text(alloc: Global, message: &Text) -> Result<ErrorText, AllocError>
     ensures { IfOk result (λ text. text ≡ record { message = message.now; description = message.now }) }
 {
+    let (message, description) = two_texts(alloc, message.as_str(), message.as_str())?;
     Ok(ErrorText {
-        message: message.try_clone(alloc)?,
-        description: message.try_clone(alloc)?,
+        message,
+        description,
     })
 }
 
@@ -74,9 +76,11 @@ fn describe_errors(alloc: Global, errors: &[Text]) -> Result<Option<ErrorText>, 
     let Some((first, others)) = errors.split_first() else {
         return Ok(None);
     };
+    let message = first.try_clone(alloc)?;
+    let description = lines(alloc, first, others)?;
     Ok(Some(ErrorText {
-        message: first.try_clone(alloc)?,
-        description: lines(alloc, first, others)?,
+        message,
+        description,
     }))
 }
 

@@ -14,6 +14,7 @@ mod stored_outputs;
 mod suite_keys;
 mod suites;
 mod test_cases;
+mod texts;
 mod values;
 
 pub use builder::JunitBuilder;

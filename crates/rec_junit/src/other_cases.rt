@@ -1,15 +1,15 @@
 //! The cases of setup scripts, and of tests that don't run.
-ghost use Rattle.std.specs.Prelude.{◌≡◌, IfOk};
+ghost use Rattle.std.specs.Prelude.{◌≡◌, ◌++◌, IfOk, codes};
 ghost use Rattle.rec_events.specs.Results.{succeeded};
 ghost use Rattle.rec_junit.specs.Cases.{judged_script, reason_text, script_case, script_status_by, skipped_case};
 ghost use Rattle.rec_junit.specs.Failing.{script_unit};
 ghost use Rattle.rec_junit.specs.Judging.{Judges};
 
-use crate::failing::failing;
-use crate::reruns::{CaseMaker, split_text};
+use crate::reruns::{CaseMaker, failed_status};
 use crate::stored_outputs::StoredOutput;
-use crate::test_cases::with_output;
-use crate::{ErrorDescriber, JunitCase, JunitError, JunitRerunKind, JunitStatus};
+use crate::test_cases::{case_of, with_output};
+use crate::texts::two_texts;
+use crate::{ErrorDescriber, JunitCase, JunitError, JunitStatus};
 use rec_events::{
     Duration, Items, LiveSpec, MismatchReason, ScriptId, SetupScriptExecuteStatus, TestInstanceId,
     Text,
@@ -32,18 +32,15 @@ impl<D: ErrorDescriber> CaseMaker<'_, D> {
         requires unit { self.now.unit.now ≡ script_unit }
         ensures { Judges result (script_case (D.text_of self.now.describer.now) self.now.storing script.now suite.now ran.now) }
     {
-        let name = Text::from_str(self.alloc, script.as_str())?;
-        let classname = Text::from_str(self.alloc, suite)?;
-        let (status, output) = self.judged_script(ran.result.is_success(), ran)?;
-        Ok(JunitCase {
-            name,
-            classname,
-            timestamp: Some(ran.start_time),
-            time: Some(ran.time_taken),
-            status,
-            system_out: output.system_out,
-            system_err: output.system_err,
-        })
+        let judged = self.judged_script(ran.result.is_success(), ran)?;
+        Ok(case_of(
+            self.alloc,
+            script.as_str(),
+            suite,
+            &ran.start_time,
+            &ran.time_taken,
+            judged,
+        )?)
     }
 
     /// Says how a setup script ended, and then what it wrote.
@@ -78,16 +75,8 @@ impl<D: ErrorDescriber> CaseMaker<'_, D> {
                 reruns: Items::empty(self.alloc),
             });
         }
-        let kind = failing(self.alloc, self.unit, &ran.result)?;
-        let (message, description) = split_text(self.describer.describe(self.alloc, &ran.output)?);
-        Ok(JunitStatus::NonSuccess {
-            kind: kind.kind,
-            type_text: kind.type_text,
-            message,
-            description,
-            reruns: Items::empty(self.alloc),
-            rerun_kind: JunitRerunKind::Rerun,
-        })
+        let failure = self.failure_of(&ran.result, &ran.output)?;
+        Ok(failed_status(failure, Items::empty(self.alloc)))
     }
 }
 
@@ -99,10 +88,12 @@ pub(crate) fn skipped_case(
 ) -> Result<JunitCase, AllocError>
     ensures { IfOk result (λ case. case ≡ skipped_case test.now reason) }
 {
-    let name = Text::from_str(alloc, test.test_name.as_str())?;
-    let classname = Text::from_str(alloc, test.binary_id.as_str())?;
-    let reason = reason_text(reason);
-    let message = Text::new(format!(in alloc; "Skipped: test {reason}")?);
+    let message = skip_message(alloc, reason)?;
+    let name = test.test_name.as_str();
+    let Ok((name, classname)) = two_texts(alloc, name, test.binary_id.as_str()) else {
+        drop(message);
+        return Err(AllocError);
+    };
     Ok(JunitCase {
         name,
         classname,
@@ -112,6 +103,14 @@ pub(crate) fn skipped_case(
         system_out: None,
         system_err: None,
     })
+}
+
+/// Says that a test doesn't run, and why.
+fn skip_message(alloc: Global, reason: MismatchReason) -> Result<Text, AllocError>
+    ensures { IfOk result (λ message. message ≡ codes "Skipped: test " ++ reason_text reason) }
+{
+    let reason = reason_text(reason);
+    Ok(Text::new(format!(in alloc; "Skipped: test {reason}")?))
 }
 
 /// Says why a test doesn't run.

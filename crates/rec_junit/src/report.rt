@@ -2,7 +2,7 @@
 use rec_events::{Duration, Items, ReportUuid, Stamp, Text};
 
 /// Reports a run that ended.
-#[derive(PartialEq, Eq, Drop)]
+#[derive(Drop)]
 pub struct JunitReport {
     pub name: Text,
     pub run_id: ReportUuid,
@@ -15,7 +15,7 @@ pub struct JunitReport {
 }
 
 /// Reports what belongs to one script or binary, in one run of a stress run.
-#[derive(PartialEq, Eq, Drop)]
+#[derive(Drop)]
 pub struct JunitSuite {
     pub name: Text,
     /// The cases, in the order of their events.
@@ -24,14 +24,14 @@ pub struct JunitSuite {
 }
 
 /// Says one thing of a suite.
-#[derive(PartialEq, Eq, Drop)]
+#[derive(Drop)]
 pub struct JunitProperty {
     pub name: Text,
     pub value: Text,
 }
 
 /// Reports a test or a setup script.
-#[derive(PartialEq, Eq, Drop)]
+#[derive(Drop)]
 pub struct JunitCase {
     pub name: Text,
     pub classname: Text,
@@ -62,7 +62,7 @@ pub enum JunitRerunKind {
 }
 
 /// Says how a case ended.
-#[derive(PartialEq, Eq, Drop)]
+#[derive(Drop)]
 pub enum JunitStatus {
     Success {
         /// The attempts before the one that succeeded.
@@ -83,7 +83,7 @@ pub enum JunitStatus {
 }
 
 /// Reports a further attempt, which failed.
-#[derive(PartialEq, Eq, Drop)]
+#[derive(Drop)]
 pub struct JunitRerun {
     pub kind: JunitKind,
     pub type_text: Text,

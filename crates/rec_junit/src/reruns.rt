@@ -1,12 +1,17 @@
 //! Further attempts of a case.
 ghost use Rattle.std.specs.Prelude.{◌≡◌};
+ghost use Rattle.rec_junit.specs.Cases.{failed_status};
+ghost use Rattle.rec_junit.specs.Failures.{failure_of};
 ghost use Rattle.rec_junit.specs.Judging.{Judges};
-ghost use Rattle.rec_junit.specs.Reruns.{message_of, description_of, rerun_of, reruns_of};
+ghost use Rattle.rec_junit.specs.Reruns.{message_of, description_of, rerun_of, rerun_with, reruns_of};
 
-use crate::failing::failing;
-use crate::stored_outputs::stored_output;
-use crate::{ErrorDescriber, ErrorText, JunitError, JunitRerun};
-use rec_events::{ExecuteStatus, Items, LiveSpec, Text};
+use crate::failing::{FailureKind, failing};
+use crate::stored_outputs::{StoredOutput, stored_output};
+use crate::{ErrorDescriber, ErrorText, JunitError, JunitRerun, JunitRerunKind, JunitStatus};
+use rec_events::{
+    ChildExecutionOutputDescription, ExecuteStatus, ExecutionResultDescription, Items, LiveSpec,
+    Text,
+};
 use std::alloc::Global;
 
 /// Says which outputs a report holds: of cases that did not fail, and of those that did and of reruns.
@@ -27,7 +32,7 @@ pub(crate) struct CaseMaker<'r, D: ErrorDescriber> {
 }
 
 /// Takes a text apart into what is said shortly and what is said at length.
-pub(crate) fn split_text(text: Option<ErrorText>) -> (Option<Text>, Option<Text>)
+fn split_text(text: Option<ErrorText>) -> (Option<Text>, Option<Text>)
     ensures { result ≡ (message_of text, description_of text) }
 {
     match text {
@@ -36,7 +41,71 @@ pub(crate) fn split_text(text: Option<ErrorText>) -> (Option<Text>, Option<Text>
     }
 }
 
+/// Holds how something failed, and what is said of it.
+pub(crate) type Failure = (FailureKind, Option<ErrorText>);
+
+/// Reports an attempt that failed so.
+fn rerun_with(
+    status: &ExecuteStatus<LiveSpec>,
+    failure: Failure,
+    output: StoredOutput,
+) -> JunitRerun
+    ensures { result ≡ rerun_with status.now failure.1 failure.0 output }
+{
+    let (kind, text) = failure;
+    let (message, description) = split_text(text);
+    JunitRerun {
+        kind: kind.kind,
+        type_text: kind.type_text,
+        timestamp: Some(status.start_time),
+        time: Some(status.time_taken),
+        message,
+        description,
+        system_out: output.system_out,
+        system_err: output.system_err,
+    }
+}
+
+/// Says that a case failed so, with these reruns.
+pub(crate) fn failed_status(failure: Failure, reruns: Items<JunitRerun>) -> JunitStatus
+    ensures { result ≡ failed_status failure.0 failure.1 reruns }
+{
+    let (kind, text) = failure;
+    let (message, description) = split_text(text);
+    JunitStatus::NonSuccess {
+        kind: kind.kind,
+        type_text: kind.type_text,
+        message,
+        description,
+        reruns,
+        rerun_kind: JunitRerunKind::Rerun,
+    }
+}
+
 impl<D: ErrorDescriber> CaseMaker<'_, D> {
+    /// Says how something failed, and what is said of it.
+    ///
+    /// # Errors
+    ///
+    /// - `SuccessAsFailure` exactly where it passed, and was not noticed to leave an output open.
+    /// - `OutOfMemory` if memory runs out.
+    pub fn failure_of(
+        &self,
+        ending: &ExecutionResultDescription,
+        execution: &ChildExecutionOutputDescription<LiveSpec>,
+    ) -> Result<Failure, JunitError>
+        ensures { Judges result (failure_of self.now.unit.now (D.text_of self.now.describer.now) ending.now execution.now) }
+    {
+        let kind = failing(self.alloc, self.unit, ending)?;
+        match self.describer.describe(self.alloc, execution) {
+            Ok(text) => Ok((kind, text)),
+            Err(_) => {
+                drop(kind);
+                Err(JunitError::OutOfMemory)
+            }
+        }
+    }
+
     /// Reports an attempt beside the main one.
     ///
     /// # Errors
@@ -47,20 +116,14 @@ impl<D: ErrorDescriber> CaseMaker<'_, D> {
     fn rerun_of(&self, status: &ExecuteStatus<LiveSpec>) -> Result<JunitRerun, JunitError>
         ensures { Judges result (rerun_of self.now.unit.now (D.text_of self.now.describer.now) self.now.storing.failure status.now) }
     {
-        let kind = failing(self.alloc, self.unit, &status.result)?;
-        let output = stored_output(self.alloc, self.storing.failure, &status.output)?;
-        let text = self.describer.describe(self.alloc, &status.output)?;
-        let (message, description) = split_text(text);
-        Ok(JunitRerun {
-            kind: kind.kind,
-            type_text: kind.type_text,
-            timestamp: Some(status.start_time),
-            time: Some(status.time_taken),
-            message,
-            description,
-            system_out: output.system_out,
-            system_err: output.system_err,
-        })
+        let failure = self.failure_of(&status.result, &status.output)?;
+        match stored_output(self.alloc, self.storing.failure, &status.output) {
+            Ok(output) => Ok(rerun_with(status, failure, output)),
+            Err(error) => {
+                drop(failure);
+                Err(error)
+            }
+        }
     }
 
     /// Reports the attempts beside the main one, in their order.

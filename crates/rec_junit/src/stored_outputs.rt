@@ -5,6 +5,7 @@ ghost use Rattle.rec_junit.specs.Judging.{Judges, or_refused};
 ghost use Rattle.rec_junit.specs.StoredOutputs.{captured_or, lossy_text, no_output, both, stored_description, stored_execution, stored_output};
 
 use crate::JunitError;
+use crate::texts::two_texts;
 use bstr::ByteSlice;
 use rec_events::{
     ChildExecutionOutputDescription, ChildOutputDescription, ChildSingleOutput, LiveSpec, Text,
@@ -52,8 +53,7 @@ fn stored_execution(
         ChildExecutionOutputDescription::Output { output, .. } => stored_description(alloc, output),
         ChildExecutionOutputDescription::StartError { .. } => {
             let note = "(process failed to start)";
-            let system_out = Text::from_str(alloc, note)?;
-            let system_err = Text::from_str(alloc, note)?;
+            let (system_out, system_err) = two_texts(alloc, note, note)?;
             Ok(both(system_out, system_err))
         }
     }

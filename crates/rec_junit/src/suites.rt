@@ -91,9 +91,12 @@ fn add_suite(
         case,
         properties,
     } = addition;
-    let suite = new_suite(alloc, &key, case, properties)?;
+    let Ok(suite) = new_suite(alloc, &key, case, properties) else {
+        drop(key);
+        return Err(AllocError);
+    };
     let Ok(()) = make_room(keys, suites) else {
-        drop(suite);
+        drop((key, suite));
         return Err(AllocError);
     };
     suites.push(suite).unwrap();
@@ -121,8 +124,14 @@ fn new_suite(
 ) -> Result<JunitSuite, AllocError>
     ensures { IfOk result (λ suite. suite ≡ new_suite key.now case properties) }
 {
-    let cases = one_item(alloc, case)?;
-    let name = key.suite_name(alloc)?;
+    let Ok(cases) = one_item(alloc, case) else {
+        drop(properties);
+        return Err(AllocError);
+    };
+    let Ok(name) = key.suite_name(alloc) else {
+        drop((cases, properties));
+        return Err(AllocError);
+    };
     Ok(JunitSuite {
         name,
         cases,

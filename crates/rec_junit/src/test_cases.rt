@@ -4,18 +4,20 @@ ghost use Rattle.rec_events.specs.declared.reporting.JunitFlakyFailStatus.TheVar
 ghost use Rattle.rec_events.specs.declared.results.FlakyResult.TheVariants as flaky;
 ghost use Rattle.rec_events.specs.Results.{flaky_text};
 ghost use Rattle.rec_junit.specs.Attempts.{attempts_in, has_failed, main_of};
-ghost use Rattle.rec_junit.specs.Cases.{failed_test, flaky_status, judged_test, stores, test_case, test_status, with_output};
+ghost use Rattle.rec_junit.specs.Cases.{failed_test, flaky_status, judged_test, said_after, stores, test_case, test_status, with_output};
+ghost use Rattle.rec_junit.specs.Failures.{case_of};
 ghost use Rattle.rec_junit.specs.Judging.{Judges};
+ghost use Rattle.rec_junit.specs.Reruns.{description_of};
 
-use crate::failing::failing;
-use crate::reruns::{CaseMaker, Storing, split_text};
+use crate::reruns::{CaseMaker, Storing, failed_status};
 use crate::stored_outputs::{StoredOutput, stored_output};
+use crate::texts::two_texts;
 use crate::{
     ErrorDescriber, JunitCase, JunitError, JunitKind, JunitRerun, JunitRerunKind, JunitStatus,
 };
 use rec_events::{
-    ChildExecutionOutputDescription, ExecuteStatus, ExecutionDescription, FlakyResult, Items,
-    JunitFlakyFailStatus, LiveSpec, TestInstanceId, Text,
+    ChildExecutionOutputDescription, Duration, ExecuteStatus, ExecutionDescription, FlakyResult,
+    Items, JunitFlakyFailStatus, LiveSpec, Stamp, TestInstanceId, Text,
 };
 use std::alloc::{AllocError, Global};
 
@@ -53,18 +55,15 @@ impl<D: ErrorDescriber> CaseMaker<'_, D> {
         ensures { Judges result (test_case self.now.unit.now (D.text_of self.now.describer.now) self.now.storing test.now flaky_result fail_status (attempts_in attempts.now)) }
     {
         let main = main_of(attempts);
-        let name = Text::from_str(self.alloc, test.test_name.as_str())?;
-        let classname = Text::from_str(self.alloc, test.binary_id.as_str())?;
-        let (status, output) = self.judged_test(flaky_result, fail_status, attempts)?;
-        Ok(JunitCase {
-            name,
-            classname,
-            timestamp: Some(main.start_time),
-            time: Some(main.time_taken),
-            status,
-            system_out: output.system_out,
-            system_err: output.system_err,
-        })
+        let judged = self.judged_test(flaky_result, fail_status, attempts)?;
+        Ok(case_of(
+            self.alloc,
+            test.test_name.as_str(),
+            test.binary_id.as_str(),
+            &main.start_time,
+            &main.time_taken,
+            judged,
+        )?)
     }
 
     /// Says how a finished test ended, and then what its main attempt wrote.
@@ -134,10 +133,13 @@ impl<D: ErrorDescriber> CaseMaker<'_, D> {
     ) -> Result<JunitStatus, AllocError>
         ensures { IfOk result (λ status. status ≡ flaky_status flaky.Fail reported.Failure last.now (D.text_of self.now.describer.now last.now.output) reruns) }
     {
-        let type_text = Text::from_str(self.alloc, "flaky failure")?;
-        let (message, description) = match self.describer.describe(self.alloc, &last.output)? {
-            Some(text) => (Some(text.message), Some(text.description)),
-            None => (self.flaky_message(last)?, None),
+        let Ok(type_text) = Text::from_str(self.alloc, "flaky failure") else {
+            drop(reruns);
+            return Err(AllocError);
+        };
+        let Ok((message, description)) = self.flaky_words(last) else {
+            drop((type_text, reruns));
+            return Err(AllocError);
         };
         Ok(JunitStatus::NonSuccess {
             kind: JunitKind::Failure,
@@ -147,6 +149,22 @@ impl<D: ErrorDescriber> CaseMaker<'_, D> {
             reruns,
             rerun_kind: JunitRerunKind::Flaky,
         })
+    }
+
+    /// Says what went wrong in the last attempt, or else that the test counts as failed.
+    fn flaky_words(
+        &self,
+        last: &ExecuteStatus<LiveSpec>,
+    ) -> Result<(Option<Text>, Option<Text>), AllocError>
+        ensures { IfOk result (λ words. words ≡ (
+          said_after (flaky_text flaky.Fail last.now.retry_data.attempt last.now.retry_data.total_attempts) (D.text_of self.now.describer.now last.now.output),
+          description_of (D.text_of self.now.describer.now last.now.output),
+        )) }
+    {
+        match self.describer.describe(self.alloc, &last.output)? {
+            Some(text) => Ok((Some(text.message), Some(text.description))),
+            None => Ok((self.flaky_message(last)?, None)),
+        }
     }
 
     /// Says that a test passed and counts as failed.
@@ -173,20 +191,42 @@ impl<D: ErrorDescriber> CaseMaker<'_, D> {
     ) -> Result<JunitStatus, JunitError>
         ensures { Judges result (failed_test self.now.unit.now (D.text_of self.now.describer.now) self.now.storing.failure first.now retries.now) }
     {
-        let kind = failing(self.alloc, self.unit, &first.result)?;
-        let reruns = self.reruns_of(retries)?;
-        let (message, description) = split_text(
-            self.describer.describe(self.alloc, &first.output)?,
-        );
-        Ok(JunitStatus::NonSuccess {
-            kind: kind.kind,
-            type_text: kind.type_text,
-            message,
-            description,
-            reruns,
-            rerun_kind: JunitRerunKind::Rerun,
-        })
+        let failure = self.failure_of(&first.result, &first.output)?;
+        match self.reruns_of(retries) {
+            Ok(reruns) => Ok(failed_status(failure, reruns)),
+            Err(error) => {
+                drop(failure);
+                Err(error)
+            }
+        }
     }
+}
+
+/// Makes a case of this name that ran.
+pub(crate) fn case_of(
+    alloc: Global,
+    name: &str,
+    classname: &str,
+    start_time: &Stamp,
+    time_taken: &Duration,
+    judged: (JunitStatus, StoredOutput),
+) -> Result<JunitCase, AllocError>
+    ensures { IfOk result (λ case. case ≡ case_of name.now classname.now start_time.now time_taken.now judged) }
+{
+    let Ok((name, classname)) = two_texts(alloc, name, classname) else {
+        drop(judged);
+        return Err(AllocError);
+    };
+    let (status, output) = judged;
+    Ok(JunitCase {
+        name,
+        classname,
+        timestamp: Some(*start_time),
+        time: Some(*time_taken),
+        status,
+        system_out: output.system_out,
+        system_err: output.system_err,
+    })
 }
 
 /// Adds to a status what was written, if it is stored.

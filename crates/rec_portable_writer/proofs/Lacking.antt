@@ -2,7 +2,7 @@
 use Rattle.std.proofs.Common.{◌≡◌, ℕ, ◌≤◌, List, Option, Result, Ok, Err, subst, inr, arith}
 use Rattle.std.specs.Prelude.{IfErr}
 use Rattle.rec_container.specs.Causes.{Rose}
-use Rattle.rec_container.specs.Disks.{Files}
+use Rattle.rec_disk.specs.Disks.{Files}
 use Rattle.rec_store.specs.Entries.{log_name}
 use Rattle.rec_directory.specs.Directories.{HasFailed, IsOpened}
 use Rattle.rec_directory.specs.Files.{IsMissing}

@@ -7,9 +7,9 @@ use Rattle.std.specs.Str.{bytes_eq}
 use Rattle.serde_json.specs.Written.{compact_text}
 use Rattle.rec_container.specs.Causes.{Rose}
 use Rattle.rec_container.specs.Container.{spell}
-use Rattle.rec_container.specs.declared.disk.DiskError.TheVariants.{Missing, DiskFailed, OutOfMemory}
-use Rattle.rec_container.specs.declared.disk.DiskError.{DiskError}
-use Rattle.rec_container.specs.Disks.{AreSame, BothKnown, Files, HasDiskCause, renamed}
+use Rattle.rec_disk.specs.declared.disk.DiskError.TheVariants.{Missing, DiskFailed, OutOfMemory}
+use Rattle.rec_disk.specs.declared.disk.DiskError.{DiskError}
+use Rattle.rec_disk.specs.Disks.{AreSame, BothKnown, Files, HasDiskCause, renamed}
 use Rattle.rec_format.specs.declared.manifest.PortableManifest.{PortableManifest}
 use Rattle.rec_format.specs.declared.run.RecordedRunInfo.{RecordedRunInfo}
 use Rattle.rec_format.specs.RunForms.{manifest_value}

@@ -4,8 +4,8 @@ use Rattle.std.proofs.lemmas.List.{length-take-le, length-drop, take_all}
 use Rattle.std.proofs.lemmas.Slice.Eq.{bytes_eq-Decides}
 use Rattle.std.proofs.Math.Seq.{take-append-add}
 use Rattle.std.specs.Str.{bytes_eq}
-use Rattle.rec_container.specs.declared.disk.DiskError.{DiskError}
-use Rattle.rec_container.specs.Disks.{AppendsBytes, AppendsTo, AreSame, BothKnown, Files, RenamesFile, Renames, renamed}
+use Rattle.rec_disk.specs.declared.disk.DiskError.{DiskError}
+use Rattle.rec_disk.specs.Disks.{AppendsBytes, AppendsTo, AreSame, BothKnown, Files, RenamesFile, Renames, renamed}
 use Rattle.rec_portable_writer.specs.Replacing.{IsPut, Replaces, ReplacesFile, Writes}
 
 -- what stands at the path

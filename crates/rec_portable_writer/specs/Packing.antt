@@ -3,9 +3,9 @@ use Rattle.std.specs.Prelude.{◌≡◌, ◌⊎◌, ℕ, ◌≤◌, List, length
 use Rattle.serde_json.specs.Written.{compact_text}
 use Rattle.rec_container.specs.Causes.{Rose}
 use Rattle.rec_container.specs.Container.{spell}
-use Rattle.rec_container.specs.declared.disk.DiskError.TheVariants as disk
-use Rattle.rec_container.specs.declared.disk.DiskError.{DiskError}
-use Rattle.rec_container.specs.Disks.{BothKnown, Files}
+use Rattle.rec_disk.specs.declared.disk.DiskError.TheVariants as disk
+use Rattle.rec_disk.specs.declared.disk.DiskError.{DiskError}
+use Rattle.rec_disk.specs.Disks.{BothKnown, Files}
 use Rattle.rec_format.specs.declared.run.RecordedRunInfo.{RecordedRunInfo}
 use Rattle.rec_format.specs.RunForms.{manifest_value}
 use Rattle.rec_format.specs.Runs.{manifest_of}

@@ -1,7 +1,7 @@
 -- A run's directory, as the writer of its bundle finds it.
 use Rattle.std.specs.Borrow.{MutBor}
 use Rattle.std.specs.Prelude.{◌≡◌, ◌⊎◌, ℕ, ◌≤◌, is_some, IsTrue, List, Option, Some, None}
-use Rattle.rec_container.specs.Disks.{Files}
+use Rattle.rec_disk.specs.Disks.{Files}
 use Rattle.rec_format.specs.declared.run.RecordedRunInfo.{RecordedRunInfo}
 use Rattle.rec_store.specs.Entries.{log_name, store_name}
 use Rattle.rec_directory.specs.Directories.{HasFailed, IsNotThere, IsOpened}

@@ -1,7 +1,7 @@
 -- A file that is written under a temporary path, and then takes the place of another.
 use Rattle.std.specs.Prelude.{ℕ, ◌⊎◌, List, take, Option, Some, Result, Ok, Err}
-use Rattle.rec_container.specs.declared.disk.DiskError.{DiskError}
-use Rattle.rec_container.specs.Disks.{AreSame, BothKnown, Files, NotMissing, renamed, with_file}
+use Rattle.rec_disk.specs.declared.disk.DiskError.{DiskError}
+use Rattle.rec_disk.specs.Disks.{AreSame, BothKnown, Files, NotMissing, renamed, with_file}
 
 -- the same files, but for this one at the path
 abbrev pub IsPut : Files → Files → List ℕ → List ℕ → Type 0

@@ -1,6 +1,6 @@
 //! A bundle of a run's files, on the disk that has them.
 ghost use Rattle.std.specs.Prelude.{◌≡◌, ◌≤◌, IfOk, IfErr};
-ghost use Rattle.rec_container.specs.Disks.{BothKnown};
+ghost use Rattle.rec_disk.specs.Disks.{BothKnown};
 ghost use Rattle.rec_portable_writer.specs.Packing as packing;
 ghost use Rattle.rec_portable_writer.specs.Packing.{Bundles, PacksIn, Unbundled};
 
@@ -8,7 +8,7 @@ use crate::errors::PortableRecordingError;
 use crate::names::temporary_path;
 use crate::replacing::replace_file;
 use crate::run_files::read_run_file;
-use rec_container::{Disk, DiskError};
+use rec_disk::{Disk, DiskError};
 use rec_events::Text;
 use rec_format::{PortableManifest, RUN_LOG_FILE_NAME, RecordedRunInfo, STORE_ZIP_FILE_NAME};
 use rec_portable::bundle_text;

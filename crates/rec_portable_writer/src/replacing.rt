@@ -1,9 +1,9 @@
 //! Files that take the place of others only when they are whole.
 ghost use Rattle.std.specs.Prelude.{◌≡◌};
-ghost use Rattle.rec_container.specs.Disks.{HasDiskCause};
+ghost use Rattle.rec_disk.specs.Disks.{HasDiskCause};
 ghost use Rattle.rec_portable_writer.specs.Replacing.{Replaces, Writes};
 
-use rec_container::{Disk, DiskError};
+use rec_disk::{Disk, DiskError};
 
 /// Writes a file under a temporary path, and gives it its own path once it is whole.
 ///

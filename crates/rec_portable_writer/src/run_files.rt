@@ -7,8 +7,8 @@ ghost use Rattle.rec_portable_writer.specs.Packing.{Unread};
 ghost use Rattle.rec_portable_writer.specs.Preparing.{HasFiles, HasOne, IsMissingFile, LacksDirectory, LacksOne, Unprepared};
 
 use crate::errors::PortableRecordingError;
-use rec_container::{Disk, DiskError};
 use rec_directory::{join, read_file};
+use rec_disk::{Disk, DiskError};
 use rec_events::Text;
 use rec_format::{RUN_LOG_FILE_NAME, STORE_ZIP_FILE_NAME};
 use std::alloc::{AllocError, Global};

@@ -2,7 +2,7 @@
 //! disk fails.
 
 use crate::writing::{Asked, BUNDLE, LOG, LOG_PATH, STORE, STORE_PATH, answer};
-use rec_container::{Disk, DiskError, MemoryDisk};
+use rec_disk::{Disk, DiskError, MemoryDisk};
 use std::alloc::Global;
 use std::test::Fail;
 

@@ -1,7 +1,7 @@
 //! Bundles that are made of a run's directory in the machine's own files.
 
 use crate::writing::{Asked, BUNDLE, LOG, LOG_PATH, STORE, STORE_PATH, answer};
-use rec_container::StdDisk;
+use rec_disk::StdDisk;
 use std::alloc::Global;
 use std::fs;
 use std::process::Abort;

@@ -1,6 +1,6 @@
 //! Writes the bundle of a run's directory, and says what is answered.
 
-use rec_container::Disk;
+use rec_disk::Disk;
 use rec_format::{PortableManifest, RecordedRunInfo};
 use rec_forms::read_text;
 use rec_portable_writer::{PortableRecordingError, PortableRecordingWriter};

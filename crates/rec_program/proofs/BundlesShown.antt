@@ -15,9 +15,9 @@ use Rattle.rec_portable.specs.declared.errors.PortableRecordingReadError.{Portab
 use Rattle.rec_portable.specs.Errors.{source_error}
 use Rattle.rec_portable.specs.Judging.{Refuses, judged}
 use Rattle.rec_portable.specs.Opening.{Opening, Opens, Unopened}
-use Rattle.rec_reading.specs.declared.errors.ReadingError.TheVariants.{OutOfMemory}
-use Rattle.rec_reading.specs.declared.errors.ReadingError.{ReadingError}
-use Rattle.rec_reading.specs.Errors.{bundle_error}
+use Rattle.rec_errors.specs.declared.reading_error.ReadingError.TheVariants.{OutOfMemory}
+use Rattle.rec_errors.specs.declared.reading_error.ReadingError.{ReadingError}
+use Rattle.rec_errors.specs.ReadingErrors.{bundle_error}
 use Rattle.rec_reading.specs.Listing.{Makes}
 use Rattle.rec_export.proofs.Complete.{no_more, same_session}
 use Rattle.rec_program.specs.ReadingCommands.{IsMadeOf, OfJudged, Shows, Withholds}

@@ -44,28 +44,30 @@ use Rattle.rec_slots.specs.declared.report.SlotError.TheVariants as slots
 use Rattle.rec_slots.specs.declared.report.SlotError.{SlotError}
 use Rattle.rec_slots.specs.declared.report.SlotReport.{SlotReport}
 use Rattle.rec_slots.specs.Refusals.{IsRefused, Reports}
+use Rattle.rec_errors.specs.declared.export_error.RecordExportError.TheVariants as exports
+use Rattle.rec_errors.specs.declared.export_error.RecordExportError.{RecordExportError}
+use Rattle.rec_errors.specs.declared.reading_error.ReadingError.TheVariants.{Bundle, Trace, Part, Line, Conversion, Report, Slots, OutOfMemory}
+use Rattle.rec_errors.specs.declared.reading_error.ReadingError.{ReadingError}
+use Rattle.rec_errors.specs.LineFaults.{line_fault}
+use Rattle.rec_errors.specs.ReadingErrors.{bundle_error, line_error}
+use Rattle.rec_errors.specs.TraceFaults.{trace_fault}
 use Rattle.rec_reading.specs.Converting.{unless_refused}
-use Rattle.rec_reading.specs.declared.errors.ReadingError.TheVariants.{Bundle, Trace, Part, Line, Conversion, Report, Slots, OutOfMemory}
-use Rattle.rec_reading.specs.declared.errors.ReadingError.{ReadingError}
-use Rattle.rec_reading.specs.Errors.{bundle_error, line_error}
-use Rattle.rec_reading.specs.Listing.{PrintsInfo, PrintsReplay, PrintsReport, PrintsTrace, bundle_trace, header_of, info_printed, manifest_line, printed, replay_of, report_of, trace_of, trace_of_parts, trace_unless}
+use Rattle.rec_reading.specs.Listing.{PrintsInfo, PrintsReplay, PrintsReport, header_of, info_printed, manifest_line, printed, replay_of, report_of}
 use Rattle.rec_reading.specs.LogEvents.{events_of}
-use Rattle.rec_reading.specs.LogTraces.{log_lines, log_refusal, plain_log}
+use Rattle.rec_reading.specs.LogLines.{log_lines}
 use Rattle.rec_reading.specs.Printing.{before, line_prints}
 use Rattle.rec_reading.specs.Reruns.{PrintsRerun, PrintsSelection, RerunParts, parts_after, rerun_parts_of}
 use Rattle.rec_reading.specs.RunParts.{of_bundle, parts_of}
 use Rattle.rec_reading.specs.Slots.{HasUsage, PrintsSlots, run_events, slot_lines}
+use Rattle.rec_bundle_trace.specs.BundleTraces.{PrintsTrace, bundle_trace, trace_of, trace_of_parts, trace_unless}
+use Rattle.rec_bundle_trace.specs.LogTraces.{log_refusal, plain_log}
 use Rattle.rec_export.proofs.Complete.{no_more, same_session}
 use Rattle.rec_export.proofs.TimelinesDrawn.{draws_timeline}
 use Rattle.rec_export.specs.Bundle.{AreOf}
 use Rattle.rec_export.specs.declared.counts.Exported.{Exported}
-use Rattle.rec_export.specs.declared.refusal.RecordExportError.TheVariants as exports
-use Rattle.rec_export.specs.declared.refusal.RecordExportError.{RecordExportError}
 use Rattle.rec_export.specs.declared.settings.Settings.{Settings}
 use Rattle.rec_export.specs.Export.{Exports}
-use Rattle.rec_export.specs.LineFaults.{line_fault}
 use Rattle.rec_export.specs.Timelines.{DrawsTimeline}
-use Rattle.rec_export.specs.TraceFaults.{trace_fault}
 use Rattle.rec_faults.specs.FaultLine.{Shown}
 use Rattle.rec_faults.specs.ReadingLine.{reading_shown}
 use Rattle.rec_faults.specs.Status.{bundle_status, conversion_status, export_status, junit_status, part_status, reading_status, slots_status}

@@ -3,15 +3,16 @@ use Rattle.std.proofs.Common.{◌≡◌, ◌⊎◌, inl, inr, ℕ, ◌<◌, List
 use Rattle.std.specs.Prelude.{◌↔◌, IsErr}
 use Rattle.rec_container.specs.Container.{Entry}
 use Rattle.rec_portable.specs.declared.errors.PortableRecordingReadError.{PortableRecordingReadError}
-use Rattle.rec_reading.specs.declared.errors.ReadingError.{ReadingError}
-use Rattle.rec_reading.specs.Errors.{bundle_error}
-use Rattle.rec_reading.specs.Listing.{PrintsInfo, PrintsReplay, PrintsReport, PrintsTrace}
+use Rattle.rec_errors.specs.declared.reading_error.ReadingError.{ReadingError}
+use Rattle.rec_errors.specs.declared.words_error.WordsError.{WordsError}
+use Rattle.rec_errors.specs.ReadingErrors.{bundle_error}
+use Rattle.rec_reading.specs.Listing.{PrintsInfo, PrintsReplay, PrintsReport}
 use Rattle.rec_reading.specs.Reruns.{PrintsRerun}
 use Rattle.rec_reading.specs.Slots.{PrintsSlots}
+use Rattle.rec_bundle_trace.specs.BundleTraces.{PrintsTrace}
 use Rattle.rec_sample.specs.Session.{sample_session}
 use Rattle.rec_export.specs.declared.settings.Settings.{Settings}
 use Rattle.rec_words.specs.declared.usage.TheConstants.{USAGE}
-use Rattle.rec_words.specs.declared.words.WordsError.{WordsError}
 use Rattle.rec_words.specs.Usage.{versions_text}
 use Rattle.rec_words.specs.Words.{Asked, recording, tracing, replaying, reporting, informing, slotting, rerunning, sampling, upgrading, salvaging, help, version}
 use Rattle.rec_faults.specs.ReadingLine.{reading_shown}

@@ -3,11 +3,11 @@ use Rattle.std.proofs.Common.{◌≡◌, ◌⊎◌, inl, inr, ℕ, ◌<◌, ◌�
 use Rattle.std.specs.Io.KnownBytes.{Appends}
 use Rattle.rec_container.specs.Causes.{Rose}
 use Rattle.rec_container.specs.Within.{Gave}
+use Rattle.rec_errors.specs.declared.export_error.RecordExportError.TheVariants.{SourceFault, SessionTooLarge, ParseHead, ReadRunLog, ParseEvent, NameCollision, CountOutOfRange, FileTooLarge, MissingTestStart, MissingScriptStart, MissingStressSubRunStart, SpanAlreadyOpen, SlotBusy, TimestampOutOfRange, RowOutOfRange, BundleFault, TraceFault, OutOfMemory}
+use Rattle.rec_errors.specs.declared.export_error.RecordExportError.{RecordExportError}
 use Rattle.rec_export.proofs.Complete.{no_more, same_session}
 use Rattle.rec_export.specs.Bundle.{AreOf, session_events, session_refusal}
 use Rattle.rec_export.specs.declared.counts.Exported.{Exported}
-use Rattle.rec_export.specs.declared.refusal.RecordExportError.TheVariants.{SourceFault, SessionTooLarge, ParseHead, ReadRunLog, ParseEvent, NameCollision, CountOutOfRange, FileTooLarge, MissingTestStart, MissingScriptStart, MissingStressSubRunStart, SpanAlreadyOpen, SlotBusy, TimestampOutOfRange, RowOutOfRange, BundleFault, TraceFault, OutOfMemory}
-use Rattle.rec_export.specs.declared.refusal.RecordExportError.{RecordExportError}
 use Rattle.rec_export.specs.declared.settings.Settings.{Settings}
 use Rattle.rec_export.specs.Export.{CountsOf, Exports, Fails, Undelivered}
 use Rattle.rec_export.specs.Reading.{Unread}

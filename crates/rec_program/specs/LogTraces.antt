@@ -5,8 +5,9 @@ use Rattle.rec_forms.specs.TextForm.{bytes_form}
 use Rattle.rec_format.specs.declared.manifest.PortableManifest.{PortableManifest}
 use Rattle.rec_format.specs.RunForms.{manifest_form}
 use Rattle.rec_store.specs.Entries.{log_name, manifest_name}
-use Rattle.rec_reading.specs.Listing.{bundle_trace}
-use Rattle.rec_reading.specs.LogTraces.{log_lines, log_refusal}
+use Rattle.rec_reading.specs.LogLines.{log_lines}
+use Rattle.rec_bundle_trace.specs.BundleTraces.{bundle_trace}
+use Rattle.rec_bundle_trace.specs.LogTraces.{log_refusal}
 use Rattle.rec_export.specs.Bundle.{AreOf}
 use Rattle.rec_export.specs.declared.settings.Settings.{Settings}
 

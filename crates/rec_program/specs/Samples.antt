@@ -4,10 +4,10 @@ use Rattle.std.specs.Prelude.{◌≡◌, ◌⊎◌, ℕ, ◌<◌, ◌≤◌, Lis
 use Rattle.rec_container.specs.Causes.{Rose}
 use Rattle.rec_container.specs.Taking.{TookPart}
 use Rattle.rec_store.specs.Bundle.{outputs_stored}
+use Rattle.rec_errors.specs.declared.export_error.RecordExportError.TheVariants.{BundleFault, OutOfMemory, SessionTooLarge, TraceFault}
+use Rattle.rec_errors.specs.declared.export_error.RecordExportError.{RecordExportError}
 use Rattle.rec_export.specs.Bundle.{AreOf, session_events, session_refusal}
 use Rattle.rec_export.specs.declared.counts.Exported.{Exported}
-use Rattle.rec_export.specs.declared.refusal.RecordExportError.TheVariants.{BundleFault, OutOfMemory, SessionTooLarge, TraceFault}
-use Rattle.rec_export.specs.declared.refusal.RecordExportError.{RecordExportError}
 use Rattle.rec_export.specs.declared.settings.Settings.{Settings}
 use Rattle.rec_export.specs.Export.{CountsOf}
 use Rattle.rec_program.specs.Counts.{counts_line}

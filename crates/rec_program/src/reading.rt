@@ -1,7 +1,7 @@
 //! What the commands make that read a bundle, before the first byte of it is printed.
 ghost use Rattle.std.specs.Prelude.{[], IfOk, IfErr};
 ghost use Rattle.rec_portable.specs.Opening.{Opens, Unopened};
-ghost use Rattle.rec_reading.specs.Errors.{bundle_error};
+ghost use Rattle.rec_errors.specs.ReadingErrors.{bundle_error};
 ghost use Rattle.rec_program.specs.ReadingCommands.{Shows, Withholds};
 
 use rec_container::Source;

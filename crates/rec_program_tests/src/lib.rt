@@ -2,13 +2,7 @@
 #![tactic(auto)]
 
 #[cfg(test)]
-mod commands;
-#[cfg(test)]
-mod exports;
-#[cfg(test)]
 mod faults;
-#[cfg(test)]
-mod lines;
 #[cfg(test)]
 mod running;
 #[cfg(test)]

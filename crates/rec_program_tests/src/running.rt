@@ -52,9 +52,9 @@ fn one_fault(stream: Stream, call: u64) -> Faults {
 
 /// What the sinks of a run took.
 #[derive(Drop)]
-pub(crate) struct Sinks {
-    pub(crate) bundle: FailingSink,
-    pub(crate) out: FailingSink,
+struct Sinks {
+    bundle: FailingSink,
+    out: FailingSink,
     diag: FailingSink,
 }
 
@@ -77,13 +77,8 @@ fn failing_sinks(alloc: Global, piece: usize, faults: Faults) -> Result<Sinks, A
     Ok(Sinks { bundle, out, diag })
 }
 
-/// Sinks of which no call fails.
-pub(crate) fn sound_sinks(alloc: Global) -> Result<Sinks, AllocError> {
-    failing_sinks(alloc, 0, SOUND)
-}
-
 /// The words of a text, with a blank between each two.
-pub(crate) fn words_in(alloc: Global, text: &str) -> Result<Vec<String>, AllocError> {
+fn words_in(alloc: Global, text: &str) -> Result<Vec<String>, AllocError> {
     let mut words = Vec::new(alloc);
     for word in text.split(' ') {
         words.push(String::from_str(alloc, word)?)?;
@@ -137,7 +132,7 @@ pub(crate) fn outcome(
 ) -> Result<String, AllocError> {
     let words = words_in(alloc, text)?;
     let faults = one_fault(stream, call);
-    let mut sound = sound_sinks(alloc)?;
+    let mut sound = failing_sinks(alloc, 0, SOUND)?;
     let mut failing = failing_sinks(alloc, piece, faults)?;
     run(alloc, &words, bytes, 0, 0, &mut sound);
     let status = run(alloc, &words, bytes, piece, faults.read, &mut failing);

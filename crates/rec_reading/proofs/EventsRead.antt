@@ -5,10 +5,10 @@ use Rattle.rec_codec.specs.declared.line_events.LineError.{LineError}
 use Rattle.rec_codec.specs.Event.{RecordedEvent}
 use Rattle.rec_codec.specs.LineReading.{before_fault, first_fault, log_items}
 use Rattle.rec_codec.specs.Lines.{NumberedLine}
+use Rattle.rec_errors.specs.declared.reading_error.ReadingError.TheVariants.{OutOfMemory}
+use Rattle.rec_errors.specs.declared.reading_error.ReadingError.{ReadingError}
+use Rattle.rec_errors.specs.ReadingErrors.{line_error}
 use Rattle.rec_reading.specs.Converting.{unless_refused}
-use Rattle.rec_reading.specs.declared.errors.ReadingError.TheVariants.{OutOfMemory}
-use Rattle.rec_reading.specs.declared.errors.ReadingError.{ReadingError}
-use Rattle.rec_reading.specs.Errors.{line_error}
 use Rattle.rec_reading.specs.LogEvents.{events_of}
 
 abbrev Item : Type 0

@@ -22,9 +22,9 @@ use Rattle.rec_store.specs.EventOutputs.{Live}
 use Rattle.rec_replay.specs.declared.output_load.LoadOutput.{LoadOutput}
 use Rattle.rec_replay.specs.Loading.{description_loaded}
 use Rattle.rec_replay.specs.Replaying.{core_replayed, kind_live, output_live, replayed}
+use Rattle.rec_errors.specs.declared.reading_error.ReadingError.TheVariants.{Conversion}
+use Rattle.rec_errors.specs.declared.reading_error.ReadingError.{ReadingError}
 use Rattle.rec_reading.specs.Converting.{conversion_refusal, converted, kind_lent, lent, unless_refused}
-use Rattle.rec_reading.specs.declared.errors.ReadingError.TheVariants.{Conversion}
-use Rattle.rec_reading.specs.declared.errors.ReadingError.{ReadingError}
 use Rattle.rec_reading.specs.Printing.{IsBlind, Prints, before, text_from}
 
 -- ---- a replayed event, lent its tests from elsewhere

@@ -3,11 +3,10 @@ pub mod Entries
 pub mod EventsRead
 pub mod Lent
 pub mod Listed
-pub mod LogTraced
 pub mod Opened
 pub mod Printed
 pub mod Registered
 pub mod Reported
 pub mod RerunRead
-pub mod Traced
+pub mod ManifestListed
 mod SlotsRead

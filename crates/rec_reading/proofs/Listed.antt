@@ -8,8 +8,8 @@ use Rattle.rec_format.specs.Runs.{info_of}
 use Rattle.rec_portable.specs.Judging.{IsJudged, judged}
 use Rattle.rec_replay.specs.declared.output_load.LoadOutput.{LoadOutput}
 use Rattle.rec_replay.specs.Lines.{header_line}
+use Rattle.rec_errors.specs.declared.reading_error.ReadingError.{ReadingError}
 use Rattle.rec_reading.proofs.Opened.{stage-passed, stage-refused}
-use Rattle.rec_reading.specs.declared.errors.ReadingError.{ReadingError}
 use Rattle.rec_reading.specs.declared.parts.OpenRun.{OpenRun}
 use Rattle.rec_reading.specs.Listing.{Makes, PrintsReplay, header_of, printed, replay_of}
 use Rattle.rec_reading.specs.Printing.{Adds, before, line_prints}

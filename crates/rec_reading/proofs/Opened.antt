@@ -15,10 +15,10 @@ use Rattle.rec_portable.specs.declared.errors.PortableRecordingReadError.{Portab
 use Rattle.rec_portable.specs.Errors.{Reads}
 use Rattle.rec_portable.specs.OuterEntries.{IsStoreRefused, OpensStore, log_part}
 use Rattle.rec_portable.specs.Stores.{StoreReading}
+use Rattle.rec_errors.specs.declared.reading_error.ReadingError.TheVariants.{OutOfMemory}
+use Rattle.rec_errors.specs.declared.reading_error.ReadingError.{ReadingError}
+use Rattle.rec_errors.specs.ReadingErrors.{bundle_error, part_error}
 use Rattle.rec_reading.proofs.Entries.{entries_of_container, entries_of_fault}
-use Rattle.rec_reading.specs.declared.errors.ReadingError.TheVariants.{OutOfMemory}
-use Rattle.rec_reading.specs.declared.errors.ReadingError.{ReadingError}
-use Rattle.rec_reading.specs.Errors.{bundle_error, part_error}
 use Rattle.rec_reading.specs.RunParts.{Answers, OpensRun, RunParts, of_bundle, of_store, opts_part, parts_of, tests_part}
 use Rattle.rec_reading.specs.Stores.{archive_read, store_found, store_part}
 

@@ -16,8 +16,8 @@ use Rattle.rec_codec.specs.LineItems.{GivesNext}
 use Rattle.rec_codec.specs.LineReading.{before_fault, first_fault, line_items, log_items}
 use Rattle.rec_codec.specs.Lines.{NumberedLine}
 use Rattle.rec_store.specs.Readers.{Keeps}
-use Rattle.rec_reading.specs.declared.errors.ReadingError.{ReadingError}
-use Rattle.rec_reading.specs.Errors.{line_error}
+use Rattle.rec_errors.specs.declared.reading_error.ReadingError.{ReadingError}
+use Rattle.rec_errors.specs.ReadingErrors.{line_error}
 use Rattle.rec_reading.specs.Printing.{Adds, AddsEvent, Prints, before, text_from}
 
 abbrev Item : Type 0

@@ -4,7 +4,7 @@ use Rattle.rec_container.specs.Container.{Entry}
 use Rattle.rec_container.specs.Reading.{◌>>=◌}
 use Rattle.rec_events.specs.declared.recording.NextestRunMode.{NextestRunMode}
 use Rattle.rec_replay.specs.declared.output_load.LoadOutput.TheVariants.{Load}
-use Rattle.rec_reading.specs.declared.errors.ReadingError.{ReadingError}
+use Rattle.rec_errors.specs.declared.reading_error.ReadingError.{ReadingError}
 use Rattle.rec_reading.specs.declared.parts.OpenRun.{OpenRun}
 use Rattle.rec_reading.specs.Listing.{Makes, PrintsReport, printed, report_of}
 use Rattle.rec_reading.specs.Printing.{Adds, report_prints}

@@ -10,12 +10,12 @@ use Rattle.rec_portable.specs.Errors.{Reads}
 use Rattle.rec_portable.specs.Judging.{judged}
 use Rattle.rec_portable.specs.OuterEntries.{OpensStore, log_part}
 use Rattle.rec_portable.specs.Stores.{StoreReading}
+use Rattle.rec_errors.specs.declared.reading_error.ReadingError.{ReadingError}
+use Rattle.rec_errors.specs.ReadingErrors.{bundle_error}
 use Rattle.rec_reading.proofs.Opened.{Refused, of_bundle-refused, stage-passed, stage-refused, store_opened, store_refused}
-use Rattle.rec_reading.specs.declared.errors.ReadingError.{ReadingError}
 use Rattle.rec_reading.specs.declared.rerun.Tested.{Tested}
-use Rattle.rec_reading.specs.Errors.{bundle_error}
 use Rattle.rec_reading.specs.LogEvents.{events_of}
-use Rattle.rec_reading.specs.LogTraces.{log_lines}
+use Rattle.rec_reading.specs.LogLines.{log_lines}
 use Rattle.rec_reading.specs.Reruns.{RerunParts, parts_after, rerun_parts_of, tested_part}
 use Rattle.rec_reading.specs.RunParts.{of_bundle}
 use Rattle.rec_reading.specs.Stores.{store_part}

@@ -11,12 +11,12 @@ use Rattle.rec_spans.specs.Plain.{PlainEvent, plain}
 use Rattle.rec_slots.specs.declared.report.SlotError.TheVariants as causes
 use Rattle.rec_slots.specs.declared.report.SlotError.{SlotError}
 use Rattle.rec_slots.specs.Refusals.{IsRefused}
+use Rattle.rec_errors.specs.declared.reading_error.ReadingError.{ReadingError}
+use Rattle.rec_errors.specs.ReadingErrors.{bundle_error, slot_error}
 use Rattle.rec_reading.proofs.Opened.{Refused, of_bundle-refused, stage-passed, stage-refused}
-use Rattle.rec_reading.specs.declared.errors.ReadingError.{ReadingError}
-use Rattle.rec_reading.specs.Errors.{bundle_error, slot_error}
 use Rattle.rec_reading.specs.Listing.{Makes}
 use Rattle.rec_reading.specs.LogEvents.{events_of}
-use Rattle.rec_reading.specs.LogTraces.{log_lines}
+use Rattle.rec_reading.specs.LogLines.{log_lines}
 use Rattle.rec_reading.specs.RunParts.{of_bundle}
 use Rattle.rec_reading.specs.Slots.{PrintsSlots, PrintsUsage, run_events}
 

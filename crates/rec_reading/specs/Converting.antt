@@ -16,8 +16,8 @@ use Rattle.rec_replay.specs.declared.conversion_error.ReplayConversionError.{Rep
 use Rattle.rec_replay.specs.declared.output_load.LoadOutput.{LoadOutput}
 use Rattle.rec_replay.specs.Loading.{event_names, first_refusal}
 use Rattle.rec_replay.specs.Replaying.{replayed}
-use Rattle.rec_reading.specs.declared.errors.ReadingError.TheVariants.{Conversion}
-use Rattle.rec_reading.specs.declared.errors.ReadingError.{ReadingError}
+use Rattle.rec_errors.specs.declared.reading_error.ReadingError.TheVariants.{Conversion}
+use Rattle.rec_errors.specs.declared.reading_error.ReadingError.{ReadingError}
 use Rattle.rec_reading.specs.RunParts.{RunParts}
 
 -- ---- what becomes of a recorded event

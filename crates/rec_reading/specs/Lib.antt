@@ -1,8 +1,7 @@
 pub mod Converting
-pub mod Errors
 pub mod Listing
 pub mod LogEvents
-pub mod LogTraces
+pub mod LogLines
 pub mod PrinterLaws
 pub mod Printing
 pub mod ReportLaws

@@ -1,6 +1,6 @@
 -- What is printed of a bundle.
 use Rattle.std.specs.declared.alloc.Global.{Global}
-use Rattle.std.specs.Prelude.{◌≡◌, ◌⊎◌, ℕ, List, [], ◌∷◌, ◌++◌, Option, None, Some, Result, Ok, Err, Vec}
+use Rattle.std.specs.Prelude.{◌≡◌, ◌⊎◌, ℕ, List, [], ◌∷◌, ◌++◌, Option, None, Result, Ok, Err, Vec}
 use Rattle.serde_json.specs.Written.{compact_text}
 use Rattle.rec_container.specs.Container.{Entry}
 use Rattle.rec_container.specs.Reading.{◌>>=◌}
@@ -9,23 +9,17 @@ use Rattle.rec_format.specs.declared.run.RecordedRunInfo.{RecordedRunInfo}
 use Rattle.rec_format.specs.RunForms.{manifest_value}
 use Rattle.rec_format.specs.Runs.{info_of}
 use Rattle.rec_portable.specs.Judging.{judged}
-use Rattle.rec_portable.specs.OuterEntries.{log_part}
 use Rattle.rec_replay.specs.declared.header.ReplayHeader.{ReplayHeader}
 use Rattle.rec_replay.specs.declared.output_load.LoadOutput.TheVariants.{Load}
 use Rattle.rec_replay.specs.declared.output_load.LoadOutput.{LoadOutput}
 use Rattle.rec_replay.specs.Lines.{header_line}
-use Rattle.rec_spans.specs.declared.errors.ChromeTraceError.{ChromeTraceError}
-use Rattle.rec_spans.specs.declared.settings.ChromeTraceGroupBy.{ChromeTraceGroupBy}
-use Rattle.rec_trace.specs.declared.settings.ChromeTraceMessageFormat.{ChromeTraceMessageFormat}
+use Rattle.rec_errors.specs.declared.reading_error.ReadingError.TheVariants.{OutOfMemory}
+use Rattle.rec_errors.specs.declared.reading_error.ReadingError.{ReadingError}
 use Rattle.rec_reading.specs.Converting.{converted_of}
-use Rattle.rec_reading.specs.declared.errors.ReadingError.TheVariants.{OutOfMemory}
-use Rattle.rec_reading.specs.declared.errors.ReadingError.{ReadingError}
-use Rattle.rec_reading.specs.Errors.{trace_error}
-use Rattle.rec_reading.specs.LogTraces.{log_lines, log_refusal, log_trace}
 use Rattle.rec_reading.specs.Printing.{Prints, before, line_prints, report_prints, text_from}
 use Rattle.rec_reading.specs.RunParts.{RunParts, of_bundle, parts_of}
 
--- ---- the manifest, and the trace of the log
+-- ---- the manifest
 
 -- the text of a manifest and LF
 abbrev pub manifest_line : PortableManifest → List ℕ
@@ -35,26 +29,6 @@ abbrev pub info_printed : ℕ → List Entry → Result (List ℕ) ReadingError
 info_printed limit es = do
   manifest ← of_bundle (judged limit es)
   Ok (manifest_line manifest)
-
--- the text of a log's trace, unless the log is refused
-abbrev pub trace_unless : List ℕ → Option ChromeTraceError → Result (List ℕ) ReadingError
-trace_unless text None = Ok text
-trace_unless text (Some refusal) = Err (trace_error refusal)
-
-module _ (g : ChromeTraceGroupBy) (format : ChromeTraceMessageFormat) where
-  -- the text of the trace of a bundle with this manifest and this log
-  abbrev pub bundle_trace : PortableManifest → List ℕ → List ℕ
-  bundle_trace manifest log = log_trace g format manifest.run.nextest_version (log_lines log)
-
-  -- the trace of a log, recorded by the version of the runner that the manifest names
-  abbrev pub trace_of_parts : PortableManifest → List ℕ → Result (List ℕ) ReadingError
-  trace_of_parts manifest log = trace_unless (bundle_trace manifest log) (log_refusal g (log_lines log))
-
-  abbrev pub trace_of : ℕ → List Entry → Result (List ℕ) ReadingError
-  trace_of limit es = do
-    manifest ← of_bundle (judged limit es)
-    log ← of_bundle (log_part limit es)
-    trace_of_parts manifest log
 
 -- ---- the events
 
@@ -89,9 +63,6 @@ Makes prints (Err e) = (e ≡ OutOfMemory) ⊎ prints (Err e)
 -- what is printed of entries under a limit is what a function of them gives
 abbrev pub PrintsInfo : ℕ → List Entry → Result (List ℕ) ReadingError → Type 0
 PrintsInfo limit es r = info_printed limit es ≡ r
-
-abbrev pub PrintsTrace : ChromeTraceGroupBy → ChromeTraceMessageFormat → ℕ → List Entry → Result (List ℕ) ReadingError → Type 0
-PrintsTrace g format limit es r = trace_of g format limit es ≡ r
 
 abbrev pub PrintsReplay : LoadOutput → ℕ → List Entry → Result (List ℕ) ReadingError → Type 0
 PrintsReplay load limit es r = replay_of load limit es ≡ r

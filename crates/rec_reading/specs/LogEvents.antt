@@ -4,10 +4,10 @@ use Rattle.std.specs.Prelude.{◌≡◌, ◌⊎◌, List, option_map, Result, Ok
 use Rattle.rec_codec.specs.Event.{RecordedEvent}
 use Rattle.rec_codec.specs.LineReading.{events_before_fault, first_line_fault}
 use Rattle.rec_codec.specs.Lines.{NumberedLine}
+use Rattle.rec_errors.specs.declared.reading_error.ReadingError.TheVariants.{OutOfMemory}
+use Rattle.rec_errors.specs.declared.reading_error.ReadingError.{ReadingError}
+use Rattle.rec_errors.specs.ReadingErrors.{line_error}
 use Rattle.rec_reading.specs.Converting.{unless_refused}
-use Rattle.rec_reading.specs.declared.errors.ReadingError.TheVariants.{OutOfMemory}
-use Rattle.rec_reading.specs.declared.errors.ReadingError.{ReadingError}
-use Rattle.rec_reading.specs.Errors.{line_error}
 
 -- the events of lines, or the fault of the first line that gives none
 abbrev pub events_of : List NumberedLine → Result (List RecordedEvent) ReadingError

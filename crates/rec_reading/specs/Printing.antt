@@ -13,10 +13,10 @@ use Rattle.rec_junit.specs.declared.report.JunitReport.{JunitReport}
 use Rattle.rec_junit.specs.Describing.{plain_text}
 use Rattle.rec_junit.specs.Histories.{refusal_of, report_after}
 use Rattle.rec_junit.specs.Values.{report_value}
+use Rattle.rec_errors.specs.declared.reading_error.ReadingError.TheVariants.{OutOfMemory, Report}
+use Rattle.rec_errors.specs.declared.reading_error.ReadingError.{ReadingError}
+use Rattle.rec_errors.specs.ReadingErrors.{line_error}
 use Rattle.rec_reading.specs.Converting.{lent, unless_refused}
-use Rattle.rec_reading.specs.declared.errors.ReadingError.TheVariants.{OutOfMemory, Report}
-use Rattle.rec_reading.specs.declared.errors.ReadingError.{ReadingError}
-use Rattle.rec_reading.specs.Errors.{line_error}
 
 -- ---- what a printer prints: a text for an event after others, or a refusal
 

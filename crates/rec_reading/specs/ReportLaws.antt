@@ -11,8 +11,8 @@ use Rattle.rec_events.specs.TestLists.{Tests}
 use Rattle.rec_junit.specs.Describing.{plain_text}
 use Rattle.rec_junit.specs.Histories.{is_run_end, since_run_end, suites_after, suites_of, refusal_of, report_with}
 use Rattle.rec_junit.specs.Suites.{Suites, no_suites}
+use Rattle.rec_errors.specs.declared.reading_error.ReadingError.TheVariants.{Report}
 use Rattle.rec_reading.specs.Converting.{kind_lent, lent, unless_refused}
-use Rattle.rec_reading.specs.declared.errors.ReadingError.TheVariants.{Report}
 use Rattle.rec_reading.specs.PrinterLaws.{same_of_kind}
 use Rattle.rec_reading.specs.Printing.{IsBlind, report_line, report_name, report_prints}
 

@@ -21,12 +21,12 @@ use Rattle.rec_rerun.specs.declared.plan.RerunPlan.{RerunPlan}
 use Rattle.rec_rerun.specs.Plans.{AreApart, gone_of, is_in, run_of, skip_of}
 use Rattle.rec_rerun.specs.Selection.{IsSelection, is_recorded, root_of}
 use Rattle.rec_rerun.specs.Suites.{has_outstanding, has_passing}
-use Rattle.rec_reading.specs.declared.errors.ReadingError.TheVariants.{OutOfMemory}
-use Rattle.rec_reading.specs.declared.errors.ReadingError.{ReadingError}
+use Rattle.rec_errors.specs.declared.reading_error.ReadingError.TheVariants.{OutOfMemory}
+use Rattle.rec_errors.specs.declared.reading_error.ReadingError.{ReadingError}
 use Rattle.rec_reading.specs.declared.rerun.OpenRerun.{OpenRerun}
 use Rattle.rec_reading.specs.declared.rerun.Tested.{Tested}
 use Rattle.rec_reading.specs.LogEvents.{events_of}
-use Rattle.rec_reading.specs.LogTraces.{log_lines}
+use Rattle.rec_reading.specs.LogLines.{log_lines}
 use Rattle.rec_reading.specs.RunParts.{of_bundle, of_store, tests_part}
 use Rattle.rec_reading.specs.Stores.{store_part}
 

@@ -15,10 +15,10 @@ use Rattle.rec_store.specs.Entries.{record_opts_path, test_list_path}
 use Rattle.rec_store.specs.Parts.{metadata_part}
 use Rattle.rec_portable.specs.declared.errors.PortableRecordingReadError.{PortableRecordingReadError}
 use Rattle.rec_portable.specs.OuterEntries.{log_part}
-use Rattle.rec_reading.specs.declared.errors.ReadingError.TheVariants.{OutOfMemory}
-use Rattle.rec_reading.specs.declared.errors.ReadingError.{ReadingError}
+use Rattle.rec_errors.specs.declared.reading_error.ReadingError.TheVariants.{OutOfMemory}
+use Rattle.rec_errors.specs.declared.reading_error.ReadingError.{ReadingError}
+use Rattle.rec_errors.specs.ReadingErrors.{bundle_error, part_error}
 use Rattle.rec_reading.specs.declared.parts.OpenRun.{OpenRun}
-use Rattle.rec_reading.specs.Errors.{bundle_error, part_error}
 use Rattle.rec_reading.specs.Stores.{store_part}
 
 -- the entries of the store, what the run did with its tests, which these are, and what the lines of the log give

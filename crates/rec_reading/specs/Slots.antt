@@ -13,10 +13,10 @@ use Rattle.rec_slots.specs.declared.report.SlotReport.{SlotReport}
 use Rattle.rec_slots.specs.declared.report.SlotUsage.{SlotUsage}
 use Rattle.rec_slots.specs.Refusals.{IsAccepted, IsRefused, No, Reports}
 use Rattle.rec_slots.specs.Runs.{Falls, IsOneRun, IsOutside}
-use Rattle.rec_reading.specs.declared.errors.ReadingError.{ReadingError}
-use Rattle.rec_reading.specs.Errors.{slot_error}
+use Rattle.rec_errors.specs.declared.reading_error.ReadingError.{ReadingError}
+use Rattle.rec_errors.specs.ReadingErrors.{slot_error}
 use Rattle.rec_reading.specs.LogEvents.{events_of}
-use Rattle.rec_reading.specs.LogTraces.{log_lines}
+use Rattle.rec_reading.specs.LogLines.{log_lines}
 use Rattle.rec_reading.specs.RunParts.{of_bundle}
 
 -- ---- the text

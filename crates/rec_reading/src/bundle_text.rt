@@ -1,21 +1,19 @@
 //! What a command prints of a bundle.
 ghost use Rattle.std.specs.Prelude.{ℕ, List, Result};
 ghost use Rattle.rec_container.specs.Container.{Entry, IsContainer};
-ghost use Rattle.rec_reading.specs.declared.errors.ReadingError.{ReadingError};
-ghost use Rattle.rec_reading.specs.Listing.{Makes, PrintsInfo, PrintsReplay, PrintsReport, PrintsTrace};
+ghost use Rattle.rec_errors.specs.declared.reading_error.ReadingError.{ReadingError};
+ghost use Rattle.rec_reading.specs.Listing.{Makes, PrintsInfo, PrintsReplay, PrintsReport};
 ghost use Rattle.rec_reading.specs.Reruns.{PrintsRerun};
 ghost use Rattle.rec_reading.specs.Slots.{PrintsSlots};
 
-use crate::errors::ReadingError;
 use crate::info::info_text;
 use crate::replay::replay_text;
 use crate::report::report_text;
 use crate::rerun::rerun_text;
 use crate::slots::slots_text;
-use crate::trace::trace_text;
+use rec_errors::ReadingError;
 use rec_portable::PortableRecording;
 use rec_replay::LoadOutput;
-use rec_trace::{ChromeTraceGroupBy, ChromeTraceMessageFormat};
 use std::alloc::Global;
 
 /// Makes what a command prints of a bundle.
@@ -42,23 +40,6 @@ impl BundleText for Info {
 
     fn text(&self, alloc: Global, bundle: &PortableRecording) -> Result<Vec<u8>, ReadingError> {
         info_text(alloc, bundle)
-    }
-}
-
-/// Prints the trace of the log, as [`trace_text`] makes it.
-#[derive(Drop)]
-pub struct Trace {
-    /// Which process and thread a test is drawn as.
-    pub group_by: ChromeTraceGroupBy,
-    /// In which form the trace is written.
-    pub message_format: ChromeTraceMessageFormat,
-}
-
-impl BundleText for Trace {
-    ghost prints = { λ trace. PrintsTrace trace.group_by trace.message_format };
-
-    fn text(&self, alloc: Global, bundle: &PortableRecording) -> Result<Vec<u8>, ReadingError> {
-        trace_text(alloc, bundle, self.group_by, self.message_format)
     }
 }
 

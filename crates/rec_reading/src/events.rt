@@ -1,8 +1,8 @@
 //! The events of a log.
 ghost use Rattle.rec_reading.specs.LogEvents.{ReadsEvents};
 
-use crate::errors::ReadingError;
 use rec_codec::LineIter;
+use rec_errors::ReadingError;
 use rec_events::{RecordingSpec, TestEventSummary};
 use std::alloc::Global;
 

@@ -3,7 +3,7 @@ ghost use Rattle.std.specs.Prelude.{List};
 ghost use Rattle.rec_container.specs.Container.{Entry, IsContainer};
 ghost use Rattle.rec_reading.specs.Listing.{Makes, PrintsInfo};
 
-use crate::errors::ReadingError;
+use rec_errors::ReadingError;
 use rec_forms::write_text;
 use rec_portable::PortableRecording;
 use std::alloc::Global;

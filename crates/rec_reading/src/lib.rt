@@ -1,12 +1,10 @@
-//! What is printed of a bundle: its manifest, the trace of its log, the lines of its replay, its reports, how
-//! its slots were used, and which tests are to run again.
+//! What is printed of a bundle: its manifest, the lines of its replay, its reports, how its slots were used, and
+//! which tests are to run again.
 #![tactic(auto)]
 
 mod bundle_text;
-mod errors;
 mod events;
 mod info;
-mod log_trace;
 mod parts;
 mod printer;
 mod registration;
@@ -16,13 +14,11 @@ mod report_printer;
 mod rerun;
 mod run;
 mod slots;
-mod trace;
 
-pub use bundle_text::{BundleText, Info, Replay, Report, Rerun, Slots, Trace};
-pub use errors::ReadingError;
+pub use bundle_text::{BundleText, Info, Replay, Report, Rerun, Slots};
 pub use info::info_text;
+pub use rec_errors::ReadingError;
 pub use replay::replay_text;
 pub use report::report_text;
 pub use rerun::rerun_text;
 pub use slots::slots_text;
-pub use trace::trace_text;

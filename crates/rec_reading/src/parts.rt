@@ -3,7 +3,7 @@ ghost use Rattle.std.specs.Prelude.{◌≡◌, List};
 ghost use Rattle.rec_container.specs.Container.{Entry, IsContainer};
 ghost use Rattle.rec_reading.specs.RunParts.{Answers, OpensRun, opts_part, parts_of, tests_part};
 
-use crate::errors::ReadingError;
+use rec_errors::ReadingError;
 use rec_events::{NextestRunMode, RecordOpts, TestListSummary};
 use rec_portable::{PortableRecording, PortableRecordingRunLog, PortableStoreReader};
 use rec_store::StoreReader;

@@ -3,7 +3,7 @@ ghost use Rattle.std.specs.Prelude.{◌≡◌, ◌++◌, ◌∷◌, [], List, On
 ghost use Rattle.rec_events.specs.declared.live_events.TestEvent.{TestEvent};
 ghost use Rattle.rec_reading.specs.Printing.{Adds, IsBlind, Prints};
 
-use crate::errors::ReadingError;
+use rec_errors::ReadingError;
 use rec_events::TestEvent;
 use std::alloc::Global;
 

@@ -3,14 +3,14 @@ ghost use Rattle.std.specs.Prelude.{◌≡◌, ◌++◌, List, IfErr, Ok, OnOk};
 ghost use Rattle.rec_container.specs.Container.{Entry, IsContainer};
 ghost use Rattle.rec_format.specs.Runs.{info_of};
 ghost use Rattle.rec_replay.specs.Lines.{header_line, line_text};
-ghost use Rattle.rec_reading.specs.declared.errors.ReadingError.TheVariants.{OutOfMemory};
+ghost use Rattle.rec_errors.specs.declared.reading_error.ReadingError.TheVariants.{OutOfMemory};
 ghost use Rattle.rec_reading.specs.Listing.{Makes, PrintsReplay, header_of};
 
-use crate::errors::ReadingError;
 use crate::parts::OpenRun;
 use crate::printer::EventPrinter;
 use crate::run::print_run;
 use rec_container::GrowingSink;
+use rec_errors::ReadingError;
 use rec_events::TestEvent;
 use rec_format::PortableManifest;
 use rec_portable::PortableRecording;

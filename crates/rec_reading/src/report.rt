@@ -6,10 +6,10 @@ ghost use Rattle.rec_reading.specs.Listing.{Makes, PrintsReport, printed};
 ghost use Rattle.rec_reading.specs.Printing.{report_prints};
 ghost use Rattle.rec_reading.specs.RunParts.{parts_in};
 
-use crate::errors::ReadingError;
 use crate::parts::OpenRun;
 use crate::report_printer::ReportPrinter;
 use crate::run::print_run;
+use rec_errors::ReadingError;
 use rec_junit::PlainDescriber;
 use rec_portable::PortableRecording;
 use rec_replay::LoadOutput;

@@ -5,8 +5,8 @@ ghost use Rattle.rec_junit.specs.Histories.{StandsFor};
 ghost use Rattle.rec_reading.specs.Printing.{report_line, report_name, report_prints};
 ghost use Rattle.rec_reading.specs.ReportLaws.{report_prints_blind};
 
-use crate::errors::ReadingError;
 use crate::printer::EventPrinter;
+use rec_errors::ReadingError;
 use rec_events::{NextestRunMode, TestEvent};
 use rec_junit::{JunitBuilder, JunitReport, PlainDescriber, report_text};
 use std::alloc::{AllocError, Global};

@@ -5,9 +5,9 @@ ghost use Rattle.rec_reading.specs.Listing.{Makes};
 ghost use Rattle.rec_reading.specs.Reruns.{OpensRerun, PrintsPlan, PrintsRerun, PrintsSelection, build_scope_part, parent_part, plan_lines, rerun_parts_in, rerun_parts_of, selection_line, test_line, test_lines, tested_part};
 ghost use Rattle.rec_reading.specs.RunParts.{Answers};
 
-use crate::errors::ReadingError;
 use crate::events::read_events;
 use crate::parts::read_tests;
+use rec_errors::ReadingError;
 use rec_events::{
     OwnedTestInstanceId, RecordingSpec, ReportUuid, TestEventSummary, TestListSummary,
 };

@@ -10,11 +10,11 @@ ghost use Rattle.rec_reading.specs.Listing.{printed};
 ghost use Rattle.rec_reading.specs.Printing.{Adds, AddsEvent, text_from};
 ghost use Rattle.rec_reading.specs.RunParts.{Answers, parts_in};
 
-use crate::errors::ReadingError;
 use crate::parts::OpenRun;
 use crate::printer::EventPrinter;
 use crate::registration::register_tests;
 use rec_codec::LineIter;
+use rec_errors::ReadingError;
 use rec_events::{RecordingSpec, TestEvent, TestEventSummary, TestList};
 use rec_replay::{LoadOutput, ReplayContext};
 use rec_store::StoreReader;

@@ -5,8 +5,8 @@ ghost use Rattle.rec_spans.specs.Plain.{plain};
 ghost use Rattle.rec_reading.specs.Listing.{Makes};
 ghost use Rattle.rec_reading.specs.Slots.{PrintsSlots, PrintsUsage, run_line, slot_line, slot_lines};
 
-use crate::errors::ReadingError;
 use crate::events::read_events;
+use rec_errors::ReadingError;
 use rec_events::{RecordingSpec, TestEventSummary};
 use rec_portable::PortableRecording;
 use rec_slots::{SlotReport, SlotUsage, slot_usage};

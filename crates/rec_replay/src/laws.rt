@@ -23,7 +23,7 @@ use rec_store::OutputNamer;
 /// reason; a setup script has lost its flags for reports; and the test list of a run's start is the
 /// context's.
 ///
-/// `TestEventSummary::from_test_event` gave the event that `RunRecorder::write_event` recorded, and its
+/// `rec_summaries::from_test_event` gave the event that `RunRecorder::write_event` recorded, and its
 /// line was read as `read`. `ReplayContext::convert_event` then answered `replay`, with `Load` and over
 /// the entries that the recorder's store had after the event, and `more` after them.
 pub fn recorded_events_are_replayed<S: Sink, L: Sink, N: OutputNamer>()

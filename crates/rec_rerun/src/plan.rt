@@ -175,7 +175,10 @@ fn make_plan(
     ensures gone { IfOk result (λ plan. plan.gone ≡ gone_of info.now list.now) }
 {
     let planned = plan_list(alloc, info, list)?;
-    let gone = gone_of(alloc, info, &planned.seen)?;
+    let Ok(gone) = gone_of(alloc, info, &planned.seen) else {
+        drop(planned);
+        return Err(AllocError);
+    };
     Ok(RerunPlan {
         run: Items::new(planned.run),
         skip: Items::new(planned.skip),

@@ -62,7 +62,10 @@ fn standings_of(
         at standings.tests t ≡ standing_in events.now (option_copied parent.entry) t) }
 {
     let mut standings = known_standings(alloc, parent)?;
-    standings.take_all(events)?;
+    let Ok(()) = standings.take_all(events) else {
+        drop(standings);
+        return Err(AllocError);
+    };
     Ok(standings)
 }
 
@@ -104,9 +107,14 @@ pub fn select_rerun(
     ensures recorded { IfOk result (λ info. (t : OwnedTestInstanceId) →
         (has_passing info.test_suites t || has_outstanding info.test_suites t) ≡ is_recorded events.now (option_copied parent.entry) t) }
 {
+    let root_info = root_of(alloc, run_id, build_scope, parent)?;
+    let Ok(test_suites) = select_suites(alloc, events, parent) else {
+        drop(root_info);
+        return Err(AllocError);
+    };
     Ok(RerunInfo {
         parent_run_id: run_id,
-        test_suites: select_suites(alloc, events, parent)?,
-        root_info: root_of(alloc, run_id, build_scope, parent)?,
+        test_suites,
+        root_info,
     })
 }

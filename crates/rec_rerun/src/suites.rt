@@ -58,7 +58,10 @@ fn names_that_stand(
 {
     let mut names = TestNames::empty(alloc);
     for (name, standing) in tests {
-        add_name(alloc, &mut names, name.as_str(), passed, *standing)?;
+        let Ok(()) = add_name(alloc, &mut names, name.as_str(), passed, *standing) else {
+            drop(names);
+            return Err(AllocError);
+        };
     }
     let _ordered = names.as_set();
     Ok(names)
@@ -73,10 +76,19 @@ fn suite_of(
     requires { 0 < btree_map_len tests.now }
     ensures { IfOk result (IsSuiteOf binary.now tests.now) }
 {
+    let binary_id = RustBinaryId::new(String::from_str(alloc, binary)?);
+    let Ok(passing) = names_that_stand(alloc, tests, true) else {
+        drop(binary_id);
+        return Err(AllocError);
+    };
+    let Ok(outstanding) = names_that_stand(alloc, tests, false) else {
+        drop((binary_id, passing));
+        return Err(AllocError);
+    };
     Ok(RerunTestSuiteInfo {
-        binary_id: RustBinaryId::new(String::from_str(alloc, binary)?),
-        passing: names_that_stand(alloc, tests, true)?,
-        outstanding: names_that_stand(alloc, tests, false)?,
+        binary_id,
+        passing,
+        outstanding,
     })
 }
 
@@ -102,7 +114,10 @@ pub(crate) fn suites_of(alloc: Global, standings: &Standings) -> Result<RerunSui
 {
     let mut suites = RerunSuites::new(alloc);
     for (binary, tests) in &standings.tests {
-        add_suite(alloc, &mut suites, binary.as_str(), tests)?;
+        let Ok(()) = add_suite(alloc, &mut suites, binary.as_str(), tests) else {
+            drop(suites);
+            return Err(AllocError);
+        };
     }
     let _ordered = suites.as_map();
     Ok(suites)

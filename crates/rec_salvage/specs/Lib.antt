@@ -1,7 +1,6 @@
 pub mod Gathering
 pub mod Keeping
 pub mod Refusals
-pub mod RunFiles
 pub mod Salvaged
 pub mod Salvages
 pub mod WholeLines

@@ -2,7 +2,6 @@
 //! they name.
 #![tactic(auto)]
 
-mod directory;
 mod errors;
 mod gathering;
 mod log_lines;
@@ -10,6 +9,5 @@ mod metadata;
 mod salvaging;
 mod store;
 
-pub use directory::salvage_dir;
 pub use errors::SalvageError;
 pub use salvaging::{Salvaged, salvage};

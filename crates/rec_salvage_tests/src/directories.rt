@@ -2,9 +2,11 @@
 
 use crate::made::{run, stored};
 use crate::texts::paused;
-use rec_container::{Container, MemoryDisk};
+use rec_container::Container;
+use rec_disk::MemoryDisk;
 use rec_events::Text;
-use rec_salvage::{SalvageError, Salvaged, salvage_dir};
+use rec_salvage::{SalvageError, Salvaged};
+use rec_salvage_directory::salvage_dir;
 use std::alloc::{AllocError, Global};
 use std::test::Fail;
 

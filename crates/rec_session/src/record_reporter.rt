@@ -3,8 +3,9 @@ ghost use Rattle.std.specs.Prelude.{◌≡◌, None};
 ghost use Rattle.rec_session.specs.Reporting.{Ends, Records, ReportsEvent, ReportsMeta, end_result};
 
 use rec_container::Sink;
-use rec_events::{LiveSpec, RecordOpts, TestEvent, TestEventSummary, TestListSummary};
+use rec_events::{RecordOpts, TestEvent, TestListSummary};
 use rec_store::{OutputNamer, RecorderEnd, RunRecorder, RunStoreError, StoreSizes};
+use rec_summaries::from_test_event;
 use std::alloc::Global;
 use thiserror::Error;
 
@@ -122,7 +123,7 @@ fn record<S: Sink, L: Sink, N: OutputNamer>(
 ) -> Result<(), RunStoreError>
     ensures { Records S.taken S.faults L.taken L.faults N.number recorder.old event.now result recorder.new }
 {
-    match TestEventSummary::<LiveSpec>::from_test_event(alloc, event)? {
+    match from_test_event(alloc, event)? {
         Some(summary) => recorder.write_event(summary),
         None => Ok(()),
     }

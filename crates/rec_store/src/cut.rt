@@ -7,7 +7,7 @@ use itoa::Buffer;
 use std::alloc::{AllocError, Global};
 
 /// Holds an output as it is stored: the whole of it, or what is left after a cut.
-#[derive(Debug, Drop)]
+#[derive(Drop)]
 pub enum CutOutput<'a> {
     /// The output itself, which is within the limit.
     Borrowed(&'a [u8]),

@@ -21,7 +21,7 @@ pub trait OutputNamer {
 
 /// Numbers an output by the first eight bytes of its SHA-256 digest (FIPS 180-4), as a big-endian
 /// number.
-#[derive(Clone, Copy, Debug, PartialEq, Eq)]
+#[derive(Clone, Copy)]
 pub struct Sha256Namer;
 
 impl OutputNamer for Sha256Namer {
@@ -39,7 +39,7 @@ impl OutputNamer for Sha256Namer {
 }
 
 /// Numbers every output alike, so that different outputs clash.
-#[derive(Clone, Copy, Debug, PartialEq, Eq)]
+#[derive(Clone, Copy)]
 pub struct ConstantNamer {
     /// The number of each output.
     pub number: u64,

@@ -3,3 +3,4 @@ mod Pairs
 pub mod WithoutOutputs
 pub mod WritableArgs
 pub mod WritableAttempts
+mod Writing

@@ -2,9 +2,9 @@
 use Rattle.std.proofs.Common.{arith}
 use Rattle.std.specs.List.Sorted.{IsStrictlySortedBy}
 use Rattle.std.specs.List.{AllByRecursion}
-use Rattle.std.specs.Prelude.{◌<◌, ◌^◌, ℕ, List, [], Bool, true, false, Option, Some, None, IfSome, option_map, refl, codes}
+use Rattle.std.specs.Prelude.{◌<◌, ◌^◌, ℕ, List, [], Bool, Option, Some, None, IfSome, option_map, refl, codes}
 use Rattle.semver.specs.Parse.{Parts}
-use Rattle.serde_json.specs.Data.{Data, string}
+use Rattle.serde_json.specs.Data.{string}
 use Rattle.rec_events.specs.declared.instances.OwnedTestInstanceId.{OwnedTestInstanceId}
 use Rattle.rec_events.specs.declared.instances.RetryData.{RetryData}
 use Rattle.rec_events.specs.declared.instances.StressIndexSummary.{StressIndexSummary}
@@ -25,7 +25,7 @@ use Rattle.rec_forms.specs.Reporting.{cancel_reason_value}
 use Rattle.rec_forms.specs.ReportingLaws.{cancel_reason_writable}
 use Rattle.rec_forms.specs.RunEndLaws.{run_finished_stats_writable}
 use Rattle.rec_forms.specs.RunEnds.{IsRunFinishedStats}
-use Rattle.rec_forms.specs.Shape.{members_of, only, struct}
+use Rattle.rec_forms.specs.Shape.{members_of, struct}
 use Rattle.rec_forms.specs.Stats.{IsRunStats}
 use Rattle.rec_forms.specs.StatsLaws.{run_stats_writable}
 use Rattle.rec_forms.specs.Stress.{IsStressCondition, IsStressProgress, stress_condition_value}
@@ -48,11 +48,6 @@ duration_written d is = weaker 1 7 (omega arith) (duration_writable d is)
 
 pub words_written : (ws : List (List ℕ)) → AllByRecursion IsText ws → IsWritable 7 (list_value string ws)
 words_written ws are = weaker 1 7 (omega arith) (list_writable string (λ w is. string_writable {n = 0} w is) ws are)
-
--- what may be left out
-pub only_written : (test : Bool) (d : Data) → IsWritable 7 d → IfWritten 7 (only test d)
-only_written true d w = w
-only_written false d w = tt
 
 index_of_none : (current : ℕ) → current < 2 ^ 32 → IsWritable 1 (stress_index_args (record { current = current; total = None }))
 unfolding members_of IsStrictlySortedBy

@@ -1,19 +1,17 @@
 //! The args of the ends of attempts.
-ghost use Rattle.std.specs.Prelude.{◌≡◌, Some, OnOk, codes, option_copied};
-ghost use Rattle.rec_json.specs.Tokens.{with_field, with_fields};
+ghost use Rattle.std.specs.Prelude.{◌≡◌, [], ◌∷◌, Some, codes, option_copied};
 ghost use Rattle.rec_forms.specs.Groups.{test_group_value};
 ghost use Rattle.rec_forms.specs.Writable.{EachWritten, IsWritable};
 ghost use Rattle.rec_trace_events.specs.Args.{counted_flaky_result};
 ghost use Rattle.rec_trace_events.specs.AttemptEnds.{first_fields, group_or_global, last_fields, middle_fields};
+ghost use Rattle.rec_trace_events.specs.Writing.{Writes};
 
 use crate::args::Args;
-use crate::error_args::write_attempt_error;
-use crate::members::{write_delay, write_stress_index};
+use crate::fields::Fields;
 use rec_events::{
     Duration, ExecuteStatus, ExecutionStatuses, FlakyResult, OutputSpec, OwnedTestInstanceId,
     StressIndexSummary, TestGroup,
 };
-use rec_forms::{write_field, write_optional};
 use rec_json::JsonText;
 use std::alloc::{AllocError, Global};
 
@@ -39,21 +37,14 @@ impl<'a, S: OutputSpec> Args for FailedAttemptArgs<'a, S> {
 
     #[tactic(auto, unfolding(crate::specs::Args::failed_attempt_args))]
     fn write(&self, alloc: Global, text: &mut JsonText) -> Result<(), AllocError> {
-        text.begin_object()?;
-        write_first(alloc, text, self.test, self.status)?;
+        let (test, status) = (self.test, self.status);
         let delay = self.delay_before_next_attempt;
-        write_delay(alloc, text, "delay_before_next_attempt", delay)?;
-        write_middle(alloc, text, self.status, None)?;
-        write_last(
-            alloc,
-            text,
-            self.test,
-            self.stress_index,
-            self.test_group,
-            self.status,
-        )?;
-        text.end_struct()?;
-        Ok(())
+        Fields::begin(alloc, text)
+            .first(test, status, text)
+            .delay("delay_before_next_attempt", delay, text)
+            .middle(status, None, text)
+            .last(test, self.stress_index, self.test_group, status, text)
+            .end(text)
     }
 }
 
@@ -79,99 +70,75 @@ impl<'a, S: OutputSpec> Args for LastAttemptArgs<'a, S> {
     ghost value_of = { λ a. last_attempt_args a.test.now a.stress_index.now (group_or_global (option_copied a.test_group)) a.last.now a.flaky };
 
     fn write(&self, alloc: Global, text: &mut JsonText) -> Result<(), AllocError> {
-        text.begin_object()?;
-        write_first(alloc, text, self.test, self.last)?;
-        write_middle(alloc, text, self.last, self.flaky)?;
-        write_last(
-            alloc,
-            text,
-            self.test,
-            self.stress_index,
-            self.test_group,
-            self.last,
-        )?;
-        text.end_struct()?;
-        Ok(())
+        let (test, last) = (self.test, self.last);
+        Fields::begin(alloc, text)
+            .first(test, last, text)
+            .middle(last, self.flaky, text)
+            .last(test, self.stress_index, self.test_group, last, text)
+            .end(text)
     }
 }
 
-/// Writes the fields with the keys from `attempt` to `cpu_time`.
-fn write_first<S: OutputSpec>(
-    alloc: Global,
-    text: &mut JsonText,
-    test: &OwnedTestInstanceId,
-    status: &ExecuteStatus<S>,
-) -> Result<(), AllocError>
-    ensures written { OnOk result (text.new ≡ with_fields text.old (first_fields test.now status.now)) }
-    ensures known { OnOk result (EachWritten 7 (first_fields test.now status.now)) }
-{
-    write_field(alloc, text, "attempt", &status.retry_data.attempt)?;
-    write_field(alloc, text, "binary_id", &test.binary_id)?;
-    write_optional(alloc, text, "cpu_time", &status.cpu_time)?;
-    Ok(())
-}
+impl Fields {
+    /// Writes the fields with the keys from `attempt` to `cpu_time`.
+    fn first<S: OutputSpec>(
+        self,
+        test: &OwnedTestInstanceId,
+        status: &ExecuteStatus<S>,
+        text: &mut JsonText,
+    ) -> Fields
+        ensures { Writes self.is_failed text.old result.is_failed text.new (first_fields test.now status.now) (EachWritten 7 (first_fields test.now status.now)) }
+    {
+        self.field("attempt", &status.retry_data.attempt, text)
+            .field("binary_id", &test.binary_id, text)
+            .optional("cpu_time", &status.cpu_time, text)
+    }
 
-/// Writes the fields with the keys from `delay_before_start` to `result`.
-fn write_middle<S: OutputSpec>(
-    alloc: Global,
-    text: &mut JsonText,
-    status: &ExecuteStatus<S>,
-    flaky: Option<FlakyResult>,
-) -> Result<(), AllocError>
-    ensures written { OnOk result (text.new ≡ with_fields text.old (middle_fields status.now flaky)) }
-    ensures known { OnOk result (EachWritten 7 (middle_fields status.now flaky)) }
-{
-    write_delay(
-        alloc,
-        text,
-        "delay_before_start",
-        &status.delay_before_start,
-    )?;
-    let summary = &status.error_summary;
-    write_attempt_error(alloc, text, summary, &status.retry_data, flaky)?;
-    write_optional(alloc, text, "flaky_result", &flaky)?;
-    write_field(alloc, text, "is_slow", &status.is_slow)?;
-    write_field(alloc, text, "result", &status.result)?;
-    Ok(())
-}
+    /// Writes the fields with the keys from `delay_before_start` to `result`.
+    fn middle<S: OutputSpec>(
+        self,
+        status: &ExecuteStatus<S>,
+        flaky: Option<FlakyResult>,
+        text: &mut JsonText,
+    ) -> Fields
+        ensures { Writes self.is_failed text.old result.is_failed text.new (middle_fields status.now flaky) (EachWritten 7 (middle_fields status.now flaky)) }
+    {
+        let summary = &status.error_summary;
+        self.delay("delay_before_start", &status.delay_before_start, text)
+            .attempt_error(summary, &status.retry_data, flaky, text)
+            .optional("flaky_result", &flaky, text)
+            .field("is_slow", &status.is_slow, text)
+            .field("result", &status.result, text)
+    }
 
-/// Writes the fields with the keys from `stress_index` to `total_attempts`.
-fn write_last<S: OutputSpec>(
-    alloc: Global,
-    text: &mut JsonText,
-    test: &OwnedTestInstanceId,
-    stress_index: &Option<StressIndexSummary>,
-    test_group: Option<&TestGroup>,
-    status: &ExecuteStatus<S>,
-) -> Result<(), AllocError>
-    ensures written { OnOk result (text.new ≡ with_fields text.old (last_fields test.now stress_index.now (group_or_global (option_copied test_group.entry)) status.now)) }
-    ensures known { OnOk result (EachWritten 7 (last_fields test.now stress_index.now (group_or_global (option_copied test_group.entry)) status.now)) }
-{
-    write_stress_index(alloc, text, stress_index)?;
-    write_group(alloc, text, test_group)?;
-    write_field(alloc, text, "test_name", &test.test_name)?;
-    write_field(alloc, text, "time_taken", &status.time_taken)?;
-    write_field(
-        alloc,
-        text,
-        "total_attempts",
-        &status.retry_data.total_attempts,
-    )?;
-    Ok(())
-}
+    /// Writes the fields with the keys from `stress_index` to `total_attempts`.
+    fn last<S: OutputSpec>(
+        self,
+        test: &OwnedTestInstanceId,
+        stress_index: &Option<StressIndexSummary>,
+        test_group: Option<&TestGroup>,
+        status: &ExecuteStatus<S>,
+        text: &mut JsonText,
+    ) -> Fields
+        ensures { Writes self.is_failed text.old result.is_failed text.new (last_fields test.now stress_index.now (group_or_global (option_copied test_group.entry)) status.now)
+            (EachWritten 7 (last_fields test.now stress_index.now (group_or_global (option_copied test_group.entry)) status.now)) }
+    {
+        let total_attempts = &status.retry_data.total_attempts;
+        self.stress_index(stress_index, text)
+            .group(test_group, text)
+            .field("test_name", &test.test_name, text)
+            .field("time_taken", &status.time_taken, text)
+            .field("total_attempts", total_attempts, text)
+    }
 
-/// Writes a group, or else the global one.
-fn write_group(
-    alloc: Global,
-    text: &mut JsonText,
-    group: Option<&TestGroup>,
-) -> Result<(), AllocError>
-    ensures written { OnOk result (text.new ≡ with_field (codes "test_group") (Some (test_group_value (group_or_global (option_copied group.entry)))) text.old) }
-    ensures known { OnOk result (IsWritable 0 (test_group_value (group_or_global (option_copied group.entry)))) }
-{
-    match group {
-        Some(group) => write_field(alloc, text, "test_group", group),
-        None => write_field(alloc, text, "test_group", &TestGroup::Global),
+    /// Writes a group, or else the global one.
+    fn group(self, group: Option<&TestGroup>, text: &mut JsonText) -> Fields
+        ensures { Writes self.is_failed text.old result.is_failed text.new ((codes "test_group", Some (test_group_value (group_or_global (option_copied group.entry)))) ∷ []) (IsWritable 0 (test_group_value (group_or_global (option_copied group.entry)))) }
+    {
+        match group {
+            Some(group) => self.field("test_group", group, text),
+            None => self.field("test_group", &TestGroup::Global, text),
+        }
     }
 }
 

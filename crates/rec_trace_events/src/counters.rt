@@ -7,8 +7,8 @@ use crate::args::Args;
 use crate::counts::{RunningCounts, TestCounts};
 use crate::event::{TraceEvent, event};
 use crate::event_parts::EventParts;
+use crate::fields::Fields;
 use crate::rows::{Category, Row};
-use rec_forms::write_field;
 use rec_json::JsonText;
 use std::alloc::{AllocError, Global};
 
@@ -41,11 +41,10 @@ impl Args for RunningCounts {
     ghost value_of = { running_args };
 
     fn write(&self, alloc: Global, text: &mut JsonText) -> Result<(), AllocError> {
-        text.begin_object()?;
-        write_field(alloc, text, "running_scripts", &self.scripts)?;
-        write_field(alloc, text, "running_tests", &self.tests)?;
-        text.end_struct()?;
-        Ok(())
+        Fields::begin(alloc, text)
+            .field("running_scripts", &self.scripts, text)
+            .field("running_tests", &self.tests, text)
+            .end(text)
     }
 }
 
@@ -71,12 +70,11 @@ impl Args for TestCounts {
     ghost value_of = { results_args };
 
     fn write(&self, alloc: Global, text: &mut JsonText) -> Result<(), AllocError> {
-        text.begin_object()?;
-        write_field(alloc, text, "failed", &self.failed)?;
-        write_field(alloc, text, "flaky", &self.flaky)?;
-        write_field(alloc, text, "passed", &self.passed)?;
-        text.end_struct()?;
-        Ok(())
+        Fields::begin(alloc, text)
+            .field("failed", &self.failed, text)
+            .field("flaky", &self.flaky, text)
+            .field("passed", &self.passed, text)
+            .end(text)
     }
 }
 

@@ -7,7 +7,7 @@ ghost use Rattle.rec_trace_events.specs.EventParts.{event_of};
 ghost use Rattle.rec_trace_events.specs.EventTexts.{event_value};
 
 use crate::args::Args;
-use crate::event_parts::{EventParts, write_before_name, write_from_name};
+use crate::event_parts::{EventParts, write_event};
 use rec_forms::value_of_text;
 use rec_json::JsonText;
 use serde_json::Value;
@@ -65,10 +65,7 @@ pub fn event<A: Args>(
     ensures { IfOk result (λ e. event_value e ≡ event_of parts.now (option_map A.value_of (option_copied args.entry))) }
 {
     let mut text = JsonText::new(alloc);
-    text.begin_object()?;
-    write_before_name(alloc, &mut text, parts, args)?;
-    write_from_name(alloc, &mut text, parts)?;
-    text.end_struct()?;
+    write_event(alloc, &mut text, parts, args)?;
     Ok(TraceEvent {
         text: text.into_text(),
     })

@@ -1,13 +1,13 @@
 //! What an event of a trace has beside its args.
-ghost use Rattle.std.specs.Prelude.{◌≡◌, OnOk, codes, option_copied, option_map};
-ghost use Rattle.rec_json.specs.Tokens.{with_field, with_fields};
-ghost use Rattle.rec_forms.specs.Writable.{EachWritten, IfWritten};
-ghost use Rattle.rec_trace_events.specs.EventParts.{fields_before_name, fields_from_name};
+ghost use Rattle.std.specs.Prelude.{◌≡◌, ◌++◌, [], ◌∷◌, OnOk, codes, option_copied, option_map};
+ghost use Rattle.rec_json.specs.Tokens.{value_tokens, with_field};
+ghost use Rattle.rec_forms.specs.Writable.{EachWritten, IfWritten, IsWritable};
+ghost use Rattle.rec_trace_events.specs.EventParts.{event_of, fields_before_name, fields_from_name};
+ghost use Rattle.rec_trace_events.specs.Writing.{Writes};
 
 use crate::args::Args;
-use crate::members::{write_optional_text, write_text};
+use crate::fields::Fields;
 use crate::rows::Row;
-use rec_forms::{write_field, write_optional};
 use rec_json::JsonText;
 use std::alloc::{AllocError, Global};
 
@@ -47,45 +47,65 @@ fn write_args<A: Args>(
     }
 }
 
-/// Writes the fields whose keys come before `name`, from `args` to `id`.
+impl Fields {
+    /// Writes the args of an event, where there are some.
+    fn event_args<A: Args>(self, args: Option<&A>, text: &mut JsonText) -> Fields
+        ensures { Writes self.is_failed text.old result.is_failed text.new ((codes "args", option_map A.value_of (option_copied args.entry)) ∷ []) (IfWritten 8 (option_map A.value_of (option_copied args.entry))) }
+    {
+        if self.is_failed {
+            return self;
+        }
+        Fields {
+            alloc: self.alloc,
+            is_failed: write_args(self.alloc, text, args).is_err(),
+        }
+    }
+
+    /// Writes the fields whose keys come before `name`, from `args` to `id`.
+    fn before_name<A: Args>(
+        self,
+        parts: &EventParts<'_>,
+        args: Option<&A>,
+        text: &mut JsonText,
+    ) -> Fields
+        ensures { Writes self.is_failed text.old result.is_failed text.new (fields_before_name parts.now (option_map A.value_of (option_copied args.entry)))
+            (EachWritten 8 (fields_before_name parts.now (option_map A.value_of (option_copied args.entry)))) }
+    {
+        self.event_args(args, text)
+            .optional_text("bp", parts.binding, text)
+            .text("cat", parts.category, text)
+            .optional("id", &parts.id, text)
+    }
+
+    /// Writes the fields with the keys from `name` to `ts`.
+    fn from_name(self, parts: &EventParts<'_>, text: &mut JsonText) -> Fields
+        ensures { Writes self.is_failed text.old result.is_failed text.new (fields_from_name parts.now) (EachWritten 8 (fields_from_name parts.now)) }
+    {
+        self.text("name", parts.name, text)
+            .text("ph", parts.phase, text)
+            .field("pid", &parts.row.pid, text)
+            .optional_text("s", parts.scope, text)
+            .field("tid", &parts.row.tid, text)
+            .field("ts", &parts.at, text)
+    }
+}
+
+/// Writes the event of these parts, with these args where there are some.
 ///
 /// # Errors
 ///
-/// `AllocError` if memory runs out; then `text` may hold a part of them.
-pub fn write_before_name<A: Args>(
+/// `AllocError` if memory runs out; then `text` may hold a part of the event.
+pub fn write_event<A: Args>(
     alloc: Global,
     text: &mut JsonText,
     parts: &EventParts<'_>,
     args: Option<&A>,
 ) -> Result<(), AllocError>
-    ensures written { OnOk result (text.new ≡ with_fields text.old (fields_before_name parts.now (option_map A.value_of (option_copied args.entry)))) }
-    ensures known { OnOk result (EachWritten 8 (fields_before_name parts.now (option_map A.value_of (option_copied args.entry)))) }
+    ensures written { OnOk result (text.new ≡ text.old ++ value_tokens (event_of parts.now (option_map A.value_of (option_copied args.entry)))) }
+    ensures known { OnOk result (IsWritable 9 (event_of parts.now (option_map A.value_of (option_copied args.entry)))) }
 {
-    write_args(alloc, text, args)?;
-    write_optional_text(text, "bp", parts.binding)?;
-    write_text(text, "cat", parts.category)?;
-    write_optional(alloc, text, "id", &parts.id)?;
-    Ok(())
-}
-
-/// Writes the fields with the keys from `name` to `ts`.
-///
-/// # Errors
-///
-/// `AllocError` if memory runs out; then `text` may hold a part of them.
-pub fn write_from_name(
-    alloc: Global,
-    text: &mut JsonText,
-    parts: &EventParts<'_>,
-) -> Result<(), AllocError>
-    ensures written { OnOk result (text.new ≡ with_fields text.old (fields_from_name parts.now)) }
-    ensures known { OnOk result (EachWritten 8 (fields_from_name parts.now)) }
-{
-    write_text(text, "name", parts.name)?;
-    write_text(text, "ph", parts.phase)?;
-    write_field(alloc, text, "pid", &parts.row.pid)?;
-    write_optional_text(text, "s", parts.scope)?;
-    write_field(alloc, text, "tid", &parts.row.tid)?;
-    write_field(alloc, text, "ts", &parts.at)?;
-    Ok(())
+    Fields::begin(alloc, text)
+        .before_name(parts, args, text)
+        .from_name(parts, text)
+        .end(text)
 }

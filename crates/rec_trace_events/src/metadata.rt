@@ -6,9 +6,8 @@ ghost use Rattle.rec_trace_events.specs.TraceEvents.{metadata_event, name_event,
 use crate::args::Args;
 use crate::event::{TraceEvent, event};
 use crate::event_parts::EventParts;
-use crate::members::write_text;
+use crate::fields::Fields;
 use crate::rows::Row;
-use rec_forms::write_field;
 use rec_json::JsonText;
 use std::alloc::{AllocError, Global};
 
@@ -46,11 +45,10 @@ impl<'a> Args for NameArgs<'a> {
 
     ghost value_of = { λ a. name_args a.name.now };
 
-    fn write(&self, _alloc: Global, text: &mut JsonText) -> Result<(), AllocError> {
-        text.begin_object()?;
-        write_text(text, "name", self.name)?;
-        text.end_struct()?;
-        Ok(())
+    fn write(&self, alloc: Global, text: &mut JsonText) -> Result<(), AllocError> {
+        Fields::begin(alloc, text)
+            .text("name", self.name, text)
+            .end(text)
     }
 }
 
@@ -73,10 +71,9 @@ impl Args for PlaceArgs {
     ghost value_of = { λ a. place_args a.place };
 
     fn write(&self, alloc: Global, text: &mut JsonText) -> Result<(), AllocError> {
-        text.begin_object()?;
-        write_field(alloc, text, "sort_index", &self.place)?;
-        text.end_struct()?;
-        Ok(())
+        Fields::begin(alloc, text)
+            .field("sort_index", &self.place, text)
+            .end(text)
     }
 }
 

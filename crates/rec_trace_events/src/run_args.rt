@@ -1,16 +1,15 @@
 //! The args of the slices of a run, and of the runs of a stress run.
-ghost use Rattle.std.specs.Prelude.{◌≡◌, Some, option_map, OnOk, codes};
-ghost use Rattle.rec_json.specs.Tokens.{with_field};
-ghost use Rattle.rec_forms.specs.Writable.{IfWritten};
+ghost use Rattle.std.specs.Prelude.{[], ◌∷◌, Some, option_map, codes};
+ghost use Rattle.rec_forms.specs.Writable.{IfWritten, IsWritable};
 ghost use Rattle.rec_trace_events.specs.Args.{not_seen_args};
+ghost use Rattle.rec_trace_events.specs.Writing.{Writes};
 
 use crate::args::Args;
-use crate::members::write_text;
+use crate::fields::Fields;
 use rec_events::{
     Duration, Items, ReportUuid, RunFinishedStats, RunStats, StressConditionSummary,
     StressProgress, TestsNotSeenSummary, Text, Version,
 };
-use rec_forms::{write_field, write_optional};
 use rec_json::JsonText;
 use std::alloc::{AllocError, Global};
 
@@ -31,14 +30,13 @@ impl<'a> Args for RunBeginArgs<'a> {
 
     #[tactic(auto, unfolding(crate::specs::Args::run_begin_args))]
     fn write(&self, alloc: Global, text: &mut JsonText) -> Result<(), AllocError> {
-        text.begin_object()?;
-        write_field(alloc, text, "cli_args", self.cli_args)?;
-        write_field(alloc, text, "nextest_version", self.version)?;
-        write_text(text, "profile", self.profile)?;
-        write_field(alloc, text, "run_id", self.run_id)?;
-        write_optional(alloc, text, "stress_condition", self.stress_condition)?;
-        text.end_struct()?;
-        Ok(())
+        Fields::begin(alloc, text)
+            .field("cli_args", self.cli_args, text)
+            .field("nextest_version", self.version, text)
+            .text("profile", self.profile, text)
+            .field("run_id", self.run_id, text)
+            .optional("stress_condition", self.stress_condition, text)
+            .end(text)
     }
 }
 
@@ -53,23 +51,25 @@ pub struct RunEndArgs<'a> {
     pub outstanding_not_seen: &'a Option<TestsNotSeenSummary>,
 }
 
-/// Writes how many tests a run didn't come to, where that is known.
-fn write_not_seen(
-    alloc: Global,
-    text: &mut JsonText,
-    not_seen: &Option<TestsNotSeenSummary>,
-) -> Result<(), AllocError>
-    ensures written { OnOk result (text.new ≡ with_field (codes "outstanding_not_seen") (option_map not_seen_args not_seen.now) text.old) }
-    ensures known { OnOk result (IfWritten 7 (option_map not_seen_args not_seen.now)) }
-{
-    let Some(not_seen) = not_seen else {
-        return Ok(());
-    };
-    text.key("outstanding_not_seen")?;
-    text.begin_object()?;
-    write_field(alloc, text, "total_not_seen", &not_seen.total_not_seen)?;
-    text.end_struct()?;
-    Ok(())
+impl Fields {
+    /// Writes how many tests a run didn't come to.
+    fn not_seen_count(self, not_seen: &TestsNotSeenSummary, text: &mut JsonText) -> Fields
+        ensures { Writes self.is_failed text.old result.is_failed text.new ((codes "outstanding_not_seen", Some (not_seen_args not_seen.now)) ∷ []) (IsWritable 7 (not_seen_args not_seen.now)) }
+    {
+        self.open("outstanding_not_seen", text)
+            .field("total_not_seen", &not_seen.total_not_seen, text)
+            .close(text)
+    }
+
+    /// Writes how many tests a run didn't come to, where that is known.
+    fn not_seen(self, not_seen: &Option<TestsNotSeenSummary>, text: &mut JsonText) -> Fields
+        ensures { Writes self.is_failed text.old result.is_failed text.new ((codes "outstanding_not_seen", option_map not_seen_args not_seen.now) ∷ []) (IfWritten 7 (option_map not_seen_args not_seen.now)) }
+    {
+        match not_seen {
+            Some(not_seen) => self.not_seen_count(not_seen, text),
+            None => self,
+        }
+    }
 }
 
 impl<'a> Args for RunEndArgs<'a> {
@@ -79,14 +79,13 @@ impl<'a> Args for RunEndArgs<'a> {
 
     #[tactic(auto, unfolding(crate::specs::Args::run_end_args))]
     fn write(&self, alloc: Global, text: &mut JsonText) -> Result<(), AllocError> {
-        text.begin_object()?;
-        write_field(alloc, text, "nextest_version", self.version)?;
-        write_not_seen(alloc, text, self.outstanding_not_seen)?;
-        write_text(text, "profile", self.profile)?;
-        write_field(alloc, text, "run_stats", self.run_stats)?;
-        write_field(alloc, text, "time_taken", self.time_taken)?;
-        text.end_struct()?;
-        Ok(())
+        Fields::begin(alloc, text)
+            .field("nextest_version", self.version, text)
+            .not_seen(self.outstanding_not_seen, text)
+            .text("profile", self.profile, text)
+            .field("run_stats", self.run_stats, text)
+            .field("time_taken", self.time_taken, text)
+            .end(text)
     }
 }
 
@@ -103,10 +102,9 @@ impl<'a> Args for SubRunBeginArgs<'a> {
 
     #[tactic(auto, unfolding(crate::specs::Args::sub_run_begin_args))]
     fn write(&self, alloc: Global, text: &mut JsonText) -> Result<(), AllocError> {
-        text.begin_object()?;
-        write_field(alloc, text, "progress", self.progress)?;
-        text.end_struct()?;
-        Ok(())
+        Fields::begin(alloc, text)
+            .field("progress", self.progress, text)
+            .end(text)
     }
 }
 
@@ -125,11 +123,10 @@ impl<'a> Args for SubRunEndArgs<'a> {
 
     #[tactic(auto, unfolding(crate::specs::Args::sub_run_end_args))]
     fn write(&self, alloc: Global, text: &mut JsonText) -> Result<(), AllocError> {
-        text.begin_object()?;
-        write_field(alloc, text, "progress", self.progress)?;
-        write_field(alloc, text, "sub_stats", self.sub_stats)?;
-        write_field(alloc, text, "time_taken", self.time_taken)?;
-        text.end_struct()?;
-        Ok(())
+        Fields::begin(alloc, text)
+            .field("progress", self.progress, text)
+            .field("sub_stats", self.sub_stats, text)
+            .field("time_taken", self.time_taken, text)
+            .end(text)
     }
 }

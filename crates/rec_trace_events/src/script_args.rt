@@ -1,10 +1,8 @@
 //! The args of the ends of setup scripts, and of slow ones.
 
 use crate::args::Args;
-use crate::error_args::write_summary;
-use crate::members::write_stress_index;
+use crate::fields::Fields;
 use rec_events::{Duration, OutputSpec, ScriptId, SetupScriptExecuteStatus, StressIndexSummary};
-use rec_forms::write_field;
 use rec_json::JsonText;
 use std::alloc::{AllocError, Global};
 
@@ -23,15 +21,14 @@ impl<'a, S: OutputSpec> Args for ScriptEndArgs<'a, S> {
 
     #[tactic(auto, unfolding(crate::specs::Args::script_end_args))]
     fn write(&self, alloc: Global, text: &mut JsonText) -> Result<(), AllocError> {
-        text.begin_object()?;
-        write_summary(text, &self.status.error_summary)?;
-        write_field(alloc, text, "is_slow", &self.status.is_slow)?;
-        write_field(alloc, text, "result", &self.status.result)?;
-        write_field(alloc, text, "script_id", self.script_id)?;
-        write_stress_index(alloc, text, self.stress_index)?;
-        write_field(alloc, text, "time_taken", &self.status.time_taken)?;
-        text.end_struct()?;
-        Ok(())
+        Fields::begin(alloc, text)
+            .summary(&self.status.error_summary, text)
+            .field("is_slow", &self.status.is_slow, text)
+            .field("result", &self.status.result, text)
+            .field("script_id", self.script_id, text)
+            .stress_index(self.stress_index, text)
+            .field("time_taken", &self.status.time_taken, text)
+            .end(text)
     }
 }
 
@@ -51,12 +48,11 @@ impl<'a> Args for SlowScriptArgs<'a> {
 
     #[tactic(auto, unfolding(crate::specs::Args::slow_script_args))]
     fn write(&self, alloc: Global, text: &mut JsonText) -> Result<(), AllocError> {
-        text.begin_object()?;
-        write_field(alloc, text, "elapsed", self.elapsed)?;
-        write_field(alloc, text, "script_id", self.script_id)?;
-        write_stress_index(alloc, text, self.stress_index)?;
-        write_field(alloc, text, "will_terminate", &self.will_terminate)?;
-        text.end_struct()?;
-        Ok(())
+        Fields::begin(alloc, text)
+            .field("elapsed", self.elapsed, text)
+            .field("script_id", self.script_id, text)
+            .stress_index(self.stress_index, text)
+            .field("will_terminate", &self.will_terminate, text)
+            .end(text)
     }
 }

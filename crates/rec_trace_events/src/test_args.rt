@@ -1,9 +1,8 @@
 //! The args of the begins of attempts, and of slow tests.
 
 use crate::args::Args;
-use crate::members::{write_command_line, write_stress_index};
+use crate::fields::Fields;
 use rec_events::{Duration, Items, OwnedTestInstanceId, RetryData, StressIndexSummary, Text};
-use rec_forms::write_field;
 use rec_json::JsonText;
 use std::alloc::{AllocError, Global};
 
@@ -21,12 +20,11 @@ impl<'a> Args for TestBeginArgs<'a> {
 
     #[tactic(auto, unfolding(crate::specs::Args::test_begin_args))]
     fn write(&self, alloc: Global, text: &mut JsonText) -> Result<(), AllocError> {
-        text.begin_object()?;
-        write_field(alloc, text, "binary_id", &self.test.binary_id)?;
-        write_command_line(alloc, text, self.command_line)?;
-        write_field(alloc, text, "test_name", &self.test.test_name)?;
-        text.end_struct()?;
-        Ok(())
+        Fields::begin(alloc, text)
+            .field("binary_id", &self.test.binary_id, text)
+            .command_line(self.command_line, text)
+            .field("test_name", &self.test.test_name, text)
+            .end(text)
     }
 }
 
@@ -45,19 +43,13 @@ impl<'a> Args for RetryBeginArgs<'a> {
 
     #[tactic(auto, unfolding(crate::specs::Args::retry_begin_args))]
     fn write(&self, alloc: Global, text: &mut JsonText) -> Result<(), AllocError> {
-        text.begin_object()?;
-        write_field(alloc, text, "attempt", &self.retry_data.attempt)?;
-        write_field(alloc, text, "binary_id", &self.test.binary_id)?;
-        write_command_line(alloc, text, self.command_line)?;
-        write_field(alloc, text, "test_name", &self.test.test_name)?;
-        write_field(
-            alloc,
-            text,
-            "total_attempts",
-            &self.retry_data.total_attempts,
-        )?;
-        text.end_struct()?;
-        Ok(())
+        Fields::begin(alloc, text)
+            .field("attempt", &self.retry_data.attempt, text)
+            .field("binary_id", &self.test.binary_id, text)
+            .command_line(self.command_line, text)
+            .field("test_name", &self.test.test_name, text)
+            .field("total_attempts", &self.retry_data.total_attempts, text)
+            .end(text)
     }
 }
 
@@ -78,14 +70,13 @@ impl<'a> Args for SlowTestArgs<'a> {
 
     #[tactic(auto, unfolding(crate::specs::Args::slow_test_args))]
     fn write(&self, alloc: Global, text: &mut JsonText) -> Result<(), AllocError> {
-        text.begin_object()?;
-        write_field(alloc, text, "attempt", &self.retry_data.attempt)?;
-        write_field(alloc, text, "binary_id", &self.test.binary_id)?;
-        write_field(alloc, text, "elapsed", self.elapsed)?;
-        write_stress_index(alloc, text, self.stress_index)?;
-        write_field(alloc, text, "test_name", &self.test.test_name)?;
-        write_field(alloc, text, "will_terminate", &self.will_terminate)?;
-        text.end_struct()?;
-        Ok(())
+        Fields::begin(alloc, text)
+            .field("attempt", &self.retry_data.attempt, text)
+            .field("binary_id", &self.test.binary_id, text)
+            .field("elapsed", self.elapsed, text)
+            .stress_index(self.stress_index, text)
+            .field("test_name", &self.test.test_name, text)
+            .field("will_terminate", &self.will_terminate, text)
+            .end(text)
     }
 }

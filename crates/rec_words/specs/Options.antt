@@ -10,6 +10,8 @@ use Rattle.rec_spans.specs.declared.settings.ChromeTraceGroupBy.TheVariants.{Bin
 use Rattle.rec_spans.specs.declared.settings.ChromeTraceGroupBy.{ChromeTraceGroupBy}
 use Rattle.rec_trace.specs.declared.settings.ChromeTraceMessageFormat.TheVariants.{Json, JsonPretty}
 use Rattle.rec_trace.specs.declared.settings.ChromeTraceMessageFormat.{ChromeTraceMessageFormat}
+use Rattle.rec_errors.specs.declared.words_error.WordsError.TheVariants.{UnknownOption, RepeatedOption, MissingValue, BadValue}
+use Rattle.rec_errors.specs.declared.words_error.WordsError.{WordsError}
 use Rattle.rec_export.specs.declared.settings.Settings.{Settings}
 use Rattle.rec_export.specs.Settings.{default_settings}
 use Rattle.rec_words.specs.declared.options.CommandName.TheVariants.{Record, Trace, Replay, Sample, Upgrade, Salvage}
@@ -17,8 +19,6 @@ use Rattle.rec_words.specs.declared.options.CommandName.{CommandName}
 use Rattle.rec_words.specs.declared.options.OptionName.TheVariants.{GroupBy, MessageFormat, MaxOutput, ReadLimit, SessionLimit, Output}
 use Rattle.rec_words.specs.declared.options.OptionName.{OptionName}
 use Rattle.rec_words.specs.declared.options.OptionValues.{OptionValues}
-use Rattle.rec_words.specs.declared.words.WordsError.TheVariants.{UnknownOption, RepeatedOption, MissingValue, BadValue}
-use Rattle.rec_words.specs.declared.words.WordsError.{WordsError}
 
 -- the option of a name
 unfoldable pub option_named : List ℕ → Option OptionName

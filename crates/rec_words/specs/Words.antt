@@ -5,14 +5,14 @@ use Rattle.std.specs.Prelude.{◌≡◌, ◌≤◌, ℕ, List, [], ◌∷◌, ma
 use Rattle.std.specs.Str.{bytes_eq}
 use Rattle.rec_container.specs.Reading.{◌>>=◌}
 use Rattle.rec_replay.specs.declared.output_load.LoadOutput.{LoadOutput}
+use Rattle.rec_errors.specs.declared.words_error.WordsError.TheVariants.{NoCommand, UnknownCommand, MissingPositional, BadNumber}
+use Rattle.rec_errors.specs.declared.words_error.WordsError.{WordsError}
 use Rattle.rec_export.specs.declared.settings.Settings.{Settings}
 use Rattle.rec_words.specs.declared.options.CommandName.TheVariants.{Record, Trace, Replay, Report, Info, Slots, Rerun, Sample, Upgrade, Salvage}
 use Rattle.rec_words.specs.declared.options.CommandName.{CommandName}
 use Rattle.rec_words.specs.declared.words.BundleWords.{BundleWords}
 use Rattle.rec_words.specs.declared.words.Command.TheVariants as commands
 use Rattle.rec_words.specs.declared.words.Command.{Command}
-use Rattle.rec_words.specs.declared.words.WordsError.TheVariants.{NoCommand, UnknownCommand, MissingPositional, BadNumber}
-use Rattle.rec_words.specs.declared.words.WordsError.{WordsError}
 use Rattle.rec_words.specs.Options.{load_of, no_values, options_at, settings_from, settings_of, tests_of, values_from}
 
 -- what words ask for: a recording into a bundle at a path; the trace of a bundle, its events, its reports, what its manifest says, how its

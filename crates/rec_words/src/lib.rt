@@ -6,5 +6,6 @@ mod options;
 mod usage;
 mod words;
 
+pub use rec_errors::WordsError;
 pub use usage::{USAGE, versions};
-pub use words::{Command, WordsError, bundle_path, read_words};
+pub use words::{Command, bundle_path, read_words};

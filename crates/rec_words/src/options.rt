@@ -3,7 +3,7 @@ ghost use Rattle.std.specs.Prelude.{◌≡◌, ◌≤◌, IfSome};
 ghost use Rattle.rec_words.specs.Options.{draws, group_by_of, has_come, load_of, message_format_of, new_option, no_values, number_of, option_named, options_at, output_of, records, replays, settings_from, settings_of, takes, tests_of, values_from, with_value};
 ghost use Rattle.rec_words.specs.Words.{texts};
 
-use crate::words::WordsError;
+use rec_errors::WordsError;
 use rec_export::Settings;
 use rec_replay::LoadOutput;
 use rec_sample::MAX_TESTS;

@@ -5,9 +5,9 @@ ghost use Rattle.rec_words.specs.declared.options.CommandName.TheVariants.{Recor
 ghost use Rattle.rec_words.specs.Words.{texts, bundle_after, command, command_after, command_named, other_command, bundle_of, sample_after, HasTests, Reads, ReadsBundle};
 
 use crate::options::{CommandName, read_options, read_settings, tests};
+use rec_errors::WordsError;
 use rec_export::Settings;
 use rec_replay::LoadOutput;
-use thiserror::Error;
 
 /// Says what the words ask for.
 #[derive(Clone, Copy)]
@@ -62,36 +62,6 @@ pub enum Command<'w> {
     Help,
     /// Prints the program's version and those of the formats that it writes.
     Version,
-}
-
-/// Names the first fault of the words, from the left. `at` is the index of a word, the first being 0, or
-/// the number of the words where one is missing.
-#[derive(Clone, Copy, Debug, PartialEq, Eq, Error)]
-pub enum WordsError {
-    /// There is no word.
-    #[error("no command")]
-    NoCommand,
-    /// The first word is no command, or stands not alone where it has to.
-    #[error("unknown command at word {at}")]
-    UnknownCommand { at: usize },
-    /// The bundle or the number of tests is missing.
-    #[error("missing argument at word {at}")]
-    MissingPositional { at: usize },
-    /// The word is no number of decimal digits up to 10000.
-    #[error("bad number at word {at}")]
-    BadNumber { at: usize },
-    /// The word is no option of the command.
-    #[error("unknown option at word {at}")]
-    UnknownOption { at: usize },
-    /// The option came before.
-    #[error("repeated option at word {at}")]
-    RepeatedOption { at: usize },
-    /// The value of the last option is missing.
-    #[error("missing value at word {at}")]
-    MissingValue { at: usize },
-    /// The value is no word that its option takes, or no number of decimal digits up to u64's greatest.
-    #[error("bad value at word {at}")]
-    BadValue { at: usize },
 }
 
 /// Reads the words, which don't hold the program's name. It takes no memory.

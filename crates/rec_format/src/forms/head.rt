@@ -1,15 +1,12 @@
 //! The head of a session: what was built, and two parts.
-ghost use Rattle.std.specs.Prelude.{◌≡◌, OnOk};
 ghost use Rattle.rec_json.specs.Nodes.{members_view};
-ghost use Rattle.rec_json.specs.Tokens.{with_fields};
 ghost use Rattle.rec_forms.specs.Gives.{Gives};
 
-use super::parts::Invocation;
+use super::parts::{Invocation, WrittenInvocation};
+use super::written_fields::{Written, WrittenFields, WrittenIfSome, write_object};
 use crate::{RecordedRunStatus, RerunInfo, SessionHead};
 use rec_events::{RecordOpts, ReportUuid, Stamp, TestListSummary};
-use rec_forms::{
-    Form, FromValueError, optional_field, required_field, write_field, write_optional,
-};
+use rec_forms::{Form, FromValueError, optional_field, required_field};
 use rec_json::{JsonText, Node};
 use std::alloc::{AllocError, Global};
 
@@ -24,22 +21,36 @@ struct Contents {
     test_list: TestListSummary,
 }
 
-impl Contents {
-    ghost use Rattle.rec_format.specs.HeadForms.{contents_fields, contents_form, AreContents, head_contents};
+/// The contents of a head, as they are written.
+#[derive(Drop)]
+struct WrittenContents<'a>(&'a SessionHead);
 
-    fn write(alloc: Global, text: &mut JsonText, head: &SessionHead) -> Result<(), AllocError>
-        ensures written { OnOk result
-            (text.new ≡ with_fields text.old (contents_fields (head_contents head.now))) }
-        ensures known { OnOk result (AreContents (head_contents head.now)) }
-    {
-        write_field(alloc, text, "record-opts", &head.record_opts)?;
-        write_optional(alloc, text, "rerun-info", &head.rerun_info)?;
-        write_field(alloc, text, "run-id", &head.run_id)?;
-        write_field(alloc, text, "started-at", &head.started_at)?;
-        write_field(alloc, text, "status", &head.status)?;
-        write_field(alloc, text, "test-list", &head.test_list)?;
-        Ok(())
+impl<'a> WrittenFields for WrittenContents<'a> {
+    ghost use Rattle.rec_format.specs.HeadForms.{contents_fields, AreContents, head_contents};
+
+    ghost fields_of = { λ f. contents_fields (head_contents f.0.now) };
+
+    ghost well_formed = { λ f. AreContents (head_contents f.0.now) };
+
+    fn write(&self, alloc: Global, text: &mut JsonText) -> Result<(), AllocError> {
+        let head = self.0;
+        let started = (
+            Written("record-opts", &head.record_opts),
+            WrittenIfSome("rerun-info", &head.rerun_info),
+            Written("run-id", &head.run_id),
+        );
+        let rest = (
+            Written("started-at", &head.started_at),
+            Written("status", &head.status),
+            Written("test-list", &head.test_list),
+        );
+        let fields = (started, rest);
+        fields.write(alloc, text)
     }
+}
+
+impl Contents {
+    ghost use Rattle.rec_format.specs.HeadForms.{contents_form};
 
     #[tactic(auto, unfolding(crate::specs::HeadForms::contents_form))]
     fn read<'a>(alloc: Global, object: &[(&'a str, Node<'a>)]) -> Result<Contents, FromValueError>
@@ -79,22 +90,20 @@ impl Form for SessionHead {
     ghost shallow = { within_depth refl };
 
     fn write(&self, alloc: Global, text: &mut JsonText) -> Result<(), AllocError> {
-        text.begin_object()?;
-        write_field(alloc, text, "build-scope", &self.build_scope)?;
-        write_field(alloc, text, "cargo-metadata", &self.cargo_metadata)?;
-        Invocation::write(
-            alloc,
-            text,
-            &self.cli_args,
-            &self.duration,
-            &self.env_vars,
-            &self.last_written_at,
-            &self.nextest_version,
-            &self.parent_run_id,
-        )?;
-        Contents::write(alloc, text, self)?;
-        text.end_struct()?;
-        Ok(())
+        let built = (
+            Written("build-scope", &self.build_scope),
+            Written("cargo-metadata", &self.cargo_metadata),
+        );
+        let invocation = WrittenInvocation {
+            cli_args: &self.cli_args,
+            duration: &self.duration,
+            env_vars: &self.env_vars,
+            last_written_at: &self.last_written_at,
+            nextest_version: &self.nextest_version,
+            parent_run_id: &self.parent_run_id,
+        };
+        let fields = (built, invocation, WrittenContents(self));
+        write_object(alloc, text, &fields)
     }
 
     #[tactic(auto, unfolding(crate::specs::HeadForms::head_form))]
@@ -105,7 +114,14 @@ impl Form for SessionHead {
         let cargo_metadata = required_field(alloc, object, "cargo-metadata")?;
         let invocation = Invocation::read(alloc, object)?;
         let contents = Contents::read(alloc, object)?;
-        let build_scope = required_field(alloc, object, "build-scope")?;
+        let build_scope = match required_field(alloc, object, "build-scope") {
+            Ok(build_scope) => build_scope,
+            Err(error) => {
+                drop(contents);
+                drop(invocation);
+                return Err(error);
+            }
+        };
         Ok(SessionHead {
             run_id: contents.run_id,
             nextest_version: invocation.nextest_version,

@@ -1,6 +1,7 @@
 //! The manifest of a bundle.
+use super::written_fields::{Written, write_object};
 use crate::PortableManifest;
-use rec_forms::{Form, FromValueError, Held, required_field, write_field};
+use rec_forms::{Form, FromValueError, Held, required_field};
 use rec_json::{JsonText, Node};
 use std::alloc::{AllocError, Global};
 
@@ -27,11 +28,11 @@ impl Form for PortableManifest {
     ghost shallow = { within_depth refl };
 
     fn write(&self, alloc: Global, text: &mut JsonText) -> Result<(), AllocError> {
-        text.begin_object()?;
-        write_field(alloc, text, "format-version", &self.format_version)?;
-        write_field(alloc, text, "run", &self.run)?;
-        text.end_struct()?;
-        Ok(())
+        let fields = (
+            Written("format-version", &self.format_version),
+            Written("run", &self.run),
+        );
+        write_object(alloc, text, &fields)
     }
 
     #[tactic(auto, unfolding(crate::specs::RunForms::manifest_form))]

@@ -1,15 +1,12 @@
 //! The fields that a head and a run's metadata share, and those that both kinds of a run's metadata
 //! share. Each part stands in JSON without a gap: its fields follow each other in the order of all keys.
-ghost use Rattle.std.specs.Prelude.{◌≡◌, OnOk};
 ghost use Rattle.rec_json.specs.Nodes.{members_view};
-ghost use Rattle.rec_json.specs.Tokens.{with_fields};
 ghost use Rattle.rec_forms.specs.Gives.{Gives};
 
+use super::written_fields::{Written, WrittenFields, WrittenIfSome};
 use crate::{RecordedRunStatusFormat, RecordedSizesFormat};
 use rec_events::{Duration, Items, ReportUuid, Stamp, Text, TextMap, Version};
-use rec_forms::{
-    FromValueError, defaulted_field, optional_field, required_field, write_field, write_optional,
-};
+use rec_forms::{FromValueError, defaulted_field, optional_field, required_field};
 use rec_json::{JsonText, Node};
 use std::alloc::{AllocError, Global};
 
@@ -24,44 +21,56 @@ pub(crate) struct Invocation {
     pub parent_run_id: Option<ReportUuid>,
 }
 
-impl Invocation {
-    ghost use Rattle.rec_format.specs.PartForms.{invocation_fields, invocation_form, IsInvocation};
+/// The fields of an invocation, as they are written.
+#[derive(Drop)]
+pub(crate) struct WrittenInvocation<'a> {
+    pub cli_args: &'a Items<Text>,
+    pub duration: &'a Option<Duration>,
+    pub env_vars: &'a TextMap<Text>,
+    pub last_written_at: &'a Stamp,
+    pub nextest_version: &'a Version,
+    pub parent_run_id: &'a Option<ReportUuid>,
+}
 
-    pub(crate) fn write(
-        alloc: Global,
-        text: &mut JsonText,
-        cli_args: &Items<Text>,
-        duration: &Option<Duration>,
-        env_vars: &TextMap<Text>,
-        last_written_at: &Stamp,
-        nextest_version: &Version,
-        parent_run_id: &Option<ReportUuid>,
-    ) -> Result<(), AllocError>
-        ensures written { OnOk result (text.new ≡ with_fields text.old (invocation_fields (record {
-          cli_args = cli_args.now;
-          duration = duration.now;
-          env_vars = env_vars.now;
-          last_written_at = last_written_at.now;
-          nextest_version = nextest_version.now;
-          parent_run_id = parent_run_id.now;
-        }))) }
-        ensures known { OnOk result (IsInvocation (record {
-          cli_args = cli_args.now;
-          duration = duration.now;
-          env_vars = env_vars.now;
-          last_written_at = last_written_at.now;
-          nextest_version = nextest_version.now;
-          parent_run_id = parent_run_id.now;
-        })) }
-    {
-        write_field(alloc, text, "cli-args", cli_args)?;
-        write_optional(alloc, text, "duration", duration)?;
-        write_field(alloc, text, "env-vars", env_vars)?;
-        write_field(alloc, text, "last-written-at", last_written_at)?;
-        write_field(alloc, text, "nextest-version", nextest_version)?;
-        write_optional(alloc, text, "parent-run-id", parent_run_id)?;
-        Ok(())
+impl<'a> WrittenFields for WrittenInvocation<'a> {
+    ghost use Rattle.rec_format.specs.PartForms.{invocation_fields, IsInvocation};
+
+    ghost fields_of = { λ f. invocation_fields (record {
+      cli_args = f.cli_args.now;
+      duration = f.duration.now;
+      env_vars = f.env_vars.now;
+      last_written_at = f.last_written_at.now;
+      nextest_version = f.nextest_version.now;
+      parent_run_id = f.parent_run_id.now;
+    }) };
+
+    ghost well_formed = { λ f. IsInvocation (record {
+      cli_args = f.cli_args.now;
+      duration = f.duration.now;
+      env_vars = f.env_vars.now;
+      last_written_at = f.last_written_at.now;
+      nextest_version = f.nextest_version.now;
+      parent_run_id = f.parent_run_id.now;
+    }) };
+
+    fn write(&self, alloc: Global, text: &mut JsonText) -> Result<(), AllocError> {
+        let started = (
+            Written("cli-args", self.cli_args),
+            WrittenIfSome("duration", self.duration),
+            Written("env-vars", self.env_vars),
+        );
+        let rest = (
+            Written("last-written-at", self.last_written_at),
+            Written("nextest-version", self.nextest_version),
+            WrittenIfSome("parent-run-id", self.parent_run_id),
+        );
+        let fields = (started, rest);
+        fields.write(alloc, text)
     }
+}
+
+impl Invocation {
+    ghost use Rattle.rec_format.specs.PartForms.{invocation_form};
 
     #[tactic(auto, unfolding(crate::specs::PartForms::invocation_form))]
     pub(crate) fn read<'a>(
@@ -90,36 +99,45 @@ pub(crate) struct Outcome {
     pub status: RecordedRunStatusFormat,
 }
 
-impl Outcome {
-    ghost use Rattle.rec_format.specs.PartForms.{outcome_fields, outcome_form, IsOutcome};
+/// The fields of an outcome, as they are written.
+#[derive(Drop)]
+pub(crate) struct WrittenOutcome<'a> {
+    pub run_id: &'a ReportUuid,
+    pub sizes: &'a RecordedSizesFormat,
+    pub started_at: &'a Stamp,
+    pub status: &'a RecordedRunStatusFormat,
+}
 
-    pub(crate) fn write(
-        alloc: Global,
-        text: &mut JsonText,
-        run_id: &ReportUuid,
-        sizes: &RecordedSizesFormat,
-        started_at: &Stamp,
-        status: &RecordedRunStatusFormat,
-    ) -> Result<(), AllocError>
-        ensures written { OnOk result (text.new ≡ with_fields text.old (outcome_fields (record {
-          run_id = run_id.now;
-          sizes = sizes.now;
-          started_at = started_at.now;
-          status = status.now;
-        }))) }
-        ensures known { OnOk result (IsOutcome (record {
-          run_id = run_id.now;
-          sizes = sizes.now;
-          started_at = started_at.now;
-          status = status.now;
-        })) }
-    {
-        write_field(alloc, text, "run-id", run_id)?;
-        write_field(alloc, text, "sizes", sizes)?;
-        write_field(alloc, text, "started-at", started_at)?;
-        write_field(alloc, text, "status", status)?;
-        Ok(())
+impl<'a> WrittenFields for WrittenOutcome<'a> {
+    ghost use Rattle.rec_format.specs.PartForms.{outcome_fields, IsOutcome};
+
+    ghost fields_of = { λ f. outcome_fields (record {
+      run_id = f.run_id.now;
+      sizes = f.sizes.now;
+      started_at = f.started_at.now;
+      status = f.status.now;
+    }) };
+
+    ghost well_formed = { λ f. IsOutcome (record {
+      run_id = f.run_id.now;
+      sizes = f.sizes.now;
+      started_at = f.started_at.now;
+      status = f.status.now;
+    }) };
+
+    fn write(&self, alloc: Global, text: &mut JsonText) -> Result<(), AllocError> {
+        let stored = (Written("run-id", self.run_id), Written("sizes", self.sizes));
+        let ended = (
+            Written("started-at", self.started_at),
+            Written("status", self.status),
+        );
+        let fields = (stored, ended);
+        fields.write(alloc, text)
     }
+}
+
+impl Outcome {
+    ghost use Rattle.rec_format.specs.PartForms.{outcome_form};
 
     #[tactic(auto, unfolding(crate::specs::PartForms::outcome_form))]
     pub(crate) fn read<'a>(

@@ -1,6 +1,7 @@
 //! What a rerun is a rerun of.
+use super::written_fields::{Written, write_object};
 use crate::{RerunInfo, RerunRootInfo};
-use rec_forms::{Form, FromValueError, required_field, write_field};
+use rec_forms::{Form, FromValueError, required_field};
 use rec_json::{JsonText, Node};
 use std::alloc::{AllocError, Global};
 
@@ -27,11 +28,11 @@ impl Form for RerunRootInfo {
     ghost shallow = { within_depth refl };
 
     fn write(&self, alloc: Global, text: &mut JsonText) -> Result<(), AllocError> {
-        text.begin_object()?;
-        write_field(alloc, text, "build-scope", &self.build_scope)?;
-        write_field(alloc, text, "run-id", &self.run_id)?;
-        text.end_struct()?;
-        Ok(())
+        let fields = (
+            Written("build-scope", &self.build_scope),
+            Written("run-id", &self.run_id),
+        );
+        write_object(alloc, text, &fields)
     }
 
     #[tactic(auto, unfolding(crate::specs::RerunForms::rerun_root_form))]
@@ -69,12 +70,12 @@ impl Form for RerunInfo {
     ghost shallow = { within_depth refl };
 
     fn write(&self, alloc: Global, text: &mut JsonText) -> Result<(), AllocError> {
-        text.begin_object()?;
-        write_field(alloc, text, "parent-run-id", &self.parent_run_id)?;
-        write_field(alloc, text, "root-info", &self.root_info)?;
-        write_field(alloc, text, "test-suites", &self.test_suites)?;
-        text.end_struct()?;
-        Ok(())
+        let fields = (
+            Written("parent-run-id", &self.parent_run_id),
+            Written("root-info", &self.root_info),
+            Written("test-suites", &self.test_suites),
+        );
+        write_object(alloc, text, &fields)
     }
 
     #[tactic(auto, unfolding(crate::specs::RerunForms::rerun_info_form))]
@@ -82,10 +83,18 @@ impl Form for RerunInfo {
         let Some(object) = node.as_object() else {
             return Err(FromValueError::NotAValue);
         };
-        Ok(RerunInfo {
-            parent_run_id: required_field(alloc, object, "parent-run-id")?,
-            root_info: required_field(alloc, object, "root-info")?,
-            test_suites: required_field(alloc, object, "test-suites")?,
-        })
+        let parent_run_id = required_field(alloc, object, "parent-run-id")?;
+        let root_info = required_field(alloc, object, "root-info")?;
+        match required_field(alloc, object, "test-suites") {
+            Ok(test_suites) => Ok(RerunInfo {
+                parent_run_id,
+                root_info,
+                test_suites,
+            }),
+            Err(error) => {
+                drop(root_info);
+                Err(error)
+            }
+        }
     }
 }

@@ -1,12 +1,12 @@
 //! The metadata of a run, with the two numbers of its store's version apart or together.
-use super::parts::{Invocation, Outcome};
+use super::parts::{Invocation, Outcome, WrittenInvocation, WrittenOutcome};
+use super::written_fields::{Written, write_object};
 use crate::{
     RecordedRun, RecordedRunInfo, RecordedRunStatusFormat, RecordedSizesFormat,
     StoreFormatMinorVersion,
 };
 use rec_forms::{
     Form, FromValueError, Held, ItemForm, defaulted_field, held_optional, required_field,
-    write_field,
 };
 use rec_json::{JsonText, Node};
 use std::alloc::{AllocError, Global};
@@ -34,39 +34,29 @@ impl Form for RecordedRun {
     ghost shallow = { within_depth refl };
 
     fn write(&self, alloc: Global, text: &mut JsonText) -> Result<(), AllocError> {
-        text.begin_object()?;
-        Invocation::write(
-            alloc,
-            text,
-            &self.cli_args,
-            &self.duration,
-            &self.env_vars,
-            &self.last_written_at,
-            &self.nextest_version,
-            &self.parent_run_id,
-        )?;
-        Outcome::write(
-            alloc,
-            text,
-            &self.run_id,
-            &self.sizes,
-            &self.started_at,
-            &self.status,
-        )?;
-        write_field(
-            alloc,
-            text,
-            "store-format-minor-version",
-            &self.store_format_minor_version,
-        )?;
-        write_field(
-            alloc,
-            text,
-            "store-format-version",
-            &self.store_format_version,
-        )?;
-        text.end_struct()?;
-        Ok(())
+        let invocation = WrittenInvocation {
+            cli_args: &self.cli_args,
+            duration: &self.duration,
+            env_vars: &self.env_vars,
+            last_written_at: &self.last_written_at,
+            nextest_version: &self.nextest_version,
+            parent_run_id: &self.parent_run_id,
+        };
+        let outcome = WrittenOutcome {
+            run_id: &self.run_id,
+            sizes: &self.sizes,
+            started_at: &self.started_at,
+            status: &self.status,
+        };
+        let store = (
+            Written(
+                "store-format-minor-version",
+                &self.store_format_minor_version,
+            ),
+            Written("store-format-version", &self.store_format_version),
+        );
+        let fields = (invocation, outcome, store);
+        write_object(alloc, text, &fields)
     }
 
     #[tactic(auto, unfolding(crate::specs::RunForms::run_form))]
@@ -149,26 +139,23 @@ impl Form for RecordedRunInfo {
     fn write(&self, alloc: Global, text: &mut JsonText) -> Result<(), AllocError> {
         let sizes = RecordedSizesFormat::from(self.sizes);
         let status = RecordedRunStatusFormat::from(self.status);
-        text.begin_object()?;
-        Invocation::write(
-            alloc,
-            text,
-            &self.cli_args,
-            &self.duration,
-            &self.env_vars,
-            &self.last_written_at,
-            &self.nextest_version,
-            &self.parent_run_id,
-        )?;
-        Outcome::write(alloc, text, &self.run_id, &sizes, &self.started_at, &status)?;
-        write_field(
-            alloc,
-            text,
-            "store-format-version",
-            &self.store_format_version,
-        )?;
-        text.end_struct()?;
-        Ok(())
+        let invocation = WrittenInvocation {
+            cli_args: &self.cli_args,
+            duration: &self.duration,
+            env_vars: &self.env_vars,
+            last_written_at: &self.last_written_at,
+            nextest_version: &self.nextest_version,
+            parent_run_id: &self.parent_run_id,
+        };
+        let outcome = WrittenOutcome {
+            run_id: &self.run_id,
+            sizes: &sizes,
+            started_at: &self.started_at,
+            status: &status,
+        };
+        let store = Written("store-format-version", &self.store_format_version);
+        let fields = (invocation, outcome, store);
+        write_object(alloc, text, &fields)
     }
 
     #[tactic(auto, unfolding(crate::specs::RunForms::info_form))]

@@ -1,10 +1,8 @@
 //! The list of runs.
+use super::written_fields::{Written, WrittenIfSome, write_object};
 use crate::RecordedRunList;
 use rec_events::Items;
-use rec_forms::{
-    Form, FromValueError, defaulted_field, optional_field, required_field, write_field,
-    write_optional,
-};
+use rec_forms::{Form, FromValueError, defaulted_field, optional_field, required_field};
 use rec_json::{JsonText, Node};
 use std::alloc::{AllocError, Global};
 
@@ -31,12 +29,12 @@ impl Form for RecordedRunList {
     ghost shallow = { within_depth refl };
 
     fn write(&self, alloc: Global, text: &mut JsonText) -> Result<(), AllocError> {
-        text.begin_object()?;
-        write_field(alloc, text, "format-version", &self.format_version)?;
-        write_optional(alloc, text, "last-pruned-at", &self.last_pruned_at)?;
-        write_field(alloc, text, "runs", &self.runs)?;
-        text.end_struct()?;
-        Ok(())
+        let fields = (
+            Written("format-version", &self.format_version),
+            WrittenIfSome("last-pruned-at", &self.last_pruned_at),
+            Written("runs", &self.runs),
+        );
+        write_object(alloc, text, &fields)
     }
 
     #[tactic(auto, unfolding(crate::specs::RunListForms::run_list_form))]

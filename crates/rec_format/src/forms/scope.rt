@@ -1,6 +1,7 @@
 //! What was built.
+use super::written_fields::{Written, write_object};
 use crate::{BuildKind, RecordedBuildScope};
-use rec_forms::{Form, FromValueError, required_field, write_field};
+use rec_forms::{Form, FromValueError, required_field};
 use rec_json::{JsonText, Node};
 use std::alloc::{AllocError, Global};
 
@@ -68,11 +69,11 @@ impl Form for RecordedBuildScope {
     ghost shallow = { within_depth refl };
 
     fn write(&self, alloc: Global, text: &mut JsonText) -> Result<(), AllocError> {
-        text.begin_object()?;
-        write_field(alloc, text, "build-kind", &self.build_kind)?;
-        write_field(alloc, text, "scope", &self.scope)?;
-        text.end_struct()?;
-        Ok(())
+        let fields = (
+            Written("build-kind", &self.build_kind),
+            Written("scope", &self.scope),
+        );
+        write_object(alloc, text, &fields)
     }
 
     #[tactic(auto, unfolding(crate::specs::ScopeForms::recorded_scope_form))]

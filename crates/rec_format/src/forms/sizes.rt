@@ -1,6 +1,7 @@
 //! Sizes, which are written as their formats.
+use super::written_fields::{Written, write_object};
 use crate::{ComponentSizes, ComponentSizesFormat, RecordedSizes, RecordedSizesFormat};
-use rec_forms::{Form, FromValueError, Held, defaulted_field, required_field, write_field};
+use rec_forms::{Form, FromValueError, Held, defaulted_field, required_field};
 use rec_json::{JsonText, Node};
 use std::alloc::{AllocError, Global};
 
@@ -27,12 +28,12 @@ impl Form for ComponentSizesFormat {
     ghost shallow = { within_depth refl };
 
     fn write(&self, alloc: Global, text: &mut JsonText) -> Result<(), AllocError> {
-        text.begin_object()?;
-        write_field(alloc, text, "compressed", &self.compressed)?;
-        write_field(alloc, text, "entries", &self.entries)?;
-        write_field(alloc, text, "uncompressed", &self.uncompressed)?;
-        text.end_struct()?;
-        Ok(())
+        let fields = (
+            Written("compressed", &self.compressed),
+            Written("entries", &self.entries),
+            Written("uncompressed", &self.uncompressed),
+        );
+        write_object(alloc, text, &fields)
     }
 
     #[tactic(auto, unfolding(crate::specs::SizeForms::component_format_form))]
@@ -79,11 +80,8 @@ impl Form for RecordedSizesFormat {
     ghost shallow = { within_depth refl };
 
     fn write(&self, alloc: Global, text: &mut JsonText) -> Result<(), AllocError> {
-        text.begin_object()?;
-        write_field(alloc, text, "log", &self.log)?;
-        write_field(alloc, text, "store", &self.store)?;
-        text.end_struct()?;
-        Ok(())
+        let fields = (Written("log", &self.log), Written("store", &self.store));
+        write_object(alloc, text, &fields)
     }
 
     #[tactic(auto, unfolding(crate::specs::SizeForms::sizes_format_form))]

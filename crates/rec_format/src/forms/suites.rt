@@ -1,6 +1,7 @@
 //! Test suites: an array in the order of binary ids, which is read in any order.
+use super::written_fields::{Written, write_object};
 use crate::{RerunSuites, RerunTestSuiteInfo};
-use rec_forms::{Form, FromValueError, required_field, write_field};
+use rec_forms::{Form, FromValueError, required_field};
 use rec_json::{JsonText, Node};
 use std::alloc::{AllocError, Global};
 
@@ -27,12 +28,12 @@ impl Form for RerunTestSuiteInfo {
     ghost shallow = { within_depth refl };
 
     fn write(&self, alloc: Global, text: &mut JsonText) -> Result<(), AllocError> {
-        text.begin_object()?;
-        write_field(alloc, text, "binary_id", &self.binary_id)?;
-        write_field(alloc, text, "outstanding", &self.outstanding)?;
-        write_field(alloc, text, "passing", &self.passing)?;
-        text.end_struct()?;
-        Ok(())
+        let fields = (
+            Written("binary_id", &self.binary_id),
+            Written("outstanding", &self.outstanding),
+            Written("passing", &self.passing),
+        );
+        write_object(alloc, text, &fields)
     }
 
     #[tactic(auto, unfolding(crate::specs::SuiteForms::suite_form))]

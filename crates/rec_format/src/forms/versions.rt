@@ -1,10 +1,11 @@
 //! A version number is written as its number, and a version as an object of both.
+use super::written_fields::{Written, write_object};
 use crate::{
     PortableRecordingFormatMajorVersion, PortableRecordingFormatMinorVersion,
     PortableRecordingFormatVersion, RunsJsonFormatVersion, StoreFormatMajorVersion,
     StoreFormatMinorVersion, StoreFormatVersion,
 };
-use rec_forms::{Form, FromValueError, Held, required_field, write_field};
+use rec_forms::{Form, FromValueError, Held, required_field};
 use rec_json::{JsonText, Node};
 use std::alloc::{AllocError, Global};
 
@@ -232,11 +233,8 @@ impl Form for StoreFormatVersion {
     ghost shallow = { within_depth refl };
 
     fn write(&self, alloc: Global, text: &mut JsonText) -> Result<(), AllocError> {
-        text.begin_object()?;
-        write_field(alloc, text, "major", &self.major)?;
-        write_field(alloc, text, "minor", &self.minor)?;
-        text.end_struct()?;
-        Ok(())
+        let fields = (Written("major", &self.major), Written("minor", &self.minor));
+        write_object(alloc, text, &fields)
     }
 
     #[tactic(auto, unfolding(crate::specs::VersionForms::store_version_form))]
@@ -274,11 +272,8 @@ impl Form for PortableRecordingFormatVersion {
     ghost shallow = { within_depth refl };
 
     fn write(&self, alloc: Global, text: &mut JsonText) -> Result<(), AllocError> {
-        text.begin_object()?;
-        write_field(alloc, text, "major", &self.major)?;
-        write_field(alloc, text, "minor", &self.minor)?;
-        text.end_struct()?;
-        Ok(())
+        let fields = (Written("major", &self.major), Written("minor", &self.minor));
+        write_object(alloc, text, &fields)
     }
 
     #[tactic(auto, unfolding(crate::specs::VersionForms::portable_version_form))]

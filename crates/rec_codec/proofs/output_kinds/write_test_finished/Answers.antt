@@ -1,21 +1,16 @@
 use Rattle.std.proofs.Common.{refl}
+use Rattle.rec_codec.proofs.Added.{◌▸◌}
 use Rattle.rec_codec.proofs.output_kinds.write_test_finished.Goals as goal
 
--- which kind it is, and then what each call wrote, from the last one back
+-- which kind it is, and what the calls wrote, from the last ones back
 pub returns-clause-written : goal.returns-clause-written
 returns-clause-written g c =
-    rw (
-      c.in-TestFinished.is,
-      c.in_ok-write_finished.ensures.written,
-      c.in_ok-write_field-3.ensures.written,
-      c.in_ok-write_loaded.ensures.written,
-      c.in_ok-string_field.ensures,
-      c.in_ok-write_reporting.ensures,
-      c.in_ok-write_field-2.ensures.written,
-      c.in_ok-write_field.ensures.written,
-    ) refl
+    let before = (c.field.ensures ▸ c.field-2.ensures ▸ c.reporting.ensures ▸ c.name.ensures).goes c.in_ok-end.ensures in
+    let after = (c.field-3.ensures ▸ c.finished.ensures).goes c.in_ok-end-2.ensures in
+    rw (c.in-TestFinished.is, after.1, c.in_ok-write_loaded.ensures.written, before.1) refl
 
 pub returns-clause-known : goal.returns-clause-known
 returns-clause-known g c =
-    let test = c.in_ok-write_finished.ensures.known in
-    rw c.in-TestFinished.is (test.2, c.in_ok-write_field-2.ensures.known, (test.0, test.1, c.in_ok-write_loaded.ensures.known, c.in_ok-write_field.ensures.known, c.in_ok-write_field-3.ensures.known))
+    let before = (c.field.ensures ▸ c.field-2.ensures ▸ c.reporting.ensures ▸ c.name.ensures).goes c.in_ok-end.ensures in
+    let after = (c.field-3.ensures ▸ c.finished.ensures).goes c.in_ok-end-2.ensures in
+    rw c.in-TestFinished.is (after.2.1.2, before.2.1.0, (after.2.1.0, after.2.1.1, c.in_ok-write_loaded.ensures.known, before.2.0, after.2.0))

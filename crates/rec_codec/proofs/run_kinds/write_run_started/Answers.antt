@@ -1,19 +1,11 @@
-use Rattle.std.proofs.Common.{refl}
+use Rattle.rec_codec.proofs.Added.{◌▸◌, known, written}
 use Rattle.rec_codec.proofs.run_kinds.write_run_started.Goals as goal
 
--- which kind it is, and then what each call wrote, from the last one back
-pub returns-clause-written : goal.returns-clause-written
-returns-clause-written c =
-    rw (
-      c.in-RunStarted.is,
-      c.in_ok-write_field-4.ensures.written,
-      c.in_ok-write_optional.ensures.written,
-      c.in_ok-write_field-3.ensures.written,
-      c.in_ok-write_field-2.ensures.written,
-      c.in_ok-write_elapsed_and_kind.ensures.written,
-      c.in_ok-write_field.ensures.written,
-    ) refl
-
-pub returns-clause-known : goal.returns-clause-known
-returns-clause-known c =
-    rw c.in-RunStarted.is (c.in_ok-write_field-4.ensures.known, c.in_ok-write_elapsed_and_kind.ensures.known, (c.in_ok-write_field-3.ensures.known, c.in_ok-write_field-2.ensures.known, c.in_ok-write_field.ensures.known, c.in_ok-write_optional.ensures.known))
+-- which kind it is, and what the calls wrote, one after the other
+pub returns : goal.returns
+returns c =
+    let all = c.field.ensures ▸ c.elapsed_and_kind.ensures ▸ c.field-2.ensures ▸ c.field-3.ensures ▸ c.optional.ensures ▸ c.field-4.ensures in
+    rw c.in-RunStarted.is (record {
+      written = written all c.end.result c.end.ensures;
+      known = known all c.end.result c.end.ensures (λ k. (k.1.1.1.1.1, k.1.0, (k.1.1.1.0, k.1.1.0, k.0, k.1.1.1.1.0)));
+    })

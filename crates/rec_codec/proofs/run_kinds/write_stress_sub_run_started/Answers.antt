@@ -1,12 +1,11 @@
-use Rattle.std.proofs.Common.{refl}
+use Rattle.rec_codec.proofs.Added.{◌▸◌, known, written}
 use Rattle.rec_codec.proofs.run_kinds.write_stress_sub_run_started.Goals as goal
 
--- which kind it is, and then what each call wrote, from the last one back
-pub returns-clause-written : goal.returns-clause-written
-returns-clause-written c =
-    rw (
-      c.in-StressSubRunStarted.is,
-      c.in_ok-write_field-2.ensures.written,
-      c.in_ok-write_field.ensures.written,
-      c.in_ok-write_elapsed_and_kind.ensures.written,
-    ) refl
+-- which kind it is, and what the calls wrote, one after the other
+pub returns : goal.returns
+returns c =
+    let all = c.elapsed_and_kind.ensures ▸ c.field.ensures ▸ c.field-2.ensures in
+    rw c.in-StressSubRunStarted.is (record {
+      written = written all c.end.result c.end.ensures;
+      known = known all c.end.result c.end.ensures (λ k. (k.1.1, k.0, k.1.0));
+    })

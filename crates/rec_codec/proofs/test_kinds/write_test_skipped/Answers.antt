@@ -1,14 +1,11 @@
-use Rattle.std.proofs.Common.{refl}
+use Rattle.rec_codec.proofs.Added.{◌▸◌, known, written}
 use Rattle.rec_codec.proofs.test_kinds.write_test_skipped.Goals as goal
 
--- which kind it is, and then what each call wrote, from the last one back
-pub returns-clause-written : goal.returns-clause-written
-returns-clause-written c =
-    rw (
-      c.in-TestSkipped.is,
-      c.in_ok-write_test.ensures.written,
-      c.in_ok-write_field-3.ensures.written,
-      c.in_ok-string_field.ensures,
-      c.in_ok-write_field-2.ensures.written,
-      c.in_ok-write_field.ensures.written,
-    ) refl
+-- which kind it is, and what the calls wrote, one after the other
+pub returns : goal.returns
+returns c =
+    let all = c.field.ensures ▸ c.field-2.ensures ▸ c.name.ensures ▸ c.field-3.ensures ▸ c.test.ensures in
+    rw c.in-TestSkipped.is (record {
+      written = written all c.end.result c.end.ensures;
+      known = known all c.end.result c.end.ensures (λ k. (k.1.1.1.1.2, k.0, (k.1.1.1.1.0, k.1.1.1.1.1)));
+    })

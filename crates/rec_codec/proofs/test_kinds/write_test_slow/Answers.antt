@@ -1,19 +1,11 @@
-use Rattle.std.proofs.Common.{refl}
+use Rattle.rec_codec.proofs.Added.{◌▸◌, known, written}
 use Rattle.rec_codec.proofs.test_kinds.write_test_slow.Goals as goal
 
--- which kind it is, and then what each call wrote, from the last one back
-pub returns-clause-written : goal.returns-clause-written
-returns-clause-written c =
-    rw (
-      c.in-TestSlow.is,
-      c.in_ok-write_field-3.ensures.written,
-      c.in_ok-write_test.ensures.written,
-      c.in_ok-write_field-2.ensures.written,
-      c.in_ok-write_field.ensures.written,
-      c.in_ok-write_elapsed_and_kind.ensures.written,
-    ) refl
-
-pub returns-clause-known : goal.returns-clause-known
-returns-clause-known c =
-    let test = c.in_ok-write_test.ensures.known in
-    rw c.in-TestSlow.is (test.2, c.in_ok-write_elapsed_and_kind.ensures.known, (test.0, test.1, c.in_ok-write_field.ensures.known, c.in_ok-write_field-2.ensures.known))
+-- which kind it is, and what the calls wrote, one after the other
+pub returns : goal.returns
+returns c =
+    let all = c.elapsed_and_kind.ensures ▸ c.field.ensures ▸ c.field-2.ensures ▸ c.test.ensures ▸ c.field-3.ensures in
+    rw c.in-TestSlow.is (record {
+      written = written all c.end.result c.end.ensures;
+      known = known all c.end.result c.end.ensures (λ k. (k.1.1.1.0.2, k.0, (k.1.1.1.0.0, k.1.1.1.0.1, k.1.0, k.1.1.0)));
+    })

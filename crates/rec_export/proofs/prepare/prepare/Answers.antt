@@ -5,12 +5,12 @@ use Rattle.rec_store.specs.Bundle.{outputs_stored, run_bundle}
 use Rattle.rec_store.specs.Reading.{IsReading, recorded}
 use Rattle.rec_spans.specs.Plain.{plain}
 use Rattle.rec_spans.specs.Refusals.{events_refusal}
+use Rattle.rec_errors.specs.declared.export_error.RecordExportError.TheVariants.{OutOfMemory}
+use Rattle.rec_errors.specs.declared.export_error.RecordExportError.{RecordExportError}
 use Rattle.rec_export.proofs.Judging.{after_head, events_after, refused_head}
 use Rattle.rec_export.proofs.prepare.prepare.Goals as goal
 use Rattle.rec_export.proofs.TimelinesDrawn.{draws_timeline}
 use Rattle.rec_export.specs.Bundle.{head_in, refusal_after, session_events}
-use Rattle.rec_export.specs.declared.refusal.RecordExportError.TheVariants.{OutOfMemory}
-use Rattle.rec_export.specs.declared.refusal.RecordExportError.{RecordExportError}
 use Rattle.rec_export.specs.Prepared.{prepared_bundle}
 use Rattle.rec_export.specs.Session.{event_lines, events_of, head_text}
 use Rattle.rec_export.specs.SessionTraces.{run_trace}

@@ -7,14 +7,14 @@ use Rattle.rec_store.proofs.ReadLaws.{bundle_reads_logged}
 use Rattle.rec_store.specs.Entries.{bundle_entries}
 use Rattle.rec_store.specs.Reading.{IsReading, recorded}
 use Rattle.rec_spans.specs.Plain.{plain}
+use Rattle.rec_errors.specs.declared.export_error.RecordExportError.TheVariants.{OutOfMemory}
+use Rattle.rec_errors.specs.declared.export_error.RecordExportError.{RecordExportError}
+use Rattle.rec_errors.specs.TraceFaults.{trace_fault}
 use Rattle.rec_export.proofs.Bundles.{same_entries, same_judged}
 use Rattle.rec_export.proofs.Judging.{refused_sizes, trace_left}
 use Rattle.rec_export.proofs.prepare.prepare_run.Goals as goal
-use Rattle.rec_export.specs.declared.refusal.RecordExportError.TheVariants.{OutOfMemory}
-use Rattle.rec_export.specs.declared.refusal.RecordExportError.{RecordExportError}
 use Rattle.rec_export.specs.Session.{events_of}
 use Rattle.rec_export.specs.SessionTraces.{run_trace}
-use Rattle.rec_export.specs.TraceFaults.{trace_fault}
 
 pub returns-in-Err-clause-err : goal.returns-in-Err-clause-err
 returns-in-Err-clause-err g c =

@@ -8,9 +8,9 @@ use Rattle.rec_store.specs.Recording.{Recording, has_failed}
 use Rattle.rec_spans.specs.declared.settings.ChromeTraceGroupBy.{ChromeTraceGroupBy}
 use Rattle.rec_spans.specs.Plain.{PlainEvent, plain}
 use Rattle.rec_trace.specs.declared.settings.ChromeTraceMessageFormat.{ChromeTraceMessageFormat}
+use Rattle.rec_errors.specs.declared.export_error.RecordExportError.{RecordExportError}
 use Rattle.rec_export.proofs.record.record_lines.Given as goal
 use Rattle.rec_export.specs.declared.discarding.DiscardingSink.{DiscardingSink}
-use Rattle.rec_export.specs.declared.refusal.RecordExportError.{RecordExportError}
 use Rattle.rec_export.specs.Recorded.{HasRecorded, RecordsLines}
 use Rattle.rec_export.specs.Session.{events_of}
 use Rattle.rec_export.specs.SessionTraces.{IsTraceOf}

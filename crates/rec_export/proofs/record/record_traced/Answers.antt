@@ -4,11 +4,11 @@ use Rattle.rec_container.specs.Memory.{GrowingSinkState}
 use Rattle.rec_store.specs.Bundle.{outputs_stored}
 use Rattle.rec_store.specs.Clashes.{clash}
 use Rattle.rec_store.specs.EventOutputs.{event_entries}
+use Rattle.rec_errors.specs.declared.export_error.RecordExportError.TheVariants.{NameCollision, OutOfMemory}
+use Rattle.rec_errors.specs.declared.export_error.RecordExportError.{RecordExportError}
 use Rattle.rec_export.proofs.record.record_traced.Goals as goal
 use Rattle.rec_export.proofs.Recorded.{never, no_clash, recorded_more, refused_event, sound_logged, text_taken, unknown}
 use Rattle.rec_export.proofs.RecorderFaults.{event_comes}
-use Rattle.rec_export.specs.declared.refusal.RecordExportError.TheVariants.{NameCollision, OutOfMemory}
-use Rattle.rec_export.specs.declared.refusal.RecordExportError.{RecordExportError}
 
 pub event_refusal-requires : goal.event_refusal-requires
 event_refusal-requires g c =

@@ -1,14 +1,14 @@
-use Rattle.std.specs.Prelude.{[], ◌∷◌, ◌++◌, codes, refl}
-use Rattle.json.specs.Token.{begin_object, key}
+use Rattle.std.specs.Prelude.{refl}
 use Rattle.rec_forms.proofs.outputs.write_truncated.Goals as goal
 
 -- what each call wrote, from the last one back
 pub returns-clause-written : goal.returns-clause-written
 returns-clause-written c =
-    let opened = (c.args.text.now ++ begin_object ∷ []) ++ key (codes "truncated") ∷ [] in
-    c.in_ok-end_tagged.ensures _ _ _ (c.in_ok-end_struct.ensures opened _ (rw (
-      c.in_ok-write_field-2.ensures.written,
-      c.in_ok-write_field.ensures.written,
-      c.in_ok-begin_object.ensures,
-      c.in_ok-begin_tagged.ensures,
-    ) refl))
+    c.end_tagged.ensures.written _ _ _ (λ at2.
+    let at1 = c.field-object-2.ensures.goes at2 in
+    let at0 = c.field-object.ensures.goes at1 in
+    rw (
+      c.field-object-2.ensures.written at2,
+      c.field-object.ensures.written at1,
+      c.begin_tagged-object.ensures at0,
+    ) refl)

@@ -1,15 +1,16 @@
-use Rattle.std.specs.Prelude.{[], ◌∷◌, ◌++◌, codes, refl}
-use Rattle.json.specs.Token.{begin_object, key}
+use Rattle.std.specs.Prelude.{refl}
 use Rattle.rec_forms.proofs.stress.write_time.Goals as goal
 
 -- what each call wrote, from the last one back
 pub returns-clause-written : goal.returns-clause-written
 returns-clause-written c =
-    let opened = (c.args.text.now ++ begin_object ∷ []) ++ key (codes "time") ∷ [] in
-    c.in_ok-end_tagged.ensures _ _ _ (c.in_ok-end_struct.ensures opened _ (rw (
-      c.in_ok-write_field-3.ensures.written,
-      c.in_ok-write_field-2.ensures.written,
-      c.in_ok-write_field.ensures.written,
-      c.in_ok-begin_object.ensures,
-      c.in_ok-begin_tagged.ensures,
-    ) refl))
+    c.end_tagged.ensures.written _ _ _ (λ at3.
+    let at2 = c.field-object-3.ensures.goes at3 in
+    let at1 = c.field-object-2.ensures.goes at2 in
+    let at0 = c.field-object.ensures.goes at1 in
+    rw (
+      c.field-object-3.ensures.written at3,
+      c.field-object-2.ensures.written at2,
+      c.field-object.ensures.written at1,
+      c.begin_tagged-object.ensures at0,
+    ) refl)

@@ -1,5 +1,5 @@
 use Rattle.std.proofs.Common.{rules, ◌≡◌, ◌∙◌, Err, ap, sym, subst}
-use Rattle.rec_container.specs.Disks.{BothKnown}
+use Rattle.rec_disk.specs.Disks.{BothKnown}
 use Rattle.rec_portable_writer.proofs.Packed.{packs, refused}
 use Rattle.rec_portable_writer.proofs.packing.write_bundle.Goals as goal
 use Rattle.rec_portable_writer.specs.declared.errors.PortableRecordingError.{PortableRecordingError}

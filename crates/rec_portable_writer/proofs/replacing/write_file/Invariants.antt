@@ -1,5 +1,5 @@
 use Rattle.std.proofs.Common.{◌≤◌, ◌-◌, length, take}
-use Rattle.rec_container.specs.Disks.{BothKnown}
+use Rattle.rec_disk.specs.Disks.{BothKnown}
 use Rattle.rec_portable_writer.proofs.replacing.write_file.Given as goal
 use Rattle.rec_portable_writer.specs.Replacing.{IsPut}
 

@@ -1,8 +1,8 @@
 use Rattle.std.proofs.Common.{Result, subst}
 use Rattle.rec_store.specs.Namer.{sha256_number}
+use Rattle.rec_errors.specs.declared.words_error.WordsError.{WordsError}
 use Rattle.rec_reading.specs.Listing.{PrintsReport}
 use Rattle.rec_sample.specs.Session.{sample_session}
-use Rattle.rec_words.specs.declared.words.WordsError.{WordsError}
 use Rattle.rec_words.specs.Words.{Asked}
 use Rattle.rec_program.proofs.Commands.{bundle_printed, info_or_memory, informed, recorded_whole, redrawn, replay_or_memory, replayed, report_or_memory, rerun_or_memory, rerun_selected, slots_or_memory, slotted, trace_or_memory, traced}
 use Rattle.rec_program.proofs.FaultyWords.{two_is_faulty}

@@ -1,6 +1,6 @@
 use Rattle.std.proofs.Common.{[]}
 use Rattle.std.proofs.lemmas.Result.{err_from_is_err_and}
-use Rattle.rec_reading.specs.Errors.{bundle_error}
+use Rattle.rec_errors.specs.ReadingErrors.{bundle_error}
 use Rattle.rec_program.proofs.BundlesShown.{opened_shows, opened_withholds, unopened}
 use Rattle.rec_program.proofs.reading.read_bundle.Goals as goal
 

@@ -1,7 +1,7 @@
 use Rattle.std.proofs.Common.{Some, sym, subst}
 use Rattle.rec_container.specs.Memory.{GrowingSinkState}
 use Rattle.rec_store.specs.Namer.{sha256_number}
-use Rattle.rec_export.specs.declared.refusal.RecordExportError.{RecordExportError}
+use Rattle.rec_errors.specs.declared.export_error.RecordExportError.{RecordExportError}
 use Rattle.rec_program.proofs.sample.export_made.Goals as goal
 use Rattle.rec_program.proofs.SamplesRecorded.{failed}
 use Rattle.rec_program.specs.Samples.{SampleFails}

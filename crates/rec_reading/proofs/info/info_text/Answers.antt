@@ -1,6 +1,6 @@
 use Rattle.std.proofs.Common.{ℕ, List, ap, ◌∙◌, ◌++◌, ◌∷◌, []}
 use Rattle.rec_reading.proofs.info.info_text.Goals as goal
-use Rattle.rec_reading.proofs.Traced.{info_made}
+use Rattle.rec_reading.proofs.ManifestListed.{info_made}
 
 pub returns : goal.returns
 returns c = λ es is.

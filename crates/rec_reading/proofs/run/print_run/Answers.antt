@@ -2,13 +2,13 @@ use Rattle.std.proofs.Common.{[], List, ℕ, Result, refl, subst}
 use Rattle.rec_events.specs.Tests.{is_listed}
 use Rattle.rec_codec.specs.LineReading.{log_items}
 use Rattle.rec_replay.specs.Registration.{is_registered}
+use Rattle.rec_errors.specs.declared.reading_error.ReadingError.{ReadingError}
 use Rattle.rec_reading.proofs.Carried.{holds-lent, limit-lent}
 use Rattle.rec_reading.proofs.Lent.{text-of_lines}
 use Rattle.rec_reading.proofs.Registered.{all-registered}
 use Rattle.rec_reading.proofs.run.print_run.Goals as goal
 use Rattle.rec_reading.proofs.run.print_run.OwnLists.{same-1-1}
 use Rattle.rec_reading.specs.Converting.{converted, lent_tests}
-use Rattle.rec_reading.specs.declared.errors.ReadingError.{ReadingError}
 use Rattle.rec_reading.specs.Printing.{Adds, text_from}
 use Rattle.rec_reading.specs.RunParts.{parts_in}
 

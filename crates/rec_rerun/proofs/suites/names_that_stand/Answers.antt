@@ -19,7 +19,7 @@ loop-name-preserved c =
     let step : c.loop-name.name-iterator ≡ (c.in-Some.name.now, c.in-Some.standing.now) ∷ c.next.new.self = search rules in
     let text : c.as_str.result.now ≡ string_bytes c.in-Some.name.now = search rules in
     let names = c.loop-name.names in
-    let added = c.in_ok-add_name.ensures.ok ∙ ap (λ n. if stands c.args.passed (Some c.in-Some.standing.now) then with_name names n else names) text in
+    let added = c.in-Ok.ensures.ok ∙ ap (λ n. if stands c.args.passed (Some c.in-Some.standing.now) then with_name names n else names) text in
     names-more c.args.tests.now c.args.passed c.loop-name.names _ c.in-Some.name.now c.in-Some.standing.now c.next.new.self c.loop-name.name-iterator is
     added step c.loop-name.invariant
 

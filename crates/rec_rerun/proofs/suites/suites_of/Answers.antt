@@ -26,7 +26,7 @@ loop-binary-preserved c =
     let step : c.loop-binary.binary-iterator ≡ (c.in-Some.binary.now, c.in-Some.tests.now) ∷ c.next.new.self = search rules in
     let name : c.as_str.result.now ≡ string_bytes c.in-Some.binary.now = search rules in
     let adds : AddsSuite (string_bytes c.in-Some.binary.now) c.in-Some.tests.now c.loop-binary.suites c.add_suite.new.suites =
-    subst (λ id. AddsSuite id c.in-Some.tests.now c.loop-binary.suites c.add_suite.new.suites) name c.in_ok-add_suite.ensures.ok in
+    subst (λ id. AddsSuite id c.in-Some.tests.now c.loop-binary.suites c.add_suite.new.suites) name c.in-Ok.ensures.ok in
     record {
       full = full-more tests c.loop-binary.suites c.add_suite.new.suites c.in-Some.binary.now c.in-Some.tests.now adds c.loop-binary.invariant.full;
       found = λ passed name. suites-more tests c.loop-binary.suites c.add_suite.new.suites c.in-Some.binary.now c.in-Some.tests.now passed name c.next.new.self c.loop-binary.binary-iterator is adds step

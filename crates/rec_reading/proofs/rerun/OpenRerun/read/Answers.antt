@@ -1,10 +1,10 @@
 use Rattle.std.proofs.Common.{◌≡◌, ◌⊎◌, List, Ok, Err, ap, subst}
 use Rattle.std.proofs.lemmas.Result.{err_from_is_err_and}
 use Rattle.rec_codec.specs.Lines.{NumberedLine}
+use Rattle.rec_errors.specs.declared.reading_error.ReadingError.TheVariants.{OutOfMemory}
 use Rattle.rec_reading.proofs.Listed.{judged_of}
 use Rattle.rec_reading.proofs.rerun.OpenRerun.read.Goals as goal
 use Rattle.rec_reading.proofs.RerunRead.{events-refused, log-refused, rerun-read, store-refused, tested-refused}
-use Rattle.rec_reading.specs.declared.errors.ReadingError.TheVariants.{OutOfMemory}
 use Rattle.rec_reading.specs.LogEvents.{events_of}
 use Rattle.rec_reading.specs.RunParts.{of_bundle}
 

@@ -1,6 +1,12 @@
+use Rattle.std.proofs.lemmas.Result.{on_ok_weaker}
 use Rattle.rec_trace_events.proofs.counters.TestCountsArgs.write.Goals as goal
 use Rattle.rec_trace_events.proofs.WritableArgs.{results_written}
+use Rattle.rec_trace_events.proofs.Writing.{◌▸◌, all_known, all_written}
+
+-- what each call wrote
+pub returns-clause-written : goal.returns-clause-written
+returns-clause-written c = c.end.ensures.closed _ _ (all_written c.begin.ensures (c.field.ensures ▸ c.field-2.ensures ▸ c.field-3.ensures))
 
 pub returns-clause-known : goal.returns-clause-known
 returns-clause-known c =
-    results_written _ c.in_ok-write_field-3.ensures.known c.in_ok-write_field-2.ensures.known c.in_ok-write_field.ensures.known
+    on_ok_weaker c.end.result (λ all. let known = all_known (c.field.ensures ▸ c.field-2.ensures ▸ c.field-3.ensures) all in results_written _ known.1.1 known.1.0 known.0) c.end.ensures.all

@@ -1,12 +1,9 @@
+use Rattle.std.proofs.lemmas.Result.{on_ok_weaker}
 use Rattle.std.specs.Prelude.{refl}
 use Rattle.rec_format.proofs.forms.sizes.ComponentSizesFormatForm.write.Goals as goal
 
--- what each call wrote, from the last one back
 pub returns-clause-written : goal.returns-clause-written
-returns-clause-written c =
-    c.in_ok-end_struct.ensures _ _ (rw (
-      c.in_ok-write_field-3.ensures.written,
-      c.in_ok-write_field-2.ensures.written,
-      c.in_ok-write_field.ensures.written,
-      c.in_ok-begin_object.ensures,
-    ) refl)
+returns-clause-written c = c.write_object.ensures.written _ refl
+
+pub returns-clause-known : goal.returns-clause-known
+returns-clause-known c = on_ok_weaker c.write_object.result (λ is. record { compressed = is.first; uncompressed = is.third; entries = is.second }) c.write_object.ensures.known

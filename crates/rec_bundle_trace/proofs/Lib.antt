@@ -1,0 +1,2 @@
+pub mod LogTraced
+pub mod Traced

@@ -1,0 +1,2 @@
+pub mod BundleTraces
+pub mod LogTraces

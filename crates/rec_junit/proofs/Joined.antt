@@ -1,0 +1,11 @@
+-- What a loop that joins texts has written.
+use Rattle.std.proofs.Common.{◌≡◌, ℕ, ◌+◌, ◌<◌, List, ◌∷◌, ◌++◌, length, drop, get_or, flat_map, sym, ◌∙◌, ap, append_assoc}
+use Rattle.std.proofs.lemmas.List.{drop_more}
+
+-- one text more, after a separator
+pub joined_more : {A : Type 0} (f : A → List ℕ) (sep whole line : List ℕ) (xs : List A) (i : ℕ) (x : A) → i < length xs → x ≡ get_or xs i x
+    → line ++ flat_map (λ y. sep ++ f y) (drop i xs) ≡ whole → ((line ++ sep) ++ f x) ++ flat_map (λ y. sep ++ f y) (drop (i + 1) xs) ≡ whole
+joined_more f sep whole line xs i x below here is =
+    let rest = flat_map (λ y. sep ++ f y) (drop (i + 1) xs) in
+    append_assoc (line ++ sep) (f x) rest ∙ append_assoc line sep (f x ++ rest) ∙ ap (λ l. line ++ l) (sym (append_assoc sep (f x) rest))
+    ∙ ap (λ ys. line ++ flat_map (λ y. sep ++ f y) ys) (sym (drop_more xs i x below ∙ ap (λ y. y ∷ drop (i + 1) xs) (sym here))) ∙ is

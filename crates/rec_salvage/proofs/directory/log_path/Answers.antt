@@ -1,5 +1,0 @@
-use Rattle.std.proofs.Common.{◌∙◌}
-use Rattle.rec_salvage.proofs.directory.log_path.Goals as goal
-
-pub returns : goal.returns
-returns c = c.new.ensures ∙ c.in_ok-join.ensures
