@@ -9,7 +9,7 @@ import dataclasses
 import pathlib
 import re
 
-FUNCTION = re.compile(r'( *)(?:pub(?:\([^)]*\))? )?(?:(?:const|unsafe|async) |extern "\w+" )*fn (\w+)')
+FUNCTION = re.compile(r'( *)(?:pub(?:\([^)]*\))? )?(?:(?:const|unsafe|async|final) |extern "\w+" )*fn (\w+)')
 BLOCK = re.compile(r"(?:pub(?:\([^)]*\))? )?(?:unsafe )?(impl|trait)\b(.*)", re.S)
 
 

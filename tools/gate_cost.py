@@ -9,7 +9,8 @@
 A crate has a proof; its tests, which are two checks of a crate of tests; a seed, which is a second proof where two edits or more
 begin with it, and the check at the end that it still holds; and the edits themselves. The checker's processes are looked at every
 two seconds, so what takes less isn't seen in a check. It is counted in the whole, which the system knows of a gate that has ended.
-Memory is the most that one check had at a time, with all that it started. Nothing else should run on the machine meanwhile.
+Memory is the most that one check had at a time, with all that it started: where it has several jobs, what they share counts for
+each. Nothing else should run on the machine meanwhile.
 """
 
 import collections
@@ -49,12 +50,14 @@ class Process:
 
 @dataclasses.dataclass
 class Cost:
-    """What checks took: seconds of processor time, the most bytes of one of them, when the first began and the last was seen."""
+    """What checks took: seconds of processor time, the most bytes of one of them, when the first began and the last was seen, and
+    the most bytes of one process."""
 
     seconds: float = 0
     memory: int = 0
     begun: float = math.inf
     ended: float = -math.inf
+    process: int = 0
 
     @property
     def clock(self):
@@ -65,12 +68,15 @@ class Cost:
         """The cost of both."""
         return Cost(
             self.seconds + other.seconds, max(self.memory, other.memory),
-            min(self.begun, other.begun), max(self.ended, other.ended),
+            min(self.begun, other.begun), max(self.ended, other.ended), max(self.process, other.process),
         )
 
-    def see(self, seconds, memory, now):
-        """Takes what one check was seen to have used so far."""
-        self.seconds, self.memory, self.ended = max(self.seconds, seconds), max(self.memory, memory), now
+    def see(self, parts, now):
+        """Takes what the processes of one check were seen to have used so far."""
+        self.seconds = max(self.seconds, sum(part.seconds for part in parts))
+        self.memory = max(self.memory, sum(part.memory for part in parts))
+        self.process = max(self.process, *(part.memory for part in parts))
+        self.ended = now
 
 
 def processes():
@@ -137,7 +143,7 @@ class Sampler:
                 parts = [found[part] for part in below(found, number)]
                 started = found[number].started
                 cost = self.seen.setdefault((check, number, started), Cost(begun=started))
-                cost.see(sum(part.seconds for part in parts), sum(part.memory for part in parts), now)
+                cost.see(parts, now)
 
     def look_below(self, roots_in):
         """Looks at the machine, and returns whether a check runs below one of the processes that are chosen."""
@@ -278,6 +284,7 @@ def sentences(measure, uses, together):
         first = stands_on(uses, PROGRAM)
         needed = sum(measure.costs[crate, "proof"].seconds for crate in first)
         yield f"The first `rt run` in `{PROGRAM}` proves {len(first)} crates, which is {needed / 60:.0f} processor minutes of these."
+    yield f"No process had more than {max(cost.process for cost in together.values()) / 1e9:.1f} GB."
     if measure.whole is not None:
         rest = (taken - seen) / 60
         yield f"{rest:.1f} processor minutes were seen in no check: `rt` itself, linking, runs, and the last moments of each check."

@@ -6,7 +6,7 @@
     tools/try_edits.py --build           builds the libraries anew where one is missing or old, which takes hours
 
 It checks copies of the crates over the libraries that `rt ci` built in this clone, or `rt lib` in their folders, and builds none
-without `--build`. It is to be run behind a gate that passed: where a function isn't proved anyway, each edit of it counts as refused. What
+without `--build`. It is to be run after a gate that passed: where a function isn't proved anyway, each edit of it counts as refused. What
 isn't refused is printed, and nothing where all is well: status 0, and 1 otherwise. Those in `crates/CRATE/must-fail` are left to
 `rt ci`. docs/CONTRIBUTING.md says how an edit is written.
 

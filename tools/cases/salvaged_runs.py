@@ -167,7 +167,7 @@ CASES = [
     *[salvaged(f"of {name}", bundle(TWO_SLOTS_LOG, container(given)), 14, 2, whole(TWO_SLOTS_LOG, outputs, metadata))
       for name, (given, metadata, outputs) in KEPT_ENTRIES.items()],
     salvaged("of a name that comes again", bundle(TWO_SLOTS_LOG, repeated()), 7, 1, whole(b"".join(LINES[:7]), [FIRST])),
-    salvaged("of bytes behind the end of a store", bundle(TWO_SLOTS_LOG, WHOLE_STORE + b"\1more"), 14, 2, whole(TWO_SLOTS_LOG, OUTPUTS)),
+    salvaged("of bytes after the end of a store", bundle(TWO_SLOTS_LOG, WHOLE_STORE + b"\1more"), 14, 2, whole(TWO_SLOTS_LOG, OUTPUTS)),
     *[refused(f"of {name}", bundle(LOGGED_PAUSE, store), 15, line) for name, store, line in REFUSED],
     refused("without a log", bundle(None, STORE), 12, "MissingFile file_name=run.log.zst"),
     refused("without a store", bundle(LOGGED_PAUSE, None), 12, "MissingFile file_name=store.zip"),

@@ -58,7 +58,7 @@ USAGES = {
     "slots in another order": (
         [run(1000), start(1000, 1, 7), start(1000, 2, 2), end(1001, 1, 0), end(1002, 2, 0), run_end(1002)],
         used(2, (2, 2, 0, 0), (7, 1, 0, 1))),
-    "a continuation whose instant is behind the run's start": ([go_on(1007, 0), run(1006), run_end(1009)], used(3)),
+    "a continuation whose instant is after the run's start": ([go_on(1007, 0), run(1006), run_end(1009)], used(3)),
     "a pause before the run": (
         [pause(1000, 0), run(1005), start(1006, 1, 0), go_on(1008, 0), end(1009, 1, 0), run_end(1010)], used(5, (0, 1, 3, 1))),
     "an instant that falls before the run": ([skip(1001, 1), run(1000), run_end(1002)], used(2)),

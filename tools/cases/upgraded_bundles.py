@@ -218,7 +218,7 @@ CASES = [
             ("--read-limit", "9")),
     refused("of a log above the limit", whole(TWO_SLOTS_LOG, OUTPUTS), 7,
             f"Open {above(1000, 'run.log.zst', len(TWO_SLOTS_LOG))}", ("--read-limit", "1000")),
-    refused("of a log above the limit behind the store", LONG_LOG_LAST, 7,
+    refused("of a log above the limit after the store", LONG_LOG_LAST, 7,
             f"Open {above(1000, 'run.log.zst', len(TWO_SLOTS_LOG))}", ("--read-limit", "1000")),
     *[refused(f"of {name}", container(entries), 12, f"ForeignEntry file_name={first}") for name, entries, first in FOREIGN],
     *[refused(f"of {name}", bundle(log, container(entries)), status, line) for name, log, entries, status, line in UNREAD],

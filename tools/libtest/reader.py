@@ -79,7 +79,7 @@ class Reader:
             (self.binaries[-1].text if runs else self.other_text).append(words)
 
     def keep_before(self, text):
-        """Keeps and says a text that has left its line open, so that an event or cargo's words stand behind it."""
+        """Keeps and says a text that has left its line open, so that an event or cargo's words stand after it."""
         self.keep(text)
         if text.strip():
             self.say(text)

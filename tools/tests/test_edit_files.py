@@ -42,6 +42,9 @@ pub trait Sink: Sized {
     fn again(&self) -> bool {
         self.first()
     }
+    final fn twice(&self) -> bool {
+        self.again()
+    }
 }
 
 const fn double(number: u64) -> u64
@@ -122,6 +125,7 @@ class Functions(InFolder):
 
     def test_a_method_that_stands_in_its_trait(self):
         self.assertEqual(self.at("        self.first()"), "adapters::Sink::again")
+        self.assertEqual(self.at("        self.again()"), "adapters::Sink::twice")
 
     def test_a_method_of_a_type_in_another_file(self):
         text = "impl Tracker {\n    fn judge(&self) {\n        one();\n    }\n}\n"

@@ -15,7 +15,7 @@ def costs(**minutes):
     found = collections.defaultdict(Cost)
     for name, each in minutes.items():
         crate, _, kind = name.rpartition("__")
-        found[crate, kind] = Cost(60 * each, int(1e9), 0, 120 * each)
+        found[crate, kind] = Cost(60 * each, int(1e9), 0, 120 * each, int(8e8))
     return found
 
 
@@ -48,13 +48,13 @@ class Seen(unittest.TestCase):
         sampler = Sampler()
         found = {1: Process(0, 9, 9, 0), 2: Process(1, 5, 100, 7), 3: Process(2, 1, 30, 8), 4: Process(3, 1, 1, 8)}
         sampler.look(found, {2: ("rec_a", "proof"), 3: ("rec_a", "proof")}, 10)
-        self.assertEqual(sampler.costs(), {("rec_a", "proof"): Cost(7, 131, 7, 10)})
+        self.assertEqual(sampler.costs(), {("rec_a", "proof"): Cost(7, 131, 7, 10, 100)})
 
     def test_the_last_of_time_and_the_most_of_memory(self):
         sampler = Sampler()
         for now, (seconds, memory) in enumerate([(1, 50), (2, 80), (4, 20)], 8):
             sampler.look({2: Process(1, seconds, memory, 7)}, {2: ("rec_a", "proof")}, now)
-        self.assertEqual(sampler.costs()["rec_a", "proof"], Cost(4, 80, 7, 10))
+        self.assertEqual(sampler.costs()["rec_a", "proof"], Cost(4, 80, 7, 10, 80))
         self.assertEqual(sampler.costs()["rec_a", "proof"].clock, 3)
 
     def test_checks_of_one_kind_add_up(self):
@@ -62,7 +62,7 @@ class Seen(unittest.TestCase):
         for started in (7, 8):
             # The second has the number of the first.
             sampler.look({2: Process(1, 3, 10 * started, started)}, {2: ("rec_a", "edits")}, started + 1)
-        self.assertEqual(sampler.costs()["rec_a", "edits"], Cost(6, 80, 7, 9))
+        self.assertEqual(sampler.costs()["rec_a", "edits"], Cost(6, 80, 7, 9, 80))
 
     def test_this_process_is_seen(self):
         found = gate_cost.processes()
@@ -102,6 +102,7 @@ class Table(unittest.TestCase):
 The longest chain in processor minutes, 8, is `rec_a`, `rec_c`, `rec_b_tests`.
 The longest chain in minutes of wall clock, 16, is `rec_a`, `rec_c`, `rec_b_tests`.
 The first `rt run` in `rezovamy` proves 3 crates, which is 4 processor minutes of these.
+No process had more than 0.8 GB.
 0.5 processor minutes were seen in no check: `rt` itself, linking, runs, and the last moments of each check.
 """)
 

@@ -6,4 +6,3 @@ pub mod ReadEventLaws
 pub mod LineItemLemmas
 pub mod LineReadings
 pub mod KindTables
-pub mod Added

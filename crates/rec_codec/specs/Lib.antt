@@ -10,8 +10,6 @@ pub mod ScriptStatus
 pub mod ScriptStatusLaws
 pub mod CoreKinds
 pub mod EventParts
-pub mod Adding
-pub mod Several
 pub mod CoreKindForms
 pub mod CoreKindLaws
 pub mod OutputKinds

@@ -13,10 +13,9 @@ use crate::core_kinds::{core_from, write_core};
 use crate::output_kinds::{
     attempt_failed_from, script_finished_from, test_finished_from, write_output,
 };
-use crate::several::required_two;
 use crate::{OutputForm, ToValueError};
 use rec_events::{TestEventKindSummary, TestEventSummary};
-use rec_forms::{FromValueError, value_of_text};
+use rec_forms::{FromValueError, required_two, value_of_text};
 use rec_json::{JsonText, Node, member};
 use serde_json::Value;
 use std::alloc::Global;

@@ -18,7 +18,6 @@ mod output_kinds;
 mod run_kinds;
 mod script_kinds;
 mod script_status;
-mod several;
 mod status;
 mod test_kinds;
 

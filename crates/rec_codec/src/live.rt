@@ -8,7 +8,7 @@ ghost use Rattle.rec_codec.specs.Live.{IsLive, live_split_form, live_value};
 
 use crate::{OutputForm, ToValueError};
 use rec_events::{ChildOutputDescription, ChildSingleOutput, LiveSpec};
-use rec_forms::{Form, FromValueError, optional_field, write_optional, write_tagged};
+use rec_forms::{Form, FromValueError, ObjectWriter, optional_two, write_tagged};
 use rec_json::{JsonText, Node, only_member};
 use std::alloc::{AllocError, Global};
 
@@ -23,13 +23,10 @@ fn write_split(
         (text.new ≡ text.old ++ value_tokens (live_value (Split stdout.now stderr.now))) }
     ensures known { OnOk result (IsLive (Split stdout.now stderr.now)) }
 {
-    text.begin_tagged("split")?;
-    text.begin_object()?;
-    write_optional(alloc, text, "stderr", stderr)?;
-    write_optional(alloc, text, "stdout", stdout)?;
-    text.end_struct()?;
-    text.end_tagged()?;
-    Ok(())
+    let object = ObjectWriter::begin_tagged(alloc, text, "split");
+    let object = object.optional(text, "stderr", stderr);
+    let object = object.optional(text, "stdout", stdout);
+    object.end_tagged(text)
 }
 
 /// The outputs of a process whose streams were captured apart.
@@ -40,10 +37,8 @@ fn split_from(alloc: Global, node: &Node<'_>) -> Result<ChildOutputDescription, 
     let Some(fields) = node.as_object() else {
         return Err(FromValueError::NotAValue);
     };
-    Ok(ChildOutputDescription::Split {
-        stdout: optional_field(alloc, fields, "stdout")?,
-        stderr: optional_field(alloc, fields, "stderr")?,
-    })
+    let (stdout, stderr) = optional_two(alloc, fields, "stdout", "stderr")?;
+    Ok(ChildOutputDescription::Split { stdout, stderr })
 }
 
 impl OutputForm for LiveSpec {

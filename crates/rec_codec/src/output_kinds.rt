@@ -6,13 +6,17 @@ ghost use Rattle.rec_forms.specs.Gives.{Gives};
 ghost use Rattle.rec_codec.specs.OutputKinds.{output_name, reporting_form, output_event_fields, output_loaded, IsOutputEvent, script_finished_form, attempt_failed_form, test_finished_form};
 ghost use Rattle.rec_codec.specs.Writes.{WritesLoaded};
 
-use crate::event_parts::Fields;
+use crate::event_parts::{
+    with_args_to_index, with_finished, with_reporting, with_script, with_test,
+};
 use crate::loaded_form::{required_loaded, write_loaded};
 use crate::script_kinds::{Command, Place};
-use crate::several::{required_five, required_four, required_three};
 use crate::{OutputForm, ToValueError};
 use rec_events::{Duration, JunitFlakyFailStatus, OutputEventKind, Stamp, TestOutputDisplay};
-use rec_forms::{FromValueError, optional_field, required_field};
+use rec_forms::{
+    FromValueError, ObjectWriter, optional_field, required_field, required_five, required_four,
+    required_three,
+};
 use rec_json::{JsonText, Node};
 use std::alloc::Global;
 
@@ -83,16 +87,16 @@ fn write_script_finished<S: OutputForm>(
     else {
         unreachable!()
     };
-    Fields::new()
-        .args_to_index(alloc, text, args, elapsed, *index)
-        .name(text, "kind", "setup-script-finished")
-        .field(alloc, text, "no-capture", no_capture)
-        .field(alloc, text, "program", program)
-        .end()?;
+    let object = ObjectWriter::resume(alloc);
+    let object = with_args_to_index(object, text, args, elapsed, *index);
+    let object = object.text(text, "kind", "setup-script-finished");
+    let object = object.field(text, "no-capture", no_capture);
+    let object = object.field(text, "program", program);
+    object.leave_open()?;
     write_loaded(alloc, text, "run-status", run_status)?;
-    Fields::new()
-        .script(alloc, text, script_id, stress_index, timestamp, *total)
-        .end()?;
+    let object = ObjectWriter::resume(alloc);
+    let object = with_script(object, text, script_id, stress_index, timestamp, *total);
+    object.leave_open()?;
     Ok(())
 }
 
@@ -121,22 +125,17 @@ fn write_attempt_failed<S: OutputForm>(
     else {
         unreachable!()
     };
-    Fields::new()
-        .field(
-            alloc,
-            text,
-            "delay-before-next-attempt",
-            delay_before_next_attempt,
-        )
-        .field(alloc, text, "elapsed", elapsed)
-        .field(alloc, text, "failure-output", failure_output)
-        .name(text, "kind", "test-attempt-failed-will-retry")
-        .end()?;
+    let object = ObjectWriter::resume(alloc);
+    let object = object.field(text, "delay-before-next-attempt", delay_before_next_attempt);
+    let object = object.field(text, "elapsed", elapsed);
+    let object = object.field(text, "failure-output", failure_output);
+    let object = object.text(text, "kind", "test-attempt-failed-will-retry");
+    object.leave_open()?;
     write_loaded(alloc, text, "run-status", run_status)?;
-    Fields::new()
-        .field(alloc, text, "running", running)
-        .test(alloc, text, stress_index, test_instance, timestamp)
-        .end()?;
+    let object = ObjectWriter::resume(alloc);
+    let object = object.field(text, "running", running);
+    let object = with_test(object, text, stress_index, test_instance, timestamp);
+    object.leave_open()?;
     Ok(())
 }
 
@@ -169,31 +168,31 @@ fn write_test_finished<S: OutputForm>(
     else {
         unreachable!()
     };
-    Fields::new()
-        .field(alloc, text, "current-stats", current_stats)
-        .field(alloc, text, "elapsed", elapsed)
-        .reporting(
-            alloc,
-            text,
-            failure_output,
-            junit_flaky_fail_status,
-            *junit_store_failure_output,
-            *junit_store_success_output,
-        )
-        .name(text, "kind", "test-finished")
-        .end()?;
+    let object = ObjectWriter::resume(alloc);
+    let object = object.field(text, "current-stats", current_stats);
+    let object = object.field(text, "elapsed", elapsed);
+    let object = with_reporting(
+        object,
+        text,
+        failure_output,
+        junit_flaky_fail_status,
+        *junit_store_failure_output,
+        *junit_store_success_output,
+    );
+    let object = object.text(text, "kind", "test-finished");
+    object.leave_open()?;
     write_loaded(alloc, text, "run-statuses", run_statuses)?;
-    Fields::new()
-        .field(alloc, text, "running", running)
-        .finished(
-            alloc,
-            text,
-            stress_index,
-            success_output,
-            test_instance,
-            timestamp,
-        )
-        .end()?;
+    let object = ObjectWriter::resume(alloc);
+    let object = object.field(text, "running", running);
+    let object = with_finished(
+        object,
+        text,
+        stress_index,
+        success_output,
+        test_instance,
+        timestamp,
+    );
+    object.leave_open()?;
     Ok(())
 }
 

@@ -7,10 +7,12 @@ ghost use Rattle.rec_codec.specs.CoreKindForms.{run_started_form, stress_sub_run
 ghost use Rattle.rec_codec.specs.CoreKinds.{core_name};
 ghost use Rattle.rec_codec.specs.EventParts.{core_event_fields, IsCoreEvent};
 
-use crate::event_parts::Fields;
-use crate::several::{required_four, required_three, required_two};
+use crate::event_parts::{with_elapsed_and_kind, with_running};
 use rec_events::{CoreEventKind, Duration, Stamp};
-use rec_forms::{FromValueError, optional_field, required_field};
+use rec_forms::{
+    FromValueError, ObjectWriter, optional_field, required_field, required_four, required_three,
+    required_two,
+};
 use rec_json::{JsonText, Node};
 use std::alloc::{AllocError, Global};
 
@@ -36,14 +38,14 @@ pub fn write_run_started(
     else {
         unreachable!()
     };
-    Fields::new()
-        .field(alloc, text, "cli-args", cli_args)
-        .elapsed_and_kind(alloc, text, elapsed, "run-started")
-        .field(alloc, text, "profile-name", profile_name)
-        .field(alloc, text, "run-id", run_id)
-        .optional(alloc, text, "stress-condition", stress_condition)
-        .field(alloc, text, "timestamp", timestamp)
-        .end()
+    let object = ObjectWriter::resume(alloc);
+    let object = object.field(text, "cli-args", cli_args);
+    let object = with_elapsed_and_kind(object, text, elapsed, "run-started");
+    let object = object.field(text, "profile-name", profile_name);
+    let object = object.field(text, "run-id", run_id);
+    let object = object.optional(text, "stress-condition", stress_condition);
+    let object = object.field(text, "timestamp", timestamp);
+    object.leave_open()
 }
 
 /// Reads the members of a run's start.
@@ -86,11 +88,11 @@ pub fn write_stress_sub_run_started(
     let CoreEventKind::StressSubRunStarted { progress } = kind else {
         unreachable!()
     };
-    Fields::new()
-        .elapsed_and_kind(alloc, text, elapsed, "stress-sub-run-started")
-        .field(alloc, text, "progress", progress)
-        .field(alloc, text, "timestamp", timestamp)
-        .end()
+    let object = ObjectWriter::resume(alloc);
+    let object = with_elapsed_and_kind(object, text, elapsed, "stress-sub-run-started");
+    let object = object.field(text, "progress", progress);
+    let object = object.field(text, "timestamp", timestamp);
+    object.leave_open()
 }
 
 /// Reads the members of the start of one of a stress run's runs.
@@ -127,11 +129,11 @@ pub fn write_run_begin_cancel(
     else {
         unreachable!()
     };
-    Fields::new()
-        .elapsed_and_kind(alloc, text, elapsed, "run-begin-cancel")
-        .field(alloc, text, "reason", reason)
-        .running(alloc, text, *running, *setup_scripts_running, timestamp)
-        .end()
+    let object = ObjectWriter::resume(alloc);
+    let object = with_elapsed_and_kind(object, text, elapsed, "run-begin-cancel");
+    let object = object.field(text, "reason", reason);
+    let object = with_running(object, text, *running, *setup_scripts_running, timestamp);
+    object.leave_open()
 }
 
 /// Reads the members of a cancel.
@@ -176,10 +178,10 @@ pub fn write_run_paused(
     else {
         unreachable!()
     };
-    Fields::new()
-        .elapsed_and_kind(alloc, text, elapsed, "run-paused")
-        .running(alloc, text, *running, *setup_scripts_running, timestamp)
-        .end()
+    let object = ObjectWriter::resume(alloc);
+    let object = with_elapsed_and_kind(object, text, elapsed, "run-paused");
+    let object = with_running(object, text, *running, *setup_scripts_running, timestamp);
+    object.leave_open()
 }
 
 /// Reads the members of a pause.
@@ -222,10 +224,10 @@ pub fn write_run_continued(
     else {
         unreachable!()
     };
-    Fields::new()
-        .elapsed_and_kind(alloc, text, elapsed, "run-continued")
-        .running(alloc, text, *running, *setup_scripts_running, timestamp)
-        .end()
+    let object = ObjectWriter::resume(alloc);
+    let object = with_elapsed_and_kind(object, text, elapsed, "run-continued");
+    let object = with_running(object, text, *running, *setup_scripts_running, timestamp);
+    object.leave_open()
 }
 
 /// Reads the members of a continuation.
@@ -269,13 +271,13 @@ pub fn write_stress_sub_run_finished(
     else {
         unreachable!()
     };
-    Fields::new()
-        .elapsed_and_kind(alloc, text, elapsed, "stress-sub-run-finished")
-        .field(alloc, text, "progress", progress)
-        .field(alloc, text, "sub-elapsed", sub_elapsed)
-        .field(alloc, text, "sub-stats", sub_stats)
-        .field(alloc, text, "timestamp", timestamp)
-        .end()
+    let object = ObjectWriter::resume(alloc);
+    let object = with_elapsed_and_kind(object, text, elapsed, "stress-sub-run-finished");
+    let object = object.field(text, "progress", progress);
+    let object = object.field(text, "sub-elapsed", sub_elapsed);
+    let object = object.field(text, "sub-stats", sub_stats);
+    let object = object.field(text, "timestamp", timestamp);
+    object.leave_open()
 }
 
 /// Reads the members of the end of one of a stress run's runs.
@@ -323,15 +325,15 @@ pub fn write_run_finished(
     else {
         unreachable!()
     };
-    Fields::new()
-        .elapsed_and_kind(alloc, text, elapsed, "run-finished")
-        .optional(alloc, text, "outstanding-not-seen", outstanding_not_seen)
-        .field(alloc, text, "run-elapsed", run_elapsed)
-        .field(alloc, text, "run-id", run_id)
-        .field(alloc, text, "run-stats", run_stats)
-        .field(alloc, text, "start-time", start_time)
-        .field(alloc, text, "timestamp", timestamp)
-        .end()
+    let object = ObjectWriter::resume(alloc);
+    let object = with_elapsed_and_kind(object, text, elapsed, "run-finished");
+    let object = object.optional(text, "outstanding-not-seen", outstanding_not_seen);
+    let object = object.field(text, "run-elapsed", run_elapsed);
+    let object = object.field(text, "run-id", run_id);
+    let object = object.field(text, "run-stats", run_stats);
+    let object = object.field(text, "start-time", start_time);
+    let object = object.field(text, "timestamp", timestamp);
+    object.leave_open()
 }
 
 /// Reads the members of a run's end.

@@ -7,10 +7,11 @@ ghost use Rattle.rec_codec.specs.CoreKindForms.{place_form, command_form, setup_
 ghost use Rattle.rec_codec.specs.CoreKinds.{core_name};
 ghost use Rattle.rec_codec.specs.EventParts.{core_event_fields, IsCoreEvent};
 
-use crate::event_parts::Fields;
-use crate::several::{required_three, required_two};
+use crate::event_parts::{with_args_to_index, with_elapsed_and_kind, with_script};
 use rec_events::{CoreEventKind, Duration, Items, ScriptId, Stamp, StressIndexSummary, Text};
-use rec_forms::{FromValueError, optional_field, required_field};
+use rec_forms::{
+    FromValueError, ObjectWriter, optional_field, required_field, required_three, required_two,
+};
 use rec_json::{JsonText, Node};
 use std::alloc::{AllocError, Global};
 
@@ -93,13 +94,13 @@ pub fn write_setup_script_started(
     else {
         unreachable!()
     };
-    Fields::new()
-        .args_to_index(alloc, text, args, elapsed, *index)
-        .name(text, "kind", "setup-script-started")
-        .field(alloc, text, "no-capture", no_capture)
-        .field(alloc, text, "program", program)
-        .script(alloc, text, script_id, stress_index, timestamp, *total)
-        .end()
+    let object = ObjectWriter::resume(alloc);
+    let object = with_args_to_index(object, text, args, elapsed, *index);
+    let object = object.text(text, "kind", "setup-script-started");
+    let object = object.field(text, "no-capture", no_capture);
+    let object = object.field(text, "program", program);
+    let object = with_script(object, text, script_id, stress_index, timestamp, *total);
+    object.leave_open()
 }
 
 /// Reads the members of a setup script's start.
@@ -148,16 +149,16 @@ pub fn write_setup_script_slow(
     else {
         unreachable!()
     };
-    Fields::new()
-        .field(alloc, text, "args", args)
-        .elapsed_and_kind(alloc, text, elapsed, "setup-script-slow")
-        .field(alloc, text, "program", program)
-        .field(alloc, text, "script-id", script_id)
-        .field(alloc, text, "slow-elapsed", slow_elapsed)
-        .optional(alloc, text, "stress-index", stress_index)
-        .field(alloc, text, "timestamp", timestamp)
-        .field(alloc, text, "will-terminate", will_terminate)
-        .end()
+    let object = ObjectWriter::resume(alloc);
+    let object = object.field(text, "args", args);
+    let object = with_elapsed_and_kind(object, text, elapsed, "setup-script-slow");
+    let object = object.field(text, "program", program);
+    let object = object.field(text, "script-id", script_id);
+    let object = object.field(text, "slow-elapsed", slow_elapsed);
+    let object = object.optional(text, "stress-index", stress_index);
+    let object = object.field(text, "timestamp", timestamp);
+    let object = object.field(text, "will-terminate", will_terminate);
+    object.leave_open()
 }
 
 /// Reads the members of a slow setup script.

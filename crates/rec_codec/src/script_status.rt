@@ -1,11 +1,9 @@
 //! The runs of setup scripts, with their outputs.
 
-use crate::event_parts::Fields;
 use crate::loaded_form::{LoadedForm, required_loaded, write_loaded};
-use crate::several::{optional_two, required_four};
 use crate::{OutputForm, ToValueError};
 use rec_events::SetupScriptExecuteStatus;
-use rec_forms::FromValueError;
+use rec_forms::{FromValueError, ObjectWriter, optional_two, required_four};
 use rec_json::{JsonText, Node};
 use std::alloc::Global;
 
@@ -31,19 +29,17 @@ impl<S: OutputForm> LoadedForm for SetupScriptExecuteStatus<S> {
     ghost writable = { script_status_writable S.output_well_formed S.output_levels S.output_value S.output_writable };
 
     fn write(&self, alloc: Global, text: &mut JsonText) -> Result<(), ToValueError> {
-        text.begin_object()?;
-        Fields::new()
-            .optional(alloc, text, "env-map", &self.env_map)
-            .optional(alloc, text, "error-summary", &self.error_summary)
-            .field(alloc, text, "is-slow", &self.is_slow)
-            .end()?;
+        let object = ObjectWriter::begin(alloc, text);
+        let object = object.optional(text, "env-map", &self.env_map);
+        let object = object.optional(text, "error-summary", &self.error_summary);
+        let object = object.field(text, "is-slow", &self.is_slow);
+        object.leave_open()?;
         write_loaded(alloc, text, "output", &self.output)?;
-        Fields::new()
-            .field(alloc, text, "result", &self.result)
-            .field(alloc, text, "start-time", &self.start_time)
-            .field(alloc, text, "time-taken", &self.time_taken)
-            .end()?;
-        text.end_struct()?;
+        let object = ObjectWriter::resume(alloc);
+        let object = object.field(text, "result", &self.result);
+        let object = object.field(text, "start-time", &self.start_time);
+        let object = object.field(text, "time-taken", &self.time_taken);
+        object.end(text)?;
         Ok(())
     }
 

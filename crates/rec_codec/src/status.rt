@@ -1,16 +1,15 @@
 //! The attempts of a test, with their outputs.
 ghost use Rattle.std.specs.Prelude.{◌≡◌, ◌++◌, OnOk, Some};
 ghost use Rattle.rec_json.specs.Nodes.{members_view, view};
-ghost use Rattle.rec_json.specs.Tokens.{value_tokens, with_field, with_fields};
+ghost use Rattle.rec_json.specs.Tokens.{value_tokens, with_field};
 ghost use Rattle.rec_events.specs.declared.outputs.ChildExecutionOutputDescription.TheVariants.{Output};
 ghost use Rattle.rec_forms.specs.Gives.{Gives};
+ghost use Rattle.rec_forms.specs.ObjectWriting.{Writes};
 ghost use Rattle.rec_forms.specs.Shape.{required};
 ghost use Rattle.rec_codec.specs.Status.{description_value, IsDescription, output_case_form, before_output, before_output_fields, before_output_form, IsBeforeOutput, after_output, after_output_fields, after_output_form, IsAfterOutput, attempts_form};
 ghost use Rattle.rec_codec.specs.Writes.{WritesLoaded};
 
-use crate::event_parts::Fields;
 use crate::loaded_form::{LoadedForm, required_loaded, required_some, write_each, write_loaded};
-use crate::several::{optional_two, required_four, required_two};
 use crate::{OutputForm, ToValueError};
 use rec_events::{
     ChildExecutionOutputDescription, Duration, ErrorSummary, ExecuteStatus,
@@ -18,10 +17,11 @@ use rec_events::{
     Stamp, Text,
 };
 use rec_forms::{
-    Form, FromValueError, optional_field, required_field, write_field, write_optional, write_tagged,
+    Form, FromValueError, ObjectWriter, optional_field, optional_two, required_field,
+    required_four, required_two, write_tagged,
 };
 use rec_json::{JsonText, Node, member, only_member};
-use std::alloc::{AllocError, Global};
+use std::alloc::Global;
 
 /// Writes the outputs of a process that was started.
 fn write_outputs<S: OutputForm>(
@@ -37,13 +37,13 @@ fn write_outputs<S: OutputForm>(
     ensures known { OnOk result
         (IsDescription {S = S} S.output_well_formed (Output ended.now output.now errors.now)) }
 {
-    text.begin_tagged("output")?;
-    text.begin_object()?;
-    write_optional(alloc, text, "errors", errors)?;
+    let object = ObjectWriter::begin_tagged(alloc, text, "output");
+    let object = object.optional(text, "errors", errors);
+    object.leave_open()?;
     write_output_field::<S>(alloc, text, "output", output)?;
-    write_optional(alloc, text, "result", ended)?;
-    text.end_struct()?;
-    text.end_tagged()?;
+    let object = ObjectWriter::resume(alloc);
+    let object = object.optional(text, "result", ended);
+    object.end_tagged(text)?;
     Ok(())
 }
 
@@ -190,26 +190,19 @@ impl BeforeOutput {
 }
 
 /// Writes what stands before the output of an attempt.
-fn write_before_output<S: OutputForm>(
-    alloc: Global,
-    status: &ExecuteStatus<S>,
+fn with_before_output<S: OutputForm>(
+    object: ObjectWriter,
     text: &mut JsonText,
-) -> Result<(), AllocError>
-    ensures written { OnOk result
-        (text.new ≡ with_fields text.old (before_output_fields (before_output status.now))) }
-    ensures known { OnOk result (IsBeforeOutput (before_output status.now)) }
+    status: &ExecuteStatus<S>,
+) -> ObjectWriter
+    ensures { Writes object text.old result text.new
+        (before_output_fields (before_output status.now))
+        (IsBeforeOutput (before_output status.now)) }
 {
-    Fields::new()
-        .optional(alloc, text, "cpu-time", &status.cpu_time)
-        .field(
-            alloc,
-            text,
-            "delay-before-start",
-            &status.delay_before_start,
-        )
-        .optional(alloc, text, "error-summary", &status.error_summary)
-        .field(alloc, text, "is-slow", &status.is_slow)
-        .end()
+    let object = object.optional(text, "cpu-time", &status.cpu_time);
+    let object = object.field(text, "delay-before-start", &status.delay_before_start);
+    let object = object.optional(text, "error-summary", &status.error_summary);
+    object.field(text, "is-slow", &status.is_slow)
 }
 
 /// Holds what stands after the output of an attempt, in the order of the keys.
@@ -250,27 +243,20 @@ impl AfterOutput {
 }
 
 /// Writes what stands after the output of an attempt.
-fn write_after_output<S: OutputForm>(
-    alloc: Global,
-    status: &ExecuteStatus<S>,
+fn with_after_output<S: OutputForm>(
+    object: ObjectWriter,
     text: &mut JsonText,
-) -> Result<(), AllocError>
-    ensures written { OnOk result
-        (text.new ≡ with_fields text.old (after_output_fields (after_output status.now))) }
-    ensures known { OnOk result (IsAfterOutput (after_output status.now)) }
+    status: &ExecuteStatus<S>,
+) -> ObjectWriter
+    ensures { Writes object text.old result text.new
+        (after_output_fields (after_output status.now))
+        (IsAfterOutput (after_output status.now)) }
 {
-    Fields::new()
-        .optional(
-            alloc,
-            text,
-            "output-error-slice",
-            &status.output_error_slice,
-        )
-        .field(alloc, text, "result", &status.result)
-        .field(alloc, text, "retry-data", &status.retry_data)
-        .field(alloc, text, "start-time", &status.start_time)
-        .field(alloc, text, "time-taken", &status.time_taken)
-        .end()
+    let object = object.optional(text, "output-error-slice", &status.output_error_slice);
+    let object = object.field(text, "result", &status.result);
+    let object = object.field(text, "retry-data", &status.retry_data);
+    let object = object.field(text, "start-time", &status.start_time);
+    object.field(text, "time-taken", &status.time_taken)
 }
 
 impl<S: OutputForm> LoadedForm for ExecuteStatus<S> {
@@ -295,11 +281,13 @@ impl<S: OutputForm> LoadedForm for ExecuteStatus<S> {
     ghost writable = { status_writable S.output_well_formed S.output_levels S.output_value S.output_writable };
 
     fn write(&self, alloc: Global, text: &mut JsonText) -> Result<(), ToValueError> {
-        text.begin_object()?;
-        write_before_output(alloc, self, text)?;
+        let object = ObjectWriter::begin(alloc, text);
+        let object = with_before_output(object, text, self);
+        object.leave_open()?;
         write_loaded(alloc, text, "output", &self.output)?;
-        write_after_output(alloc, self, text)?;
-        text.end_struct()?;
+        let object = ObjectWriter::resume(alloc);
+        let object = with_after_output(object, text, self);
+        object.end(text)?;
         Ok(())
     }
 
@@ -367,11 +355,13 @@ impl<S: OutputForm> LoadedForm for ExecutionStatuses<S> {
     ghost writable = { statuses_writable S.output_well_formed S.output_levels S.output_value S.output_writable };
 
     fn write(&self, alloc: Global, text: &mut JsonText) -> Result<(), ToValueError> {
-        text.begin_object()?;
-        write_field(alloc, text, "flaky-result", &self.flaky_result)?;
+        let object = ObjectWriter::begin(alloc, text);
+        let object = object.field(text, "flaky-result", &self.flaky_result);
+        object.leave_open()?;
         text.key("statuses")?;
         write_each(alloc, text, self.statuses.as_slice())?;
-        text.end_struct()?;
+        let object = ObjectWriter::resume(alloc);
+        object.end(text)?;
         Ok(())
     }
 

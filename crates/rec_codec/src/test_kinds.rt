@@ -7,10 +7,11 @@ ghost use Rattle.rec_codec.specs.CoreKindForms.{test_started_form, test_slow_for
 ghost use Rattle.rec_codec.specs.CoreKinds.{core_name};
 ghost use Rattle.rec_codec.specs.EventParts.{core_event_fields, IsCoreEvent};
 
-use crate::event_parts::Fields;
-use crate::several::{required_five, required_four, required_three};
+use crate::event_parts::{with_elapsed_and_kind, with_test};
 use rec_events::{CoreEventKind, Duration, Stamp};
-use rec_forms::{FromValueError, optional_field};
+use rec_forms::{
+    FromValueError, ObjectWriter, optional_field, required_five, required_four, required_three,
+};
 use rec_json::{JsonText, Node};
 use std::alloc::{AllocError, Global};
 
@@ -38,14 +39,14 @@ pub fn write_test_started(
     else {
         unreachable!()
     };
-    Fields::new()
-        .field(alloc, text, "command-line", command_line)
-        .field(alloc, text, "current-stats", current_stats)
-        .elapsed_and_kind(alloc, text, elapsed, "test-started")
-        .field(alloc, text, "running", running)
-        .field(alloc, text, "slot-assignment", slot_assignment)
-        .test(alloc, text, stress_index, test_instance, timestamp)
-        .end()
+    let object = ObjectWriter::resume(alloc);
+    let object = object.field(text, "command-line", command_line);
+    let object = object.field(text, "current-stats", current_stats);
+    let object = with_elapsed_and_kind(object, text, elapsed, "test-started");
+    let object = object.field(text, "running", running);
+    let object = object.field(text, "slot-assignment", slot_assignment);
+    let object = with_test(object, text, stress_index, test_instance, timestamp);
+    object.leave_open()
 }
 
 /// Reads the members of a test's start.
@@ -99,13 +100,13 @@ pub fn write_test_slow(
     else {
         unreachable!()
     };
-    Fields::new()
-        .elapsed_and_kind(alloc, text, elapsed, "test-slow")
-        .field(alloc, text, "retry-data", retry_data)
-        .field(alloc, text, "slow-elapsed", slow_elapsed)
-        .test(alloc, text, stress_index, test_instance, timestamp)
-        .field(alloc, text, "will-terminate", will_terminate)
-        .end()
+    let object = ObjectWriter::resume(alloc);
+    let object = with_elapsed_and_kind(object, text, elapsed, "test-slow");
+    let object = object.field(text, "retry-data", retry_data);
+    let object = object.field(text, "slow-elapsed", slow_elapsed);
+    let object = with_test(object, text, stress_index, test_instance, timestamp);
+    let object = object.field(text, "will-terminate", will_terminate);
+    object.leave_open()
 }
 
 /// Reads the members of a slow test.
@@ -158,14 +159,14 @@ pub fn write_test_retry_started(
     else {
         unreachable!()
     };
-    Fields::new()
-        .field(alloc, text, "command-line", command_line)
-        .elapsed_and_kind(alloc, text, elapsed, "test-retry-started")
-        .field(alloc, text, "retry-data", retry_data)
-        .field(alloc, text, "running", running)
-        .field(alloc, text, "slot-assignment", slot_assignment)
-        .test(alloc, text, stress_index, test_instance, timestamp)
-        .end()
+    let object = ObjectWriter::resume(alloc);
+    let object = object.field(text, "command-line", command_line);
+    let object = with_elapsed_and_kind(object, text, elapsed, "test-retry-started");
+    let object = object.field(text, "retry-data", retry_data);
+    let object = object.field(text, "running", running);
+    let object = object.field(text, "slot-assignment", slot_assignment);
+    let object = with_test(object, text, stress_index, test_instance, timestamp);
+    object.leave_open()
 }
 
 /// Reads the members of the start of a further attempt.
@@ -218,13 +219,13 @@ pub fn write_test_skipped(
     else {
         unreachable!()
     };
-    Fields::new()
-        .field(alloc, text, "elapsed", elapsed)
-        .field(alloc, text, "junit-report-skipped", junit_report_skipped)
-        .name(text, "kind", "test-skipped")
-        .field(alloc, text, "reason", reason)
-        .test(alloc, text, stress_index, test_instance, timestamp)
-        .end()
+    let object = ObjectWriter::resume(alloc);
+    let object = object.field(text, "elapsed", elapsed);
+    let object = object.field(text, "junit-report-skipped", junit_report_skipped);
+    let object = object.text(text, "kind", "test-skipped");
+    let object = object.field(text, "reason", reason);
+    let object = with_test(object, text, stress_index, test_instance, timestamp);
+    object.leave_open()
 }
 
 /// Reads the members of a skipped test.

@@ -2,8 +2,6 @@ pub mod Ascending
 pub mod Contents
 pub mod ContentsLeft
 pub mod Entries
-pub mod Prefixes
-pub mod Fronts
 pub mod Grammar
 pub mod Halving
 pub mod Integers
@@ -12,8 +10,10 @@ pub mod NameIndex
 pub mod Octets
 pub mod Parts
 pub mod Placed
+pub mod Prefixes
 pub mod Results
 pub mod Spelling
 pub mod Unique
 pub mod Utf8
+pub mod WholePrefixes
 pub mod Written

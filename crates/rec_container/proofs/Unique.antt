@@ -7,16 +7,16 @@ use Rattle.rec_container.proofs.Grammar.{step_at-spelled, step_at-same, entry-ta
 use Rattle.rec_container.specs.Container.{Entry, entry, magic, content_of, AreFrom, place_after, IsContainer, IsPrefix, ParsedContainer}
 use Rattle.rec_container.specs.declared.errors.ContainerError.TheVariants.{OutOfMemory}
 use Rattle.rec_container.specs.declared.errors.ContainerError.{ContainerError}
-use Rattle.rec_container.specs.Fronts.{IsStuck}
 use Rattle.rec_container.specs.Reading.{step_at, IsFault, has_magic}
+use Rattle.rec_container.specs.WholePrefixes.{IsStuck}
 
 -- of two readings of the same bytes, the one that is stuck has all entries of the other
-pub front_first : (seen es fs : List Entry) (x y : List ℕ) → AreFrom seen es → AreFrom seen fs → flat_map entry es ++ x ≡ flat_map entry fs ++ y → IsStuck (seen ++ es) x
+pub prefix_first : (seen es fs : List Entry) (x y : List ℕ) → AreFrom seen es → AreFrom seen fs → flat_map entry es ++ x ≡ flat_map entry fs ++ y → IsStuck (seen ++ es) x
     → (more : List Entry) × (es ≡ fs ++ more)
-front_first seen es [] x y p q h s = (es, refl)
-front_first seen [] (f ∷ fs) x y p q h s =
+prefix_first seen es [] x y p q h s = (es, refl)
+prefix_first seen [] (f ∷ fs) x y p q h s =
     absurd (s f (flat_map entry fs ++ y) q.0 (ap (λ l. content_of l f.name) (append-nil seen) ∙ q.1) (h ∙ append_assoc (entry f) (flat_map entry fs) y))
-front_first seen (e ∷ es) (f ∷ fs) x y p q h s =
+prefix_first seen (e ∷ es) (f ∷ fs) x y p q h s =
     let r = flat_map entry es ++ x in
     let u = flat_map entry fs ++ y in
     let same : entry e ++ r ≡ entry f ++ u = sym (append_assoc (entry e) (flat_map entry es) x) ∙ h ∙ append_assoc (entry f) (flat_map entry fs) y in
@@ -25,7 +25,7 @@ front_first seen (e ∷ es) (f ∷ fs) x y p q h s =
     let rest : r ≡ u = ap (λ (w : Entry × List ℕ). w.1) both in
     let qs : AreFrom (seen ++ e ∷ []) fs = subst (λ (d : Entry). AreFrom (seen ++ d ∷ []) fs) (sym one) q.2 in
     let s' : IsStuck ((seen ++ e ∷ []) ++ es) x = subst (λ (l : List Entry). IsStuck l x) (sym (append_assoc seen (e ∷ []) es)) s in
-    let ih = front_first (seen ++ e ∷ []) es fs x y p.2 qs rest s' in
+    let ih = prefix_first (seen ++ e ∷ []) es fs x y p.2 qs rest s' in
     (ih.0, (λ i. one i ∷ ih.1 i))
 
 no_more : (es more : List Entry) → length (es ++ more) ≤ length es → es ++ more ≡ es
@@ -35,8 +35,8 @@ no_more es (e ∷ more) h = absurd (omega (arith, h, length-append es (e ∷ mor
 -- two that are stuck have the same entries, and the same rest
 pub prefixes_unique : (seen es fs : List Entry) (x y : List ℕ) → AreFrom seen es → AreFrom seen fs → flat_map entry es ++ x ≡ flat_map entry fs ++ y → IsStuck (seen ++ es) x → IsStuck (seen ++ fs) y → (es ≡ fs) × (x ≡ y)
 prefixes_unique seen es fs x y p q h s t =
-    let a = front_first seen es fs x y p q h s in
-    let b = front_first seen fs es y x q p (sym h) t in
+    let a = prefix_first seen es fs x y p q h s in
+    let b = prefix_first seen fs es y x q p (sym h) t in
     let short : length (fs ++ a.0) ≤ length fs = omega (arith, ap length a.1, ap length b.1, length-append es b.0) in
     let same : es ≡ fs = a.1 ∙ no_more fs a.0 short in
     (same, append_cancel_left (flat_map entry es) x y (h ∙ ap (λ (l : List Entry). flat_map entry l ++ y) (sym same)))

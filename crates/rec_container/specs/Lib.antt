@@ -1,11 +1,11 @@
 pub mod Causes
 pub mod Container
-pub mod NamedContents
-pub mod Fronts
 pub mod Memory
+pub mod NamedContents
 pub mod Placed
 pub mod Reading
 pub mod Sorted
 pub mod Taking
+pub mod WholePrefixes
 pub mod Within
 pub mod Writing

@@ -24,7 +24,7 @@ name_cmp a b = slice_cmp nat_cmp a.now b.now
 abbrev pub is_named : List ℕ → Bor (List ℕ) → Bool
 is_named name = is_at (λ held. slice_cmp nat_cmp name held.now)
 
--- each name is below those behind it
+-- each name is below those after it
 abbrev pub Ascend : Contents → Type 0
 Ascend contents = IsStrictlySortedBy name_cmp (keys_of contents)
 

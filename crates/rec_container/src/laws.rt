@@ -2,8 +2,8 @@
 ghost use Rattle.std.specs.Prelude.{◌≡◌, ◌<◌, ◌≤◌, [], ◌∷◌, ◌++◌, length, map, slice_get, List, ℕ, Some, None, take};
 ghost use Rattle.rec_container.specs.Container.{Entry, IsEntry, IsPrefix, addition, content_of, content_bytes, ending, prefix, spell, AreFrom, IsContainer, StandsWithin, place_from};
 ghost use Rattle.rec_container.specs.declared.errors.ContainerError.{ContainerError};
-ghost use Rattle.rec_container.specs.Fronts.{IsWholeFront};
 ghost use Rattle.rec_container.specs.Reading.{IsFault};
+ghost use Rattle.rec_container.specs.WholePrefixes.{IsWholePrefix};
 
 /// States that bytes spell at most one list of entries.
 pub fn one_reading()
@@ -42,13 +42,13 @@ pub fn within_length()
     ensures entries { (es : List Entry) → length es < length (spell es) }
 {}
 
-/// States that the whole front of bytes is the longest list of whole, distinct entries that they begin
-/// with, and the only one behind which none of a new name stands.
-pub fn one_front()
-    ensures longest { (bytes more : List ℕ) (es fs : List Entry) → IsWholeFront bytes es → IsPrefix bytes fs more → (rest : List Entry) × (es ≡ fs ++ rest) }
-    ensures one { (bytes : List ℕ) (es fs : List Entry) → IsWholeFront bytes es → IsWholeFront bytes fs → es ≡ fs }
+/// States that the whole prefix of bytes is the longest list of whole, distinct entries that they begin
+/// with, and the only one after which none of a new name stands.
+pub fn one_whole_prefix()
+    ensures longest { (bytes more : List ℕ) (es fs : List Entry) → IsWholePrefix bytes es → IsPrefix bytes fs more → (rest : List Entry) × (es ≡ fs ++ rest) }
+    ensures one { (bytes : List ℕ) (es fs : List Entry) → IsWholePrefix bytes es → IsWholePrefix bytes fs → es ≡ fs }
     // What a writer leaves that has written entries and was stopped in one more.
     ensures stopped { (d e : Entry) (es : List Entry) (k : ℕ) → AreFrom [] (d ∷ es) → IsEntry e → content_of (d ∷ es) e.name ≡ None → k < length (addition (d ∷ es) e)
-        → IsWholeFront (prefix (d ∷ es) ++ take k (addition (d ∷ es) e)) (d ∷ es) }
-    ensures ended { (es : List Entry) → AreFrom [] es → IsWholeFront (spell es) es }
+        → IsWholePrefix (prefix (d ∷ es) ++ take k (addition (d ∷ es) e)) (d ∷ es) }
+    ensures ended { (es : List Entry) → AreFrom [] es → IsWholePrefix (spell es) es }
 {}

@@ -337,7 +337,8 @@ fn append<K: Sink>(
     ensures ok { OnOk result (Appends (K.taken sink.old) (K.taken sink.new) (entry.head.items ++ entry.content.items)) }
     ensures fault { OnErr result (TookPart (K.taken sink.old) (K.taken sink.new) (entry.head.items ++ entry.content.items)) }
     ensures cause { HasCause (K.faults sink.old) (K.faults sink.new) result }
-    ensures entries { OnOk result (entries_of entries.new.entries ≡ entries_of entries.old.entries ++ entry_of (entry.name, entry.content) ∷ []) }
+    ensures entries { OnOk result (entries_of entries.new.entries
+        ≡ entries_of entries.old.entries ++ entry_of (entry.name, entry.content) ∷ []) }
     ensures kept { OnErr result (entries.new.entries ≡ entries.old.entries) }
 {
     match write_two(sink, &entry.head, &entry.content) {
@@ -369,7 +370,8 @@ fn write_end<K: Sink>(
     sizes: ContainerSizes,
 ) -> Result<ContainerSizes, ContainerWriteError>
     ensures ok { IfOk result (λ s. (failed ≡ false) × (s ≡ sizes)) }
-    ensures taken { (es : List Entry) → length es ≡ sizes.entries → OnOk result (Appends (K.taken sink.old) (K.taken sink.new) (ending es)) }
+    ensures taken { (es : List Entry) → length es ≡ sizes.entries
+        → OnOk result (Appends (K.taken sink.old) (K.taken sink.new) (ending es)) }
     ensures refused { (es : List Entry) → length es ≡ sizes.entries →
         IfErr result (Unfinished K.taken K.faults (record { entries = es; sink = sink.old; failed = failed }) sink.new) }
     ensures later { K.faults sink.old ≤ K.faults sink.new }

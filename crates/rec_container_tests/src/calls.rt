@@ -16,7 +16,7 @@ pub(crate) enum Call<'c> {
     Rename(&'c str, &'c str),
 }
 
-/// What calls answer, with `;` behind each.
+/// What calls answer, with `;` after each.
 pub(crate) fn answers<D: Disk>(
     alloc: Global,
     disk: &mut D,

@@ -1,8 +1,9 @@
 //! What writers answer and write, and what is read of sources that fail.
 
 use rec_container::{
-    Container, ContainerWriter, EndlessSource, FailingSink, FailingSource, MemorySink,
-    NamedContent, Source, container_length, read_within, write_all_dyn, write_container,
+    Container, ContainerWriteError, ContainerWriter, EndlessSource, FailingSink, FailingSource,
+    MemorySink, NamedContent, Source, container_length, read_within, write_all_dyn,
+    write_container,
 };
 use std::alloc::{AllocError, Global};
 use std::str;
@@ -28,6 +29,8 @@ enum Asked<'a> {
     EndlessWithin(u64),
     /// A sink without room for what is written.
     Full,
+    /// What this fault prints.
+    Text(ContainerWriteError),
 }
 
 /// The entry `a`, as it is given to a writer.
@@ -46,6 +49,7 @@ fn answer(alloc: Global, asked: Asked<'_>) -> Result<String, Fail> {
         Asked::Within(limit, fails) => Ok(within(alloc, limit, fails)?),
         Asked::EndlessWithin(limit) => Ok(endless_within(alloc, limit)?),
         Asked::Full => Ok(full(alloc)?),
+        Asked::Text(fault) => Ok(format!(in alloc; "{fault}")?),
     }
 }
 
@@ -261,6 +265,30 @@ const ANSWERS: &[(Asked<'static>, &str)] = &[
         "the source has more than 10000 bytes",
     ),
     (Asked::Full, "false 1 0"),
+    (
+        Asked::Text(ContainerWriteError::Failed),
+        "the sink failed earlier, so nothing more is written",
+    ),
+    (
+        Asked::Text(ContainerWriteError::BadName),
+        "an entry's name must have 1 to 65535 bytes",
+    ),
+    (
+        Asked::Text(ContainerWriteError::NameCollision),
+        "an entry of this name with other bytes is there already",
+    ),
+    (
+        Asked::Text(ContainerWriteError::CountOutOfRange),
+        "the container would have 2^64 bytes or more",
+    ),
+    (
+        Asked::Text(ContainerWriteError::SinkFault),
+        "the sink failed",
+    ),
+    (
+        Asked::Text(ContainerWriteError::OutOfMemory),
+        "out of memory",
+    ),
 ];
 
 #[test]

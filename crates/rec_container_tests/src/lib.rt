@@ -1,4 +1,4 @@
-//! The tests of `rec_container`: what no input of the program brings about.
+//! The tests of `rec_container` and `rec_disk`: what no input of the program brings about.
 #![tactic(auto)]
 
 #[cfg(test)]

@@ -3,7 +3,7 @@ use Rattle.std.specs.List.{ends_with}
 use Rattle.std.specs.Prelude.{ℕ, nat_eq, ◌==◌, Bool, ◌||◌, List, [], ◌∷◌, ◌++◌, length, if◌then◌else◌}
 use Rattle.rec_store.specs.Entries.{log_name, store_name}
 
--- a name goes right behind a directory's path
+-- a name goes right after a directory's path
 abbrev pub ends_open : List ℕ → Bool
 ends_open dir = length dir == 0 || ends_with nat_eq dir (47 ∷ [])
 

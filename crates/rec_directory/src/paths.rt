@@ -21,7 +21,7 @@ pub fn join(alloc: Global, dir: &str, name: &str) -> Result<String, AllocError>
     Ok(path)
 }
 
-/// Returns whether a name goes right behind a directory's path.
+/// Returns whether a name goes right after a directory's path.
 fn is_open(dir: &str) -> bool
     ensures { result ≡ ends_open dir.now }
 {

@@ -6,4 +6,3 @@ pub mod WrittenVersion
 pub mod SharedTexts
 pub mod RunIdMaps
 pub mod TextLaws
-pub mod FieldLaws

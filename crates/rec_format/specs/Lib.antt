@@ -33,4 +33,3 @@ pub mod RunIdEntries
 pub mod RunListForms
 pub mod RunListFormLaws
 pub mod HeadTexts
-pub mod FieldLists

@@ -72,11 +72,11 @@ pub invocation_well_formed : (ms : Members) → Holds IsInvocation (invocation_f
 unfolding invocation_form
 invocation_well_formed ms =
     maybe_then duration_form (codes "duration") ms _ duration_well_formed (λ duration duration_is.
-    required_then stamp_form (codes "last-written-at") ms _ stamp_well_formed (λ last_written_at last_written_at_is.
     maybe_then uuid_form (codes "parent-run-id") ms _ uuid_well_formed (λ parent_run_id parent_run_id_is.
+    required_then stamp_form (codes "last-written-at") ms _ stamp_well_formed (λ last_written_at last_written_at_is.
+    required_then version_form (codes "nextest-version") ms _ version_well_formed (λ nextest_version nextest_version_is.
     defaulted_then (list_form text_of) (codes "cli-args") ms [] _ tt (list_well_formed text_of text_well_formed) (λ cli_args cli_args_is.
     defaulted_then (map_form text_of) (codes "env-vars") ms [] _ no_pairs (map_well_formed text_of text_well_formed) (λ env_vars env_vars_is.
-    required_then version_form (codes "nextest-version") ms _ version_well_formed (λ nextest_version nextest_version_is.
     record { is = record { cli_args = cli_args_is; duration = duration_is; env_vars = env_vars_is; last_written_at = last_written_at_is; nextest_version = nextest_version_is; parent_run_id = parent_run_id_is } }))))))
 
 pub outcome_well_formed : (ms : Members) → Holds IsOutcome (outcome_form ms)

@@ -27,11 +27,11 @@ invocation_fields i =
 unfoldable pub invocation_form : Members → Option Invocation
 invocation_form ms = do
   duration ← maybe duration_form (codes "duration") ms
-  last_written_at ← required stamp_form (codes "last-written-at") ms
   parent_run_id ← maybe uuid_form (codes "parent-run-id") ms
+  last_written_at ← required stamp_form (codes "last-written-at") ms
+  nextest_version ← required version_form (codes "nextest-version") ms
   cli_args ← defaulted [] (list_form text_of) (codes "cli-args") ms
   env_vars ← defaulted [] (map_form text_of) (codes "env-vars") ms
-  nextest_version ← required version_form (codes "nextest-version") ms
   Some (record {
     cli_args = cli_args;
     duration = duration;

@@ -11,4 +11,3 @@ mod stats;
 mod status;
 mod suites;
 mod versions;
-mod written_fields;

@@ -2,13 +2,13 @@
 ghost use Rattle.std.specs.Prelude.{◌≡◌, IfOk};
 ghost use Rattle.rec_format.specs.Runs.{recorded_info};
 
+use crate::run::copied;
 use crate::{
     RecordedBuildScope, RecordedRunInfo, RecordedRunStatus, RecordedSizes, RerunInfo,
     STORE_FORMAT_VERSION,
 };
 use rec_events::{
-    Duration, Items, RecordOpts, ReportUuid, Stamp, TestListSummary, Text, TextMap, TryClone,
-    Version,
+    Duration, Items, RecordOpts, ReportUuid, Stamp, TestListSummary, Text, TextMap, Version,
 };
 use std::alloc::{AllocError, Global};
 
@@ -59,15 +59,21 @@ impl SessionHead {
     ) -> Result<RecordedRunInfo, AllocError>
         ensures { IfOk result (λ info. info ≡ recorded_info self.now sizes) }
     {
+        let (nextest_version, cli_args, env_vars) = copied(
+            alloc,
+            &self.nextest_version,
+            &self.cli_args,
+            &self.env_vars,
+        )?;
         Ok(RecordedRunInfo {
             run_id: self.run_id,
             store_format_version: STORE_FORMAT_VERSION,
-            nextest_version: self.nextest_version.try_clone(alloc)?,
+            nextest_version,
             started_at: self.started_at,
             last_written_at: self.last_written_at,
             duration: self.duration,
-            cli_args: self.cli_args.try_clone(alloc)?,
-            env_vars: self.env_vars.try_clone(alloc)?,
+            cli_args,
+            env_vars,
             parent_run_id: self.parent_run_id,
             sizes,
             status: self.status,

@@ -66,6 +66,21 @@ pub struct RecordedRun {
     pub status: RecordedRunStatusFormat,
 }
 
+/// Copies what a run's metadata owns, in one call: each copy in place would be held over the next.
+pub(crate) fn copied(
+    alloc: Global,
+    nextest_version: &Version,
+    cli_args: &Items<Text>,
+    env_vars: &TextMap<Text>,
+) -> Result<(Version, Items<Text>, TextMap<Text>), AllocError>
+    ensures { IfOk result (λ copies. copies ≡ (nextest_version.now, cli_args.now, env_vars.now)) }
+{
+    let nextest_version = nextest_version.try_clone(alloc)?;
+    let cli_args = cli_args.try_clone(alloc)?;
+    let env_vars = env_vars.try_clone(alloc)?;
+    Ok((nextest_version, cli_args, env_vars))
+}
+
 impl RecordedRun {
     /// Makes the run of this metadata, field by field.
     ///
@@ -75,17 +90,23 @@ impl RecordedRun {
     pub fn from_info(alloc: Global, info: &RecordedRunInfo) -> Result<RecordedRun, AllocError>
         ensures { IfOk result (λ run. run ≡ run_of info.now) }
     {
+        let (nextest_version, cli_args, env_vars) = copied(
+            alloc,
+            &info.nextest_version,
+            &info.cli_args,
+            &info.env_vars,
+        )?;
         let status = RecordedRunStatusFormat::from(info.status);
         Ok(RecordedRun {
             run_id: info.run_id,
             store_format_version: info.store_format_version.major,
             store_format_minor_version: info.store_format_version.minor,
-            nextest_version: info.nextest_version.try_clone(alloc)?,
+            nextest_version,
             started_at: info.started_at,
             last_written_at: info.last_written_at,
             duration: info.duration,
-            cli_args: info.cli_args.try_clone(alloc)?,
-            env_vars: info.env_vars.try_clone(alloc)?,
+            cli_args,
+            env_vars,
             parent_run_id: info.parent_run_id,
             sizes: info.sizes.into(),
             status,
@@ -100,18 +121,24 @@ impl RecordedRun {
     pub fn to_info(&self, alloc: Global) -> Result<RecordedRunInfo, AllocError>
         ensures { IfOk result (λ info. info ≡ info_of self.now) }
     {
+        let (nextest_version, cli_args, env_vars) = copied(
+            alloc,
+            &self.nextest_version,
+            &self.cli_args,
+            &self.env_vars,
+        )?;
         Ok(RecordedRunInfo {
             run_id: self.run_id,
             store_format_version: StoreFormatVersion::new(
                 self.store_format_version,
                 self.store_format_minor_version,
             ),
-            nextest_version: self.nextest_version.try_clone(alloc)?,
+            nextest_version,
             started_at: self.started_at,
             last_written_at: self.last_written_at,
             duration: self.duration,
-            cli_args: self.cli_args.try_clone(alloc)?,
-            env_vars: self.env_vars.try_clone(alloc)?,
+            cli_args,
+            env_vars,
             parent_run_id: self.parent_run_id,
             sizes: self.sizes.into(),
             status: self.status.into(),

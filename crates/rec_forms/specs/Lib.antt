@@ -34,6 +34,7 @@ pub mod RunEndLaws
 pub mod RunEnds
 pub mod SelectionLaws
 pub mod Selections
+pub mod Several
 pub mod Shape
 pub mod Skipping
 pub mod SkippingLaws

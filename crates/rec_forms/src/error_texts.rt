@@ -29,9 +29,9 @@ impl Form for ErrorSummary {
     ghost shallow = { within_depth refl };
 
     fn write(&self, alloc: Global, text: &mut JsonText) -> Result<(), AllocError> {
-        let object = ObjectWriter::begin(text);
-        let object = object.field(alloc, text, "description", &self.description);
-        let object = object.field(alloc, text, "short-message", &self.short_message);
+        let object = ObjectWriter::begin(alloc, text);
+        let object = object.field(text, "description", &self.description);
+        let object = object.field(text, "short-message", &self.short_message);
         object.end(text)
     }
 
@@ -70,9 +70,9 @@ impl Form for OutputErrorSlice {
     ghost shallow = { within_depth refl };
 
     fn write(&self, alloc: Global, text: &mut JsonText) -> Result<(), AllocError> {
-        let object = ObjectWriter::begin(text);
-        let object = object.field(alloc, text, "slice", &self.slice);
-        let object = object.field(alloc, text, "start", &self.start);
+        let object = ObjectWriter::begin(alloc, text);
+        let object = object.field(text, "slice", &self.slice);
+        let object = object.field(text, "start", &self.start);
         object.end(text)
     }
 

@@ -29,9 +29,9 @@ impl Form for OwnedTestInstanceId {
     ghost shallow = { within_depth refl };
 
     fn write(&self, alloc: Global, text: &mut JsonText) -> Result<(), AllocError> {
-        let object = ObjectWriter::begin(text);
-        let object = object.field(alloc, text, "binary-id", &self.binary_id);
-        let object = object.field(alloc, text, "test-name", &self.test_name);
+        let object = ObjectWriter::begin(alloc, text);
+        let object = object.field(text, "binary-id", &self.binary_id);
+        let object = object.field(text, "test-name", &self.test_name);
         object.end(text)
     }
 
@@ -77,10 +77,10 @@ impl Form for TestSlotAssignment {
     ghost shallow = { within_depth refl };
 
     fn write(&self, alloc: Global, text: &mut JsonText) -> Result<(), AllocError> {
-        let object = ObjectWriter::begin(text);
-        let object = object.field(alloc, text, "global-slot", &self.global_slot);
-        let object = object.optional(alloc, text, "group-slot", &self.group_slot);
-        let object = object.field(alloc, text, "test-group", &self.test_group);
+        let object = ObjectWriter::begin(alloc, text);
+        let object = object.field(text, "global-slot", &self.global_slot);
+        let object = object.optional(text, "group-slot", &self.group_slot);
+        let object = object.field(text, "test-group", &self.test_group);
         object.end(text)
     }
 
@@ -120,9 +120,9 @@ impl Form for RetryData {
     ghost shallow = { within_depth refl };
 
     fn write(&self, alloc: Global, text: &mut JsonText) -> Result<(), AllocError> {
-        let object = ObjectWriter::begin(text);
-        let object = object.field(alloc, text, "attempt", &self.attempt);
-        let object = object.field(alloc, text, "total-attempts", &self.total_attempts);
+        let object = ObjectWriter::begin(alloc, text);
+        let object = object.field(text, "attempt", &self.attempt);
+        let object = object.field(text, "total-attempts", &self.total_attempts);
         object.end(text)
     }
 
@@ -161,9 +161,9 @@ impl Form for StressIndexSummary {
     ghost shallow = { within_depth refl };
 
     fn write(&self, alloc: Global, text: &mut JsonText) -> Result<(), AllocError> {
-        let object = ObjectWriter::begin(text);
-        let object = object.field(alloc, text, "current", &self.current);
-        let object = object.optional(alloc, text, "total", &self.total);
+        let object = ObjectWriter::begin(alloc, text);
+        let object = object.field(text, "current", &self.current);
+        let object = object.optional(text, "total", &self.total);
         object.end(text)
     }
 

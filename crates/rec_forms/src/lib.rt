@@ -22,6 +22,7 @@ mod reporting;
 mod results;
 mod run_ends;
 mod selections;
+mod several;
 mod skipping;
 mod stats;
 mod stress;
@@ -40,5 +41,7 @@ pub use held::{Held, held_optional};
 pub use laws::{
     read_items_are_well_formed, well_formed_items_read_back, writable_values_read_back,
 };
+pub use objects::ObjectWriter;
+pub use several::{optional_two, required_five, required_four, required_three, required_two};
 pub use text_form::{parse_node, read_text, write_text};
 pub use values::value_of_text;

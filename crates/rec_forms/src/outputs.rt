@@ -94,9 +94,9 @@ fn write_truncated(
         ++ value_tokens (stored_output_value (Truncated file_name.now original_size.now))) }
     ensures known { OnOk result (IsStoredOutput (Truncated file_name.now original_size.now)) }
 {
-    let object = ObjectWriter::begin_tagged(text, "truncated");
-    let object = object.field(alloc, text, "file-name", file_name);
-    let object = object.field(alloc, text, "original-size", original_size);
+    let object = ObjectWriter::begin_tagged(alloc, text, "truncated");
+    let object = object.field(text, "file-name", file_name);
+    let object = object.field(text, "original-size", original_size);
     object.end_tagged(text)
 }
 
@@ -179,9 +179,9 @@ impl Form for ZipStoreOutputDescription {
     fn write(&self, alloc: Global, text: &mut JsonText) -> Result<(), AllocError> {
         match self {
             ZipStoreOutputDescription::Split { stdout, stderr } => {
-                let object = ObjectWriter::begin_tagged(text, "split");
-                let object = object.optional(alloc, text, "stderr", stderr);
-                let object = object.optional(alloc, text, "stdout", stdout);
+                let object = ObjectWriter::begin_tagged(alloc, text, "split");
+                let object = object.optional(text, "stderr", stderr);
+                let object = object.optional(text, "stdout", stdout);
                 object.end_tagged(text)
             }
             ZipStoreOutputDescription::Combined { output } => {

@@ -74,8 +74,8 @@ impl Form for RecordOpts {
     ghost shallow = { within_depth refl };
 
     fn write(&self, alloc: Global, text: &mut JsonText) -> Result<(), AllocError> {
-        let object = ObjectWriter::begin(text);
-        let object = object.field(alloc, text, "run-mode", &self.run_mode);
+        let object = ObjectWriter::begin(alloc, text);
+        let object = object.field(text, "run-mode", &self.run_mode);
         object.end(text)
     }
 
@@ -113,8 +113,8 @@ impl Form for TestListSummary {
     ghost shallow = { within_depth refl };
 
     fn write(&self, alloc: Global, text: &mut JsonText) -> Result<(), AllocError> {
-        let object = ObjectWriter::begin(text);
-        let object = object.field(alloc, text, "suites", &self.suites);
+        let object = ObjectWriter::begin(alloc, text);
+        let object = object.field(text, "suites", &self.suites);
         object.end(text)
     }
 

@@ -169,9 +169,9 @@ impl Form for FailureDescription {
                 write_tagged(alloc, text, "exit-code", code)
             }
             FailureDescription::Abort { signal, name } => {
-                let object = ObjectWriter::begin_tagged(text, "abort");
-                let object = object.optional(alloc, text, "name", name);
-                let object = object.field(alloc, text, "signal", signal);
+                let object = ObjectWriter::begin_tagged(alloc, text, "abort");
+                let object = object.optional(text, "name", name);
+                let object = object.field(text, "signal", signal);
                 object.end_tagged(text)
             }
         }
@@ -235,9 +235,9 @@ impl Form for ExecutionResultDescription {
                 write_tagged(alloc, text, "leak", result)
             }
             ExecutionResultDescription::Fail { failure, leaked } => {
-                let object = ObjectWriter::begin_tagged(text, "fail");
-                let object = object.field(alloc, text, "failure", failure);
-                let object = object.field(alloc, text, "leaked", leaked);
+                let object = ObjectWriter::begin_tagged(alloc, text, "fail");
+                let object = object.field(text, "failure", failure);
+                let object = object.field(text, "leaked", leaked);
                 object.end_tagged(text)
             }
             ExecutionResultDescription::ExecFail => text.string("exec-fail"),

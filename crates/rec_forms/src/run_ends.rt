@@ -127,11 +127,11 @@ impl Form for StressRunStats {
     ghost shallow = { within_depth refl };
 
     fn write(&self, alloc: Global, text: &mut JsonText) -> Result<(), AllocError> {
-        let object = ObjectWriter::begin(text);
-        let object = object.field(alloc, text, "completed", &self.completed);
-        let object = object.field(alloc, text, "failed-count", &self.failed_count);
-        let object = object.field(alloc, text, "last-final-stats", &self.last_final_stats);
-        let object = object.field(alloc, text, "success-count", &self.success_count);
+        let object = ObjectWriter::begin(alloc, text);
+        let object = object.field(text, "completed", &self.completed);
+        let object = object.field(text, "failed-count", &self.failed_count);
+        let object = object.field(text, "last-final-stats", &self.last_final_stats);
+        let object = object.field(text, "success-count", &self.success_count);
         object.end(text)
     }
 
@@ -218,9 +218,9 @@ impl Form for TestsNotSeenSummary {
     ghost shallow = { within_depth refl };
 
     fn write(&self, alloc: Global, text: &mut JsonText) -> Result<(), AllocError> {
-        let object = ObjectWriter::begin(text);
-        let object = object.field(alloc, text, "not-seen", &self.not_seen);
-        let object = object.field(alloc, text, "total-not-seen", &self.total_not_seen);
+        let object = ObjectWriter::begin(alloc, text);
+        let object = object.field(text, "not-seen", &self.not_seen);
+        let object = object.field(text, "total-not-seen", &self.total_not_seen);
         object.end(text)
     }
 

@@ -31,9 +31,9 @@ impl Form for NamedTargets {
     ghost shallow = { within_depth refl };
 
     fn write(&self, alloc: Global, text: &mut JsonText) -> Result<(), AllocError> {
-        let object = ObjectWriter::begin(text);
-        let object = object.field(alloc, text, "all", &self.all);
-        let object = object.field(alloc, text, "names", &self.names);
+        let object = ObjectWriter::begin(alloc, text);
+        let object = object.field(text, "all", &self.all);
+        let object = object.field(text, "names", &self.names);
         object.end(text)
     }
 
@@ -72,10 +72,10 @@ impl Form for PackageSelection {
     ghost shallow = { within_depth refl };
 
     fn write(&self, alloc: Global, text: &mut JsonText) -> Result<(), AllocError> {
-        let object = ObjectWriter::begin(text);
-        let object = object.field(alloc, text, "exclude", &self.exclude);
-        let object = object.field(alloc, text, "specs", &self.specs);
-        let object = object.field(alloc, text, "workspace", &self.workspace);
+        let object = ObjectWriter::begin(alloc, text);
+        let object = object.field(text, "exclude", &self.exclude);
+        let object = object.field(text, "specs", &self.specs);
+        let object = object.field(text, "workspace", &self.workspace);
         object.end(text)
     }
 
@@ -115,13 +115,13 @@ impl Form for TargetSelection {
     ghost shallow = { within_depth refl };
 
     fn write(&self, alloc: Global, text: &mut JsonText) -> Result<(), AllocError> {
-        let object = ObjectWriter::begin(text);
-        let object = object.field(alloc, text, "all-targets", &self.all_targets);
-        let object = object.field(alloc, text, "benches", &self.benches);
-        let object = object.field(alloc, text, "bins", &self.bins);
-        let object = object.field(alloc, text, "examples", &self.examples);
-        let object = object.field(alloc, text, "lib", &self.lib);
-        let object = object.field(alloc, text, "tests", &self.tests);
+        let object = ObjectWriter::begin(alloc, text);
+        let object = object.field(text, "all-targets", &self.all_targets);
+        let object = object.field(text, "benches", &self.benches);
+        let object = object.field(text, "bins", &self.bins);
+        let object = object.field(text, "examples", &self.examples);
+        let object = object.field(text, "lib", &self.lib);
+        let object = object.field(text, "tests", &self.tests);
         object.end(text)
     }
 
@@ -164,15 +164,10 @@ impl Form for FeatureSelection {
     ghost shallow = { within_depth refl };
 
     fn write(&self, alloc: Global, text: &mut JsonText) -> Result<(), AllocError> {
-        let object = ObjectWriter::begin(text);
-        let object = object.field(alloc, text, "all-features", &self.all_features);
-        let object = object.field(alloc, text, "features", &self.features);
-        let object = object.field(
-            alloc,
-            text,
-            "no-default-features",
-            &self.no_default_features,
-        );
+        let object = ObjectWriter::begin(alloc, text);
+        let object = object.field(text, "all-features", &self.all_features);
+        let object = object.field(text, "features", &self.features);
+        let object = object.field(text, "no-default-features", &self.no_default_features);
         object.end(text)
     }
 
@@ -212,10 +207,10 @@ impl Form for BuildScope {
     ghost shallow = { within_depth refl };
 
     fn write(&self, alloc: Global, text: &mut JsonText) -> Result<(), AllocError> {
-        let object = ObjectWriter::begin(text);
-        let object = object.field(alloc, text, "features", &self.features);
-        let object = object.field(alloc, text, "packages", &self.packages);
-        let object = object.field(alloc, text, "targets", &self.targets);
+        let object = ObjectWriter::begin(alloc, text);
+        let object = object.field(text, "features", &self.features);
+        let object = object.field(text, "packages", &self.packages);
+        let object = object.field(text, "targets", &self.targets);
         object.end(text)
     }
 

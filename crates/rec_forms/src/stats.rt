@@ -25,21 +25,16 @@ impl FirstCounts {
     ghost use Rattle.rec_forms.specs.Stats.{first_counts_fields, first_counts_form, AreFirstCounts};
 
     /// Writes this part of `stats`.
-    fn write(
-        object: ObjectWriter,
-        alloc: Global,
-        text: &mut JsonText,
-        stats: &RunStats,
-    ) -> ObjectWriter
-        ensures { Writes object.is_failed text.old result.is_failed text.new
+    fn write(object: ObjectWriter, text: &mut JsonText, stats: &RunStats) -> ObjectWriter
+        ensures { Writes object text.old result text.new
             (first_counts_fields stats.now) (AreFirstCounts stats.now) }
     {
-        let object = object.field(alloc, text, "exec-failed", &stats.exec_failed);
-        let object = object.field(alloc, text, "failed", &stats.failed);
-        let object = object.field(alloc, text, "failed-slow", &stats.failed_slow);
-        let object = object.field(alloc, text, "failed-timed-out", &stats.failed_timed_out);
-        let object = object.field(alloc, text, "finished-count", &stats.finished_count);
-        object.field(alloc, text, "flaky", &stats.flaky)
+        let object = object.field(text, "exec-failed", &stats.exec_failed);
+        let object = object.field(text, "failed", &stats.failed);
+        let object = object.field(text, "failed-slow", &stats.failed_slow);
+        let object = object.field(text, "failed-timed-out", &stats.failed_timed_out);
+        let object = object.field(text, "finished-count", &stats.finished_count);
+        object.field(text, "flaky", &stats.flaky)
     }
 
     /// Reads this part.
@@ -76,21 +71,16 @@ impl MiddleCounts {
     ghost use Rattle.rec_forms.specs.Stats.{middle_counts_fields, middle_counts_form, AreMiddleCounts};
 
     /// Writes this part of `stats`.
-    fn write(
-        object: ObjectWriter,
-        alloc: Global,
-        text: &mut JsonText,
-        stats: &RunStats,
-    ) -> ObjectWriter
-        ensures { Writes object.is_failed text.old result.is_failed text.new
+    fn write(object: ObjectWriter, text: &mut JsonText, stats: &RunStats) -> ObjectWriter
+        ensures { Writes object text.old result text.new
             (middle_counts_fields stats.now) (AreMiddleCounts stats.now) }
     {
-        let object = object.field(alloc, text, "initial-run-count", &stats.initial_run_count);
-        let object = object.field(alloc, text, "leaky", &stats.leaky);
-        let object = object.field(alloc, text, "leaky-failed", &stats.leaky_failed);
-        let object = object.field(alloc, text, "passed", &stats.passed);
-        let object = object.field(alloc, text, "passed-slow", &stats.passed_slow);
-        object.field(alloc, text, "passed-timed-out", &stats.passed_timed_out)
+        let object = object.field(text, "initial-run-count", &stats.initial_run_count);
+        let object = object.field(text, "leaky", &stats.leaky);
+        let object = object.field(text, "leaky-failed", &stats.leaky_failed);
+        let object = object.field(text, "passed", &stats.passed);
+        let object = object.field(text, "passed-slow", &stats.passed_slow);
+        object.field(text, "passed-timed-out", &stats.passed_timed_out)
     }
 
     /// Reads this part.
@@ -128,52 +118,33 @@ impl LastCounts {
     ghost use Rattle.rec_forms.specs.Stats.{last_counts_fields, last_counts_form, AreLastCounts};
 
     /// Writes this part of `stats`.
-    fn write(
-        object: ObjectWriter,
-        alloc: Global,
-        text: &mut JsonText,
-        stats: &RunStats,
-    ) -> ObjectWriter
-        ensures { Writes object.is_failed text.old result.is_failed text.new
+    fn write(object: ObjectWriter, text: &mut JsonText, stats: &RunStats) -> ObjectWriter
+        ensures { Writes object text.old result text.new
             (last_counts_fields stats.now) (AreLastCounts stats.now) }
     {
         let object = object.field(
-            alloc,
             text,
             "setup-scripts-exec-failed",
             &stats.setup_scripts_exec_failed,
         );
+        let object = object.field(text, "setup-scripts-failed", &stats.setup_scripts_failed);
         let object = object.field(
-            alloc,
-            text,
-            "setup-scripts-failed",
-            &stats.setup_scripts_failed,
-        );
-        let object = object.field(
-            alloc,
             text,
             "setup-scripts-finished-count",
             &stats.setup_scripts_finished_count,
         );
         let object = object.field(
-            alloc,
             text,
             "setup-scripts-initial-count",
             &stats.setup_scripts_initial_count,
         );
+        let object = object.field(text, "setup-scripts-passed", &stats.setup_scripts_passed);
         let object = object.field(
-            alloc,
-            text,
-            "setup-scripts-passed",
-            &stats.setup_scripts_passed,
-        );
-        let object = object.field(
-            alloc,
             text,
             "setup-scripts-timed-out",
             &stats.setup_scripts_timed_out,
         );
-        object.field(alloc, text, "skipped", &stats.skipped)
+        object.field(text, "skipped", &stats.skipped)
     }
 
     /// Reads this part.
@@ -224,11 +195,11 @@ impl Form for RunStats {
     ghost shallow = { within_depth refl };
 
     fn write(&self, alloc: Global, text: &mut JsonText) -> Result<(), AllocError> {
-        let object = ObjectWriter::begin(text);
-        let object = object.optional(alloc, text, "cancel-reason", &self.cancel_reason);
-        let object = FirstCounts::write(object, alloc, text, self);
-        let object = MiddleCounts::write(object, alloc, text, self);
-        let object = LastCounts::write(object, alloc, text, self);
+        let object = ObjectWriter::begin(alloc, text);
+        let object = object.optional(text, "cancel-reason", &self.cancel_reason);
+        let object = FirstCounts::write(object, text, self);
+        let object = MiddleCounts::write(object, text, self);
+        let object = LastCounts::write(object, text, self);
         object.end(text)
     }
 

@@ -82,10 +82,10 @@ fn write_count(
         ++ value_tokens (stress_progress_value (Count total.now elapsed.now completed.now))) }
     ensures known { OnOk result (IsStressProgress (Count total.now elapsed.now completed.now)) }
 {
-    let object = ObjectWriter::begin_tagged(text, "count");
-    let object = object.field(alloc, text, "completed", completed);
-    let object = object.field(alloc, text, "elapsed", elapsed);
-    let object = object.optional(alloc, text, "total", total);
+    let object = ObjectWriter::begin_tagged(alloc, text, "count");
+    let object = object.field(text, "completed", completed);
+    let object = object.field(text, "elapsed", elapsed);
+    let object = object.optional(text, "total", total);
     object.end_tagged(text)
 }
 
@@ -101,10 +101,10 @@ fn write_time(
         ++ value_tokens (stress_progress_value (Time total.now elapsed.now completed.now))) }
     ensures known { OnOk result (IsStressProgress (Time total.now elapsed.now completed.now)) }
 {
-    let object = ObjectWriter::begin_tagged(text, "time");
-    let object = object.field(alloc, text, "completed", completed);
-    let object = object.field(alloc, text, "elapsed", elapsed);
-    let object = object.field(alloc, text, "total", total);
+    let object = ObjectWriter::begin_tagged(alloc, text, "time");
+    let object = object.field(text, "completed", completed);
+    let object = object.field(text, "elapsed", elapsed);
+    let object = object.field(text, "total", total);
     object.end_tagged(text)
 }
 

@@ -29,10 +29,10 @@ impl Form for Stamp {
     ghost shallow = { within_depth refl };
 
     fn write(&self, alloc: Global, text: &mut JsonText) -> Result<(), AllocError> {
-        let object = ObjectWriter::begin(text);
-        let object = object.field(alloc, text, "nanos", &self.nanos);
-        let object = object.field(alloc, text, "offset", &self.offset);
-        let object = object.field(alloc, text, "secs", &self.secs);
+        let object = ObjectWriter::begin(alloc, text);
+        let object = object.field(text, "nanos", &self.nanos);
+        let object = object.field(text, "offset", &self.offset);
+        let object = object.field(text, "secs", &self.secs);
         object.end(text)
     }
 
@@ -79,9 +79,9 @@ impl Form for Duration {
     ghost shallow = { within_depth refl };
 
     fn write(&self, alloc: Global, text: &mut JsonText) -> Result<(), AllocError> {
-        let object = ObjectWriter::begin(text);
-        let object = object.field(alloc, text, "nanos", &self.nanos);
-        let object = object.field(alloc, text, "secs", &self.secs);
+        let object = ObjectWriter::begin(alloc, text);
+        let object = object.field(text, "nanos", &self.nanos);
+        let object = object.field(text, "secs", &self.secs);
         object.end(text)
     }
 

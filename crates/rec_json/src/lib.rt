@@ -2,7 +2,6 @@
 #![tactic(auto)]
 
 mod errors;
-mod fields;
 mod laws;
 mod lookup;
 mod node;

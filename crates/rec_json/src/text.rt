@@ -25,7 +25,8 @@ use std::marker::Model;
 /// ```
 /// let mut text = JsonText::new(alloc);
 /// text.begin_object()?;
-/// text.string_field("name", "t1")?;
+/// text.key("name")?;
+/// text.string("t1")?;
 /// text.key("runs")?;
 /// text.begin_array()?;
 /// text.natural(1)?;

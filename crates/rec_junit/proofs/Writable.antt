@@ -1,5 +1,5 @@
 -- A report is writable: its text is read as its value.
-use Rattle.std.proofs.Common.{◌≤◌, ℕ, suc, List, Option, refl, arith}
+use Rattle.std.proofs.Common.{◌≤◌, ℕ, List, Option, refl, arith}
 use Rattle.std.specs.List.{AllByRecursion}
 use Rattle.std.specs.Prelude.{IfSome, option_map, codes}
 use Rattle.serde_json.specs.Data.{string}

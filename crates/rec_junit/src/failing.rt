@@ -1,9 +1,9 @@
 //! How a result is reported that is no success.
-ghost use Rattle.std.specs.Prelude.{◌≡◌, Some, IfOk, codes};
+ghost use Rattle.std.specs.Prelude.{◌≡◌, ◌++◌, ℕ, List, Some, IfOk, codes};
 ghost use Rattle.rec_events.specs.declared.results.ExecutionResultDescription.TheVariants.{Leak, Fail, Timeout};
 ghost use Rattle.rec_junit.specs.declared.errors.JunitError.TheVariants.{SuccessAsFailure};
 ghost use Rattle.rec_junit.specs.declared.report.JunitKind.TheVariants.{Error};
-ghost use Rattle.rec_junit.specs.Failing.{failing, failure_text, leaked_note, script_unit, test_unit};
+ghost use Rattle.rec_junit.specs.Failing.{failed, failing, failure_text, leaked_note, script_unit, test_unit};
 ghost use Rattle.rec_junit.specs.Judging.{Judges, or_refused};
 
 use crate::{JunitError, JunitKind};
@@ -69,16 +69,22 @@ fn leak_failure(
 ) -> Result<FailureKind, AllocError>
     ensures { IfOk result (λ failure. failing unit.now (Leak counts_as) ≡ Some failure) }
 {
-    let type_text = match counts_as {
-        LeakTimeoutResult::Pass => format!(in alloc; "{unit} passed but leaked handles")?,
-        LeakTimeoutResult::Fail => format!(in alloc;
-            "{unit} exited with code 0, but leaked handles so was marked failed"
-        )?,
-    };
     Ok(FailureKind {
         kind: JunitKind::Error,
-        type_text: Text::new(type_text),
+        type_text: Text::new(format!(in alloc; "{unit}{}", leak_note(counts_as))?),
     })
+}
+
+/// Says what became of a unit that left an output open after a pass.
+fn leak_note(counts_as: LeakTimeoutResult) -> &'static str
+    ensures { (unit : List ℕ) → failing unit (Leak counts_as) ≡ failed Error (unit ++ result.now) }
+{
+    match counts_as {
+        LeakTimeoutResult::Pass => " passed but leaked handles",
+        LeakTimeoutResult::Fail => {
+            " exited with code 0, but leaked handles so was marked failed"
+        }
+    }
 }
 
 /// Says how a process that failed is reported.

@@ -1,23 +1,24 @@
 //! The JSON of a report.
 ghost use Rattle.std.specs.List.{AllByRecursion};
-ghost use Rattle.std.specs.Prelude.{◌≡◌, ◌++◌, false, Some, IfOk, IfSome, OnOk, string_bytes};
+ghost use Rattle.std.specs.Prelude.{◌≡◌, [], ◌∷◌, ◌++◌, codes, false, Some, IfOk, IfSome, OnOk, string_bytes};
 ghost use Rattle.serde_json.specs.Data.{Data};
 ghost use Rattle.serde_json.specs.View.{view};
 ghost use Rattle.serde_json.specs.Written.{compact_text, has_float};
-ghost use Rattle.rec_json.specs.Tokens.{value_tokens, with_field, with_fields};
+ghost use Rattle.rec_json.specs.Fields.{tagged};
+ghost use Rattle.rec_json.specs.Tokens.{value_tokens};
 ghost use Rattle.rec_events.specs.Names.{IsText};
-ghost use Rattle.rec_forms.specs.Lists.{list_value};
+ghost use Rattle.rec_forms.specs.ObjectWriting.{Writes};
 ghost use Rattle.rec_forms.specs.Times.{IsDuration, IsStamp};
 ghost use Rattle.rec_forms.specs.Writable.{IsWritable};
 ghost use Rattle.rec_junit.specs.Reports.{IsRerun};
-ghost use Rattle.rec_junit.specs.Values.{failed_value, failure_fields, kind_name, report_value, rerun_kind_name, rerun_value, run_fields};
+ghost use Rattle.rec_junit.specs.Values.{failed_value, failure_fields, kind_name, report_value, rerun_kind_name, run_fields};
 
 use crate::{
     JunitCase, JunitKind, JunitProperty, JunitReport, JunitRerun, JunitRerunKind, JunitStatus,
     JunitSuite,
 };
 use rec_events::{Duration, Items, Stamp, Text};
-use rec_forms::{value_of_text, write_field, write_optional, write_tagged};
+use rec_forms::{ObjectWriter, value_of_text, write_tagged};
 use rec_json::JsonText;
 use serde_json::Value;
 use std::alloc::{AllocError, Global};
@@ -82,14 +83,13 @@ impl Part for JunitReport {
 
     #[tactic(auto, unfolding(crate::specs::Values::report_value))]
     fn write(&self, alloc: Global, text: &mut JsonText) -> Result<(), AllocError> {
-        text.begin_object()?;
-        write_field(alloc, text, "name", &self.name)?;
-        write_field(alloc, text, "run-id", &self.run_id)?;
-        write_list(alloc, text, "suites", &self.suites)?;
-        write_field(alloc, text, "time", &self.time)?;
-        write_field(alloc, text, "timestamp", &self.timestamp)?;
-        text.end_struct()?;
-        Ok(())
+        let object = ObjectWriter::begin(alloc, text);
+        let object = object.field(text, "name", &self.name);
+        let object = object.field(text, "run-id", &self.run_id);
+        let object = with_part(object, alloc, text, "suites", &self.suites)?;
+        let object = object.field(text, "time", &self.time);
+        let object = object.field(text, "timestamp", &self.timestamp);
+        object.end(text)
     }
 }
 
@@ -103,12 +103,11 @@ impl Part for JunitSuite {
 
     #[tactic(auto, unfolding(crate::specs::Values::suite_value))]
     fn write(&self, alloc: Global, text: &mut JsonText) -> Result<(), AllocError> {
-        text.begin_object()?;
-        write_list(alloc, text, "cases", &self.cases)?;
-        write_field(alloc, text, "name", &self.name)?;
-        write_list(alloc, text, "properties", &self.properties)?;
-        text.end_struct()?;
-        Ok(())
+        let object = ObjectWriter::begin(alloc, text);
+        let object = with_part(object, alloc, text, "cases", &self.cases)?;
+        let object = object.field(text, "name", &self.name);
+        let object = with_part(object, alloc, text, "properties", &self.properties)?;
+        object.end(text)
     }
 }
 
@@ -122,11 +121,10 @@ impl Part for JunitProperty {
 
     #[tactic(auto, unfolding(crate::specs::Values::property_value))]
     fn write(&self, alloc: Global, text: &mut JsonText) -> Result<(), AllocError> {
-        text.begin_object()?;
-        write_field(alloc, text, "name", &self.name)?;
-        write_field(alloc, text, "value", &self.value)?;
-        text.end_struct()?;
-        Ok(())
+        let object = ObjectWriter::begin(alloc, text);
+        let object = object.field(text, "name", &self.name);
+        let object = object.field(text, "value", &self.value);
+        object.end(text)
     }
 }
 
@@ -140,21 +138,19 @@ impl Part for JunitCase {
 
     #[tactic(auto, unfolding(crate::specs::Values::case_value))]
     fn write(&self, alloc: Global, text: &mut JsonText) -> Result<(), AllocError> {
-        text.begin_object()?;
-        write_field(alloc, text, "classname", &self.classname)?;
-        write_field(alloc, text, "name", &self.name)?;
-        text.key("status")?;
-        self.status.write(alloc, text)?;
-        write_run(
-            alloc,
+        let object = ObjectWriter::begin(alloc, text);
+        let object = object.field(text, "classname", &self.classname);
+        let object = object.field(text, "name", &self.name);
+        let object = with_part(object, alloc, text, "status", &self.status)?;
+        let object = with_run(
+            object,
             text,
             &self.timestamp,
             &self.time,
             &self.system_out,
             &self.system_err,
-        )?;
-        text.end_struct()?;
-        Ok(())
+        );
+        object.end(text)
     }
 }
 
@@ -169,8 +165,8 @@ impl Part for JunitStatus {
     fn write(&self, alloc: Global, text: &mut JsonText) -> Result<(), AllocError> {
         match self {
             JunitStatus::Success { reruns } => {
-                text.begin_object()?;
-                write_list(alloc, text, "success", reruns)?;
+                text.begin_tagged("success")?;
+                reruns.write(alloc, text)?;
                 text.end_tagged()?;
                 Ok(())
             }
@@ -181,21 +177,16 @@ impl Part for JunitStatus {
                 description,
                 reruns,
                 rerun_kind,
-            } => {
-                text.begin_tagged("non-success")?;
-                write_failed(
-                    alloc,
-                    text,
-                    *kind,
-                    type_text,
-                    message,
-                    description,
-                    reruns,
-                    *rerun_kind,
-                )?;
-                text.end_tagged()?;
-                Ok(())
-            }
+            } => write_failed(
+                alloc,
+                text,
+                *kind,
+                type_text,
+                message,
+                description,
+                reruns,
+                *rerun_kind,
+            ),
             JunitStatus::Skipped { message } => write_tagged(alloc, text, "skipped", message),
         }
     }
@@ -211,18 +202,35 @@ impl Part for JunitRerun {
 
     #[tactic(auto, unfolding(crate::specs::Values::rerun_value))]
     fn write(&self, alloc: Global, text: &mut JsonText) -> Result<(), AllocError> {
-        text.begin_object()?;
-        write_failure(alloc, text, self.kind, &self.message, &self.description)?;
-        write_run(
-            alloc,
+        let object = ObjectWriter::begin(alloc, text);
+        let object = with_failure(object, text, self.kind, &self.message, &self.description);
+        let object = with_run(
+            object,
             text,
             &self.timestamp,
             &self.time,
             &self.system_out,
             &self.system_err,
-        )?;
-        write_field(alloc, text, "type-text", &self.type_text)?;
-        text.end_struct()?;
+        );
+        let object = object.field(text, "type-text", &self.type_text);
+        object.end(text)
+    }
+}
+
+impl<T: Part> Part for Items<T> {
+    ghost use Rattle.std.specs.List.{AllByRecursion};
+    ghost use Rattle.rec_forms.specs.Lists.{list_value};
+
+    ghost well_formed = { AllByRecursion T.well_formed };
+
+    ghost value_of = { list_value T.value_of };
+
+    fn write(&self, alloc: Global, text: &mut JsonText) -> Result<(), AllocError> {
+        text.begin_array()?;
+        for item in self.as_slice() {
+            item.write(alloc, text)?;
+        }
+        text.end_list()?;
         Ok(())
     }
 }
@@ -239,77 +247,71 @@ fn write_failed(
     reruns: &Items<JunitRerun>,
     rerun_kind: JunitRerunKind,
 ) -> Result<(), AllocError>
-    ensures written { OnOk result (text.new ≡ text.old
-        ++ value_tokens (failed_value kind type_text.now message.now description.now reruns.now rerun_kind)) }
+    ensures written { OnOk result (text.new ≡ text.old ++ value_tokens (tagged (codes "non-success")
+        (failed_value kind type_text.now message.now description.now reruns.now rerun_kind))) }
     ensures known { OnOk result (IsText type_text.now × IfSome message.now IsText
         × IfSome description.now IsText × AllByRecursion IsRerun reruns.now) }
 {
-    text.begin_object()?;
-    write_failure(alloc, text, kind, message, description)?;
-    text.string_field("rerun-kind", rerun_kind_name(rerun_kind))?;
-    write_list(alloc, text, "reruns", reruns)?;
-    write_field(alloc, text, "type-text", type_text)?;
-    text.end_struct()?;
-    Ok(())
+    let object = ObjectWriter::begin_tagged(alloc, text, "non-success");
+    let object = with_failure(object, text, kind, message, description);
+    let object = object.text(text, "rerun-kind", rerun_kind_name(rerun_kind));
+    let object = with_part(object, alloc, text, "reruns", reruns)?;
+    let object = object.field(text, "type-text", type_text);
+    object.end_tagged(text)
 }
 
 /// Writes what failed, and how.
-fn write_failure(
-    alloc: Global,
+fn with_failure(
+    object: ObjectWriter,
     text: &mut JsonText,
     kind: JunitKind,
     message: &Option<Text>,
     description: &Option<Text>,
-) -> Result<(), AllocError>
-    ensures written { OnOk result (text.new
-        ≡ with_fields text.old (failure_fields kind message.now description.now)) }
-    ensures known { OnOk result (IfSome message.now IsText × IfSome description.now IsText) }
+) -> ObjectWriter
+    ensures { Writes object text.old result text.new
+        (failure_fields kind message.now description.now)
+        (IfSome message.now IsText × IfSome description.now IsText) }
 {
-    write_optional(alloc, text, "description", description)?;
-    text.string_field("kind", kind_name(kind))?;
-    write_optional(alloc, text, "message", message)?;
-    Ok(())
+    let object = object.optional(text, "description", description);
+    let object = object.text(text, "kind", kind_name(kind));
+    object.optional(text, "message", message)
 }
 
 /// Writes when something ran, and what it wrote.
-fn write_run(
-    alloc: Global,
+fn with_run(
+    object: ObjectWriter,
     text: &mut JsonText,
     timestamp: &Option<Stamp>,
     time: &Option<Duration>,
     system_out: &Option<Text>,
     system_err: &Option<Text>,
-) -> Result<(), AllocError>
-    ensures written { OnOk result (text.new
-        ≡ with_fields text.old (run_fields timestamp.now time.now system_out.now system_err.now)) }
-    ensures known { OnOk result (IfSome timestamp.now IsStamp × IfSome time.now IsDuration
+) -> ObjectWriter
+    ensures { Writes object text.old result text.new
+        (run_fields timestamp.now time.now system_out.now system_err.now)
+        (IfSome timestamp.now IsStamp × IfSome time.now IsDuration
         × IfSome system_out.now IsText × IfSome system_err.now IsText) }
 {
-    write_optional(alloc, text, "system-err", system_err)?;
-    write_optional(alloc, text, "system-out", system_out)?;
-    write_optional(alloc, text, "time", time)?;
-    write_optional(alloc, text, "timestamp", timestamp)?;
-    Ok(())
+    let object = object.optional(text, "system-err", system_err);
+    let object = object.optional(text, "system-out", system_out);
+    let object = object.optional(text, "time", time);
+    object.optional(text, "timestamp", timestamp)
 }
 
-/// Writes a list of parts of a report as a field.
-fn write_list<T: Part>(
+/// Writes a part of a report as a field.
+fn with_part<T: Part>(
+    object: ObjectWriter,
     alloc: Global,
     text: &mut JsonText,
     key: &str,
-    items: &Items<T>,
-) -> Result<(), AllocError>
-    ensures written { OnOk result (text.new
-        ≡ with_field key.now (Some (list_value T.value_of items.now)) text.old) }
-    ensures known { OnOk result (AllByRecursion T.well_formed items.now) }
+    part: &T,
+) -> Result<ObjectWriter, AllocError>
+    ensures { IfOk result (λ w. Writes object text.old w text.new
+        ((key.now, Some (T.value_of part.now)) ∷ []) (T.well_formed part.now)) }
 {
+    object.leave_open()?;
     text.key(key)?;
-    text.begin_array()?;
-    for item in items.as_slice() {
-        item.write(alloc, text)?;
-    }
-    text.end_list()?;
-    Ok(())
+    part.write(alloc, text)?;
+    Ok(ObjectWriter::resume(alloc))
 }
 
 /// Names a kind.

@@ -14,7 +14,7 @@ pub(crate) struct Bundle<'b> {
     pub(crate) words: &'b str,
     /// The version of the store.
     pub(crate) store_version: &'b str,
-    /// The entries behind the manifest.
+    /// The entries after the manifest.
     pub(crate) entries: &'b [(&'b str, &'b str)],
     /// The entries of the store, which stand in the place of its content, or none.
     pub(crate) store: &'b [(&'b str, &'b str)],

@@ -5,8 +5,8 @@ use Rattle.rec_container.specs.Causes.{Rose}
 use Rattle.rec_container.specs.Container.{Entry, IsContainer}
 use Rattle.rec_container.specs.declared.within.ReadError.TheVariants as read
 use Rattle.rec_container.specs.declared.within.ReadError.{ReadError}
-use Rattle.rec_container.specs.Fronts.{IsWholeFront}
 use Rattle.rec_container.specs.Taking.{TookPart}
+use Rattle.rec_container.specs.WholePrefixes.{IsWholePrefix}
 use Rattle.rec_container.specs.Within.{Gave, Unread}
 use Rattle.rec_format.specs.declared.manifest.PortableManifest.{PortableManifest}
 use Rattle.rec_store.specs.declared.read_error.RecordReadError.TheVariants as parts
@@ -24,7 +24,7 @@ use Rattle.rec_portable.specs.Upgrading.{IsAccepted, IsRefused, open_error}
 use Rattle.rec_salvage.specs.declared.errors.SalvageError.TheVariants as salvages
 use Rattle.rec_salvage.specs.declared.errors.SalvageError.{SalvageError}
 use Rattle.rec_salvage.specs.declared.salvaging.Salvaged.{Salvaged}
-use Rattle.rec_salvage.specs.Refusals.{IsRefusal, front_refusal}
+use Rattle.rec_salvage.specs.Refusals.{IsRefusal, prefix_refusal}
 use Rattle.rec_salvage.specs.Salvages.{Salvages}
 use Rattle.rec_export.proofs.Complete.{no_more, same_session}
 use Rattle.rec_export.specs.declared.settings.Settings.{Settings}
@@ -173,13 +173,13 @@ module _ {S B T G : Type 0} (left : S → Option (List ℕ)) (source_faults : S 
   not_salvaged other (inl (s, shows, inr f)) = let r = of_run s shows in inr (r.bytes, r.es, r.stopped, s, r.gave, r.is, r.found, r.salvages, inr (f.3.0, f.1))
   not_salvaged other (inr r) = inl r.2
 
-  module _ (bytes : List ℕ) (es front : List Entry) (stopped : StoppedRun) (has : left s0 ≡ Some bytes) (short : length bytes ≤ settings.session_limit) (is : IsContainer bytes es)
-      (found : stopped_run settings.read_limit es ≡ Ok stopped) (whole : IsWholeFront stopped.store front) (sound : front_refusal front ≡ None)
+  module _ (bytes : List ℕ) (es prefix : List Entry) (stopped : StoppedRun) (has : left s0 ≡ Some bytes) (short : length bytes ≤ settings.session_limit) (is : IsContainer bytes es)
+      (found : stopped_run settings.read_limit es ≡ Ok stopped) (whole : IsWholePrefix stopped.store prefix) (sound : prefix_refusal prefix ≡ None)
       (source : ¬ (Rose (source_faults s0) (source_faults s1))) (sink : ¬ (Rose (bundle_faults b0) (bundle_faults b1))) (out : ¬ (Rose (out_faults o0) (out_faults o1))) where
     -- a store whose metadata is read is refused for want of memory alone
     unrefused : (store : List ℕ) (fault : SalvageError) → store ≡ stopped.store → RefusesStore store fault → fault ≡ salvages.OutOfMemory
     unrefused store fault same r =
-        subst (λ (o : Option SalvageError). IsRefusal o fault) sound (r.first front (subst (λ (b : List ℕ). IsWholeFront b front) (sym same) whole))
+        subst (λ (o : Option SalvageError). IsRefusal o fault) sound (r.first prefix (subst (λ (b : List ℕ). IsWholePrefix b prefix) (sym same) whole))
 
     same_run : (other : StoppedRun) → stopped_run settings.read_limit es ≡ Ok other → other ≡ stopped
     same_run other h = let both = sym h ∙ found in cc

@@ -2,8 +2,8 @@
 use Rattle.std.specs.Borrow.{Bor}
 use Rattle.std.specs.Prelude.{◌≡◌, ◌⊎◌, ℕ, List, Option, Some, None, Result, Ok, Err, codes}
 use Rattle.rec_container.specs.Container.{Entry, content_of}
-use Rattle.rec_container.specs.Fronts.{IsWholeFront}
 use Rattle.rec_container.specs.Reading.{◌>>=◌}
+use Rattle.rec_container.specs.WholePrefixes.{IsWholePrefix}
 use Rattle.rec_format.specs.declared.manifest.PortableManifest.{PortableManifest}
 use Rattle.rec_format.specs.declared.run.RecordedRunInfo.{RecordedRunInfo}
 use Rattle.rec_format.specs.Runs.{info_of}
@@ -15,7 +15,7 @@ use Rattle.rec_portable.specs.OuterEntries.{log_part}
 use Rattle.rec_salvage.specs.declared.errors.SalvageError.TheVariants as salvages
 use Rattle.rec_salvage.specs.declared.errors.SalvageError.{SalvageError}
 use Rattle.rec_salvage.specs.declared.salvaging.Salvaged.{Salvaged}
-use Rattle.rec_salvage.specs.Refusals.{IsRefusal, IsRefused, front_refusal}
+use Rattle.rec_salvage.specs.Refusals.{IsRefusal, IsRefused, prefix_refusal}
 use Rattle.rec_salvage.specs.Salvages.{Salvages}
 use Rattle.rec_faults.specs.FaultLine.{Shown, no_fields, sink_shown, variant}
 use Rattle.rec_faults.specs.ReadingLine.{bundle_shown}
@@ -70,10 +70,10 @@ refusal_status (Store e) = salvage_status e
 refusal_status BundleFailed = 10
 refusal_status OutOfMemory = 70
 
--- the store is refused so: by its whole front, where it has one
+-- the store is refused so: by its whole prefix, where it has one
 pub record RefusesStore (store : List ℕ) (e : SalvageError) : Type 0 where
   pub refused : IsRefused store e
-  pub first : (es : List Entry) → IsWholeFront store es → IsRefusal (front_refusal es) e
+  pub first : (es : List Entry) → IsWholePrefix store es → IsRefusal (prefix_refusal es) e
 
 -- ---- what is made
 

@@ -3,8 +3,8 @@ ghost use Rattle.std.specs.Io.KnownBytes.{Appends};
 ghost use Rattle.std.specs.Prelude.{◌≡◌, ◌↔◌, ◌≤◌, ◌⊎◌, ℕ, List, length, Some, None, Ok, IsErr, string_bytes};
 ghost use Rattle.rec_container.specs.Causes.{Rose};
 ghost use Rattle.rec_container.specs.Container.{Entry, IsContainer};
-ghost use Rattle.rec_container.specs.Fronts.{IsWholeFront};
 ghost use Rattle.rec_container.specs.Taking.{TookPart};
+ghost use Rattle.rec_container.specs.WholePrefixes.{IsWholePrefix};
 ghost use Rattle.rec_container.specs.Within.{Gave};
 ghost use Rattle.rec_format.specs.declared.manifest.PortableManifest.{PortableManifest};
 ghost use Rattle.rec_codec.specs.LineReading.{first_line_fault};
@@ -18,7 +18,7 @@ ghost use Rattle.rec_portable.specs.Upgrades.{IsUpgradable, Upgrades};
 ghost use Rattle.rec_portable.specs.Upgrading.{IsAccepted};
 ghost use Rattle.rec_replay.specs.declared.output_load.LoadOutput.{LoadOutput};
 ghost use Rattle.rec_salvage.specs.declared.salvaging.Salvaged.{Salvaged};
-ghost use Rattle.rec_salvage.specs.Refusals.{front_refusal};
+ghost use Rattle.rec_salvage.specs.Refusals.{prefix_refusal};
 ghost use Rattle.rec_salvage.specs.Salvages.{Salvages};
 ghost use Rattle.rec_slots.specs.declared.report.SlotReport.{SlotReport};
 ghost use Rattle.rec_slots.specs.Refusals.{Reports};
@@ -322,15 +322,15 @@ pub fn run_program<S: Source, B: Sink, T: Sink, G: Sink>(
         → ¬ Rose (B.faults bundle.old) (B.faults bundle.new)
         → (result ≡ 0) ⊎ (result ≡ 70) }
 
-    // So is a run salvaged, where the metadata is read in the whole front of its store.
-    ensures salvaged_complete { (path : List ℕ) (settings : Settings) (bytes : List ℕ) (es front : List Entry) (stopped : StoppedRun)
+    // So is a run salvaged, where the metadata is read in the whole prefix of its store.
+    ensures salvaged_complete { (path : List ℕ) (settings : Settings) (bytes : List ℕ) (es prefix : List Entry) (stopped : StoppedRun)
         → command (texts words.now) ≡ Ok (salvaging path settings)
         → S.left source.old ≡ Some bytes
         → length bytes ≤ settings.session_limit
         → IsContainer bytes es
         → stopped_run settings.read_limit es ≡ Ok stopped
-        → IsWholeFront stopped.store front
-        → front_refusal front ≡ None
+        → IsWholePrefix stopped.store prefix
+        → prefix_refusal prefix ≡ None
         → ¬ Rose (S.faults source.old) (S.faults source.new)
         → ¬ Rose (B.faults bundle.old) (B.faults bundle.new)
         → ¬ Rose (T.faults out.old) (T.faults out.new)

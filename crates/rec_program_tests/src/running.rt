@@ -112,8 +112,8 @@ fn run(
 fn shown(alloc: Global, status: u8, sinks: &Sinks, sound: &Sinks) -> Result<String, AllocError> {
     let bundle = sinks.bundle.bytes();
     let out = sinks.out.bytes();
-    let is_front = sound.bundle.bytes().starts_with(bundle) && sound.out.bytes().starts_with(out);
-    let others = if is_front { "" } else { " of others" };
+    let is_prefix = sound.bundle.bytes().starts_with(bundle) && sound.out.bytes().starts_with(out);
+    let others = if is_prefix { "" } else { " of others" };
     let bundle = bundle.len();
     let out = out.len();
     let line = str::from_utf8(sinks.diag.bytes()).unwrap_or("no text");

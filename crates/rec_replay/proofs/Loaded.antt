@@ -168,6 +168,10 @@ module _ {T U V : Type 0} (l m n f g k : ℕ) (O M N : List Entry → Type 0) (n
     named = λ h. q.named (none_behind ns ms h);
   }
 
+-- memory ran out before anything was read
+pub loads_short : {T : Type 0} (l f : ℕ) (O : List Entry → Type 0) (ns : List OutputFileName) (x : List Entry → T) → Loads l l f f O O ns x (Err OutOfMemory)
+loads_short l f O ns x = record { answer = λ es w. tt; same = keeps_all l O; cause = record { later = omega arith; failed = tt }; named = λ h. refl }
+
 -- both were read, and then memory ran out
 pub loads_wanting : {T U W : Type 0} (l m n f g k : ℕ) (O M N : List Entry → Type 0) (ns ms names : List OutputFileName) (x : List Entry → T) (y : List Entry → U) (z : List Entry → W) (a : T) (b : U)
     → Loads l m f g O M ns x (Ok a) → Loads m n g k M N ms y (Ok b) → Loads l n f k O N names z (Err OutOfMemory)

@@ -1,7 +1,7 @@
 -- What a loop that reads outputs has read.
-use Rattle.std.proofs.Common.{◌≡◌, ℕ, ◌+◌, ◌<◌, List, [], ◌∷◌, ◌++◌, length, map, take, drop, get_or, Ok, Err, refl, sym, ◌∙◌, ap, add-one}
+use Rattle.std.proofs.Common.{◌≡◌, ℕ, ◌+◌, ◌<◌, ◌≤◌, List, [], ◌∷◌, ◌++◌, length, map, take, drop, get_or, Ok, Err, refl, sym, ◌∙◌, ap, subst, add-one}
 use Rattle.std.proofs.lemmas.Grind.{flat_map-append}
-use Rattle.std.proofs.lemmas.List.{map-append, take-append-drop}
+use Rattle.std.proofs.lemmas.List.{map-append, take-append-drop, take_all}
 use Rattle.std.proofs.Math.Seq.{take-suc}
 use Rattle.std.specs.List.{flat_map}
 use Rattle.rec_container.specs.Container.{Entry}
@@ -50,6 +50,12 @@ module _ {A B : Type 0} (names : A → List OutputFileName) (made : List Entry �
       (names_parted names (take i ss) (drop (i + 1) ss) s ∙ ap (flat_map names) (parted ss i s below here))
       (loads_before l n f k O N (flat_map names (take i ss) ++ names s) (flat_map names (drop (i + 1) ss)) z z e
       (loads_after l m n f g k O M N (flat_map names (take i ss)) (names s) (λ es. map (made es) (take i ss)) (λ es. made es s) z done p e q))
+
+-- all of them were read
+pub loads_done : {A B : Type 0} (names : A → List OutputFileName) (made : List Entry → A → B) (l m f g : ℕ) (O M : List Entry → Type 0) (ss : List A) (i : ℕ) (items : List B) → length ss ≤ i
+    → Loads l m f g O M (flat_map names (take i ss)) (λ es. map (made es) (take i ss)) (Ok items) → Loads l m f g O M (flat_map names ss) (λ es. map (made es) ss) (Ok items)
+loads_done {A} names made l m f g O M ss i items over p =
+    subst (λ (ts : List A). Loads l m f g O M (flat_map names ts) (λ es. map (made es) ts) (Ok items)) (take_all i ss over) p
 
 -- one more is the same, in one respect
 pub same_more : {A B C : Type 0} (f : A → C) (g : B → C) (ss : List A) (i : ℕ) (s : A) (done items : List B) (b : B) → i < length ss → s ≡ get_or ss i s → items ≡ done ++ (b ∷ [])

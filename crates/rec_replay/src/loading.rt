@@ -10,12 +10,13 @@ ghost use Rattle.rec_replay.specs.Replaying.{left_out, unloaded};
 
 use crate::output_load::LoadOutput;
 use rec_events::{
-    ChildExecutionOutputDescription, ChildOutputDescription, ChildSingleOutput, ExecuteStatus,
-    ExecutionStatuses, Items, LiveSpec, OutputFileName, RecordingSpec, SetupScriptExecuteStatus,
+    ChildExecutionOutputDescription, ChildOutputDescription, ChildSingleOutput, ErrorSummary,
+    ExecuteStatus, ExecutionResultDescription, ExecutionStatuses, Items, LiveSpec,
+    OutputErrorSlice, OutputFileName, RecordingSpec, SetupScriptExecuteStatus, Text, TextMap,
     TryClone, ZipStoreOutput, ZipStoreOutputDescription,
 };
 use rec_store::{RecordReadError, StoreReader};
-use std::alloc::Global;
+use std::alloc::{AllocError, Global};
 
 /// Reads the output of a name.
 fn load_named(
@@ -125,14 +126,20 @@ fn load_execution(
             output,
             errors,
         } => {
-            let result = result.try_clone(alloc)?;
             let errors = errors.try_clone(alloc)?;
-            let output = load_description(alloc, reader, load, output)?;
-            Ok(ChildExecutionOutputDescription::Output {
-                result,
-                output,
-                errors,
-            })
+            let result = result.try_clone(alloc)?;
+            match load_description(alloc, reader, load, output) {
+                Ok(output) => Ok(ChildExecutionOutputDescription::Output {
+                    result,
+                    output,
+                    errors,
+                }),
+                Err(error) => {
+                    drop(result);
+                    drop(errors);
+                    Err(error)
+                }
+            }
         }
         ChildExecutionOutputDescription::StartError { message } => {
             let message = message.try_clone(alloc)?;
@@ -154,10 +161,15 @@ pub(crate) fn load_status(
     ensures skipped { load ≡ Skip → reader.new ≡ reader.old }
     ensures apart { IfOk result (λ y. status_with {T = LiveSpec} unloaded y ≡ status_with left_out status.now) }
 {
-    let result = status.result.try_clone(alloc)?;
-    let error_summary = status.error_summary.try_clone(alloc)?;
-    let output_error_slice = status.output_error_slice.try_clone(alloc)?;
-    let output = load_execution(alloc, reader, load, &status.output)?;
+    let copied = copy_result(alloc, status)?;
+    let output = match load_execution(alloc, reader, load, &status.output) {
+        Ok(output) => output,
+        Err(error) => {
+            drop(copied);
+            return Err(error);
+        }
+    };
+    let (error_summary, output_error_slice, result) = copied;
     Ok(ExecuteStatus {
         retry_data: status.retry_data,
         output,
@@ -170,6 +182,26 @@ pub(crate) fn load_status(
         output_error_slice,
         cpu_time: status.cpu_time,
     })
+}
+
+/// Copies the errors and the result of an attempt.
+fn copy_result(
+    alloc: Global,
+    status: &ExecuteStatus<RecordingSpec>,
+) -> Result<
+    (
+        Option<ErrorSummary>,
+        Option<OutputErrorSlice>,
+        ExecutionResultDescription,
+    ),
+    AllocError,
+>
+    ensures { IfOk result (λ c. c ≡ (status.now.error_summary, status.now.output_error_slice, status.now.result)) }
+{
+    let error_summary = status.error_summary.try_clone(alloc)?;
+    let output_error_slice = status.output_error_slice.try_clone(alloc)?;
+    let result = status.result.try_clone(alloc)?;
+    Ok((error_summary, output_error_slice, result))
 }
 
 /// Reads the outputs of a setup script, and copies the rest.
@@ -185,10 +217,15 @@ pub(crate) fn load_script_status(
     ensures skipped { load ≡ Skip → reader.new ≡ reader.old }
     ensures apart { IfOk result (λ y. script_status_with {T = LiveSpec} unloaded y ≡ script_status_with left_out status.now) }
 {
-    let result = status.result.try_clone(alloc)?;
-    let env_map = status.env_map.try_clone(alloc)?;
-    let error_summary = status.error_summary.try_clone(alloc)?;
-    let output = load_execution(alloc, reader, load, &status.output)?;
+    let copied = copy_script_result(alloc, status)?;
+    let output = match load_execution(alloc, reader, load, &status.output) {
+        Ok(output) => output,
+        Err(error) => {
+            drop(copied);
+            return Err(error);
+        }
+    };
+    let (env_map, error_summary, result) = copied;
     Ok(SetupScriptExecuteStatus {
         output,
         result,
@@ -198,6 +235,26 @@ pub(crate) fn load_script_status(
         env_map,
         error_summary,
     })
+}
+
+/// Copies the variables, the errors and the result of a setup script.
+fn copy_script_result(
+    alloc: Global,
+    status: &SetupScriptExecuteStatus<RecordingSpec>,
+) -> Result<
+    (
+        Option<TextMap<Text>>,
+        Option<ErrorSummary>,
+        ExecutionResultDescription,
+    ),
+    AllocError,
+>
+    ensures { IfOk result (λ c. c ≡ (status.now.env_map, status.now.error_summary, status.now.result)) }
+{
+    let env_map = status.env_map.try_clone(alloc)?;
+    let error_summary = status.error_summary.try_clone(alloc)?;
+    let result = status.result.try_clone(alloc)?;
+    Ok((env_map, error_summary, result))
 }
 
 /// Reads the outputs of all attempts of a test, in their order.

@@ -1,4 +1,4 @@
--- What is found under a name among the metadata of a front, and among entries that are chosen by their names.
+-- What is found under a name among the metadata of a prefix, and among entries that are chosen by their names.
 use Rattle.std.proofs.Common.{◌≡◌, ℕ, ◌<◌, ◌^◌, length, Bool, true, false, ◌||◌, ◌&&◌, not, List, [], ◌∷◌, ◌++◌, Option, Some, None, refl, sym, ap, subst, ◌∙◌, if◌then◌else◌, append-nil, append_assoc}
 use Rattle.std.proofs.lemmas.Bool.{and_from, and_parts}
 use Rattle.std.proofs.lemmas.Slice.Eq.{bytes_eq-Decides}

@@ -16,7 +16,7 @@ use Rattle.rec_format.specs.ScopeForms.{recorded_scope_form}
 use Rattle.rec_store.specs.Entries.{build_scope_path, cargo_metadata_path, record_opts_path, rerun_info_path, test_list_path}
 use Rattle.rec_store.specs.RunParts.{maybe_part, part, text_part}
 use Rattle.rec_salvage.specs.declared.errors.SalvageError.{SalvageError}
-use Rattle.rec_salvage.specs.Refusals.{content_refusal, front_refusal, maybe_refusal, part_refusal, stands_for}
+use Rattle.rec_salvage.specs.Refusals.{content_refusal, prefix_refusal, maybe_refusal, part_refusal, stands_for}
 
 -- the parts that are read of entries
 pub record AreParts (es : List Entry) : Type 0 where
@@ -57,7 +57,7 @@ read_text path None h = absurd cc
 read_text path (Some content) h = (content, ap (λ b. only b content) (passes path (is_utf8 content) h))
 
 -- where no part is refused, all are read
-pub parts_read : (es : List Entry) → front_refusal es ≡ None → AreParts es
+pub parts_read : (es : List Entry) → prefix_refusal es ≡ None → AreParts es
 parts_read es h =
     let first = neither (part_refusal build_scope_path (stands_for recorded_scope_form) (content_of es build_scope_path)) _ h in
     let second = neither (maybe_refusal rerun_info_path (stands_for rerun_info_form) (content_of es rerun_info_path)) _ first.1 in

@@ -8,7 +8,7 @@ use Rattle.std.specs.Str.{IsAscii}
 use Rattle.rec_container.proofs.Lengths.{length-entry, length-spell}
 use Rattle.rec_container.proofs.Spelling.{IsContainer-spell}
 use Rattle.rec_container.specs.Container.{Entry, AreFrom, IsName, entry, spell}
-use Rattle.rec_container.specs.Fronts.{IsWholeFront}
+use Rattle.rec_container.specs.WholePrefixes.{IsWholePrefix}
 use Rattle.rec_container.specs.Writing.{entry_named}
 use Rattle.rec_forms.specs.Recording.{test_list_form, record_opts_form}
 use Rattle.rec_forms.specs.Shape.{◌>>=◌}
@@ -40,7 +40,7 @@ use Rattle.rec_salvage.specs.declared.salvaging.Salvaged.{Salvaged}
 use Rattle.rec_salvage.specs.declared.store.KeptStore.{KeptStore}
 use Rattle.rec_salvage.specs.Gathering.{HasGathered}
 use Rattle.rec_salvage.specs.Keeping.{IsStore}
-use Rattle.rec_salvage.specs.Refusals.{front_refusal}
+use Rattle.rec_salvage.specs.Refusals.{prefix_refusal}
 use Rattle.rec_salvage.specs.Salvaged.{is_sound, manifest_text, named_entries, salvaged_bundle, salvaged_contents, salvaged_events, salvaged_lines, salvaged_log, salvaged_run, salvaged_sizes, salvaged_store}
 use Rattle.rec_salvage.specs.Salvages.{IsBundle, IsMade, Salvages}
 use Rattle.rec_salvage.specs.WholeLines.{whole_lines}
@@ -112,7 +112,7 @@ module _ (run : RecordedRunInfo) (log : List ℕ) (es : List Entry) (are : ArePa
 
 -- ---- its reading
 
-module _ (run : RecordedRunInfo) (log : List ℕ) (es : List Entry) (are : AreFrom [] es) (sound : front_refusal es ≡ None) (well : IsManifest (manifest_of (salvaged_run run es log)))
+module _ (run : RecordedRunInfo) (log : List ℕ) (es : List Entry) (are : AreFrom [] es) (sound : prefix_refusal es ≡ None) (well : IsManifest (manifest_of (salvaged_run run es log)))
     (small : length (salvaged_bundle run es log) < 2 ^ 64) where
   abbrev events : List RecordedEvent
   events = salvaged_events es log
@@ -154,14 +154,14 @@ module _ (run : RecordedRunInfo) (log : List ℕ) (es : List Entry) (are : AreFr
   events_are = resolved_stay es events
 
 -- the bundle that was made is what is salvaged
-pub salvages : (run : RecordedRunInfo) (log bytes : List ℕ) (es : List Entry) (s : Salvaged) → IsWholeFront bytes es → front_refusal es ≡ None → IsMade run log es s → Salvages run log bytes s
+pub salvages : (run : RecordedRunInfo) (log bytes : List ℕ) (es : List Entry) (s : Salvaged) → IsWholePrefix bytes es → prefix_refusal es ≡ None → IsMade run log es s → Salvages run log bytes s
 unfolding recorded
-salvages run log bytes es s front sound made =
+salvages run log bytes es s prefix sound made =
     let small = subst (λ (b : List ℕ). length b < 2 ^ 64) made.bundle made.short in
-    let are = front.front.entries in
+    let are = prefix.prefix.entries in
     record {
       entries = es;
-      front = front;
+      prefix = prefix;
       sound = sound;
       bundle = made.bundle;
       events = made.events;

@@ -1,4 +1,4 @@
--- The store that is made of a front's metadata and of the entries that events name.
+-- The store that is made of a prefix's metadata and of the entries that events name.
 use Rattle.std.proofs.Common.{◌≡◌, ℕ, Bool, true, false, ◌||◌, ◌&&◌, not, cond, List, [], ◌∷◌, ◌++◌, Option, Some, None, is_some, refl, sym, ap, subst, ◌∙◌, if◌then◌else◌, map}
 use Rattle.std.proofs.lemmas.Bool.{and_from}
 use Rattle.std.proofs.lemmas.List.Elements.{filter-append}
@@ -17,7 +17,7 @@ use Rattle.rec_store.specs.RunParts.{is_metadata, metadata_paths, outputs_of}
 use Rattle.rec_salvage.proofs.FoundEntries.{all_chosen, append_from, chosen, chosen_found, chosen_from, chosen_missing, listed_found, listed_from, listed_of}
 use Rattle.rec_salvage.proofs.ResolvedEvents.{events_same}
 use Rattle.rec_salvage.specs.Gathering.{is_among}
-use Rattle.rec_salvage.specs.Salvaged.{front_metadata, kept_entries, listed, named_entries}
+use Rattle.rec_salvage.specs.Salvaged.{prefix_metadata, kept_entries, listed, named_entries}
 
 -- ---- tests of names
 
@@ -65,7 +65,7 @@ others_chosen t (e ∷ es) apart = by (t e.name) refl (others_chosen t es apart)
     by true is rest = (apart e.name is, rest)
     by false is rest = rest
 
--- ---- over a front, and events
+-- ---- over a prefix, and events
 
 module _ (es : List Entry) (events : List RecordedEvent) where
   abbrev paths : List (List ℕ)
@@ -77,21 +77,21 @@ module _ (es : List Entry) (events : List RecordedEvent) where
   no_metadata : (name : List ℕ) → is_among paths name ≡ true → is_metadata name ≡ false
   no_metadata name h = let output = among_have IsOutputPath paths name (event_paths_are events) h in ap is_metadata output.1 ∙ path_of_output output.0
 
-  -- the metadata is found there as in the front
+  -- the metadata is found there as in the prefix
   pub metadata_stays : (path : List ℕ) → is_metadata path ≡ true → content_of kept path ≡ content_of es path
   metadata_stays path is = by (content_of es path) refl (listed_found es metadata_paths path ∙ ap (λ b. if b then content_of es path else None) is)
     where
-      by : (o : Option (List ℕ)) → content_of es path ≡ o → content_of (front_metadata es) path ≡ content_of es path → content_of kept path ≡ content_of es path
+      by : (o : Option (List ℕ)) → content_of es path ≡ o → content_of (prefix_metadata es) path ≡ content_of es path → content_of kept path ≡ content_of es path
       by None none first =
-          content_of-missing (front_metadata es) (named_entries es events) path (first ∙ none)
+          content_of-missing (prefix_metadata es) (named_entries es events) path (first ∙ none)
           ∙ chosen_missing (is_among paths) es path none
           ∙ sym none
-      by (Some c) some first = content_of-found (front_metadata es) (named_entries es events) path c (first ∙ some) ∙ sym some
+      by (Some c) some first = content_of-found (prefix_metadata es) (named_entries es events) path c (first ∙ some) ∙ sym some
 
   -- and so are the outputs that are named
   pub output_stays : (path : List ℕ) → is_among paths path ≡ true → content_of kept path ≡ content_of es path
   output_stays path is =
-      content_of-missing (front_metadata es) (named_entries es events) path
+      content_of-missing (prefix_metadata es) (named_entries es events) path
       (listed_found es metadata_paths path ∙ ap (λ b. if b then content_of es path else None) (no_metadata path is))
       ∙ chosen_found (is_among paths) es path is
 
@@ -102,13 +102,13 @@ module _ (es : List Entry) (events : List RecordedEvent) where
   pub resolved_stay : map (event_resolved kept) events ≡ map (event_resolved es) events
   resolved_stay = events_same kept es events outputs_stay
 
-  -- where all outputs are in the front, they are those of the store
+  -- where all outputs are in the prefix, they are those of the store
   pub outputs_read : list_all (λ p. is_some (content_of es p)) paths ≡ true → outputs_of events kept ≡ Some (named_entries es events)
   outputs_read there =
       let named = named_entries es events in
       let all_named : List Entry → Bool = λ l. list_all (λ (e : Entry). list_any (λ p. bytes_eq e.name p) paths) l in
       let others : filter is_other kept ≡ named =
-      filter-append is_other (front_metadata es) named
+      filter-append is_other (prefix_metadata es) named
       ∙ ap (λ l. l ++ filter is_other named) (left_out es metadata_paths (refl, (refl, (refl, (refl, (refl, tt))))))
       ∙ others_stay named (others_chosen (is_among paths) es no_metadata) in
       let agree : AllByRecursion (λ p. is_some (content_of kept p) ≡ is_some (content_of es p)) paths =
@@ -120,6 +120,6 @@ module _ (es : List Entry) (events : List RecordedEvent) where
   -- its entries have spellings
   pub kept_from : AreFrom [] es → AreFrom [] kept
   kept_from are =
-      append_from [] (front_metadata es) (named_entries es events) (listed_from es are metadata_paths [] [] (λ name other. refl) refl)
-      (chosen_from (is_among paths) [] (front_metadata es) es
+      append_from [] (prefix_metadata es) (named_entries es events) (listed_from es are metadata_paths [] [] (λ name other. refl) refl)
+      (chosen_from (is_among paths) [] (prefix_metadata es) es
       (λ name named new. listed_found es metadata_paths name ∙ ap (λ b. if b then content_of es name else None) (no_metadata name named)) are)

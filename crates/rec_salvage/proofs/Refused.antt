@@ -1,14 +1,14 @@
--- Why a store is refused, by its whole front.
+-- Why a store is refused, by its whole prefix.
 use Rattle.std.proofs.Common.{◌≡◌, ℕ, Bool, true, false, List, ◌++◌, length, take, Option, Some, None, Result, Ok, Err, IfErr, inl, inr, refl, sym, ap, subst, ◌∙◌, arith}
 use Rattle.std.proofs.lemmas.Grind.{common_steps}
 use Rattle.std.proofs.lemmas.Slice.Eq.{bytes_eq-Decides}
 use Rattle.std.specs.List.{flat_map}
 use Rattle.std.specs.Option.{option_or}
 use Rattle.std.specs.Str.{is_utf8}
-use Rattle.rec_container.proofs.Fronts.{front_one}
+use Rattle.rec_container.proofs.WholePrefixes.{prefix_one}
 use Rattle.rec_container.specs.Container.{Entry, content_of, entry, magic}
-use Rattle.rec_container.specs.Fronts.{IsWholeFront}
 use Rattle.rec_container.specs.Reading.{has_magic}
+use Rattle.rec_container.specs.WholePrefixes.{IsWholePrefix}
 use Rattle.rec_forms.specs.Recording.{test_list_form, record_opts_form}
 use Rattle.rec_format.specs.RerunForms.{rerun_info_form}
 use Rattle.rec_format.specs.ScopeForms.{recorded_scope_form}
@@ -16,7 +16,7 @@ use Rattle.rec_store.specs.Entries.{build_scope_path, cargo_metadata_path, recor
 use Rattle.rec_salvage.specs.declared.errors.SalvageError.TheVariants.{BadMagic, MissingMeta, BadMeta, OpenArchive, OpenRunLog, DiskFault, OutOfMemory}
 use Rattle.rec_salvage.specs.declared.errors.SalvageError.{SalvageError}
 use Rattle.rec_salvage.specs.declared.salvaging.Salvaged.{Salvaged}
-use Rattle.rec_salvage.specs.Refusals.{HasRefusal, IsRefusal, IsRefused, Judges, content_refusal, front_refusal, maybe_refusal, part_refusal, stands_for}
+use Rattle.rec_salvage.specs.Refusals.{HasRefusal, IsRefusal, IsRefused, Judges, content_refusal, prefix_refusal, maybe_refusal, part_refusal, stands_for}
 
 -- ---- one part after the other
 
@@ -69,8 +69,8 @@ of_maybe : (path : List ℕ) (test : List ℕ → Bool) (o : Option (List ℕ)) 
 of_maybe path test None e h = absurd cc
 of_maybe path test (Some content) e h = of_content path (test content) e h
 
-of_front : (es : List Entry) → AreOfMetadata (front_refusal es)
-of_front es =
+of_prefix : (es : List Entry) → AreOfMetadata (prefix_refusal es)
+of_prefix es =
     first_of _ _ (of_part build_scope_path (stands_for recorded_scope_form) (content_of es build_scope_path))
     (first_of _ _ (of_maybe rerun_info_path (stands_for rerun_info_form) (content_of es rerun_info_path))
     (first_of _ _ (of_part test_list_path (stands_for test_list_form) (content_of es test_list_path))
@@ -89,45 +89,45 @@ has_refusal store (OpenRunLog path) is h = absurd is
 has_refusal store (DiskFault path) is h = absurd is
 has_refusal store OutOfMemory is h = tt
 
--- an error of judging the front is one of the store
-pub refused : (store : List ℕ) (es : List Entry) (e : SalvageError) → IsWholeFront store es → IsRefusal (front_refusal es) e → IsRefused store e
-refused store es e front h = by (front_refusal es) refl h
+-- an error of judging the prefix is one of the store
+pub refused : (store : List ℕ) (es : List Entry) (e : SalvageError) → IsWholePrefix store es → IsRefusal (prefix_refusal es) e → IsRefused store e
+refused store es e prefix h = by (prefix_refusal es) refl h
   where
-    by : (o : Option SalvageError) → front_refusal es ≡ o → IsRefusal o e → IsRefused store e
+    by : (o : Option SalvageError) → prefix_refusal es ≡ o → IsRefusal o e → IsRefused store e
     by None is same = subst (IsRefused store) (sym same) tt
-    by (Some r) is (inl same) = subst (IsRefused store) (sym same) (has_refusal store r (of_front es r is) (es, front, is))
+    by (Some r) is (inl same) = subst (IsRefused store) (sym same) (has_refusal store r (of_prefix es r is) (es, prefix, is))
     by (Some r) is (inr short) = subst (IsRefused store) (sym short) tt
 
--- a whole front stands after the magic
-take_front : (a b : List ℕ) → take (length a) (a ++ b) ≡ a
-take_front a b = grind (arith, common_steps)
+-- a whole prefix stands after the magic
+take_prefix : (a b : List ℕ) → take (length a) (a ++ b) ≡ a
+take_prefix a b = grind (arith, common_steps)
 
-magic_there : (store : List ℕ) (es : List Entry) → IsWholeFront store es → has_magic store ≡ true
+magic_there : (store : List ℕ) (es : List Entry) → IsWholePrefix store es → has_magic store ≡ true
 unfolding magic
-magic_there store es front =
-    (bytes_eq-Decides (take (length magic) store) magic).1 (ap (take (length magic)) front.front.spelled ∙ take_front magic (flat_map entry es ++ front.rest))
+magic_there store es prefix =
+    (bytes_eq-Decides (take (length magic) store) magic).1 (ap (take (length magic)) prefix.prefix.spelled ∙ take_prefix magic (flat_map entry es ++ prefix.rest))
 
 not_both : {A : Type 0} (b : Bool) → b ≡ true → b ≡ false → A
 not_both b holds fails = absurd (let k = sym holds ∙ fails in cc)
 
--- and one of the store is one of judging its front
-pub judged : (store : List ℕ) (es : List Entry) (e : SalvageError) → IsWholeFront store es → IsRefused store e → IsRefusal (front_refusal es) e
-judged store es e front h = by e h
+-- and one of the store is one of judging its prefix
+pub judged : (store : List ℕ) (es : List Entry) (e : SalvageError) → IsWholePrefix store es → IsRefused store e → IsRefusal (prefix_refusal es) e
+judged store es e prefix h = by e h
   where
-    same : (r : SalvageError) → HasRefusal store r → IsRefusal (front_refusal es) r
+    same : (r : SalvageError) → HasRefusal store r → IsRefusal (prefix_refusal es) r
     same r has =
-        let is = ap front_refusal (front_one store es has.0 front has.1) ∙ has.2 in
+        let is = ap prefix_refusal (prefix_one store es has.0 prefix has.1) ∙ has.2 in
         subst (λ (o : Option SalvageError). IsRefusal o r) (sym is) (inl refl)
 
-    by : (e : SalvageError) → IsRefused store e → IsRefusal (front_refusal es) e
-    by BadMagic none = not_both (has_magic store) (magic_there store es front) none
+    by : (e : SalvageError) → IsRefused store e → IsRefusal (prefix_refusal es) e
+    by BadMagic none = not_both (has_magic store) (magic_there store es prefix) none
     by (MissingMeta path) has = same (MissingMeta path) has
     by (BadMeta path) has = same (BadMeta path) has
     by (OpenArchive path) has = absurd has
     by (OpenRunLog path) has = absurd has
     by (DiskFault path) has = absurd has
-    by OutOfMemory has = want_of_memory (front_refusal es)
+    by OutOfMemory has = want_of_memory (prefix_refusal es)
 
-pub only_refused : (store : List ℕ) (es : List Entry) (r : Result Salvaged SalvageError) → IsWholeFront store es → IfErr r (IsRefused store) → IfErr r (IsRefusal (front_refusal es))
-only_refused store es (Ok s) front h = tt
-only_refused store es (Err e) front h = judged store es e front h
+pub only_refused : (store : List ℕ) (es : List Entry) (r : Result Salvaged SalvageError) → IsWholePrefix store es → IfErr r (IsRefused store) → IfErr r (IsRefusal (prefix_refusal es))
+only_refused store es (Ok s) prefix h = tt
+only_refused store es (Err e) prefix h = judged store es e prefix h

@@ -4,7 +4,7 @@ use Rattle.std.specs.List.{flat_map, list_all, AllByRecursion}
 use Rattle.std.specs.Option.{option_or}
 use Rattle.std.specs.Str.{is_utf8}
 use Rattle.serde_json.specs.Data.{Data}
-use Rattle.rec_container.proofs.Fronts.{front_one}
+use Rattle.rec_container.proofs.WholePrefixes.{prefix_one}
 use Rattle.rec_container.specs.Container.{Entry, content_of}
 use Rattle.rec_forms.specs.Outputs.{stored_outputs_value}
 use Rattle.rec_forms.specs.Recording.{test_list_form, record_opts_form}
@@ -32,7 +32,7 @@ use Rattle.rec_salvage.proofs.WholeLog.{all_sound, lines_and_part}
 use Rattle.rec_salvage.specs.declared.errors.SalvageError.TheVariants.{OutOfMemory}
 use Rattle.rec_salvage.specs.declared.errors.SalvageError.{SalvageError}
 use Rattle.rec_salvage.specs.declared.salvaging.Salvaged.{Salvaged}
-use Rattle.rec_salvage.specs.Refusals.{IsRefusal, IsRefused, front_refusal, maybe_refusal, part_refusal, stands_for}
+use Rattle.rec_salvage.specs.Refusals.{IsRefusal, IsRefused, prefix_refusal, maybe_refusal, part_refusal, stands_for}
 use Rattle.rec_salvage.specs.Salvaged.{event_in, has_all, is_sound, line_events, salvaged_events}
 use Rattle.rec_salvage.specs.Salvages.{Restores, Salvages}
 use Rattle.rec_salvage.specs.WholeLines.{sound_lines, spelled, whole_lines}
@@ -67,7 +67,7 @@ text_stands path (Some content) h = by (is_utf8 content) h
 no_refusal : (a b : Option SalvageError) → a ≡ None → b ≡ None → option_or a b ≡ None
 no_refusal a b p q = ap (λ o. option_or o b) p ∙ q
 
-unrefused : (es : List Entry) → HasMetadata es → front_refusal es ≡ None
+unrefused : (es : List Entry) → HasMetadata es → prefix_refusal es ≡ None
 unrefused es has =
     no_refusal _ _ (part_stands recorded_scope_form build_scope_path (content_of es build_scope_path) has.build_scope)
     (no_refusal _ _ (maybe_stands rerun_info_form rerun_info_path (content_of es rerun_info_path) has.rerun_info)
@@ -130,7 +130,7 @@ module _ (number : List ℕ → ℕ) (m : ℕ) (events : List LiveEvent) (run : 
   restored : (s : Salvaged) → Salvages run log store s → Restores m events s
   restored s made =
       let es = stopped.entries in
-      let same : made.entries ≡ es = front_one store made.entries es made.front stopped.front in
+      let same : made.entries ≡ es = prefix_one store made.entries es made.prefix stopped.prefix in
       let salvaged : salvaged_events made.entries log ≡ events_recorded number m events =
       ap (λ l. salvaged_events l log) same ∙ ap (salvaged_events es) stopped.log_is ∙ salvaged_are number m es events stopped.rest stopped.logged stopped.outputs stopped.unended in
       record {
@@ -143,4 +143,4 @@ module _ (number : List ℕ → ℕ) (m : ℕ) (events : List LiveEvent) (run : 
   pub nothing_lost : (r : Result Salvaged SalvageError) → IfOk r (Salvages run log store) → IfErr r (IsRefused store) → MatchResult r (Restores m events) (λ e. e ≡ OutOfMemory)
   nothing_lost (Ok s) made refused = restored s made
   nothing_lost (Err e) made refused =
-      subst (λ (o : Option SalvageError). IsRefusal o e) (unrefused stopped.entries stopped.metadata) (only_refused store stopped.entries (Err e) stopped.front refused)
+      subst (λ (o : Option SalvageError). IsRefusal o e) (unrefused stopped.entries stopped.metadata) (only_refused store stopped.entries (Err e) stopped.prefix refused)

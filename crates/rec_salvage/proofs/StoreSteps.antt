@@ -19,7 +19,7 @@ use Rattle.rec_salvage.specs.declared.gathering.Gathered.{Gathered}
 use Rattle.rec_salvage.specs.declared.store.KeptStore.{KeptStore}
 use Rattle.rec_salvage.specs.Gathering.{HasGathered, is_among}
 use Rattle.rec_salvage.specs.Keeping.{AddsEntries, IsStore, entries_in}
-use Rattle.rec_salvage.specs.Salvaged.{front_metadata, kept_entries, listed, named_entries}
+use Rattle.rec_salvage.specs.Salvaged.{prefix_metadata, kept_entries, listed, named_entries}
 
 -- ---- one entry
 
@@ -123,12 +123,12 @@ short_contents : (cs : List NamedContent) → AllByRecursion IsShort (map entry_
 short_contents [] h = tt
 short_contents (c ∷ cs) h = (h.0, short_contents cs h.1)
 
-pub contents_short : (es : List Entry) (paths : BTreeSet (String Global)) (cs : List NamedContent) → AreFrom [] es → map entry_of cs ≡ front_metadata es ++ entries_in paths es
+pub contents_short : (es : List Entry) (paths : BTreeSet (String Global)) (cs : List NamedContent) → AreFrom [] es → map entry_of cs ≡ prefix_metadata es ++ entries_in paths es
     → AllByRecursion (λ (c : NamedContent). length c.name.now < 65536) cs
 contents_short es paths cs are is =
     short_contents cs
     (subst (λ (l : List Entry). AllByRecursion IsShort l) (sym is)
-    (all_append IsShort (front_metadata es) (entries_in paths es) (listed_short es metadata_paths (omega arith, (omega arith, (omega arith, (omega arith, (omega arith, tt))))))
+    (all_append IsShort (prefix_metadata es) (entries_in paths es) (listed_short es metadata_paths (omega arith, (omega arith, (omega arith, (omega arith, (omega arith, tt))))))
     (chosen_short (contains_text paths) es (entries_short [] es are))))
 
 -- ---- what was gathered names the outputs
@@ -137,11 +137,11 @@ module _ (es : List Entry) (events : List RecordedEvent) (g : Gathered) (h : Has
   pub named_are : entries_in g.paths es ≡ named_entries es events
   named_are = filter_agree (λ e. contains_text g.paths e.name) (λ e. is_among (flat_map event_paths events) e.name) (λ e. h.paths e.name) es
 
-  pub kept_are : front_metadata es ++ entries_in g.paths es ≡ kept_entries es events
-  kept_are = ap (λ l. front_metadata es ++ l) named_are
+  pub kept_are : prefix_metadata es ++ entries_in g.paths es ≡ kept_entries es events
+  kept_are = ap (λ l. prefix_metadata es ++ l) named_are
 
   -- so the store that was made is the one that is kept
-  pub store_is : (cs : List NamedContent) (n : ℕ) (s : KeptStore) → map entry_of cs ≡ front_metadata es ++ entries_in g.paths es → n ≡ length (entries_in g.paths es) → IsStore (map entry_of cs) n s
+  pub store_is : (cs : List NamedContent) (n : ℕ) (s : KeptStore) → map entry_of cs ≡ prefix_metadata es ++ entries_in g.paths es → n ≡ length (entries_in g.paths es) → IsStore (map entry_of cs) n s
       → IsStore (kept_entries es events) (length (named_entries es events)) s
   store_is cs n s is count made =
       subst (λ (l : List Entry). IsStore l (length (named_entries es events)) s) (is ∙ kept_are) (subst (λ (k : ℕ). IsStore (map entry_of cs) k s) (count ∙ ap length named_are) made)

@@ -1,4 +1,4 @@
--- The store that is made of what a front has.
+-- The store that is made of what a prefix has.
 use Rattle.std.specs.BTreeSet.{BTreeSet, contains_text}
 use Rattle.std.specs.Global.{Global}
 use Rattle.std.specs.List.{filter}

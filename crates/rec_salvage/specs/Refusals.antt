@@ -4,8 +4,8 @@ use Rattle.std.specs.Prelude.{◌≡◌, ◌⊎◌, ℕ, Bool, false, List, Opti
 use Rattle.std.specs.Str.{is_utf8}
 use Rattle.serde_json.specs.Data.{Data}
 use Rattle.rec_container.specs.Container.{Entry, content_of}
-use Rattle.rec_container.specs.Fronts.{IsWholeFront}
 use Rattle.rec_container.specs.Reading.{has_magic}
+use Rattle.rec_container.specs.WholePrefixes.{IsWholePrefix}
 use Rattle.rec_forms.specs.Recording.{test_list_form, record_opts_form}
 use Rattle.rec_forms.specs.TextForm.{bytes_form}
 use Rattle.rec_format.specs.RerunForms.{rerun_info_form}
@@ -36,8 +36,8 @@ part_refusal path passes (Some content) = content_refusal path (passes content)
 -- ---- all parts
 
 -- the first part of the metadata that isn't read
-abbrev pub front_refusal : List Entry → Option SalvageError
-front_refusal es =
+abbrev pub prefix_refusal : List Entry → Option SalvageError
+prefix_refusal es =
     option_or (part_refusal build_scope_path (stands_for recorded_scope_form) (content_of es build_scope_path))
     (option_or (maybe_refusal rerun_info_path (stands_for rerun_info_form) (content_of es rerun_info_path))
     (option_or (part_refusal test_list_path (stands_for test_list_form) (content_of es test_list_path))
@@ -56,9 +56,9 @@ abbrev pub Judges : Option SalvageError → Result ⊤ SalvageError → Type 0
 Judges refusal (Ok done) = refusal ≡ None
 Judges refusal (Err e) = IsRefusal refusal e
 
--- the store has a whole front, of which this is the refusal
+-- the store has a whole prefix, of which this is the refusal
 abbrev pub HasRefusal : List ℕ → SalvageError → Type 0
-HasRefusal store e = (es : List Entry) × IsWholeFront store es × (front_refusal es ≡ Some e)
+HasRefusal store e = (es : List Entry) × IsWholePrefix store es × (prefix_refusal es ≡ Some e)
 
 -- why a store is refused
 abbrev pub IsRefused : List ℕ → SalvageError → Type 0

@@ -34,7 +34,7 @@ abbrev pub listed : List ℕ → Option (List ℕ) → List Entry
 listed path None = []
 listed path (Some content) = entry_named path content ∷ []
 
--- ---- over the entries of the store's whole front
+-- ---- over the entries of the store's whole prefix
 
 module _ (es : List Entry) where
   -- a line is sound where it is blank, or an event whose outputs are all there
@@ -47,8 +47,8 @@ module _ (es : List Entry) where
   is_sound line = has_all (line_event (text_of line))
 
   -- the metadata, in the order of a recording
-  abbrev pub front_metadata : List Entry
-  front_metadata = flat_map (λ path. listed path (content_of es path)) metadata_paths
+  abbrev pub prefix_metadata : List Entry
+  prefix_metadata = flat_map (λ path. listed path (content_of es path)) metadata_paths
 
   -- the entries that events name, in the order in which they were stored
   abbrev pub named_entries : List RecordedEvent → List Entry
@@ -56,7 +56,7 @@ module _ (es : List Entry) where
 
   -- the metadata, and the entries that events name
   abbrev pub kept_entries : List RecordedEvent → List Entry
-  kept_entries events = front_metadata ++ named_entries events
+  kept_entries events = prefix_metadata ++ named_entries events
 
   module _ (log : List ℕ) where
     -- the longest prefix of the log's lines that are sound

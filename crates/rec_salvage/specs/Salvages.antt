@@ -2,7 +2,7 @@
 use Rattle.std.specs.Global.{Global}
 use Rattle.std.specs.Prelude.{◌≡◌, ℕ, ◌<◌, ◌^◌, List, None, Vec, length, map}
 use Rattle.rec_container.specs.Container.{Entry, spell}
-use Rattle.rec_container.specs.Fronts.{IsWholeFront}
+use Rattle.rec_container.specs.WholePrefixes.{IsWholePrefix}
 use Rattle.rec_format.specs.declared.run.RecordedRunInfo.{RecordedRunInfo}
 use Rattle.rec_format.specs.RunForms.{IsManifest}
 use Rattle.rec_format.specs.Runs.{manifest_of}
@@ -11,7 +11,7 @@ use Rattle.rec_store.specs.Entries.{bundle_entries}
 use Rattle.rec_store.specs.Kept.{event_kept, event_resolved}
 use Rattle.rec_store.specs.Reading.{IsReading, RunRecord}
 use Rattle.rec_salvage.specs.declared.salvaging.Salvaged.{Salvaged}
-use Rattle.rec_salvage.specs.Refusals.{front_refusal}
+use Rattle.rec_salvage.specs.Refusals.{prefix_refusal}
 use Rattle.rec_salvage.specs.Salvaged.{manifest_text, named_entries, salvaged_bundle, salvaged_events, salvaged_run}
 
 -- the bundle of this run, log and store, which is short enough for its lengths; its manifest is one that reads back
@@ -20,7 +20,7 @@ pub record IsBundle (run : RecordedRunInfo) (log store : List ℕ) (bundle : Vec
   pub short : length bundle.items < 2 ^ 64
   pub manifest : IsManifest (manifest_of run)
 
--- the bundle of what is kept, by the entries of the store's whole front; its manifest is one that reads back
+-- the bundle of what is kept, by the entries of the store's whole prefix; its manifest is one that reads back
 pub record IsMade (run : RecordedRunInfo) (log : List ℕ) (es : List Entry) (s : Salvaged) : Type 0 where
   pub bundle : s.bundle.items ≡ salvaged_bundle run es log
   pub short : length s.bundle.items < 2 ^ 64
@@ -29,11 +29,11 @@ pub record IsMade (run : RecordedRunInfo) (log : List ℕ) (es : List Entry) (s 
   pub outputs : s.outputs ≡ length (named_entries es (salvaged_events es log))
 
 -- the bundle of what is kept of a run: it is read, its run is the run with the sizes of what is kept, and its events are
--- the salvaged ones with what the front has of their outputs
+-- the salvaged ones with what the prefix has of their outputs
 pub record Salvages (run : RecordedRunInfo) (log store : List ℕ) (s : Salvaged) : Type 0 where
   pub entries : List Entry
-  pub front : IsWholeFront store entries
-  pub sound : front_refusal entries ≡ None
+  pub prefix : IsWholePrefix store entries
+  pub sound : prefix_refusal entries ≡ None
   pub bundle : s.bundle.items ≡ salvaged_bundle run entries log
   pub events : s.events ≡ length (salvaged_events entries log)
   pub outputs : s.outputs ≡ length (named_entries entries (salvaged_events entries log))

@@ -2,7 +2,7 @@
 ghost use Rattle.std.specs.Prelude.{◌≡◌};
 ghost use Rattle.rec_salvage.specs.declared.errors.SalvageError.TheVariants.{BadMagic, OutOfMemory};
 
-use rec_container::FrontError;
+use rec_container::PrefixError;
 use rec_events::Text;
 use std::alloc::AllocError;
 use std::fmt;

@@ -32,17 +32,17 @@ impl Gathered {
     fn take_line<'a>(
         &mut self,
         alloc: Global,
-        front: &Container<'_>,
+        prefix: &Container<'_>,
         log: &'a [u8],
         scratch: &mut Scratch,
     ) -> Result<Option<&'a [u8]>, AllocError>
         requires { self.old.events + length log.now < 2 ^ 64 }
-        ensures { IfOk result (TakesFirst front.now.entries log.now self.old self.new) }
+        ensures { IfOk result (TakesFirst prefix.now.entries log.now self.old self.new) }
     {
         let Some((line, after)) = split_whole_line(log) else {
             return Ok(None);
         };
-        if self.add_line(alloc, front, line, scratch)? {
+        if self.add_line(alloc, prefix, line, scratch)? {
             Ok(Some(after))
         } else {
             Ok(None)
@@ -53,27 +53,27 @@ impl Gathered {
     fn add_line(
         &mut self,
         alloc: Global,
-        front: &Container<'_>,
+        prefix: &Container<'_>,
         line: &[u8],
         scratch: &mut Scratch,
     ) -> Result<bool, AllocError>
         requires { self.old.events + 1 < 2 ^ 64 }
-        ensures { IfOk result (AddsLine front.now.entries line.now self.old self.new) }
+        ensures { IfOk result (AddsLine prefix.now.entries line.now self.old self.new) }
     {
         match read_log_line(alloc, line, scratch)? {
             LogLine::Unsound => Ok(false),
             LogLine::Blank => Ok(true),
-            LogLine::Event(paths) => self.add_event(front, paths),
+            LogLine::Event(paths) => self.add_event(prefix, paths),
         }
     }
 
-    /// Adds an event whose outputs stand at these paths, where all are in the front, and returns whether
+    /// Adds an event whose outputs stand at these paths, where all are in the prefix, and returns whether
     /// they are.
-    fn add_event(&mut self, front: &Container<'_>, paths: Vec<String>) -> Result<bool, AllocError>
+    fn add_event(&mut self, prefix: &Container<'_>, paths: Vec<String>) -> Result<bool, AllocError>
         requires { self.old.events + 1 < 2 ^ 64 }
-        ensures { IfOk result (AddsEvent front.now.entries (map string_bytes paths.items) self.old self.new) }
+        ensures { IfOk result (AddsEvent prefix.now.entries (map string_bytes paths.items) self.old self.new) }
     {
-        if !has_all(front, &paths) {
+        if !has_all(prefix, &paths) {
             return Ok(false);
         }
         add_paths(&mut self.paths, paths)?;
@@ -83,10 +83,10 @@ impl Gathered {
 }
 
 /// Returns whether all paths are those of entries.
-fn has_all(front: &Container<'_>, paths: &[String]) -> bool
-    ensures { result ≡ list_all (λ path. is_some (content_of front.now.entries (string_bytes path))) paths.now }
+fn has_all(prefix: &Container<'_>, paths: &[String]) -> bool
+    ensures { result ≡ list_all (λ path. is_some (content_of prefix.now.entries (string_bytes path))) paths.now }
 {
-    paths.iter().all(|path| front.get(path.as_str()).is_some())
+    paths.iter().all(|path| prefix.get(path.as_str()).is_some())
 }
 
 /// Adds paths to a set.
@@ -103,15 +103,15 @@ fn add_paths(set: &mut BTreeSet<String>, paths: Vec<String>) -> Result<(), Alloc
 /// them.
 pub(crate) fn take_lines(
     alloc: Global,
-    front: &Container<'_>,
+    prefix: &Container<'_>,
     log: &[u8],
 ) -> Result<(usize, Gathered), AllocError>
-    ensures { IfOk result (TakesSound front.now.entries log.now) }
+    ensures { IfOk result (TakesSound prefix.now.entries log.now) }
 {
     let mut gathered = Gathered::new(alloc);
     let mut scratch = Scratch::new(alloc);
     let mut rest = log;
-    'lines: while let Some(after) = gathered.take_line(alloc, front, rest, &mut scratch)? {
+    'lines: while let Some(after) = gathered.take_line(alloc, prefix, rest, &mut scratch)? {
         rest = after;
     }
     Ok((log.len() - rest.len(), gathered))

@@ -5,7 +5,7 @@ ghost use Rattle.rec_container.specs.Container.{content_of};
 ghost use Rattle.rec_format.specs.RerunForms.{rerun_info_form};
 ghost use Rattle.rec_store.specs.Entries.{rerun_info_path};
 ghost use Rattle.rec_salvage.specs.declared.errors.SalvageError.TheVariants.{BadMeta, MissingMeta};
-ghost use Rattle.rec_salvage.specs.Refusals.{IsRefusal, Judges, content_refusal, front_refusal, maybe_refusal, part_refusal, stands_for};
+ghost use Rattle.rec_salvage.specs.Refusals.{IsRefusal, Judges, content_refusal, prefix_refusal, maybe_refusal, part_refusal, stands_for};
 
 use crate::errors::SalvageError;
 use rec_container::Container;
@@ -24,45 +24,45 @@ use std::alloc::Global;
 /// - `MissingMeta` exactly where the first part that isn't read is missing.
 /// - `BadMeta` exactly where it stands for nothing.
 /// - `OutOfMemory` if memory runs out.
-pub(crate) fn check_metadata(alloc: Global, front: &Container<'_>) -> Result<(), SalvageError>
-    ensures { Judges (front_refusal front.now.entries) result }
+pub(crate) fn check_metadata(alloc: Global, prefix: &Container<'_>) -> Result<(), SalvageError>
+    ensures { Judges (prefix_refusal prefix.now.entries) result }
 {
-    check_part::<RecordedBuildScope>(alloc, front, BUILD_SCOPE_JSON_PATH)?;
-    check_rerun_info(alloc, front)?;
-    check_part::<TestListSummary>(alloc, front, TEST_LIST_JSON_PATH)?;
-    check_text(alloc, front, CARGO_METADATA_JSON_PATH)?;
-    check_part::<RecordOpts>(alloc, front, RECORD_OPTS_JSON_PATH)
+    check_part::<RecordedBuildScope>(alloc, prefix, BUILD_SCOPE_JSON_PATH)?;
+    check_rerun_info(alloc, prefix)?;
+    check_part::<TestListSummary>(alloc, prefix, TEST_LIST_JSON_PATH)?;
+    check_text(alloc, prefix, CARGO_METADATA_JSON_PATH)?;
+    check_part::<RecordOpts>(alloc, prefix, RECORD_OPTS_JSON_PATH)
 }
 
 /// Judges a part that each run has.
 fn check_part<T: Form + Drop>(
     alloc: Global,
-    front: &Container<'_>,
+    prefix: &Container<'_>,
     path: &str,
 ) -> Result<(), SalvageError>
-    ensures { Judges (part_refusal path.now (stands_for T.form_of) (content_of front.now.entries path.now)) result }
+    ensures { Judges (part_refusal path.now (stands_for T.form_of) (content_of prefix.now.entries path.now)) result }
 {
-    match front.get(path) {
+    match prefix.get(path) {
         Some(content) => check_form::<T>(alloc, path, content),
         None => Err(missing(alloc, path)),
     }
 }
 
 /// Judges the rerun information, which may be missing.
-fn check_rerun_info(alloc: Global, front: &Container<'_>) -> Result<(), SalvageError>
-    ensures { Judges (maybe_refusal rerun_info_path (stands_for rerun_info_form) (content_of front.now.entries rerun_info_path)) result }
+fn check_rerun_info(alloc: Global, prefix: &Container<'_>) -> Result<(), SalvageError>
+    ensures { Judges (maybe_refusal rerun_info_path (stands_for rerun_info_form) (content_of prefix.now.entries rerun_info_path)) result }
 {
-    match front.get(RERUN_INFO_JSON_PATH) {
+    match prefix.get(RERUN_INFO_JSON_PATH) {
         Some(content) => check_form::<RerunInfo>(alloc, RERUN_INFO_JSON_PATH, content),
         None => Ok(()),
     }
 }
 
 /// Judges a part that is a text.
-fn check_text(alloc: Global, front: &Container<'_>, path: &str) -> Result<(), SalvageError>
-    ensures { Judges (part_refusal path.now is_utf8 (content_of front.now.entries path.now)) result }
+fn check_text(alloc: Global, prefix: &Container<'_>, path: &str) -> Result<(), SalvageError>
+    ensures { Judges (part_refusal path.now is_utf8 (content_of prefix.now.entries path.now)) result }
 {
-    match front.get(path) {
+    match prefix.get(path) {
         Some(content) => check_utf8(alloc, path, content),
         None => Err(missing(alloc, path)),
     }

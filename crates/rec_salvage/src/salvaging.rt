@@ -1,22 +1,22 @@
 //! What is left of a recording that was stopped, as a bundle.
 ghost use Rattle.std.specs.Prelude.{◌≡◌, ℕ, List, [], IfOk, IfErr, Err, MatchResult, false};
 ghost use Rattle.rec_container.specs.Container.{AreFrom, Entry};
-ghost use Rattle.rec_container.specs.Fronts.{IsWholeFront};
 ghost use Rattle.rec_container.specs.Reading.{has_magic};
+ghost use Rattle.rec_container.specs.WholePrefixes.{IsWholePrefix};
 ghost use Rattle.rec_format.specs.RunForms.{IsManifest};
 ghost use Rattle.rec_format.specs.Runs.{manifest_of};
 ghost use Rattle.rec_codec.specs.Event.{LiveEvent};
 ghost use Rattle.rec_store.specs.Ending.{sizes_of_log};
 ghost use Rattle.rec_store.specs.Saved.{IsStopped};
 ghost use Rattle.rec_salvage.specs.declared.errors.SalvageError.TheVariants.{BadMagic, OutOfMemory};
-ghost use Rattle.rec_salvage.specs.Refusals.{IsRefusal, IsRefused, front_refusal};
+ghost use Rattle.rec_salvage.specs.Refusals.{IsRefusal, IsRefused, prefix_refusal};
 ghost use Rattle.rec_salvage.specs.Salvages.{IsBundle, IsMade, Restores, Salvages};
 
 use crate::errors::SalvageError;
 use crate::gathering::take_lines;
 use crate::metadata::check_metadata;
 use crate::store::keep_store;
-use rec_container::{Container, FrontError};
+use rec_container::{Container, PrefixError};
 use rec_format::{ComponentSizes, PortableManifest, RecordedRunInfo, RecordedSizes};
 use rec_forms::Held;
 use rec_portable::bundle_text;
@@ -56,7 +56,7 @@ pub fn salvage(
     ensures ok { IfOk result (Salvages run.now log.now store.now) }
     ensures err { IfErr result (IsRefused store.now) }
     ensures magic { has_magic store.now ≡ false → result ≡ Err BadMagic }
-    ensures only { (es : List Entry) → IsWholeFront store.now es → IfErr result (IsRefusal (front_refusal es)) }
+    ensures only { (es : List Entry) → IsWholePrefix store.now es → IfErr result (IsRefusal (prefix_refusal es)) }
     // Nothing that a recorder accepted is lost, whenever it was stopped.
     ensures stopped { (number : List ℕ → ℕ) (m : ℕ) (events : List LiveEvent) → IsStopped number m events log.now store.now
         → MatchResult result (Restores m events) (λ e. e ≡ OutOfMemory) }
@@ -75,21 +75,21 @@ fn salvage_store(
     ensures err { IfErr result (IsRefused store.now) }
     ensures magic { has_magic store.now ≡ false → result ≡ Err BadMagic }
 {
-    let front = read_front(alloc, store)?;
-    check_metadata(alloc, &front)?;
-    Ok(keep(alloc, run, log, &front)?)
+    let prefix = read_prefix(alloc, store)?;
+    check_metadata(alloc, &prefix)?;
+    Ok(keep(alloc, run, log, &prefix)?)
 }
 
-/// Reads the whole front of a store.
-fn read_front<'a>(alloc: Global, store: &'a [u8]) -> Result<Container<'a>, SalvageError>
-    ensures ok { IfOk result (λ front. IsWholeFront store.now front.entries) }
+/// Reads the whole prefix of a store.
+fn read_prefix<'a>(alloc: Global, store: &'a [u8]) -> Result<Container<'a>, SalvageError>
+    ensures ok { IfOk result (λ prefix. IsWholePrefix store.now prefix.entries) }
     ensures err { IfErr result (IsRefused store.now) }
     ensures magic { has_magic store.now ≡ false → result ≡ Err BadMagic }
 {
-    match Container::parse_front(alloc, store) {
-        Ok(front) => Ok(front),
-        Err(FrontError::BadMagic) => Err(SalvageError::BadMagic),
-        Err(FrontError::OutOfMemory) => Err(SalvageError::OutOfMemory),
+    match Container::parse_prefix(alloc, store) {
+        Ok(prefix) => Ok(prefix),
+        Err(PrefixError::BadMagic) => Err(SalvageError::BadMagic),
+        Err(PrefixError::OutOfMemory) => Err(SalvageError::OutOfMemory),
     }
 }
 
@@ -98,13 +98,13 @@ fn keep(
     alloc: Global,
     run: &RecordedRunInfo,
     log: &[u8],
-    front: &Container<'_>,
+    prefix: &Container<'_>,
 ) -> Result<Salvaged, AllocError>
-    requires { AreFrom [] front.now.entries }
-    ensures { IfOk result (IsMade run.now log.now front.now.entries) }
+    requires { AreFrom [] prefix.now.entries }
+    ensures { IfOk result (IsMade run.now log.now prefix.now.entries) }
 {
-    let (length, gathered) = take_lines(alloc, front, log)?;
-    let store = keep_store(alloc, front, &gathered)?;
+    let (length, gathered) = take_lines(alloc, prefix, log)?;
+    let store = keep_store(alloc, prefix, &gathered)?;
     let sizes = RecordedSizes {
         log: log_sizes(length as u64, gathered.events),
         store: store.sizes,

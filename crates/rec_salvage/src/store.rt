@@ -1,4 +1,4 @@
-//! The store that is made of what a front has.
+//! The store that is made of what a prefix has.
 ghost use Rattle.std.specs.List.{AllByRecursion, flat_map};
 ghost use Rattle.std.specs.Prelude.{◌≡◌, ◌<◌, [], List, length, map, IfOk, IfSome, OnOk};
 ghost use Rattle.rec_container.specs.Container.{AreFrom, content_bytes, content_of};
@@ -7,7 +7,7 @@ ghost use Rattle.rec_codec.specs.Event.{RecordedEvent};
 ghost use Rattle.rec_store.specs.Kept.{event_paths};
 ghost use Rattle.rec_salvage.specs.Gathering.{HasGathered};
 ghost use Rattle.rec_salvage.specs.Keeping.{AddsEntries, IsStore, entries_in};
-ghost use Rattle.rec_salvage.specs.Salvaged.{front_metadata, kept_entries, listed, named_entries};
+ghost use Rattle.rec_salvage.specs.Salvaged.{prefix_metadata, kept_entries, listed, named_entries};
 
 use crate::gathering::Gathered;
 use rec_container::{Container, GrowingSink, NamedContent, container_length, write_container};
@@ -26,21 +26,21 @@ pub(crate) struct KeptStore {
     pub(crate) outputs: u64,
 }
 
-/// Makes a store of a front's metadata, in the order of a recording, and of the outputs of what was gathered, in
-/// the front's order. No content is copied before the store is written.
+/// Makes a store of a prefix's metadata, in the order of a recording, and of the outputs of what was gathered, in
+/// the prefix's order. No content is copied before the store is written.
 pub(crate) fn keep_store(
     alloc: Global,
-    front: &Container<'_>,
+    prefix: &Container<'_>,
     gathered: &Gathered,
 ) -> Result<KeptStore, AllocError>
-    requires { AreFrom [] front.now.entries }
+    requires { AreFrom [] prefix.now.entries }
     ensures { IfOk result (λ store. (events : List RecordedEvent) → HasGathered events gathered.now
-        → IsStore (kept_entries front.now.entries events) (length (named_entries front.now.entries events)) store) }
+        → IsStore (kept_entries prefix.now.entries events) (length (named_entries prefix.now.entries events)) store) }
 {
     let mut contents = Vec::new(alloc);
-    add_metadata(&mut contents, front)?;
+    add_metadata(&mut contents, prefix)?;
     let metadata = contents.len();
-    add_named(&mut contents, front, &gathered.paths)?;
+    add_named(&mut contents, prefix, &gathered.paths)?;
     let outputs = (contents.len() - metadata) as u64;
     spell_store(alloc, &contents, outputs)
 }
@@ -48,26 +48,26 @@ pub(crate) fn keep_store(
 /// Adds the metadata that there is.
 fn add_metadata<'a>(
     contents: &mut Vec<NamedContent<'a>>,
-    front: &Container<'a>,
+    prefix: &Container<'a>,
 ) -> Result<(), AllocError>
-    ensures { OnOk result (AddsEntries contents.old.items contents.new.items (front_metadata front.now.entries)) }
+    ensures { OnOk result (AddsEntries contents.old.items contents.new.items (prefix_metadata prefix.now.entries)) }
 {
-    add_part(contents, front, BUILD_SCOPE_JSON_PATH)?;
-    add_part(contents, front, RERUN_INFO_JSON_PATH)?;
-    add_part(contents, front, TEST_LIST_JSON_PATH)?;
-    add_part(contents, front, CARGO_METADATA_JSON_PATH)?;
-    add_part(contents, front, RECORD_OPTS_JSON_PATH)
+    add_part(contents, prefix, BUILD_SCOPE_JSON_PATH)?;
+    add_part(contents, prefix, RERUN_INFO_JSON_PATH)?;
+    add_part(contents, prefix, TEST_LIST_JSON_PATH)?;
+    add_part(contents, prefix, CARGO_METADATA_JSON_PATH)?;
+    add_part(contents, prefix, RECORD_OPTS_JSON_PATH)
 }
 
 /// Adds the entry of a path, where there is one.
 fn add_part<'a>(
     contents: &mut Vec<NamedContent<'a>>,
-    front: &Container<'a>,
+    prefix: &Container<'a>,
     name: &'a str,
 ) -> Result<(), AllocError>
-    ensures { OnOk result (AddsEntries contents.old.items contents.new.items (listed name.now (content_of front.now.entries name.now))) }
+    ensures { OnOk result (AddsEntries contents.old.items contents.new.items (listed name.now (content_of prefix.now.entries name.now))) }
 {
-    if let Some(content) = front.get(name) {
+    if let Some(content) = prefix.get(name) {
         contents.push(NamedContent { name, content })?;
     }
     Ok(())
@@ -76,15 +76,15 @@ fn add_part<'a>(
 /// Adds the entries at these paths.
 fn add_named<'a>(
     contents: &mut Vec<NamedContent<'a>>,
-    front: &Container<'a>,
+    prefix: &Container<'a>,
     paths: &BTreeSet<String>,
 ) -> Result<(), AllocError>
-    ensures { OnOk result (AddsEntries contents.old.items contents.new.items (entries_in paths.now front.now.entries)) }
+    ensures { OnOk result (AddsEntries contents.old.items contents.new.items (entries_in paths.now prefix.now.entries)) }
 {
-    for i in 0..front.len() {
-        let name = front.name(i);
+    for i in 0..prefix.len() {
+        let name = prefix.name(i);
         if paths.contains(name) {
-            let content = front.bytes(i);
+            let content = prefix.bytes(i);
             contents.push(NamedContent { name, content })?;
         }
     }

@@ -1,4 +1,4 @@
-//! The tests of `rec_salvage`.
+//! The tests of `rec_salvage` and `rec_salvage_directory`.
 #![tactic(auto)]
 
 #[cfg(test)]

@@ -38,7 +38,7 @@ run_mark Silent = []
 abbrev pub run_marks : List Act → List RunMark
 run_marks xs = flat_map run_mark xs
 
--- there is one start of a run, and one end behind it
+-- there is one start of a run, and one end after it
 abbrev pub IsOneRun : List PlainEvent → Type 0
 IsOneRun events = run_marks (acts events) ≡ Begin ∷ End ∷ []
 

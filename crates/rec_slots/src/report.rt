@@ -38,14 +38,14 @@ pub enum SlotError {
     /// A trace of the events would be refused.
     #[error("{0}")]
     Refused(ChromeTraceError),
-    /// There isn't one start of a run and one end behind it.
+    /// There isn't one start of a run and one end after it.
     #[error("the events aren't those of one run from its start to its end")]
     NotOneRun,
-    /// The event starts an attempt that doesn't start behind the run's start and end before its end. It is
+    /// The event starts an attempt that doesn't start after the run's start and end before its end. It is
     /// the first that does.
     #[error("event {event} starts an attempt that isn't inside the run")]
     AttemptOutside { event: u64 },
-    /// The event, which stands behind the run's start up to its end, has an instant below that of the event
+    /// The event, which stands after the run's start up to its end, has an instant below that of the event
     /// before it. It is the first that has.
     #[error("the instant of event {event} is below that of the event before")]
     StampFell { event: u64 },

@@ -17,10 +17,10 @@ use std::alloc::Global;
 /// The first cause that holds is answered:
 ///
 /// - `Refused`: a trace of the events would be refused, as its first refused event says.
-/// - `NotOneRun`: there isn't one start of a run and one end behind it.
-/// - `AttemptOutside`: an attempt doesn't start behind the run's start and end before its end. The event is the
+/// - `NotOneRun`: there isn't one start of a run and one end after it.
+/// - `AttemptOutside`: an attempt doesn't start after the run's start and end before its end. The event is the
 ///   first start of such an attempt.
-/// - `StampFell`: an instant is below that of the event before. The event is the first such behind the run's
+/// - `StampFell`: an instant is below that of the event before. The event is the first such after the run's
 ///   start, up to its end.
 ///
 /// `OutOfMemory` may come at any time.

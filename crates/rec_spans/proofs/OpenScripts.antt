@@ -3,7 +3,7 @@ use Rattle.std.proofs.Common.{◌≡◌, ◌≤◌, ◌<◌, ◌⊎◌, ◌==◌
 use Rattle.std.proofs.lemmas.Bool.{false≢true}
 use Rattle.std.proofs.lemmas.List.Kept.{IsStrictlySortedBy-filter}
 use Rattle.std.proofs.lemmas.Map.Keys.{sorted_head}
-use Rattle.std.specs.BTreeMap.{insert_entry, is_at}
+use Rattle.std.specs.BTreeMap.{is_at}
 use Rattle.std.specs.declared.cmp.Ordering.TheVariants.{Less, Equal, Greater}
 use Rattle.std.specs.declared.cmp.Ordering.{Ordering}
 use Rattle.std.specs.List.Sorted.{IsStrictlySortedBy}
@@ -15,7 +15,7 @@ use Rattle.rec_events.specs.declared.instances.OwnedTestInstanceId.{OwnedTestIns
 use Rattle.rec_spans.proofs.Filters.{filter-yes}
 use Rattle.rec_spans.proofs.Keys.{key_eq-from, place_eq-true}
 use Rattle.rec_spans.proofs.Maps.{key-one, none-at, open-one, place-one}
-use Rattle.rec_spans.proofs.OpenTests.{opened, place-free}
+use Rattle.rec_spans.proofs.OpenTests.{place-free}
 use Rattle.rec_spans.specs.declared.spans.Place.TheVariants as places
 use Rattle.rec_spans.specs.declared.spans.Place.{Place}
 use Rattle.rec_spans.specs.declared.spans.Span.{Span}
@@ -23,10 +23,10 @@ use Rattle.rec_spans.specs.declared.spans.SpanKey.TheVariants as keys
 use Rattle.rec_spans.specs.declared.spans.SpanKey.{SpanKey}
 use Rattle.rec_spans.specs.Keys.{key_eq}
 use Rattle.rec_spans.specs.Noted.{AreNoted, AreSame, IsLeast, Notes, Renotes, is_named, is_noted}
-use Rattle.rec_spans.specs.Past.{of_key, put_in}
+use Rattle.rec_spans.specs.Past.{of_key}
 use Rattle.rec_spans.specs.Places.{place_cmp, place_eq}
 use Rattle.rec_spans.specs.Refusals.{is_script, scripts_in, under}
-use Rattle.rec_spans.specs.Tied.{AreTied, at, place_of}
+use Rattle.rec_spans.specs.Tied.{AreTied, PutsIn, TakesOut, at, place_of}
 
 abbrev Slots : Type 0
 Slots = List (OwnedTestInstanceId × ℕ)
@@ -60,9 +60,12 @@ free-noted notes es index noted free name i e = noted name i ∙ ap (is_named na
 
 module _ (notes notes' : Notes) (es es' : Spans) (index : ℕ) (s : Span) (noted : AreNoted notes es) where
   -- a script is opened
-  pub noted-opened : (id : List ℕ) → at es (places.Script index) ≡ None → s.name ≡ id → Renotes true notes id index notes'
-      → ((q : Place) → at es' q ≡ cond (place_eq (places.Script index) q) (Some s) (at es q)) → AreNoted notes' es'
-  noted-opened id free named renotes spans name i = renotes name i ∙ go (is_at (nat_cmp index) i) refl ∙ ap (is_named name) (sym (spans (places.Script i)))
+  pub noted-opened : (id : List ℕ) → at es (places.Script index) ≡ None → s.name ≡ id → s.place ≡ places.Script index → Renotes true notes id index notes'
+      → PutsIn s es es' → AreNoted notes' es'
+  noted-opened id free named place renotes puts name i =
+      renotes name i
+      ∙ go (is_at (nat_cmp index) i) refl
+      ∙ ap (is_named name) (sym (puts.1 (places.Script i) ∙ ap (λ p. cond (place_eq p (places.Script i)) (Some s) (at es (places.Script i))) place))
     where
       here : (a : Bool) → cond (a && true) true false ≡ a
       here true = refl
@@ -76,9 +79,8 @@ module _ (notes notes' : Notes) (es es' : Spans) (index : ℕ) (s : Span) (noted
       go false e = kept (bytes_eq id name) true (is_noted notes name i) ∙ noted name i
 
   -- a script is closed
-  pub noted-closed : at es (places.Script index) ≡ Some s → Renotes false notes s.name index notes'
-      → ((q : Place) → at es' q ≡ cond (place_eq (places.Script index) q) None (at es q)) → AreNoted notes' es'
-  noted-closed found renotes spans name i = renotes name i ∙ go (is_at (nat_cmp index) i) refl ∙ ap (is_named name) (sym (spans (places.Script i)))
+  pub noted-closed : at es (places.Script index) ≡ Some s → Renotes false notes s.name index notes' → TakesOut (places.Script index) es es' → AreNoted notes' es'
+  noted-closed found renotes takes name i = renotes name i ∙ go (is_at (nat_cmp index) i) refl ∙ ap (is_named name) (sym (takes.1 (places.Script i)))
     where
       gone : (a : Bool) → cond (a && true) false a ≡ false
       gone true = refl
@@ -111,15 +113,6 @@ pub script-free : (slots : Slots) (es : Spans) (k : SpanKey) (index : ℕ) → A
 script-free slots es k index tied key free =
     none-at slots es (places.Script index) tied
     (place-free slots es (keys.Script index) (places.Script index) tied refl (subst (λ j. of_key j (values_of es) ≡ []) key free))
-
--- the maps stay tied where a script is opened
-pub script-opened : (slots : Slots) (es es' : Spans) (s : Span) (index : ℕ) → AreTied slots es → s.key ≡ keys.Script index → s.place ≡ places.Script index
-    → of_key s.key (values_of es) ≡ [] → es' ≡ insert_entry place_cmp es (places.Script index) s
-    → ((q : Place) → at es' q ≡ cond (place_eq (places.Script index) q) (Some s) (at es q)) → AreTied slots es' × (values_of es' ≡ put_in s (values_of es))
-script-opened slots es es' s index tied key place free is spans =
-    opened slots es es' s tied (ap (place_of []) key ∙ ap Some (sym place)) free
-    (is ∙ ap (λ p. insert_entry place_cmp es p s) (sym place))
-    (λ q. spans q ∙ ap (λ p. cond (place_eq p q) (Some s) (at es q)) (sym place))
 
 -- ---- what is among what
 

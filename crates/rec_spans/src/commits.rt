@@ -39,12 +39,11 @@ impl SpanTracker {
         ensures { IfOk result (λ span. span ≡ started (change_of group_by self.now.binaries (seen act.entry))) }
     {
         match act {
-            Act::RunStarts => Ok(Some(run_span(alloc)?)),
-            Act::SubRunStarts => Ok(Some(sub_run_span(alloc)?)),
-            Act::ScriptStarts { index, id } => Ok(Some(script_span(alloc, index, id)?)),
+            Act::RunStarts => run_span(alloc).map(Some),
+            Act::SubRunStarts => sub_run_span(alloc).map(Some),
+            Act::ScriptStarts { index, id } => script_span(alloc, index, id).map(Some),
             Act::AttemptStarts { test, slot } => {
-                let span = test_span(alloc, group_by, &self.binaries, test, slot)?;
-                Ok(Some(span))
+                test_span(alloc, group_by, &self.binaries, test, slot).map(Some)
             }
             _ => Ok(None),
         }
@@ -208,8 +207,7 @@ fn open_started(
         Act::AttemptStarts { test, slot } => {
             open_attempt(alloc, test, slot, span, open_spans, binaries)
         }
-        Act::RunStarts => open_other(open_spans.open(span)),
-        Act::SubRunStarts => open_other(open_spans.open(span)),
+        Act::RunStarts | Act::SubRunStarts => open_other(open_spans.open(span)),
         Act::ScriptStarts { index, id } => {
             open_other(open_spans.open_script(alloc, index, id, span))
         }
@@ -236,12 +234,7 @@ fn close_stopped(act: Act<'_>, open_spans: &mut OpenSpans)
         Act::RunEnds => open_spans.close_run(),
         Act::SubRunEnds => open_spans.close_sub_run(),
         Act::ScriptEnds { index, .. } => open_spans.close_script(index),
-        Act::AttemptFails { test } => {
-            open_spans.close_test(test);
-        }
-        Act::TestEnds { test, .. } => {
-            open_spans.close_test(test);
-        }
+        Act::AttemptFails { test } | Act::TestEnds { test, .. } => open_spans.close_test(test),
         _ => (),
     }
 }
@@ -254,9 +247,7 @@ fn close_started(act: Act<'_>, open_spans: &mut OpenSpans)
         Act::RunStarts => open_spans.close_run(),
         Act::SubRunStarts => open_spans.close_sub_run(),
         Act::ScriptStarts { index, .. } => open_spans.close_script(index),
-        Act::AttemptStarts { test, .. } => {
-            open_spans.close_test(test);
-        }
+        Act::AttemptStarts { test, .. } => open_spans.close_test(test),
         _ => (),
     }
 }

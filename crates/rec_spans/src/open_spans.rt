@@ -4,7 +4,7 @@ ghost use Rattle.rec_spans.specs.declared.spans.Place.TheVariants as places;
 ghost use Rattle.rec_spans.specs.declared.spans.SpanKey.TheVariants as keys;
 ghost use Rattle.rec_spans.specs.Past.{in_place, of_key, put_in, without};
 ghost use Rattle.rec_spans.specs.Refusals.{is_none_open, is_script, scripts_in, under};
-ghost use Rattle.rec_spans.specs.Tied.{place_of};
+ghost use Rattle.rec_spans.specs.Tied.{PutsIn, SetsSlot, TakesOut, place_of};
 
 use crate::script_notes::ScriptNotes;
 use crate::spans::{Place, Span};
@@ -133,7 +133,7 @@ impl OpenSpans {
         ensures ok { OnOk result (self.new ≡ put_in span self.old) }
         ensures err { OnErr result (self.new ≡ self.old) }
     {
-        self.spans.insert(span.place, span)?;
+        put(&mut self.spans, span)?;
         Ok(())
     }
 
@@ -160,9 +160,9 @@ impl OpenSpans {
             drop(span);
             return Err(AllocError);
         };
-        match self.spans.insert(Place::Script(index), span) {
-            Ok(_) => Ok(()),
-            Err(_) => {
+        match put(&mut self.spans, span) {
+            Ok(()) => Ok(()),
+            Err(AllocError) => {
                 self.scripts.forget(id.as_str(), index);
                 Err(AllocError)
             }
@@ -188,45 +188,79 @@ impl OpenSpans {
         ensures ok { OnOk result (self.new ≡ put_in span self.old) }
         ensures err { OnErr result (self.new ≡ self.old) }
     {
-        self.slots.insert(test.try_clone(alloc)?, slot)?;
-        match self.spans.insert(Place::Slot(slot), span) {
-            Ok(_) => Ok(()),
-            Err(_) => {
+        let Ok(()) = note_slot(&mut self.slots, alloc, test, slot) else {
+            drop(span);
+            return Err(AllocError);
+        };
+        match put(&mut self.spans, span) {
+            Ok(()) => Ok(()),
+            Err(AllocError) => {
                 self.slots.remove(test);
                 Err(AllocError)
             }
         }
     }
 
-    /// Closes the span of the open attempt of a test, and returns it, where there is one.
-    pub(crate) fn close_test(&mut self, test: &OwnedTestInstanceId) -> Option<Span>
-        ensures closed { self.new ≡ without (keys.Test test.now) self.old }
-        ensures span { option_to_list result ≡ of_key (keys.Test test.now) self.old }
+    /// Closes the span of the open attempt of a test, if there is one.
+    pub(crate) fn close_test(&mut self, test: &OwnedTestInstanceId)
+        ensures { self.new ≡ without (keys.Test test.now) self.old }
     {
-        let slot = self.slots.remove(test)?;
-        self.spans.remove(&Place::Slot(slot))
+        if let Some(slot) = self.slots.remove(test) {
+            take(&mut self.spans, Place::Slot(slot));
+        }
     }
 
     /// Closes the span of the run, if it is open.
     pub(crate) fn close_run(&mut self)
         ensures { self.new ≡ without keys.Run self.old }
     {
-        self.spans.remove(&Place::Run);
+        take(&mut self.spans, Place::Run);
     }
 
     /// Closes the span of the sub-run, if it is open.
     pub(crate) fn close_sub_run(&mut self)
         ensures { self.new ≡ without keys.SubRun self.old }
     {
-        self.spans.remove(&Place::SubRun);
+        take(&mut self.spans, Place::SubRun);
     }
 
     /// Closes the span of the setup script of an index, if it is open.
     pub(crate) fn close_script(&mut self, index: usize)
         ensures { self.new ≡ without (keys.Script index) self.old }
     {
-        if let Some(span) = self.spans.remove(&Place::Script(index)) {
+        if let Some(span) = self.spans.get(&Place::Script(index)) {
             self.scripts.forget(span.name.as_str(), index);
+            take(&mut self.spans, Place::Script(index));
         }
     }
+}
+
+/// Puts a span in at its place. Where memory is short, nothing changes.
+fn put(spans: &mut BTreeMap<Place, Span>, span: Span) -> Result<(), AllocError>
+    ensures ok { OnOk result (PutsIn span spans.old.entries spans.new.entries) }
+    ensures err { OnErr result (spans.new.entries ≡ spans.old.entries) }
+{
+    drop(spans.insert(span.place, span)?);
+    Ok(())
+}
+
+/// Takes the span out that stands at a place, if one does.
+fn take(spans: &mut BTreeMap<Place, Span>, place: Place)
+    ensures { TakesOut place spans.old.entries spans.new.entries }
+{
+    drop(spans.remove(&place));
+}
+
+/// Notes the slot of a test. Where memory is short, nothing changes.
+fn note_slot(
+    slots: &mut BTreeMap<OwnedTestInstanceId, u64>,
+    alloc: Global,
+    test: &OwnedTestInstanceId,
+    slot: u64,
+) -> Result<(), AllocError>
+    ensures ok { OnOk result (SetsSlot test.now (Some slot) slots.old.entries slots.new.entries) }
+    ensures err { OnErr result (slots.new.entries ≡ slots.old.entries) }
+{
+    slots.insert(test.try_clone(alloc)?, slot)?;
+    Ok(())
 }

@@ -16,11 +16,12 @@ const FIRST_THREAD: u64 = 10000;
 pub fn run_span(alloc: Global) -> Result<Span, AllocError>
     ensures { IfOk result (λ span. span ≡ run_span) }
 {
+    let name = Text::from_str(alloc, "test run")?;
     Ok(Span {
         key: SpanKey::Run,
         place: Place::Run,
         row: Row { pid: 0, tid: 1 },
-        name: Text::from_str(alloc, "test run")?,
+        name,
     })
 }
 
@@ -28,11 +29,12 @@ pub fn run_span(alloc: Global) -> Result<Span, AllocError>
 pub fn sub_run_span(alloc: Global) -> Result<Span, AllocError>
     ensures { IfOk result (λ span. span ≡ sub_run_span) }
 {
+    let name = Text::from_str(alloc, "sub-run")?;
     Ok(Span {
         key: SpanKey::SubRun,
         place: Place::SubRun,
         row: Row { pid: 0, tid: 2 },
-        name: Text::from_str(alloc, "sub-run")?,
+        name,
     })
 }
 
@@ -62,6 +64,7 @@ pub fn script_span(alloc: Global, index: usize, id: &ScriptId) -> Result<Span, A
     requires { nat_lt (index + 10000) (2 ^ 64) ≡ true }
     ensures { IfOk result (λ span. span ≡ script_span index id.now) }
 {
+    let name = Text::from_str(alloc, id.as_str())?;
     Ok(Span {
         key: SpanKey::Script(index),
         place: Place::Script(index),
@@ -69,7 +72,7 @@ pub fn script_span(alloc: Global, index: usize, id: &ScriptId) -> Result<Span, A
             pid: 1,
             tid: index as u64 + FIRST_THREAD,
         },
-        name: Text::from_str(alloc, id.as_str())?,
+        name,
     })
 }
 
@@ -88,6 +91,7 @@ pub fn test_span(
     let Some(pid) = process(group_by, binaries, &test.binary_id) else {
         unreachable!()
     };
+    let name = test_name(alloc, group_by, test)?;
     Ok(Span {
         key: SpanKey::Test(test.try_clone(alloc)?),
         place: Place::Slot(slot),
@@ -95,7 +99,7 @@ pub fn test_span(
             pid,
             tid: slot + FIRST_THREAD,
         },
-        name: test_name(alloc, group_by, test)?,
+        name,
     })
 }
 

@@ -7,16 +7,16 @@ use Rattle.std.specs.Io.KnownBytes.{Appends}
 use Rattle.std.specs.List.{AllByRecursion, flat_map}
 use Rattle.std.specs.Str.{bytes_eq, is_utf8}
 use Rattle.serde_json.specs.Data.{Data}
-use Rattle.rec_container.proofs.Fronts.{spelled_front, written_front}
 use Rattle.rec_container.proofs.Grammar.{step_at-spelled, step_at-same}
 use Rattle.rec_container.proofs.Spelling.{prefix-ending}
+use Rattle.rec_container.proofs.WholePrefixes.{spelled_prefix, written_prefix}
 use Rattle.rec_container.specs.Container.{Entry, entry, magic, prefix, ending, content_of, AreFrom, IsEntry}
 use Rattle.rec_container.specs.declared.errors.ContainerSizes.{ContainerSizes}
 use Rattle.rec_container.specs.declared.errors.ContainerWriteError.TheVariants.{Failed, BadName, NameCollision, CountOutOfRange, SinkFault, OutOfMemory}
 use Rattle.rec_container.specs.declared.errors.ContainerWriteError.{ContainerWriteError}
-use Rattle.rec_container.specs.Fronts.{IsStuck, IsWholeFront}
 use Rattle.rec_container.specs.Reading.{step_at}
 use Rattle.rec_container.specs.Taking.{TookPart}
+use Rattle.rec_container.specs.WholePrefixes.{IsStuck, IsWholePrefix}
 use Rattle.rec_container.specs.Writing.{HasSizesOf, Unfinished}
 use Rattle.rec_forms.specs.Outputs.{stored_outputs_value}
 use Rattle.rec_forms.specs.Recording.{test_list_form, record_opts_form}
@@ -35,7 +35,7 @@ use Rattle.rec_store.specs.Recording.{Recording}
 use Rattle.rec_store.specs.RunParts.{maybe_part}
 use Rattle.rec_store.specs.Saved.{is_readable, IsReadable, required_paths, HasMetadata, IsUnended, AreStopped, TookEntries, TookLines, HasAccepted}
 
--- ---- the front of a store
+-- ---- the prefix of a store
 
 length-none : (x y : List ℕ) → [] ≡ x ++ y → length y ≡ 0
 length-none x y h = omega (arith, ap length h, length-append x y)
@@ -49,36 +49,36 @@ part_stuck es e k is short f rest is_f new_f h =
     let left : [] ≡ rest ++ drop k (entry e) = ap (λ (w : Entry × List ℕ). w.1) both in
     absurd (omega (arith, length-none rest (drop k (entry e)) left, length-drop k (entry e), short))
 
-part_front : (es : List Entry) (e : Entry) (k : ℕ) → AreFrom [] es → IsEntry e → k < length (entry e) → IsWholeFront (magic ++ flat_map entry es ++ take k (entry e)) es
-part_front es e k are is short = record { rest = take k (entry e); front = record { spelled = refl; entries = are }; stuck = part_stuck es e k is short }
+part_prefix : (es : List Entry) (e : Entry) (k : ℕ) → AreFrom [] es → IsEntry e → k < length (entry e) → IsWholePrefix (magic ++ flat_map entry es ++ take k (entry e)) es
+part_prefix es e k are is short = record { rest = take k (entry e); prefix = record { spelled = refl; entries = are }; stuck = part_stuck es e k is short }
 
 -- the entries whose prefix a sink took, and perhaps a part of one more
-left_front : (failed : Bool) (es : List Entry) (now : Option (List ℕ)) → AreFrom [] es → HavePaths es required_paths → TookEntries failed es now → IsSomeAnd now (λ s. IsWholeFront s es)
-left_front failed [] now are have took = absurd (let k = have.0 in cc)
-left_front false (d ∷ es) now are have took = subst (λ (known : Option (List ℕ)). IsSomeAnd known (λ s. IsWholeFront s (d ∷ es))) (sym took) (written_front (d ∷ es) are)
-left_front true (d ∷ es) None are have took = absurd took.2.taken
-left_front true (d ∷ es) (Some bytes) are have took =
-    subst (λ (b : List ℕ). IsWholeFront b (d ∷ es)) (sym took.2.taken) (part_front (d ∷ es) took.0 took.2.count are took.1 took.2.short)
+left_prefix : (failed : Bool) (es : List Entry) (now : Option (List ℕ)) → AreFrom [] es → HavePaths es required_paths → TookEntries failed es now → IsSomeAnd now (λ s. IsWholePrefix s es)
+left_prefix failed [] now are have took = absurd (let k = have.0 in cc)
+left_prefix false (d ∷ es) now are have took = subst (λ (known : Option (List ℕ)). IsSomeAnd known (λ s. IsWholePrefix s (d ∷ es))) (sym took) (written_prefix (d ∷ es) are)
+left_prefix true (d ∷ es) None are have took = absurd took.2.taken
+left_prefix true (d ∷ es) (Some bytes) are have took =
+    subst (λ (b : List ℕ). IsWholePrefix b (d ∷ es)) (sym took.2.taken) (part_prefix (d ∷ es) took.0 took.2.count are took.1 took.2.short)
 
 -- and then the end
-ended_front : (es : List Entry) (before now : Option (List ℕ)) → AreFrom [] es → before ≡ Some (prefix es) → Appends before now (ending es) → IsSomeAnd now (λ s. IsWholeFront s es)
-ended_front es before now are was h =
+ended_prefix : (es : List Entry) (before now : Option (List ℕ)) → AreFrom [] es → before ≡ Some (prefix es) → Appends before now (ending es) → IsSomeAnd now (λ s. IsWholePrefix s es)
+ended_prefix es before now are was h =
     let is = appended (prefix es) (ending es) now (subst (λ (known : Option (List ℕ)). Appends known now (ending es)) was h) in
-    subst (λ (known : Option (List ℕ)). IsSomeAnd known (λ s. IsWholeFront s es)) (sym (is ∙ ap Some (prefix-ending es))) (spelled_front es are)
+    subst (λ (known : Option (List ℕ)). IsSomeAnd known (λ s. IsWholePrefix s es)) (sym (is ∙ ap Some (prefix-ending es))) (spelled_prefix es are)
 
 no_end : (k : ℕ) → k < 1 → take {A = ℕ} k (0 ∷ []) ≡ []
 no_end zero h = refl
 no_end (suc k) h = absurd (omega (arith, h))
 
 -- or a part of the end, which is nothing
-unended_front : (es : List Entry) (before now : Option (List ℕ)) → AreFrom [] es → HavePaths es required_paths → before ≡ Some (prefix es) → TookPart before now (ending es)
-    → IsSomeAnd now (λ s. IsWholeFront s es)
-unended_front [] before now are have was h = absurd (let k = have.0 in cc)
-unended_front (d ∷ es) before now are have was h =
+unended_prefix : (es : List Entry) (before now : Option (List ℕ)) → AreFrom [] es → HavePaths es required_paths → before ≡ Some (prefix es) → TookPart before now (ending es)
+    → IsSomeAnd now (λ s. IsWholePrefix s es)
+unended_prefix [] before now are have was h = absurd (let k = have.0 in cc)
+unended_prefix (d ∷ es) before now are have was h =
     let part = subst (λ (known : Option (List ℕ)). TookPart known now (0 ∷ [])) was h in
     let none : prefix (d ∷ es) ++ take part.count (0 ∷ []) ≡ prefix (d ∷ es) = ap (λ l. prefix (d ∷ es) ++ l) (no_end part.count part.short) ∙ append-nil (prefix (d ∷ es)) in
     let is = appended (prefix (d ∷ es)) (take part.count (0 ∷ [])) now part.taken in
-    subst (λ (known : Option (List ℕ)). IsSomeAnd known (λ s. IsWholeFront s (d ∷ es))) (sym (is ∙ ap Some none)) (written_front (d ∷ es) are)
+    subst (λ (known : Option (List ℕ)). IsSomeAnd known (λ s. IsWholePrefix s (d ∷ es))) (sym (is ∙ ap Some none)) (written_prefix (d ∷ es) are)
 
 -- ---- the metadata in it
 
@@ -148,13 +148,13 @@ left_log true events (Some log) took = (take took.1.count (event_line took.0), t
 -- ---- both
 
 both_left : (number : List ℕ → ℕ) (m : ℕ) (events : List LiveEvent) (es : List Entry) (log store : Option (List ℕ)) → IsSomeAnd log (IsLogOf (events_recorded number m events))
-    → IsSomeAnd store (λ s. IsWholeFront s es) → HasMetadata es → AllByRecursion (IsHeld es) (run_outputs number m events) → AllByRecursion IsLogged (events_recorded number m events)
+    → IsSomeAnd store (λ s. IsWholePrefix s es) → HasMetadata es → AllByRecursion (IsHeld es) (run_outputs number m events) → AllByRecursion IsLogged (events_recorded number m events)
     → AreStopped number m events log store
 both_left number m events es None store p q metadata held logged = absurd p
 both_left number m events es (Some log) None p q metadata held logged = absurd q
 both_left number m events es (Some log) (Some store) p q metadata held logged = record {
   entries = es;
-  front = q;
+  prefix = q;
   metadata = metadata;
   outputs = held;
   rest = p.0;
@@ -165,25 +165,25 @@ both_left number m events es (Some log) (Some store) p q metadata held logged = 
 
 module _ {S L N : Type 0} (taken : S → Option (List ℕ)) (log_taken : L → Option (List ℕ)) (number : N → List ℕ → ℕ) (events : List LiveEvent) (r : Recording S L N)
     (h : HasAccepted taken log_taken number events r) (have : HavePaths r.store.entries required_paths) where
-  stopped_with : (store : Option (List ℕ)) → IsSomeAnd store (λ s. IsWholeFront s r.store.entries) → AreStopped (number r.namer) r.max_output events (log_taken r.log) store
-  stopped_with store front =
+  stopped_with : (store : Option (List ℕ)) → IsSomeAnd store (λ s. IsWholePrefix s r.store.entries) → AreStopped (number r.namer) r.max_output events (log_taken r.log) store
+  stopped_with store prefix =
       both_left (number r.namer) r.max_output events r.store.entries (log_taken r.log) store
       (left_log r.log_failed (events_recorded (number r.namer) r.max_output events) (log_taken r.log) h.log)
-      front (metadata_left r.store.entries h.readable have) h.outputs h.logged
+      prefix (metadata_left r.store.entries h.readable have) h.outputs h.logged
 
   -- what a recorder's sinks hold
   pub accepted_stopped : AreStopped (number r.namer) r.max_output events (log_taken r.log) (taken r.store.sink)
-  accepted_stopped = stopped_with (taken r.store.sink) (left_front r.store.failed r.store.entries (taken r.store.sink) h.distinct have h.store)
+  accepted_stopped = stopped_with (taken r.store.sink) (left_prefix r.store.failed r.store.entries (taken r.store.sink) h.distinct have h.store)
 
   -- and what they hold where the store's end was written, or was not
   pub ended_stopped : (faults : S → ℕ) (store : S) (result : Result ContainerSizes ContainerWriteError) → r.store.failed ≡ false
       → IfOk result (λ sizes. (r.store.failed ≡ false) × HasSizesOf r.store.entries sizes × Appends (taken r.store.sink) (taken store) (ending r.store.entries))
       → IfErr result (Unfinished taken faults r.store store) → AreStopped (number r.namer) r.max_output events (log_taken r.log) (taken store)
   ended_stopped faults store (Ok sizes) sound ok err =
-      stopped_with (taken store) (ended_front r.store.entries (taken r.store.sink) (taken store) h.distinct (took_prefix r.store.failed r.store.entries (taken r.store.sink) sound h.store) ok.2)
+      stopped_with (taken store) (ended_prefix r.store.entries (taken r.store.sink) (taken store) h.distinct (took_prefix r.store.failed r.store.entries (taken r.store.sink) sound h.store) ok.2)
   ended_stopped faults store (Err SinkFault) sound ok err =
       stopped_with (taken store)
-      (unended_front r.store.entries (taken r.store.sink) (taken store) h.distinct have (took_prefix r.store.failed r.store.entries (taken r.store.sink) sound h.store) err.2)
+      (unended_prefix r.store.entries (taken r.store.sink) (taken store) h.distinct have (took_prefix r.store.failed r.store.entries (taken r.store.sink) sound h.store) err.2)
   ended_stopped faults store (Err Failed) sound ok err = absurd (let k = sym err.0 ∙ sound in cc)
   ended_stopped faults store (Err BadName) sound ok err = absurd err
   ended_stopped faults store (Err NameCollision) sound ok err = absurd err

@@ -3,8 +3,8 @@ use Rattle.std.specs.List.{All, AllByRecursion}
 use Rattle.std.specs.Prelude.{◌≡◌, ℕ, ◌==◌, List, [], ◌∷◌, ◌++◌, Bool, false, true, Option, Some, IsSomeAnd, IsTrue, is_some, Result, Ok, Err, ⊤, if◌then◌else◌}
 use Rattle.std.specs.Str.{bytes_eq, is_utf8}
 use Rattle.rec_container.specs.Container.{Entry, IsEntry, AreFrom, prefix, addition, content_of}
-use Rattle.rec_container.specs.Fronts.{IsWholeFront}
 use Rattle.rec_container.specs.Taking.{TookPart}
+use Rattle.rec_container.specs.WholePrefixes.{IsWholePrefix}
 use Rattle.rec_forms.specs.Recording.{test_list_form, record_opts_form}
 use Rattle.rec_forms.specs.TextForm.{bytes_form}
 use Rattle.rec_format.specs.RerunForms.{rerun_info_form}
@@ -58,10 +58,10 @@ IsUnended bytes = All (λ b. (b == 10) ≡ false) bytes
 -- outputs are numbered by their bytes, and cut at m bytes
 module _ (number : List ℕ → ℕ) (m : ℕ) where
   -- log and store are what is left of a recording that had accepted these events, and was stopped then or in the middle of a write:
-  -- the lines of the events and perhaps bytes behind them in which no line ends, and entries with the metadata and each output of the events
+  -- the lines of the events and perhaps bytes after them in which no line ends, and entries with the metadata and each output of the events
   pub record IsStopped (events : List LiveEvent) (log store : List ℕ) : Type 0 where
     pub entries : List Entry
-    pub front : IsWholeFront store entries
+    pub prefix : IsWholePrefix store entries
     pub metadata : HasMetadata entries
     pub outputs : AllByRecursion (IsHeld entries) (run_outputs number m events)
     pub rest : List ℕ
@@ -85,7 +85,7 @@ abbrev pub TookLines : Bool → List RecordedEvent → Option (List ℕ) → Typ
 TookLines false events now = now ≡ Some (log_text events)
 TookLines true events now = (e : RecordedEvent) × TookPart (Some (log_text events)) now (event_line e)
 
--- an event that was accepted stands behind the others; one that was refused changes nothing of them
+-- an event that was accepted stands after the others; one that was refused changes nothing of them
 abbrev pub events_after : List LiveEvent → LiveEvent → Result ⊤ RunStoreError → List LiveEvent
 events_after events event (Ok done) = events ++ event ∷ []
 events_after events event (Err e) = events
@@ -104,6 +104,6 @@ module _ {S L N : Type 0} (taken : S → Option (List ℕ)) (log_taken : L → O
   abbrev pub KeepsAccepted : Recording S L N → Recording S L N → Type 0
   KeepsAccepted old new = (events : List LiveEvent) → HasAccepted events old → HasAccepted events new
 
-  -- an event was accepted behind those before, or was refused and leaves them as they were
+  -- an event was accepted after those before, or was refused and leaves them as they were
   abbrev pub AcceptsEvent : Recording S L N → Recording S L N → LiveEvent → Result ⊤ RunStoreError → Type 0
   AcceptsEvent old new event result = (events : List LiveEvent) → HasAccepted events old → HasAccepted (events_after events event result) new

@@ -1,5 +1,6 @@
 //! Outputs that are cut to a limit.
-ghost use Rattle.std.specs.Prelude.{◌≡◌, ◌<◌, ◌≤◌, ◌-◌, ◌↔◌, length, max, IfOk, Ok};
+ghost use Rattle.std.specs.Fmt.{decimal};
+ghost use Rattle.std.specs.Prelude.{◌≡◌, ◌<◌, ◌≤◌, ◌-◌, ◌↔◌, ◌++◌, ℕ, length, max, IfOk, Ok};
 ghost use Rattle.rec_store.specs.Cut.{IsBorrowed, cut, cut_bytes, marker};
 ghost use Rattle.rec_store.specs.declared.cut.CutOutput.TheVariants.{Borrowed};
 
@@ -58,13 +59,29 @@ pub fn truncate_output(
     let digits = buffer.format(excess).as_bytes();
     let marker_len = MARKER_START.len() + digits.len() + MARKER_END.len();
     let space = max_size.saturating_sub(marker_len);
-    let prefix = space / 2;
-    let suffix = space - prefix;
-    let mut bytes = Vec::with_capacity(alloc, space + marker_len)?;
-    bytes.extend_from_slice(&buf[..prefix])?;
+    let prefix_len = space / 2;
+    let suffix_len = space - prefix_len;
+    let prefix = &buf[..prefix_len];
+    let suffix = &buf[buf.len() - suffix_len..];
+    let bytes = join_around(alloc, space + marker_len, prefix, digits, suffix)?;
+    Ok(CutOutput::Owned(bytes))
+}
+
+/// Joins a prefix and a suffix around the marker with these digits.
+fn join_around(
+    alloc: Global,
+    capacity: usize,
+    prefix: &[u8],
+    digits: &[u8],
+    suffix: &[u8],
+) -> Result<Vec<u8>, AllocError>
+    ensures { (n : ℕ) → digits.now ≡ decimal n → IfOk result (λ bytes. bytes.items ≡ prefix.now ++ (marker n ++ suffix.now)) }
+{
+    let mut bytes = Vec::with_capacity(alloc, capacity)?;
+    bytes.extend_from_slice(prefix)?;
     bytes.extend_from_slice(MARKER_START)?;
     bytes.extend_from_slice(digits)?;
     bytes.extend_from_slice(MARKER_END)?;
-    bytes.extend_from_slice(&buf[buf.len() - suffix..])?;
-    Ok(CutOutput::Owned(bytes))
+    bytes.extend_from_slice(suffix)?;
+    Ok(bytes)
 }

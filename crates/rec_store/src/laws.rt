@@ -111,7 +111,7 @@ pub fn equal_outputs_share_an_entry()
 
 /// States what is left where a recorder is stopped: nothing that it accepted is lost. Where the
 /// metadata that each run has stands in its store, its two sinks hold the lines of the events that
-/// it accepted, perhaps bytes behind them in which no line ends, and entries with the metadata and
+/// it accepted, perhaps bytes after them in which no line ends, and entries with the metadata and
 /// with each output of these events.
 pub fn accepted_is_stopped<S: Sink, L: Sink, N: OutputNamer>()
     ensures { (events : List LiveEvent) (r : Recording S L N) → HasAccepted S.taken L.taken N.number events r → HavePaths r.store.entries required_paths

@@ -141,7 +141,11 @@ impl RecordReadError {
             RecordReadError::ExtractFile { .. } => "writing the entry ",
             RecordReadError::OpenRunLog { .. } => "there is no event log at ",
             RecordReadError::DiskFault { .. } => "the disk failed at ",
-            _ => "",
+            RecordReadError::ParseArchive { .. }
+            | RecordReadError::FileTooLarge { .. }
+            | RecordReadError::ReadRunLog { .. }
+            | RecordReadError::ParseEvent { .. }
+            | RecordReadError::OutOfMemory => "",
         }
     }
 
@@ -155,7 +159,14 @@ impl RecordReadError {
             RecordReadError::UnknownOutputType { .. } => " says no kind of output",
             RecordReadError::ExtractFile { .. } => " failed",
             RecordReadError::ParseEvent { .. } => " is no event",
-            _ => "",
+            RecordReadError::RunNotFound { .. }
+            | RecordReadError::OpenArchive { .. }
+            | RecordReadError::ParseArchive { .. }
+            | RecordReadError::FileNotFound { .. }
+            | RecordReadError::FileTooLarge { .. }
+            | RecordReadError::OpenRunLog { .. }
+            | RecordReadError::DiskFault { .. }
+            | RecordReadError::OutOfMemory => "",
         }
     }
 }

@@ -3,7 +3,9 @@
 use crate::errors::{printed, too_large};
 use rec_container::{Container, FailingSink};
 use rec_store::parts::{extract_entry, read_output};
-use rec_store::{ConstantNamer, CutOutput, OutputNamer, Sha256Namer, truncate_output};
+use rec_store::{
+    ConstantNamer, CutOutput, OutputNamer, RunStoreError, Sha256Namer, truncate_output,
+};
 use std::alloc::{AllocError, Global};
 use std::str;
 use std::test::Fail;
@@ -20,6 +22,8 @@ enum Asked<'a> {
     /// The error of this number.
     Error(u64),
     TooLarge,
+    /// The error of a store that would be too long.
+    CountOutOfRange,
 }
 
 /// A container of the entry `out/1` with the content `hi`.
@@ -34,6 +38,7 @@ fn answer(alloc: Global, asked: Asked<'_>) -> Result<String, Fail> {
         Asked::Output(name) => output(alloc, name),
         Asked::Error(number) => Ok(printed(alloc, number)?),
         Asked::TooLarge => Ok(too_large(alloc)?),
+        Asked::CountOutOfRange => Ok(format!(in alloc; "{}", RunStoreError::CountOutOfRange)?),
     }
 }
 
@@ -117,6 +122,10 @@ const ANSWERS: &[(Asked<'static>, &str)] = &[
         "the entry p stands for no item of its kind",
     ),
     (Asked::TooLarge, "b has 3 bytes, and the limit is 2"),
+    (
+        Asked::CountOutOfRange,
+        "the store or the log would have 2^64 bytes or more",
+    ),
 ];
 
 #[test]

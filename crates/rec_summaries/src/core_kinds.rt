@@ -1,7 +1,7 @@
 //! What happened without outputs, as it is recorded.
 ghost use Rattle.std.specs.Prelude.{◌≡◌, IfOk};
 ghost use Rattle.rec_events.specs.LiveEvents.{core_kind};
-ghost use Rattle.rec_summaries.specs.Groups.{of_run, of_script, of_test};
+ghost use Rattle.rec_summaries.specs.Groups.{of_run, of_script, of_start, of_stop, of_test};
 
 use crate::run_kinds::{run_finished, run_started};
 use crate::script_kinds::{script_slow, script_started};
@@ -21,15 +21,20 @@ pub(crate) fn summarize_core(
         TestEventKind::SetupScriptStarted { .. } | TestEventKind::SetupScriptSlow { .. } => {
             summarize_script(alloc, kind)
         }
-        TestEventKind::TestStarted { .. }
-        | TestEventKind::TestSlow { .. }
-        | TestEventKind::TestRetryStarted { .. }
-        | TestEventKind::TestSkipped { .. } => summarize_test(alloc, kind),
+        TestEventKind::TestStarted { .. } | TestEventKind::TestRetryStarted { .. } => {
+            summarize_start(alloc, kind)
+        }
+        TestEventKind::TestSlow { .. } | TestEventKind::TestSkipped { .. } => {
+            summarize_test(alloc, kind)
+        }
+        TestEventKind::RunBeginCancel { .. }
+        | TestEventKind::RunPaused { .. }
+        | TestEventKind::RunContinued { .. } => Ok(summarize_stop(kind)),
         _ => summarize_run(alloc, kind),
     }
 }
 
-/// Gives what happened to the run as a whole; `None` for the other kinds.
+/// Gives a start or an end of the run, or of one of a stress run's runs; `None` for the other kinds.
 fn summarize_run(
     alloc: Global,
     kind: &TestEventKind<'_>,
@@ -49,29 +54,6 @@ fn summarize_run(
                 progress: *progress,
             }))
         }
-        TestEventKind::RunBeginCancel {
-            setup_scripts_running,
-            running,
-            current_stats,
-        } => Ok(Some(CoreEventKind::RunBeginCancel {
-            setup_scripts_running: *setup_scripts_running,
-            running: *running,
-            reason: current_stats.cancel_reason.unwrap_or(CancelReason::Signal),
-        })),
-        TestEventKind::RunPaused {
-            setup_scripts_running,
-            running,
-        } => Ok(Some(CoreEventKind::RunPaused {
-            setup_scripts_running: *setup_scripts_running,
-            running: *running,
-        })),
-        TestEventKind::RunContinued {
-            setup_scripts_running,
-            running,
-        } => Ok(Some(CoreEventKind::RunContinued {
-            setup_scripts_running: *setup_scripts_running,
-            running: *running,
-        })),
         TestEventKind::StressSubRunFinished {
             progress,
             sub_elapsed,
@@ -97,6 +79,38 @@ fn summarize_run(
         )
         .map(Some),
         _ => Ok(None),
+    }
+}
+
+/// Gives a cancel, a pause or the end of a pause; `None` for the other kinds.
+fn summarize_stop(kind: &TestEventKind<'_>) -> Option<CoreEventKind>
+    ensures { result ≡ of_stop kind.now }
+{
+    match kind {
+        TestEventKind::RunBeginCancel {
+            setup_scripts_running,
+            running,
+            current_stats,
+        } => Some(CoreEventKind::RunBeginCancel {
+            setup_scripts_running: *setup_scripts_running,
+            running: *running,
+            reason: current_stats.cancel_reason.unwrap_or(CancelReason::Signal),
+        }),
+        TestEventKind::RunPaused {
+            setup_scripts_running,
+            running,
+        } => Some(CoreEventKind::RunPaused {
+            setup_scripts_running: *setup_scripts_running,
+            running: *running,
+        }),
+        TestEventKind::RunContinued {
+            setup_scripts_running,
+            running,
+        } => Some(CoreEventKind::RunContinued {
+            setup_scripts_running: *setup_scripts_running,
+            running: *running,
+        }),
+        _ => None,
     }
 }
 
@@ -148,12 +162,12 @@ fn summarize_script(
     }
 }
 
-/// Gives what happened to a test without outputs; `None` for the other kinds.
-fn summarize_test(
+/// Gives the start of a test's first or further attempt; `None` for the other kinds.
+fn summarize_start(
     alloc: Global,
     kind: &TestEventKind<'_>,
 ) -> Result<Option<CoreEventKind>, AllocError>
-    ensures { IfOk result (λ summary. summary ≡ of_test kind.now) }
+    ensures { IfOk result (λ summary. summary ≡ of_start kind.now) }
 {
     match kind {
         TestEventKind::TestStarted {
@@ -173,21 +187,6 @@ fn summarize_test(
             command_line,
         )
         .map(Some),
-        TestEventKind::TestSlow {
-            stress_index,
-            test_instance,
-            retry_data,
-            elapsed,
-            will_terminate,
-        } => test_slow(
-            alloc,
-            stress_index,
-            test_instance,
-            *retry_data,
-            *elapsed,
-            *will_terminate,
-        )
-        .map(Some),
         TestEventKind::TestRetryStarted {
             stress_index,
             test_instance,
@@ -203,6 +202,33 @@ fn summarize_test(
             *retry_data,
             *running,
             command_line,
+        )
+        .map(Some),
+        _ => Ok(None),
+    }
+}
+
+/// Gives what else happened to a test without outputs; `None` for the other kinds.
+fn summarize_test(
+    alloc: Global,
+    kind: &TestEventKind<'_>,
+) -> Result<Option<CoreEventKind>, AllocError>
+    ensures { IfOk result (λ summary. summary ≡ of_test kind.now) }
+{
+    match kind {
+        TestEventKind::TestSlow {
+            stress_index,
+            test_instance,
+            retry_data,
+            elapsed,
+            will_terminate,
+        } => test_slow(
+            alloc,
+            stress_index,
+            test_instance,
+            *retry_data,
+            *elapsed,
+            *will_terminate,
         )
         .map(Some),
         TestEventKind::TestSkipped {

@@ -11,9 +11,9 @@ pub some-append : (xs ys : List Data) → has_some (xs ++ ys) ≡ (has_some xs |
 some-append [] ys = refl
 some-append (x ∷ xs) ys = refl
 
-pub take-front : (xs ys : List ℕ) → take (length xs) (xs ++ ys) ≡ xs
-take-front [] ys = refl
-take-front (x ∷ xs) ys = ap (λ zs. x ∷ zs) (take-front xs ys)
+pub take-prefix : (xs ys : List ℕ) → take (length xs) (xs ++ ys) ≡ xs
+take-prefix [] ys = refl
+take-prefix (x ∷ xs) ys = ap (λ zs. x ∷ zs) (take-prefix xs ys)
 
 pub texts-append : (format : ChromeTraceMessageFormat) (later : Bool) (xs ys : List Data)
     → event_texts format later (xs ++ ys) ≡ event_texts format later xs ++ event_texts format (later || has_some xs) ys

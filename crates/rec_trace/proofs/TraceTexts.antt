@@ -19,7 +19,7 @@ use Rattle.rec_trace.proofs.PrettyTokens.{after-value, fold-append, pretty_from-
 use Rattle.rec_trace.specs.declared.settings.ChromeTraceMessageFormat.TheVariants.{Json, JsonPretty}
 use Rattle.rec_trace.specs.declared.settings.ChromeTraceMessageFormat.{ChromeTraceMessageFormat}
 use Rattle.rec_trace.specs.Kept.{AreWritable, has_some}
-use Rattle.rec_trace.specs.Texts.{compact_front, event_text, event_texts, front_tokens, nested_text, text_in, trace_end, trace_front, trace_value}
+use Rattle.rec_trace.specs.Texts.{compact_prefix, event_text, event_texts, prefix_tokens, nested_text, text_in, trace_end, trace_prefix, trace_value}
 
 pub regroup : (a b c d : List ℕ) → a ++ (b ++ (c ++ d)) ≡ (a ++ (b ++ c)) ++ d
 regroup a b c d = simp append_assoc
@@ -31,16 +31,16 @@ items-texts later [] = refl
 items-texts later (d ∷ ds) =
     ap (λ s. comma_if later ++ (compact_text d ++ s)) (items-texts true ds) ∙ regroup (comma_if later) (compact_text d) (event_texts Json true ds) (93 ∷ [])
 
-front-end : (a b c d : List ℕ) → a ++ (b ++ (c ++ d)) ≡ ((a ++ b) ++ c) ++ d
-front-end a b c d = simp append_assoc
+prefix-end : (a b c d : List ℕ) → a ++ (b ++ (c ++ d)) ≡ ((a ++ b) ++ c) ++ d
+prefix-end a b c d = simp append_assoc
 
 compact-parts : (other : Data) (events : List Data) (some : Bool)
-    → compact_text (trace_value other events) ≡ compact_front other ++ (event_texts Json false events ++ trace_end Json some)
-unfolding trace_value members_of escape_byte compact_front
+    → compact_text (trace_value other events) ≡ compact_prefix other ++ (event_texts Json false events ++ trace_end Json some)
+unfolding trace_value members_of escape_byte compact_prefix
 compact-parts other events some =
     ap (λ s. (codes "{\"displayTimeUnit\":\"ms\",\"otherData\":") ++ (compact_text other ++ (codes ",\"traceEvents\":[" ++ s)))
     (ap (λ s. s ++ 125 ∷ []) (items-texts false events) ∙ append_assoc (event_texts Json false events) (93 ∷ []) (125 ∷ []))
-    ∙ front-end (codes "{\"displayTimeUnit\":\"ms\",\"otherData\":") (compact_text other) (codes ",\"traceEvents\":[") (event_texts Json false events ++ trace_end Json some)
+    ∙ prefix-end (codes "{\"displayTimeUnit\":\"ms\",\"otherData\":") (compact_text other) (codes ",\"traceEvents\":[") (event_texts Json false events ++ trace_end Json some)
 
 -- ---- over several lines
 
@@ -97,39 +97,39 @@ printable-compact d w = subst ArePrintable (sym (tokens-compact d w)) (ArePrinta
 
 -- the tokens of a trace
 tokens-parts : (other : Data) (events : List Data)
-    → json_tokens (outline (trace_value other events)) ≡ front_tokens other ++ (items_tokens (items_outline (items_of events)) ++ end_object ∷ [])
+    → json_tokens (outline (trace_value other events)) ≡ prefix_tokens other ++ (items_tokens (items_outline (items_of events)) ++ end_object ∷ [])
 unfolding trace_value members_of
 tokens-parts other events =
     ap (λ ts. begin_object ∷ key (codes "displayTimeUnit") ∷ string_token (codes "ms") ∷ key (codes "otherData") ∷ ts)
     (sym (append_assoc (json_tokens (outline other)) (key (codes "traceEvents") ∷ begin_array ∷ []) (items_tokens (items_outline (items_of events)) ++ end_object ∷ [])))
 
-front-state : (other : Data) → IsWritable 8 other → fold step (nothing, 0) (front_tokens other) ≡ (bracket, 2)
-front-state other w =
+prefix-state : (other : Data) → IsWritable 8 other → fold step (nothing, 0) (prefix_tokens other) ≡ (bracket, 2)
+prefix-state other w =
     fold-append (name, 1) (json_tokens (outline other)) (key (codes "traceEvents") ∷ begin_array ∷ [])
     ∙ ap (λ s. fold step s (key (codes "traceEvents") ∷ begin_array ∷ [])) (state-value name 1 other (omega (arith, w.shallow)))
 
 pretty-parts : (other : Data) (events : List Data) → IsWritable 8 other → AreWritable events
-    → pretty (json_tokens (outline (trace_value other events))) ≡ pretty (front_tokens other) ++ (event_texts JsonPretty false events ++ trace_end JsonPretty (has_some events))
+    → pretty (json_tokens (outline (trace_value other events))) ≡ pretty (prefix_tokens other) ++ (event_texts JsonPretty false events ++ trace_end JsonPretty (has_some events))
 pretty-parts other events w ws =
     let rest = items_tokens (items_outline (items_of events)) ++ end_object ∷ [] in
     ap pretty (tokens-parts other events)
-    ∙ pretty_from-append (nothing, 0) (front_tokens other) rest
-    ∙ ap (λ s. pretty (front_tokens other) ++ pretty_from s rest) (front-state other w)
-    ∙ ap (λ s. pretty (front_tokens other) ++ s) (lines-items false events (end_object ∷ []) ws ∙ ap (λ s. event_texts JsonPretty false events ++ s) (closes (has_some events)))
+    ∙ pretty_from-append (nothing, 0) (prefix_tokens other) rest
+    ∙ ap (λ s. pretty (prefix_tokens other) ++ pretty_from s rest) (prefix-state other w)
+    ∙ ap (λ s. pretty (prefix_tokens other) ++ s) (lines-items false events (end_object ∷ []) ws ∙ ap (λ s. event_texts JsonPretty false events ++ s) (closes (has_some events)))
 
 pub trace-parts : (format : ChromeTraceMessageFormat) (other : Data) (events : List Data) → IsWritable 8 other → AreWritable events
-    → text_in format (trace_value other events) ≡ trace_front format other ++ (event_texts format false events ++ trace_end format (has_some events))
+    → text_in format (trace_value other events) ≡ trace_prefix format other ++ (event_texts format false events ++ trace_end format (has_some events))
 trace-parts Json other events w ws = compact-parts other events (has_some events)
 trace-parts JsonPretty other events w ws = pretty-parts other events w ws
 
 -- ---- a trace without events
 
-pub empty-compact : (other : Data) → compact_front other ++ trace_end Json false ≡ compact_text (trace_value other [])
+pub empty-compact : (other : Data) → compact_prefix other ++ trace_end Json false ≡ compact_text (trace_value other [])
 empty-compact other = sym (compact-parts other [] false)
 
 pub empty-writable : (other : Data) → IsWritable 8 other → IsWritable 9 (trace_value other [])
 unfolding trace_value
 empty-writable other w = struct_writable _ refl (word_writable (codes "ms") refl, (w, (list_writable {n = 7} (λ d. d) (λ d w. w) [] tt, tt)))
 
-pub empty-pretty : (other : Data) → IsWritable 8 other → pretty (tokens (compact_text (trace_value other []))) ≡ pretty (front_tokens other) ++ trace_end JsonPretty false
+pub empty-pretty : (other : Data) → IsWritable 8 other → pretty (tokens (compact_text (trace_value other []))) ≡ pretty (prefix_tokens other) ++ trace_end JsonPretty false
 empty-pretty other w = ap pretty (tokens-compact (trace_value other []) (empty-writable other w)) ∙ pretty-parts other [] w tt

@@ -46,7 +46,7 @@ abbrev pub HandsOn : ChromeTraceGroupBy → Parts → List PlainEvent → Handin
 HandsOn g version events h = StandsFor g version events h.tracer
 
 module _ {T : Type 0} (holds : T → List Data → Type 0) where
-  -- An event is accepted, and its trace events stand behind what the target had. Or it is not accepted, and the builder stands for the events before
+  -- An event is accepted, and its trace events stand after what the target had. Or it is not accepted, and the builder stands for the events before
   -- it: the target failed at an earlier one; the event is refused after those before it; the target fails at one of its trace events and has those
   -- before that one; or memory runs out. The target has only changed where it failed
   abbrev pub Processes : ChromeTraceGroupBy → Parts → List PlainEvent → PlainEvent → Handing → T → Handing → T → Result ⊤ TraceBuildError → Type 0

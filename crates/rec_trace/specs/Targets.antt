@@ -9,7 +9,7 @@ abbrev pub AreIn : VecTarget → List Data → Type 0
 AreIn t events = map event_value t.events.items ≡ events
 
 module _ {T : Type 0} (holds : T → List Data → Type 0) where
-  -- behind what it had, these events stand now
+  -- after what it had, these events stand now
   abbrev pub Takes : T → T → List Data → Type 0
   Takes old new events = (before : List Data) → holds old before → holds new (before ++ events)
 

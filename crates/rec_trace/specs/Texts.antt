@@ -67,18 +67,18 @@ event_texts format later [] = []
 event_texts format later (d ∷ ds) = comma_if later ++ (event_text format d ++ event_texts format true ds)
 
 -- what stands before the events in one line
-unfoldable pub compact_front : Data → List ℕ
-compact_front other = (codes "{\"displayTimeUnit\":\"ms\",\"otherData\":" ++ compact_text other) ++ codes ",\"traceEvents\":["
+unfoldable pub compact_prefix : Data → List ℕ
+compact_prefix other = (codes "{\"displayTimeUnit\":\"ms\",\"otherData\":" ++ compact_text other) ++ codes ",\"traceEvents\":["
 
-abbrev pub front_tokens : Data → List Token
-front_tokens other =
+abbrev pub prefix_tokens : Data → List Token
+prefix_tokens other =
     begin_object ∷ key (codes "displayTimeUnit") ∷ string_token (codes "ms") ∷ key (codes "otherData")
     ∷ (json_tokens (outline other) ++ key (codes "traceEvents") ∷ begin_array ∷ [])
 
 -- what stands before the events
-abbrev pub trace_front : ChromeTraceMessageFormat → Data → List ℕ
-trace_front Json other = compact_front other
-trace_front JsonPretty other = pretty (front_tokens other)
+abbrev pub trace_prefix : ChromeTraceMessageFormat → Data → List ℕ
+trace_prefix Json other = compact_prefix other
+trace_prefix JsonPretty other = pretty (prefix_tokens other)
 
 -- what stands after them, where there are some or none
 abbrev pub trace_end : ChromeTraceMessageFormat → Bool → List ℕ

@@ -2,31 +2,32 @@
 ghost use Rattle.std.specs.Prelude.{◌≡◌, [], ◌∷◌, ◌++◌, None, Some, IfOk, OnOk, string_bytes};
 ghost use Rattle.serde_json.specs.View.{view};
 ghost use Rattle.serde_json.specs.Written.{compact_text};
-ghost use Rattle.rec_json.specs.Tokens.{value_tokens, with_fields};
+ghost use Rattle.rec_json.specs.Tokens.{value_tokens};
+ghost use Rattle.rec_forms.specs.ObjectWriting.{Writes};
 ghost use Rattle.rec_forms.specs.Writable.{EachWritten, IsWritable};
 ghost use Rattle.rec_trace.specs.Texts.{other_data, words_field};
 
 use crate::run_start::RunStart;
 use rec_events::{Items, Text, Version};
-use rec_forms::{value_of_text, write_field, write_optional};
+use rec_forms::{ObjectWriter, value_of_text};
 use rec_json::JsonText;
 use serde_json::Value;
 use std::alloc::{AllocError, Global};
 
 /// Writes the words of a command, where there are some.
-fn write_words(
-    alloc: Global,
+fn with_words(
+    object: ObjectWriter,
     text: &mut JsonText,
     key: &str,
     words: &Items<Text>,
-) -> Result<(), AllocError>
-    ensures written { OnOk result (text.new ≡ with_fields text.old (words_field key.now words.now ∷ [])) }
-    ensures known { OnOk result (EachWritten 7 (words_field key.now words.now ∷ [])) }
+) -> ObjectWriter
+    ensures { Writes object text.old result text.new
+        (words_field key.now words.now ∷ []) (EachWritten 7 (words_field key.now words.now ∷ [])) }
 {
     if words.as_slice().len() > 0 {
-        write_field(alloc, text, key, words)
+        object.field(text, key, words)
     } else {
-        Ok(())
+        object
     }
 }
 
@@ -40,14 +41,13 @@ fn write_run(
     ensures written { OnOk result (text.new ≡ text.old ++ value_tokens (other_data version.now (Some run.now))) }
     ensures known { OnOk result (IsWritable 8 (other_data version.now (Some run.now))) }
 {
-    text.begin_object()?;
-    write_words(alloc, text, "cli_args", &run.cli_args)?;
-    write_field(alloc, text, "nextest_version", version)?;
-    write_field(alloc, text, "profile_name", &run.profile_name)?;
-    write_field(alloc, text, "run_id", &run.run_id)?;
-    write_optional(alloc, text, "stress_condition", &run.stress_condition)?;
-    text.end_struct()?;
-    Ok(())
+    let object = ObjectWriter::begin(alloc, text);
+    let object = with_words(object, text, "cli_args", &run.cli_args);
+    let object = object.field(text, "nextest_version", version);
+    let object = object.field(text, "profile_name", &run.profile_name);
+    let object = object.field(text, "run_id", &run.run_id);
+    let object = object.optional(text, "stress_condition", &run.stress_condition);
+    object.end(text)
 }
 
 /// Writes what a trace says of runs by this version of the runner, where none started.
@@ -55,10 +55,9 @@ fn write_version(alloc: Global, text: &mut JsonText, version: &Version) -> Resul
     ensures written { OnOk result (text.new ≡ text.old ++ value_tokens (other_data version.now None)) }
     ensures known { OnOk result (IsWritable 8 (other_data version.now None)) }
 {
-    text.begin_object()?;
-    write_field(alloc, text, "nextest_version", version)?;
-    text.end_struct()?;
-    Ok(())
+    let object = ObjectWriter::begin(alloc, text);
+    let object = object.field(text, "nextest_version", version);
+    object.end(text)
 }
 
 /// Writes what a trace says of runs by this version of the runner, of which this one started last, as its compact JSON

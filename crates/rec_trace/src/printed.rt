@@ -10,7 +10,7 @@ use crate::event_texts::write_events;
 use crate::other_data::other_data_text;
 use crate::run_start::RunStart;
 use crate::settings::ChromeTraceMessageFormat;
-use crate::whole_text::{trace_end, trace_front};
+use crate::whole_text::{trace_end, trace_prefix};
 use bstr::ByteVec;
 use json::Scratch;
 use rec_events::Version;
@@ -87,11 +87,11 @@ impl Printed {
             → s.items ≡ text_in format (trace_value (other_data version.now last_run.now) events)) }
     {
         let other_data = other_data_text(alloc, version, last_run)?;
-        let front = trace_front(alloc, self.format, &other_data)?;
+        let prefix = trace_prefix(alloc, self.format, &other_data)?;
         let end = trace_end(self.format, self.has_events);
         let mut text = self.text;
-        text.reserve_exact(front.len().saturating_add(end.len()))?;
-        text.insert_str(0, &front)?;
+        text.reserve_exact(prefix.len().saturating_add(end.len()))?;
+        text.insert_str(0, &prefix)?;
         text.extend_from_slice(end.as_bytes())?;
         Ok(text)
     }

@@ -19,7 +19,7 @@ pub trait TraceTarget {
     /// Counts how often it has failed. The count stays at u64's greatest once it is there.
     ghost faults: { Self → ℕ };
 
-    /// Puts an event behind those that it got.
+    /// Puts an event after those that it got.
     ///
     /// # Errors
     ///

@@ -4,7 +4,7 @@ ghost use Rattle.serde_json.specs.Data.{Data};
 ghost use Rattle.serde_json.specs.Written.{compact_text};
 ghost use Rattle.rec_forms.specs.Writable.{IsWritable};
 ghost use Rattle.rec_trace.specs.declared.settings.ChromeTraceMessageFormat.TheVariants.{JsonPretty};
-ghost use Rattle.rec_trace.specs.Texts.{compact_front, trace_end, trace_front};
+ghost use Rattle.rec_trace.specs.Texts.{compact_prefix, trace_end, trace_prefix};
 
 use crate::layout::lay_out;
 use crate::settings::ChromeTraceMessageFormat;
@@ -15,40 +15,40 @@ use std::alloc::{AllocError, Global};
 /// # Errors
 ///
 /// `AllocError` if memory runs out.
-pub fn trace_front(
+pub fn trace_prefix(
     alloc: Global,
     format: ChromeTraceMessageFormat,
     other_data: &str,
 ) -> Result<Vec<u8>, AllocError>
-    ensures { IfOk result (λ s. (other : Data) → other_data.now ≡ compact_text other → IsWritable 8 other → s.items ≡ trace_front format other) }
+    ensures { IfOk result (λ s. (other : Data) → other_data.now ≡ compact_text other → IsWritable 8 other → s.items ≡ trace_prefix format other) }
 {
-    let front = compact_front(alloc, other_data)?;
+    let prefix = compact_prefix(alloc, other_data)?;
     match format {
-        ChromeTraceMessageFormat::Json => Ok(front.into_bytes()),
-        ChromeTraceMessageFormat::JsonPretty => pretty_front(alloc, front),
+        ChromeTraceMessageFormat::Json => Ok(prefix.into_bytes()),
+        ChromeTraceMessageFormat::JsonPretty => pretty_prefix(alloc, prefix),
     }
 }
 
 /// Writes in one line what stands before the events.
-fn compact_front(alloc: Global, other_data: &str) -> Result<String, AllocError>
-    ensures { IfOk result (λ s. (other : Data) → other_data.now ≡ compact_text other → string_bytes s ≡ compact_front other) }
+fn compact_prefix(alloc: Global, other_data: &str) -> Result<String, AllocError>
+    ensures { IfOk result (λ s. (other : Data) → other_data.now ≡ compact_text other → string_bytes s ≡ compact_prefix other) }
 {
-    let mut front = String::from_str(alloc, "{\"displayTimeUnit\":\"ms\",\"otherData\":")?;
-    front.push_str(other_data)?;
-    front.push_str(",\"traceEvents\":[")?;
-    Ok(front)
+    let mut prefix = String::from_str(alloc, "{\"displayTimeUnit\":\"ms\",\"otherData\":")?;
+    prefix.push_str(other_data)?;
+    prefix.push_str(",\"traceEvents\":[")?;
+    Ok(prefix)
 }
 
 /// Writes over several lines what stands before the events, from what stands there in one line: that is what a trace
 /// without events has before its end.
-fn pretty_front(alloc: Global, mut front: String) -> Result<Vec<u8>, AllocError>
-    ensures { IfOk result (λ s. (other : Data) → string_bytes front ≡ compact_front other → IsWritable 8 other → s.items ≡ trace_front JsonPretty other) }
+fn pretty_prefix(alloc: Global, mut prefix: String) -> Result<Vec<u8>, AllocError>
+    ensures { IfOk result (λ s. (other : Data) → string_bytes prefix ≡ compact_prefix other → IsWritable 8 other → s.items ≡ trace_prefix JsonPretty other) }
 {
-    front.push_str(trace_end(ChromeTraceMessageFormat::Json, false))?;
-    let mut lines = lay_out(alloc, &front)?;
+    prefix.push_str(trace_end(ChromeTraceMessageFormat::Json, false))?;
+    let mut lines = lay_out(alloc, &prefix)?;
     let end = trace_end(ChromeTraceMessageFormat::JsonPretty, false);
-    let front_len = lines.as_slice().len().saturating_sub(end.len());
-    lines.truncate(front_len);
+    let prefix_len = lines.as_slice().len().saturating_sub(end.len());
+    lines.truncate(prefix_len);
     Ok(lines)
 }
 

@@ -4,4 +4,3 @@ pub mod EventParts
 pub mod EventTexts
 pub mod TraceEvents
 pub mod RowNames
-pub mod Writing

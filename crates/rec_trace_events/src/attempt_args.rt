@@ -1,17 +1,19 @@
 //! The args of the ends of attempts.
-ghost use Rattle.std.specs.Prelude.{◌≡◌, [], ◌∷◌, Some, codes, option_copied};
+ghost use Rattle.std.specs.Prelude.{◌≡◌, [], ◌∷◌, IfOk, Some, codes, option_copied};
 ghost use Rattle.rec_forms.specs.Groups.{test_group_value};
+ghost use Rattle.rec_forms.specs.ObjectWriting.{Writes};
 ghost use Rattle.rec_forms.specs.Writable.{EachWritten, IsWritable};
 ghost use Rattle.rec_trace_events.specs.Args.{counted_flaky_result};
 ghost use Rattle.rec_trace_events.specs.AttemptEnds.{first_fields, group_or_global, last_fields, middle_fields};
-ghost use Rattle.rec_trace_events.specs.Writing.{Writes};
 
 use crate::args::Args;
-use crate::fields::Fields;
+use crate::error_args::with_attempt_error;
+use crate::members::{with_delay, with_stress_index};
 use rec_events::{
     Duration, ExecuteStatus, ExecutionStatuses, FlakyResult, OutputSpec, OwnedTestInstanceId,
     StressIndexSummary, TestGroup,
 };
+use rec_forms::ObjectWriter;
 use rec_json::JsonText;
 use std::alloc::{AllocError, Global};
 
@@ -39,12 +41,13 @@ impl<'a, S: OutputSpec> Args for FailedAttemptArgs<'a, S> {
     fn write(&self, alloc: Global, text: &mut JsonText) -> Result<(), AllocError> {
         let (test, status) = (self.test, self.status);
         let delay = self.delay_before_next_attempt;
-        Fields::begin(alloc, text)
-            .first(test, status, text)
-            .delay("delay_before_next_attempt", delay, text)
-            .middle(status, None, text)
-            .last(test, self.stress_index, self.test_group, status, text)
-            .end(text)
+        let object = ObjectWriter::begin(alloc, text);
+        let object = with_first_fields(object, text, test, status);
+        let object = with_delay(object, text, "delay_before_next_attempt", delay);
+        let object = with_middle_fields(object, alloc, text, status, None)?;
+        let (index, group) = (self.stress_index, self.test_group);
+        let object = with_last_fields(object, text, test, index, group, status);
+        object.end(text)
     }
 }
 
@@ -71,74 +74,86 @@ impl<'a, S: OutputSpec> Args for LastAttemptArgs<'a, S> {
 
     fn write(&self, alloc: Global, text: &mut JsonText) -> Result<(), AllocError> {
         let (test, last) = (self.test, self.last);
-        Fields::begin(alloc, text)
-            .first(test, last, text)
-            .middle(last, self.flaky, text)
-            .last(test, self.stress_index, self.test_group, last, text)
-            .end(text)
+        let object = ObjectWriter::begin(alloc, text);
+        let object = with_first_fields(object, text, test, last);
+        let object = with_middle_fields(object, alloc, text, last, self.flaky)?;
+        let (index, group) = (self.stress_index, self.test_group);
+        let object = with_last_fields(object, text, test, index, group, last);
+        object.end(text)
     }
 }
 
-impl Fields {
-    /// Writes the fields with the keys from `attempt` to `cpu_time`.
-    fn first<S: OutputSpec>(
-        self,
-        test: &OwnedTestInstanceId,
-        status: &ExecuteStatus<S>,
-        text: &mut JsonText,
-    ) -> Fields
-        ensures { Writes self.is_failed text.old result.is_failed text.new (first_fields test.now status.now) (EachWritten 7 (first_fields test.now status.now)) }
-    {
-        self.field("attempt", &status.retry_data.attempt, text)
-            .field("binary_id", &test.binary_id, text)
-            .optional("cpu_time", &status.cpu_time, text)
-    }
+/// Writes the fields with the keys from `attempt` to `cpu_time`.
+fn with_first_fields<S: OutputSpec>(
+    object: ObjectWriter,
+    text: &mut JsonText,
+    test: &OwnedTestInstanceId,
+    status: &ExecuteStatus<S>,
+) -> ObjectWriter
+    ensures { Writes object text.old result text.new
+        (first_fields test.now status.now) (EachWritten 7 (first_fields test.now status.now)) }
+{
+    object
+        .field(text, "attempt", &status.retry_data.attempt)
+        .field(text, "binary_id", &test.binary_id)
+        .optional(text, "cpu_time", &status.cpu_time)
+}
 
-    /// Writes the fields with the keys from `delay_before_start` to `result`.
-    fn middle<S: OutputSpec>(
-        self,
-        status: &ExecuteStatus<S>,
-        flaky: Option<FlakyResult>,
-        text: &mut JsonText,
-    ) -> Fields
-        ensures { Writes self.is_failed text.old result.is_failed text.new (middle_fields status.now flaky) (EachWritten 7 (middle_fields status.now flaky)) }
-    {
-        let summary = &status.error_summary;
-        self.delay("delay_before_start", &status.delay_before_start, text)
-            .attempt_error(summary, &status.retry_data, flaky, text)
-            .optional("flaky_result", &flaky, text)
-            .field("is_slow", &status.is_slow, text)
-            .field("result", &status.result, text)
-    }
+/// Writes the fields with the keys from `delay_before_start` to `result`.
+///
+/// # Errors
+///
+/// `AllocError` if memory runs out for what is said of a flaky test.
+fn with_middle_fields<S: OutputSpec>(
+    object: ObjectWriter,
+    alloc: Global,
+    text: &mut JsonText,
+    status: &ExecuteStatus<S>,
+    flaky: Option<FlakyResult>,
+) -> Result<ObjectWriter, AllocError>
+    ensures { IfOk result (λ after. Writes object text.old after text.new
+        (middle_fields status.now flaky) (EachWritten 7 (middle_fields status.now flaky))) }
+{
+    let delay = &status.delay_before_start;
+    let object = with_delay(object, text, "delay_before_start", delay);
+    let (summary, retry) = (&status.error_summary, &status.retry_data);
+    let object = with_attempt_error(object, alloc, text, summary, retry, flaky)?;
+    let object = object.optional(text, "flaky_result", &flaky);
+    let object = object.field(text, "is_slow", &status.is_slow);
+    Ok(object.field(text, "result", &status.result))
+}
 
-    /// Writes the fields with the keys from `stress_index` to `total_attempts`.
-    fn last<S: OutputSpec>(
-        self,
-        test: &OwnedTestInstanceId,
-        stress_index: &Option<StressIndexSummary>,
-        test_group: Option<&TestGroup>,
-        status: &ExecuteStatus<S>,
-        text: &mut JsonText,
-    ) -> Fields
-        ensures { Writes self.is_failed text.old result.is_failed text.new (last_fields test.now stress_index.now (group_or_global (option_copied test_group.entry)) status.now)
-            (EachWritten 7 (last_fields test.now stress_index.now (group_or_global (option_copied test_group.entry)) status.now)) }
-    {
-        let total_attempts = &status.retry_data.total_attempts;
-        self.stress_index(stress_index, text)
-            .group(test_group, text)
-            .field("test_name", &test.test_name, text)
-            .field("time_taken", &status.time_taken, text)
-            .field("total_attempts", total_attempts, text)
-    }
+/// Writes the fields with the keys from `stress_index` to `total_attempts`.
+fn with_last_fields<S: OutputSpec>(
+    object: ObjectWriter,
+    text: &mut JsonText,
+    test: &OwnedTestInstanceId,
+    stress_index: &Option<StressIndexSummary>,
+    test_group: Option<&TestGroup>,
+    status: &ExecuteStatus<S>,
+) -> ObjectWriter
+    ensures { Writes object text.old result text.new
+        (last_fields
+        test.now stress_index.now (group_or_global (option_copied test_group.entry)) status.now)
+        (EachWritten 7 (last_fields
+        test.now stress_index.now (group_or_global (option_copied test_group.entry)) status.now)) }
+{
+    let object = with_stress_index(object, text, stress_index);
+    let object = with_group(object, text, test_group);
+    let object = object.field(text, "test_name", &test.test_name);
+    let object = object.field(text, "time_taken", &status.time_taken);
+    object.field(text, "total_attempts", &status.retry_data.total_attempts)
+}
 
-    /// Writes a group, or else the global one.
-    fn group(self, group: Option<&TestGroup>, text: &mut JsonText) -> Fields
-        ensures { Writes self.is_failed text.old result.is_failed text.new ((codes "test_group", Some (test_group_value (group_or_global (option_copied group.entry)))) ∷ []) (IsWritable 0 (test_group_value (group_or_global (option_copied group.entry)))) }
-    {
-        match group {
-            Some(group) => self.field("test_group", group, text),
-            None => self.field("test_group", &TestGroup::Global, text),
-        }
+/// Writes a group, or else the global one.
+fn with_group(object: ObjectWriter, text: &mut JsonText, group: Option<&TestGroup>) -> ObjectWriter
+    ensures { Writes object text.old result text.new
+        ((codes "test_group", Some (test_group_value (group_or_global (option_copied group.entry)))) ∷ [])
+        (IsWritable 0 (test_group_value (group_or_global (option_copied group.entry)))) }
+{
+    match group {
+        Some(group) => object.field(text, "test_group", group),
+        None => object.field(text, "test_group", &TestGroup::Global),
     }
 }
 

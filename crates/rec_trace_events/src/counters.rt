@@ -7,8 +7,8 @@ use crate::args::Args;
 use crate::counts::{RunningCounts, TestCounts};
 use crate::event::{TraceEvent, event};
 use crate::event_parts::EventParts;
-use crate::fields::Fields;
 use crate::rows::{Category, Row};
+use rec_forms::ObjectWriter;
 use rec_json::JsonText;
 use std::alloc::{AllocError, Global};
 
@@ -41,9 +41,9 @@ impl Args for RunningCounts {
     ghost value_of = { running_args };
 
     fn write(&self, alloc: Global, text: &mut JsonText) -> Result<(), AllocError> {
-        Fields::begin(alloc, text)
-            .field("running_scripts", &self.scripts, text)
-            .field("running_tests", &self.tests, text)
+        ObjectWriter::begin(alloc, text)
+            .field(text, "running_scripts", &self.scripts)
+            .field(text, "running_tests", &self.tests)
             .end(text)
     }
 }
@@ -70,10 +70,10 @@ impl Args for TestCounts {
     ghost value_of = { results_args };
 
     fn write(&self, alloc: Global, text: &mut JsonText) -> Result<(), AllocError> {
-        Fields::begin(alloc, text)
-            .field("failed", &self.failed, text)
-            .field("flaky", &self.flaky, text)
-            .field("passed", &self.passed, text)
+        ObjectWriter::begin(alloc, text)
+            .field(text, "failed", &self.failed)
+            .field(text, "flaky", &self.flaky)
+            .field(text, "passed", &self.passed)
             .end(text)
     }
 }

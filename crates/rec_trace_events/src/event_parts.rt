@@ -1,13 +1,15 @@
 //! What an event of a trace has beside its args.
-ghost use Rattle.std.specs.Prelude.{◌≡◌, ◌++◌, [], ◌∷◌, OnOk, codes, option_copied, option_map};
+ghost use Rattle.std.specs.Prelude.{◌≡◌, ◌++◌, [], ◌∷◌, IfOk, IfSome, OnOk, codes, option_copied, option_map};
+ghost use Rattle.serde_json.specs.Data.{string};
 ghost use Rattle.rec_json.specs.Tokens.{value_tokens, with_field};
+ghost use Rattle.rec_events.specs.Names.{IsText};
+ghost use Rattle.rec_forms.specs.ObjectWriting.{Writes};
 ghost use Rattle.rec_forms.specs.Writable.{EachWritten, IfWritten, IsWritable};
 ghost use Rattle.rec_trace_events.specs.EventParts.{event_of, fields_before_name, fields_from_name};
-ghost use Rattle.rec_trace_events.specs.Writing.{Writes};
 
 use crate::args::Args;
-use crate::fields::Fields;
 use crate::rows::Row;
+use rec_forms::ObjectWriter;
 use rec_json::JsonText;
 use std::alloc::{AllocError, Global};
 
@@ -47,47 +49,81 @@ fn write_args<A: Args>(
     }
 }
 
-impl Fields {
-    /// Writes the args of an event, where there are some.
-    fn event_args<A: Args>(self, args: Option<&A>, text: &mut JsonText) -> Fields
-        ensures { Writes self.is_failed text.old result.is_failed text.new ((codes "args", option_map A.value_of (option_copied args.entry)) ∷ []) (IfWritten 8 (option_map A.value_of (option_copied args.entry))) }
-    {
-        if self.is_failed {
-            return self;
-        }
-        Fields {
-            alloc: self.alloc,
-            is_failed: write_args(self.alloc, text, args).is_err(),
-        }
-    }
+/// Writes the args of an event as its first field, where there are some.
+///
+/// # Errors
+///
+/// `AllocError` if memory runs out, or ran out before.
+fn with_args<A: Args>(
+    object: ObjectWriter,
+    alloc: Global,
+    text: &mut JsonText,
+    args: Option<&A>,
+) -> Result<ObjectWriter, AllocError>
+    ensures { IfOk result (λ after. Writes object text.old after text.new
+        ((codes "args", option_map A.value_of (option_copied args.entry)) ∷ [])
+        (IfWritten 8 (option_map A.value_of (option_copied args.entry)))) }
+{
+    object.leave_open()?;
+    write_args(alloc, text, args)?;
+    Ok(ObjectWriter::resume(alloc))
+}
 
-    /// Writes the fields whose keys come before `name`, from `args` to `id`.
-    fn before_name<A: Args>(
-        self,
-        parts: &EventParts<'_>,
-        args: Option<&A>,
-        text: &mut JsonText,
-    ) -> Fields
-        ensures { Writes self.is_failed text.old result.is_failed text.new (fields_before_name parts.now (option_map A.value_of (option_copied args.entry)))
-            (EachWritten 8 (fields_before_name parts.now (option_map A.value_of (option_copied args.entry)))) }
-    {
-        self.event_args(args, text)
-            .optional_text("bp", parts.binding, text)
-            .text("cat", parts.category, text)
-            .optional("id", &parts.id, text)
+/// Writes a field that is a text, where there is one.
+fn with_optional_text(
+    object: ObjectWriter,
+    text: &mut JsonText,
+    key: &str,
+    value: Option<&str>,
+) -> ObjectWriter
+    ensures { Writes object text.old result text.new
+        ((key.now, option_map (λ s. string s.now) value.entry) ∷ [])
+        (IfSome value.entry (λ s. IsText s.now)) }
+{
+    match value {
+        Some(value) => object.text(text, key, value),
+        None => object,
     }
+}
 
-    /// Writes the fields with the keys from `name` to `ts`.
-    fn from_name(self, parts: &EventParts<'_>, text: &mut JsonText) -> Fields
-        ensures { Writes self.is_failed text.old result.is_failed text.new (fields_from_name parts.now) (EachWritten 8 (fields_from_name parts.now)) }
-    {
-        self.text("name", parts.name, text)
-            .text("ph", parts.phase, text)
-            .field("pid", &parts.row.pid, text)
-            .optional_text("s", parts.scope, text)
-            .field("tid", &parts.row.tid, text)
-            .field("ts", &parts.at, text)
-    }
+/// Writes the fields whose keys come before `name`, from `args` to `id`.
+///
+/// # Errors
+///
+/// `AllocError` if memory runs out for the args, or ran out before.
+fn with_fields_before_name<A: Args>(
+    object: ObjectWriter,
+    alloc: Global,
+    text: &mut JsonText,
+    parts: &EventParts<'_>,
+    args: Option<&A>,
+) -> Result<ObjectWriter, AllocError>
+    ensures { IfOk result (λ after. Writes object text.old after text.new
+        (fields_before_name parts.now (option_map A.value_of (option_copied args.entry)))
+        (EachWritten 8
+        (fields_before_name parts.now (option_map A.value_of (option_copied args.entry))))) }
+{
+    let object = with_args(object, alloc, text, args)?;
+    let object = with_optional_text(object, text, "bp", parts.binding);
+    let object = object.text(text, "cat", parts.category);
+    Ok(object.optional(text, "id", &parts.id))
+}
+
+/// Writes the fields with the keys from `name` to `ts`.
+fn with_fields_from_name(
+    object: ObjectWriter,
+    text: &mut JsonText,
+    parts: &EventParts<'_>,
+) -> ObjectWriter
+    ensures { Writes object text.old result text.new
+        (fields_from_name parts.now) (EachWritten 8 (fields_from_name parts.now)) }
+{
+    let object = object.text(text, "name", parts.name);
+    let object = object.text(text, "ph", parts.phase);
+    let object = object.field(text, "pid", &parts.row.pid);
+    let object = with_optional_text(object, text, "s", parts.scope);
+    let object = object.field(text, "tid", &parts.row.tid);
+    object.field(text, "ts", &parts.at)
 }
 
 /// Writes the event of these parts, with these args where there are some.
@@ -104,8 +140,8 @@ pub fn write_event<A: Args>(
     ensures written { OnOk result (text.new ≡ text.old ++ value_tokens (event_of parts.now (option_map A.value_of (option_copied args.entry)))) }
     ensures known { OnOk result (IsWritable 9 (event_of parts.now (option_map A.value_of (option_copied args.entry)))) }
 {
-    Fields::begin(alloc, text)
-        .before_name(parts, args, text)
-        .from_name(parts, text)
-        .end(text)
+    let object = ObjectWriter::begin(alloc, text);
+    let object = with_fields_before_name(object, alloc, text, parts, args)?;
+    let object = with_fields_from_name(object, text, parts);
+    object.end(text)
 }

@@ -1,7 +1,7 @@
 //! What happens at one instant: marks of the whole run, and what is slow.
-ghost use Rattle.std.specs.Prelude.{◌≡◌, IfOk, OnOk};
+ghost use Rattle.std.specs.Prelude.{◌≡◌, IfOk};
 ghost use Rattle.rec_trace_events.specs.EventTexts.{event_value};
-ghost use Rattle.rec_trace_events.specs.TraceEvents.{instant_event, mark_args, mark_event, mark_name, mark_reason, slow_event};
+ghost use Rattle.rec_trace_events.specs.TraceEvents.{instant_event, mark_event, mark_name, mark_reason, slow_event};
 
 use crate::args::Args;
 use crate::counts::RunningCounts;
@@ -9,7 +9,7 @@ use crate::event::{TraceEvent, event};
 use crate::event_parts::EventParts;
 use crate::rows::{Category, Row};
 use rec_events::CancelReason;
-use rec_forms::{write_field, write_optional};
+use rec_forms::ObjectWriter;
 use rec_json::JsonText;
 use std::alloc::{AllocError, Global};
 
@@ -89,12 +89,12 @@ impl Args for MarkArgs {
 
     #[tactic(auto, unfolding(crate::specs::TraceEvents::mark_args))]
     fn write(&self, alloc: Global, text: &mut JsonText) -> Result<(), AllocError> {
-        text.begin_object()?;
-        write_optional(alloc, text, "reason", &self.mark.reason())?;
-        write_field(alloc, text, "running", &self.running.tests)?;
-        write_field(alloc, text, "setup_scripts_running", &self.running.scripts)?;
-        text.end_struct()?;
-        Ok(())
+        let reason = self.mark.reason();
+        ObjectWriter::begin(alloc, text)
+            .optional(text, "reason", &reason)
+            .field(text, "running", &self.running.tests)
+            .field(text, "setup_scripts_running", &self.running.scripts)
+            .end(text)
     }
 }
 

@@ -9,7 +9,6 @@ mod counts;
 mod error_args;
 mod event;
 mod event_parts;
-mod fields;
 mod instants;
 mod members;
 mod metadata;

@@ -6,8 +6,8 @@ ghost use Rattle.rec_trace_events.specs.TraceEvents.{metadata_event, name_event,
 use crate::args::Args;
 use crate::event::{TraceEvent, event};
 use crate::event_parts::EventParts;
-use crate::fields::Fields;
 use crate::rows::Row;
+use rec_forms::ObjectWriter;
 use rec_json::JsonText;
 use std::alloc::{AllocError, Global};
 
@@ -46,8 +46,8 @@ impl<'a> Args for NameArgs<'a> {
     ghost value_of = { λ a. name_args a.name.now };
 
     fn write(&self, alloc: Global, text: &mut JsonText) -> Result<(), AllocError> {
-        Fields::begin(alloc, text)
-            .text("name", self.name, text)
+        ObjectWriter::begin(alloc, text)
+            .text(text, "name", self.name)
             .end(text)
     }
 }
@@ -71,8 +71,8 @@ impl Args for PlaceArgs {
     ghost value_of = { λ a. place_args a.place };
 
     fn write(&self, alloc: Global, text: &mut JsonText) -> Result<(), AllocError> {
-        Fields::begin(alloc, text)
-            .field("sort_index", &self.place, text)
+        ObjectWriter::begin(alloc, text)
+            .field(text, "sort_index", &self.place)
             .end(text)
     }
 }

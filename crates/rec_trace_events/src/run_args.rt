@@ -1,15 +1,15 @@
 //! The args of the slices of a run, and of the runs of a stress run.
 ghost use Rattle.std.specs.Prelude.{[], ◌∷◌, Some, option_map, codes};
+ghost use Rattle.rec_forms.specs.ObjectWriting.{Writes};
 ghost use Rattle.rec_forms.specs.Writable.{IfWritten, IsWritable};
 ghost use Rattle.rec_trace_events.specs.Args.{not_seen_args};
-ghost use Rattle.rec_trace_events.specs.Writing.{Writes};
 
 use crate::args::Args;
-use crate::fields::Fields;
 use rec_events::{
     Duration, Items, ReportUuid, RunFinishedStats, RunStats, StressConditionSummary,
     StressProgress, TestsNotSeenSummary, Text, Version,
 };
+use rec_forms::ObjectWriter;
 use rec_json::JsonText;
 use std::alloc::{AllocError, Global};
 
@@ -30,12 +30,12 @@ impl<'a> Args for RunBeginArgs<'a> {
 
     #[tactic(auto, unfolding(crate::specs::Args::run_begin_args))]
     fn write(&self, alloc: Global, text: &mut JsonText) -> Result<(), AllocError> {
-        Fields::begin(alloc, text)
-            .field("cli_args", self.cli_args, text)
-            .field("nextest_version", self.version, text)
-            .text("profile", self.profile, text)
-            .field("run_id", self.run_id, text)
-            .optional("stress_condition", self.stress_condition, text)
+        ObjectWriter::begin(alloc, text)
+            .field(text, "cli_args", self.cli_args)
+            .field(text, "nextest_version", self.version)
+            .text(text, "profile", self.profile)
+            .field(text, "run_id", self.run_id)
+            .optional(text, "stress_condition", self.stress_condition)
             .end(text)
     }
 }
@@ -51,24 +51,35 @@ pub struct RunEndArgs<'a> {
     pub outstanding_not_seen: &'a Option<TestsNotSeenSummary>,
 }
 
-impl Fields {
-    /// Writes how many tests a run didn't come to.
-    fn not_seen_count(self, not_seen: &TestsNotSeenSummary, text: &mut JsonText) -> Fields
-        ensures { Writes self.is_failed text.old result.is_failed text.new ((codes "outstanding_not_seen", Some (not_seen_args not_seen.now)) ∷ []) (IsWritable 7 (not_seen_args not_seen.now)) }
-    {
-        self.open("outstanding_not_seen", text)
-            .field("total_not_seen", &not_seen.total_not_seen, text)
-            .close(text)
-    }
+/// Writes how many tests a run didn't come to.
+fn with_not_seen_count(
+    object: ObjectWriter,
+    text: &mut JsonText,
+    not_seen: &TestsNotSeenSummary,
+) -> ObjectWriter
+    ensures { Writes object text.old result text.new
+        ((codes "outstanding_not_seen", Some (not_seen_args not_seen.now)) ∷ [])
+        (IsWritable 7 (not_seen_args not_seen.now)) }
+{
+    object
+        .open(text, "outstanding_not_seen")
+        .field(text, "total_not_seen", &not_seen.total_not_seen)
+        .close(text)
+}
 
-    /// Writes how many tests a run didn't come to, where that is known.
-    fn not_seen(self, not_seen: &Option<TestsNotSeenSummary>, text: &mut JsonText) -> Fields
-        ensures { Writes self.is_failed text.old result.is_failed text.new ((codes "outstanding_not_seen", option_map not_seen_args not_seen.now) ∷ []) (IfWritten 7 (option_map not_seen_args not_seen.now)) }
-    {
-        match not_seen {
-            Some(not_seen) => self.not_seen_count(not_seen, text),
-            None => self,
-        }
+/// Writes how many tests a run didn't come to, where that is known.
+fn with_not_seen(
+    object: ObjectWriter,
+    text: &mut JsonText,
+    not_seen: &Option<TestsNotSeenSummary>,
+) -> ObjectWriter
+    ensures { Writes object text.old result text.new
+        ((codes "outstanding_not_seen", option_map not_seen_args not_seen.now) ∷ [])
+        (IfWritten 7 (option_map not_seen_args not_seen.now)) }
+{
+    match not_seen {
+        Some(not_seen) => with_not_seen_count(object, text, not_seen),
+        None => object,
     }
 }
 
@@ -79,13 +90,13 @@ impl<'a> Args for RunEndArgs<'a> {
 
     #[tactic(auto, unfolding(crate::specs::Args::run_end_args))]
     fn write(&self, alloc: Global, text: &mut JsonText) -> Result<(), AllocError> {
-        Fields::begin(alloc, text)
-            .field("nextest_version", self.version, text)
-            .not_seen(self.outstanding_not_seen, text)
-            .text("profile", self.profile, text)
-            .field("run_stats", self.run_stats, text)
-            .field("time_taken", self.time_taken, text)
-            .end(text)
+        let object = ObjectWriter::begin(alloc, text);
+        let object = object.field(text, "nextest_version", self.version);
+        let object = with_not_seen(object, text, self.outstanding_not_seen);
+        let object = object.text(text, "profile", self.profile);
+        let object = object.field(text, "run_stats", self.run_stats);
+        let object = object.field(text, "time_taken", self.time_taken);
+        object.end(text)
     }
 }
 
@@ -102,8 +113,8 @@ impl<'a> Args for SubRunBeginArgs<'a> {
 
     #[tactic(auto, unfolding(crate::specs::Args::sub_run_begin_args))]
     fn write(&self, alloc: Global, text: &mut JsonText) -> Result<(), AllocError> {
-        Fields::begin(alloc, text)
-            .field("progress", self.progress, text)
+        ObjectWriter::begin(alloc, text)
+            .field(text, "progress", self.progress)
             .end(text)
     }
 }
@@ -123,10 +134,10 @@ impl<'a> Args for SubRunEndArgs<'a> {
 
     #[tactic(auto, unfolding(crate::specs::Args::sub_run_end_args))]
     fn write(&self, alloc: Global, text: &mut JsonText) -> Result<(), AllocError> {
-        Fields::begin(alloc, text)
-            .field("progress", self.progress, text)
-            .field("sub_stats", self.sub_stats, text)
-            .field("time_taken", self.time_taken, text)
+        ObjectWriter::begin(alloc, text)
+            .field(text, "progress", self.progress)
+            .field(text, "sub_stats", self.sub_stats)
+            .field(text, "time_taken", self.time_taken)
             .end(text)
     }
 }

@@ -1,8 +1,10 @@
 //! The args of the ends of setup scripts, and of slow ones.
 
 use crate::args::Args;
-use crate::fields::Fields;
+use crate::error_args::with_summary;
+use crate::members::with_stress_index;
 use rec_events::{Duration, OutputSpec, ScriptId, SetupScriptExecuteStatus, StressIndexSummary};
+use rec_forms::ObjectWriter;
 use rec_json::JsonText;
 use std::alloc::{AllocError, Global};
 
@@ -21,14 +23,14 @@ impl<'a, S: OutputSpec> Args for ScriptEndArgs<'a, S> {
 
     #[tactic(auto, unfolding(crate::specs::Args::script_end_args))]
     fn write(&self, alloc: Global, text: &mut JsonText) -> Result<(), AllocError> {
-        Fields::begin(alloc, text)
-            .summary(&self.status.error_summary, text)
-            .field("is_slow", &self.status.is_slow, text)
-            .field("result", &self.status.result, text)
-            .field("script_id", self.script_id, text)
-            .stress_index(self.stress_index, text)
-            .field("time_taken", &self.status.time_taken, text)
-            .end(text)
+        let object = ObjectWriter::begin(alloc, text);
+        let object = with_summary(object, text, &self.status.error_summary);
+        let object = object.field(text, "is_slow", &self.status.is_slow);
+        let object = object.field(text, "result", &self.status.result);
+        let object = object.field(text, "script_id", self.script_id);
+        let object = with_stress_index(object, text, self.stress_index);
+        let object = object.field(text, "time_taken", &self.status.time_taken);
+        object.end(text)
     }
 }
 
@@ -48,11 +50,11 @@ impl<'a> Args for SlowScriptArgs<'a> {
 
     #[tactic(auto, unfolding(crate::specs::Args::slow_script_args))]
     fn write(&self, alloc: Global, text: &mut JsonText) -> Result<(), AllocError> {
-        Fields::begin(alloc, text)
-            .field("elapsed", self.elapsed, text)
-            .field("script_id", self.script_id, text)
-            .stress_index(self.stress_index, text)
-            .field("will_terminate", &self.will_terminate, text)
-            .end(text)
+        let object = ObjectWriter::begin(alloc, text);
+        let object = object.field(text, "elapsed", self.elapsed);
+        let object = object.field(text, "script_id", self.script_id);
+        let object = with_stress_index(object, text, self.stress_index);
+        let object = object.field(text, "will_terminate", &self.will_terminate);
+        object.end(text)
     }
 }

@@ -1,8 +1,9 @@
 //! The args of the begins of attempts, and of slow tests.
 
 use crate::args::Args;
-use crate::fields::Fields;
+use crate::members::{with_command_line, with_stress_index};
 use rec_events::{Duration, Items, OwnedTestInstanceId, RetryData, StressIndexSummary, Text};
+use rec_forms::ObjectWriter;
 use rec_json::JsonText;
 use std::alloc::{AllocError, Global};
 
@@ -20,11 +21,11 @@ impl<'a> Args for TestBeginArgs<'a> {
 
     #[tactic(auto, unfolding(crate::specs::Args::test_begin_args))]
     fn write(&self, alloc: Global, text: &mut JsonText) -> Result<(), AllocError> {
-        Fields::begin(alloc, text)
-            .field("binary_id", &self.test.binary_id, text)
-            .command_line(self.command_line, text)
-            .field("test_name", &self.test.test_name, text)
-            .end(text)
+        let object = ObjectWriter::begin(alloc, text);
+        let object = object.field(text, "binary_id", &self.test.binary_id);
+        let object = with_command_line(object, text, self.command_line);
+        let object = object.field(text, "test_name", &self.test.test_name);
+        object.end(text)
     }
 }
 
@@ -43,13 +44,13 @@ impl<'a> Args for RetryBeginArgs<'a> {
 
     #[tactic(auto, unfolding(crate::specs::Args::retry_begin_args))]
     fn write(&self, alloc: Global, text: &mut JsonText) -> Result<(), AllocError> {
-        Fields::begin(alloc, text)
-            .field("attempt", &self.retry_data.attempt, text)
-            .field("binary_id", &self.test.binary_id, text)
-            .command_line(self.command_line, text)
-            .field("test_name", &self.test.test_name, text)
-            .field("total_attempts", &self.retry_data.total_attempts, text)
-            .end(text)
+        let object = ObjectWriter::begin(alloc, text);
+        let object = object.field(text, "attempt", &self.retry_data.attempt);
+        let object = object.field(text, "binary_id", &self.test.binary_id);
+        let object = with_command_line(object, text, self.command_line);
+        let object = object.field(text, "test_name", &self.test.test_name);
+        let object = object.field(text, "total_attempts", &self.retry_data.total_attempts);
+        object.end(text)
     }
 }
 
@@ -70,13 +71,13 @@ impl<'a> Args for SlowTestArgs<'a> {
 
     #[tactic(auto, unfolding(crate::specs::Args::slow_test_args))]
     fn write(&self, alloc: Global, text: &mut JsonText) -> Result<(), AllocError> {
-        Fields::begin(alloc, text)
-            .field("attempt", &self.retry_data.attempt, text)
-            .field("binary_id", &self.test.binary_id, text)
-            .field("elapsed", self.elapsed, text)
-            .stress_index(self.stress_index, text)
-            .field("test_name", &self.test.test_name, text)
-            .field("will_terminate", &self.will_terminate, text)
-            .end(text)
+        let object = ObjectWriter::begin(alloc, text);
+        let object = object.field(text, "attempt", &self.retry_data.attempt);
+        let object = object.field(text, "binary_id", &self.test.binary_id);
+        let object = object.field(text, "elapsed", self.elapsed);
+        let object = with_stress_index(object, text, self.stress_index);
+        let object = object.field(text, "test_name", &self.test.test_name);
+        let object = object.field(text, "will_terminate", &self.will_terminate);
+        object.end(text)
     }
 }

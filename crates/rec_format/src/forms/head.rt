@@ -2,11 +2,12 @@
 ghost use Rattle.rec_json.specs.Nodes.{members_view};
 ghost use Rattle.rec_forms.specs.Gives.{Gives};
 
-use super::parts::{Invocation, WrittenInvocation};
-use super::written_fields::{Written, WrittenFields, WrittenIfSome, write_object};
+use super::parts::Invocation;
 use crate::{RecordedRunStatus, RerunInfo, SessionHead};
 use rec_events::{RecordOpts, ReportUuid, Stamp, TestListSummary};
-use rec_forms::{Form, FromValueError, optional_field, required_field};
+use rec_forms::{
+    Form, FromValueError, ObjectWriter, optional_field, required_field, required_five,
+};
 use rec_json::{JsonText, Node};
 use std::alloc::{AllocError, Global};
 
@@ -21,34 +22,6 @@ struct Contents {
     test_list: TestListSummary,
 }
 
-/// The contents of a head, as they are written.
-#[derive(Drop)]
-struct WrittenContents<'a>(&'a SessionHead);
-
-impl<'a> WrittenFields for WrittenContents<'a> {
-    ghost use Rattle.rec_format.specs.HeadForms.{contents_fields, AreContents, head_contents};
-
-    ghost fields_of = { λ f. contents_fields (head_contents f.0.now) };
-
-    ghost well_formed = { λ f. AreContents (head_contents f.0.now) };
-
-    fn write(&self, alloc: Global, text: &mut JsonText) -> Result<(), AllocError> {
-        let head = self.0;
-        let started = (
-            Written("record-opts", &head.record_opts),
-            WrittenIfSome("rerun-info", &head.rerun_info),
-            Written("run-id", &head.run_id),
-        );
-        let rest = (
-            Written("started-at", &head.started_at),
-            Written("status", &head.status),
-            Written("test-list", &head.test_list),
-        );
-        let fields = (started, rest);
-        fields.write(alloc, text)
-    }
-}
-
 impl Contents {
     ghost use Rattle.rec_format.specs.HeadForms.{contents_form};
 
@@ -56,13 +29,23 @@ impl Contents {
     fn read<'a>(alloc: Global, object: &[(&'a str, Node<'a>)]) -> Result<Contents, FromValueError>
         ensures { Gives result (contents_form (members_view object.now)) }
     {
+        let (run_id, started_at, record_opts, status, test_list) = required_five(
+            alloc,
+            object,
+            "run-id",
+            "started-at",
+            "record-opts",
+            "status",
+            "test-list",
+        )?;
+        let rerun_info = optional_field(alloc, object, "rerun-info")?;
         Ok(Contents {
-            run_id: required_field(alloc, object, "run-id")?,
-            started_at: required_field(alloc, object, "started-at")?,
-            record_opts: required_field(alloc, object, "record-opts")?,
-            status: required_field(alloc, object, "status")?,
-            test_list: required_field(alloc, object, "test-list")?,
-            rerun_info: optional_field(alloc, object, "rerun-info")?,
+            record_opts,
+            rerun_info,
+            run_id,
+            started_at,
+            status,
+            test_list,
         })
     }
 }
@@ -90,20 +73,22 @@ impl Form for SessionHead {
     ghost shallow = { within_depth refl };
 
     fn write(&self, alloc: Global, text: &mut JsonText) -> Result<(), AllocError> {
-        let built = (
-            Written("build-scope", &self.build_scope),
-            Written("cargo-metadata", &self.cargo_metadata),
-        );
-        let invocation = WrittenInvocation {
-            cli_args: &self.cli_args,
-            duration: &self.duration,
-            env_vars: &self.env_vars,
-            last_written_at: &self.last_written_at,
-            nextest_version: &self.nextest_version,
-            parent_run_id: &self.parent_run_id,
-        };
-        let fields = (built, invocation, WrittenContents(self));
-        write_object(alloc, text, &fields)
+        let object = ObjectWriter::begin(alloc, text);
+        let object = object.field(text, "build-scope", &self.build_scope);
+        let object = object.field(text, "cargo-metadata", &self.cargo_metadata);
+        let object = object.field(text, "cli-args", &self.cli_args);
+        let object = object.optional(text, "duration", &self.duration);
+        let object = object.field(text, "env-vars", &self.env_vars);
+        let object = object.field(text, "last-written-at", &self.last_written_at);
+        let object = object.field(text, "nextest-version", &self.nextest_version);
+        let object = object.optional(text, "parent-run-id", &self.parent_run_id);
+        let object = object.field(text, "record-opts", &self.record_opts);
+        let object = object.optional(text, "rerun-info", &self.rerun_info);
+        let object = object.field(text, "run-id", &self.run_id);
+        let object = object.field(text, "started-at", &self.started_at);
+        let object = object.field(text, "status", &self.status);
+        let object = object.field(text, "test-list", &self.test_list);
+        object.end(text)
     }
 
     #[tactic(auto, unfolding(crate::specs::HeadForms::head_form))]

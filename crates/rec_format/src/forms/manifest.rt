@@ -1,7 +1,6 @@
 //! The manifest of a bundle.
-use super::written_fields::{Written, write_object};
 use crate::PortableManifest;
-use rec_forms::{Form, FromValueError, Held, required_field};
+use rec_forms::{Form, FromValueError, Held, ObjectWriter, required_two};
 use rec_json::{JsonText, Node};
 use std::alloc::{AllocError, Global};
 
@@ -28,11 +27,10 @@ impl Form for PortableManifest {
     ghost shallow = { within_depth refl };
 
     fn write(&self, alloc: Global, text: &mut JsonText) -> Result<(), AllocError> {
-        let fields = (
-            Written("format-version", &self.format_version),
-            Written("run", &self.run),
-        );
-        write_object(alloc, text, &fields)
+        let object = ObjectWriter::begin(alloc, text);
+        let object = object.field(text, "format-version", &self.format_version);
+        let object = object.field(text, "run", &self.run);
+        object.end(text)
     }
 
     #[tactic(auto, unfolding(crate::specs::RunForms::manifest_form))]
@@ -40,9 +38,10 @@ impl Form for PortableManifest {
         let Some(object) = node.as_object() else {
             return Err(FromValueError::NotAValue);
         };
+        let (format_version, run) = required_two(alloc, object, "format-version", "run")?;
         Ok(PortableManifest {
-            format_version: required_field(alloc, object, "format-version")?,
-            run: required_field(alloc, object, "run")?,
+            format_version,
+            run,
         })
     }
 }

@@ -1,14 +1,19 @@
 //! The fields that a head and a run's metadata share, and those that both kinds of a run's metadata
-//! share. Each part stands in JSON without a gap: its fields follow each other in the order of all keys.
+//! share, as they are read. Each part stands in JSON without a gap: its fields follow each other in the
+//! order of all keys.
+ghost use Rattle.std.specs.Prelude.{[], codes};
 ghost use Rattle.rec_json.specs.Nodes.{members_view};
 ghost use Rattle.rec_forms.specs.Gives.{Gives};
+ghost use Rattle.rec_forms.specs.Lists.{list_form};
+ghost use Rattle.rec_forms.specs.Maps.{map_form};
+ghost use Rattle.rec_forms.specs.Several.{GivesTwo};
+ghost use Rattle.rec_forms.specs.Shape.{defaulted, text_of};
 
-use super::written_fields::{Written, WrittenFields, WrittenIfSome};
 use crate::{RecordedRunStatusFormat, RecordedSizesFormat};
 use rec_events::{Duration, Items, ReportUuid, Stamp, Text, TextMap, Version};
-use rec_forms::{FromValueError, defaulted_field, optional_field, required_field};
-use rec_json::{JsonText, Node};
-use std::alloc::{AllocError, Global};
+use rec_forms::{FromValueError, defaulted_field, optional_two, required_four, required_two};
+use rec_json::Node;
+use std::alloc::Global;
 
 /// How the run was started, and how long it took.
 #[derive(Drop)]
@@ -21,52 +26,18 @@ pub(crate) struct Invocation {
     pub parent_run_id: Option<ReportUuid>,
 }
 
-/// The fields of an invocation, as they are written.
-#[derive(Drop)]
-pub(crate) struct WrittenInvocation<'a> {
-    pub cli_args: &'a Items<Text>,
-    pub duration: &'a Option<Duration>,
-    pub env_vars: &'a TextMap<Text>,
-    pub last_written_at: &'a Stamp,
-    pub nextest_version: &'a Version,
-    pub parent_run_id: &'a Option<ReportUuid>,
-}
-
-impl<'a> WrittenFields for WrittenInvocation<'a> {
-    ghost use Rattle.rec_format.specs.PartForms.{invocation_fields, IsInvocation};
-
-    ghost fields_of = { λ f. invocation_fields (record {
-      cli_args = f.cli_args.now;
-      duration = f.duration.now;
-      env_vars = f.env_vars.now;
-      last_written_at = f.last_written_at.now;
-      nextest_version = f.nextest_version.now;
-      parent_run_id = f.parent_run_id.now;
-    }) };
-
-    ghost well_formed = { λ f. IsInvocation (record {
-      cli_args = f.cli_args.now;
-      duration = f.duration.now;
-      env_vars = f.env_vars.now;
-      last_written_at = f.last_written_at.now;
-      nextest_version = f.nextest_version.now;
-      parent_run_id = f.parent_run_id.now;
-    }) };
-
-    fn write(&self, alloc: Global, text: &mut JsonText) -> Result<(), AllocError> {
-        let started = (
-            Written("cli-args", self.cli_args),
-            WrittenIfSome("duration", self.duration),
-            Written("env-vars", self.env_vars),
-        );
-        let rest = (
-            Written("last-written-at", self.last_written_at),
-            Written("nextest-version", self.nextest_version),
-            WrittenIfSome("parent-run-id", self.parent_run_id),
-        );
-        let fields = (started, rest);
-        fields.write(alloc, text)
-    }
+/// Reads the command line and the environment variables, which may be left out.
+fn read_words<'a>(
+    alloc: Global,
+    object: &[(&'a str, Node<'a>)],
+) -> Result<(Items<Text>, TextMap<Text>), FromValueError>
+    ensures { GivesTwo result
+        (defaulted [] (list_form text_of) (codes "cli-args") (members_view object.now))
+        (defaulted [] (map_form text_of) (codes "env-vars") (members_view object.now)) }
+{
+    let cli_args = defaulted_field(alloc, object, "cli-args", Items::empty(alloc))?;
+    let env_vars = defaulted_field(alloc, object, "env-vars", TextMap::empty(alloc))?;
+    Ok((cli_args, env_vars))
 }
 
 impl Invocation {
@@ -79,13 +50,21 @@ impl Invocation {
     ) -> Result<Invocation, FromValueError>
         ensures { Gives result (invocation_form (members_view object.now)) }
     {
+        let (duration, parent_run_id) = optional_two(alloc, object, "duration", "parent-run-id")?;
+        let (last_written_at, nextest_version) = required_two(
+            alloc,
+            object,
+            "last-written-at",
+            "nextest-version",
+        )?;
+        let (cli_args, env_vars) = read_words(alloc, object)?;
         Ok(Invocation {
-            duration: optional_field(alloc, object, "duration")?,
-            last_written_at: required_field(alloc, object, "last-written-at")?,
-            parent_run_id: optional_field(alloc, object, "parent-run-id")?,
-            cli_args: defaulted_field(alloc, object, "cli-args", Items::empty(alloc))?,
-            env_vars: defaulted_field(alloc, object, "env-vars", TextMap::empty(alloc))?,
-            nextest_version: required_field(alloc, object, "nextest-version")?,
+            cli_args,
+            duration,
+            env_vars,
+            last_written_at,
+            nextest_version,
+            parent_run_id,
         })
     }
 }
@@ -99,43 +78,6 @@ pub(crate) struct Outcome {
     pub status: RecordedRunStatusFormat,
 }
 
-/// The fields of an outcome, as they are written.
-#[derive(Drop)]
-pub(crate) struct WrittenOutcome<'a> {
-    pub run_id: &'a ReportUuid,
-    pub sizes: &'a RecordedSizesFormat,
-    pub started_at: &'a Stamp,
-    pub status: &'a RecordedRunStatusFormat,
-}
-
-impl<'a> WrittenFields for WrittenOutcome<'a> {
-    ghost use Rattle.rec_format.specs.PartForms.{outcome_fields, IsOutcome};
-
-    ghost fields_of = { λ f. outcome_fields (record {
-      run_id = f.run_id.now;
-      sizes = f.sizes.now;
-      started_at = f.started_at.now;
-      status = f.status.now;
-    }) };
-
-    ghost well_formed = { λ f. IsOutcome (record {
-      run_id = f.run_id.now;
-      sizes = f.sizes.now;
-      started_at = f.started_at.now;
-      status = f.status.now;
-    }) };
-
-    fn write(&self, alloc: Global, text: &mut JsonText) -> Result<(), AllocError> {
-        let stored = (Written("run-id", self.run_id), Written("sizes", self.sizes));
-        let ended = (
-            Written("started-at", self.started_at),
-            Written("status", self.status),
-        );
-        let fields = (stored, ended);
-        fields.write(alloc, text)
-    }
-}
-
 impl Outcome {
     ghost use Rattle.rec_format.specs.PartForms.{outcome_form};
 
@@ -146,11 +88,19 @@ impl Outcome {
     ) -> Result<Outcome, FromValueError>
         ensures { Gives result (outcome_form (members_view object.now)) }
     {
+        let (run_id, started_at, sizes, status) = required_four(
+            alloc,
+            object,
+            "run-id",
+            "started-at",
+            "sizes",
+            "status",
+        )?;
         Ok(Outcome {
-            run_id: required_field(alloc, object, "run-id")?,
-            started_at: required_field(alloc, object, "started-at")?,
-            sizes: required_field(alloc, object, "sizes")?,
-            status: required_field(alloc, object, "status")?,
+            run_id,
+            sizes,
+            started_at,
+            status,
         })
     }
 }

@@ -1,7 +1,6 @@
 //! What a rerun is a rerun of.
-use super::written_fields::{Written, write_object};
 use crate::{RerunInfo, RerunRootInfo};
-use rec_forms::{Form, FromValueError, required_field};
+use rec_forms::{Form, FromValueError, ObjectWriter, required_field, required_two};
 use rec_json::{JsonText, Node};
 use std::alloc::{AllocError, Global};
 
@@ -28,11 +27,10 @@ impl Form for RerunRootInfo {
     ghost shallow = { within_depth refl };
 
     fn write(&self, alloc: Global, text: &mut JsonText) -> Result<(), AllocError> {
-        let fields = (
-            Written("build-scope", &self.build_scope),
-            Written("run-id", &self.run_id),
-        );
-        write_object(alloc, text, &fields)
+        let object = ObjectWriter::begin(alloc, text);
+        let object = object.field(text, "build-scope", &self.build_scope);
+        let object = object.field(text, "run-id", &self.run_id);
+        object.end(text)
     }
 
     #[tactic(auto, unfolding(crate::specs::RerunForms::rerun_root_form))]
@@ -40,9 +38,10 @@ impl Form for RerunRootInfo {
         let Some(object) = node.as_object() else {
             return Err(FromValueError::NotAValue);
         };
+        let (run_id, build_scope) = required_two(alloc, object, "run-id", "build-scope")?;
         Ok(RerunRootInfo {
-            run_id: required_field(alloc, object, "run-id")?,
-            build_scope: required_field(alloc, object, "build-scope")?,
+            run_id,
+            build_scope,
         })
     }
 }
@@ -70,12 +69,11 @@ impl Form for RerunInfo {
     ghost shallow = { within_depth refl };
 
     fn write(&self, alloc: Global, text: &mut JsonText) -> Result<(), AllocError> {
-        let fields = (
-            Written("parent-run-id", &self.parent_run_id),
-            Written("root-info", &self.root_info),
-            Written("test-suites", &self.test_suites),
-        );
-        write_object(alloc, text, &fields)
+        let object = ObjectWriter::begin(alloc, text);
+        let object = object.field(text, "parent-run-id", &self.parent_run_id);
+        let object = object.field(text, "root-info", &self.root_info);
+        let object = object.field(text, "test-suites", &self.test_suites);
+        object.end(text)
     }
 
     #[tactic(auto, unfolding(crate::specs::RerunForms::rerun_info_form))]
@@ -83,8 +81,7 @@ impl Form for RerunInfo {
         let Some(object) = node.as_object() else {
             return Err(FromValueError::NotAValue);
         };
-        let parent_run_id = required_field(alloc, object, "parent-run-id")?;
-        let root_info = required_field(alloc, object, "root-info")?;
+        let (parent_run_id, root_info) = required_two(alloc, object, "parent-run-id", "root-info")?;
         match required_field(alloc, object, "test-suites") {
             Ok(test_suites) => Ok(RerunInfo {
                 parent_run_id,

@@ -1,12 +1,9 @@
 //! The metadata of a run, with the two numbers of its store's version apart or together.
-use super::parts::{Invocation, Outcome, WrittenInvocation, WrittenOutcome};
-use super::written_fields::{Written, write_object};
-use crate::{
-    RecordedRun, RecordedRunInfo, RecordedRunStatusFormat, RecordedSizesFormat,
-    StoreFormatMinorVersion,
-};
+use super::parts::{Invocation, Outcome};
+use crate::{RecordedRun, RecordedRunInfo, StoreFormatMinorVersion};
 use rec_forms::{
-    Form, FromValueError, Held, ItemForm, defaulted_field, held_optional, required_field,
+    Form, FromValueError, Held, ItemForm, ObjectWriter, defaulted_field, held_optional,
+    required_field,
 };
 use rec_json::{JsonText, Node};
 use std::alloc::{AllocError, Global};
@@ -34,29 +31,24 @@ impl Form for RecordedRun {
     ghost shallow = { within_depth refl };
 
     fn write(&self, alloc: Global, text: &mut JsonText) -> Result<(), AllocError> {
-        let invocation = WrittenInvocation {
-            cli_args: &self.cli_args,
-            duration: &self.duration,
-            env_vars: &self.env_vars,
-            last_written_at: &self.last_written_at,
-            nextest_version: &self.nextest_version,
-            parent_run_id: &self.parent_run_id,
-        };
-        let outcome = WrittenOutcome {
-            run_id: &self.run_id,
-            sizes: &self.sizes,
-            started_at: &self.started_at,
-            status: &self.status,
-        };
-        let store = (
-            Written(
-                "store-format-minor-version",
-                &self.store_format_minor_version,
-            ),
-            Written("store-format-version", &self.store_format_version),
+        let object = ObjectWriter::begin(alloc, text);
+        let object = object.field(text, "cli-args", &self.cli_args);
+        let object = object.optional(text, "duration", &self.duration);
+        let object = object.field(text, "env-vars", &self.env_vars);
+        let object = object.field(text, "last-written-at", &self.last_written_at);
+        let object = object.field(text, "nextest-version", &self.nextest_version);
+        let object = object.optional(text, "parent-run-id", &self.parent_run_id);
+        let object = object.field(text, "run-id", &self.run_id);
+        let object = object.field(text, "sizes", &self.sizes);
+        let object = object.field(text, "started-at", &self.started_at);
+        let object = object.field(text, "status", &self.status);
+        let object = object.field(
+            text,
+            "store-format-minor-version",
+            &self.store_format_minor_version,
         );
-        let fields = (invocation, outcome, store);
-        write_object(alloc, text, &fields)
+        let object = object.field(text, "store-format-version", &self.store_format_version);
+        object.end(text)
     }
 
     #[tactic(auto, unfolding(crate::specs::RunForms::run_form))]
@@ -137,25 +129,19 @@ impl Form for RecordedRunInfo {
     ghost shallow = { within_depth refl };
 
     fn write(&self, alloc: Global, text: &mut JsonText) -> Result<(), AllocError> {
-        let sizes = RecordedSizesFormat::from(self.sizes);
-        let status = RecordedRunStatusFormat::from(self.status);
-        let invocation = WrittenInvocation {
-            cli_args: &self.cli_args,
-            duration: &self.duration,
-            env_vars: &self.env_vars,
-            last_written_at: &self.last_written_at,
-            nextest_version: &self.nextest_version,
-            parent_run_id: &self.parent_run_id,
-        };
-        let outcome = WrittenOutcome {
-            run_id: &self.run_id,
-            sizes: &sizes,
-            started_at: &self.started_at,
-            status: &status,
-        };
-        let store = Written("store-format-version", &self.store_format_version);
-        let fields = (invocation, outcome, store);
-        write_object(alloc, text, &fields)
+        let object = ObjectWriter::begin(alloc, text);
+        let object = object.field(text, "cli-args", &self.cli_args);
+        let object = object.optional(text, "duration", &self.duration);
+        let object = object.field(text, "env-vars", &self.env_vars);
+        let object = object.field(text, "last-written-at", &self.last_written_at);
+        let object = object.field(text, "nextest-version", &self.nextest_version);
+        let object = object.optional(text, "parent-run-id", &self.parent_run_id);
+        let object = object.field(text, "run-id", &self.run_id);
+        let object = object.field(text, "sizes", &self.sizes);
+        let object = object.field(text, "started-at", &self.started_at);
+        let object = object.field(text, "status", &self.status);
+        let object = object.field(text, "store-format-version", &self.store_format_version);
+        object.end(text)
     }
 
     #[tactic(auto, unfolding(crate::specs::RunForms::info_form))]

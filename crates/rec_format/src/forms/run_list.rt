@@ -1,8 +1,9 @@
 //! The list of runs.
-use super::written_fields::{Written, WrittenIfSome, write_object};
 use crate::RecordedRunList;
 use rec_events::Items;
-use rec_forms::{Form, FromValueError, defaulted_field, optional_field, required_field};
+use rec_forms::{
+    Form, FromValueError, ObjectWriter, defaulted_field, optional_field, required_field,
+};
 use rec_json::{JsonText, Node};
 use std::alloc::{AllocError, Global};
 
@@ -29,12 +30,11 @@ impl Form for RecordedRunList {
     ghost shallow = { within_depth refl };
 
     fn write(&self, alloc: Global, text: &mut JsonText) -> Result<(), AllocError> {
-        let fields = (
-            Written("format-version", &self.format_version),
-            WrittenIfSome("last-pruned-at", &self.last_pruned_at),
-            Written("runs", &self.runs),
-        );
-        write_object(alloc, text, &fields)
+        let object = ObjectWriter::begin(alloc, text);
+        let object = object.field(text, "format-version", &self.format_version);
+        let object = object.optional(text, "last-pruned-at", &self.last_pruned_at);
+        let object = object.field(text, "runs", &self.runs);
+        object.end(text)
     }
 
     #[tactic(auto, unfolding(crate::specs::RunListForms::run_list_form))]

@@ -1,7 +1,6 @@
 //! What was built.
-use super::written_fields::{Written, write_object};
 use crate::{BuildKind, RecordedBuildScope};
-use rec_forms::{Form, FromValueError, required_field};
+use rec_forms::{Form, FromValueError, ObjectWriter, required_two};
 use rec_json::{JsonText, Node};
 use std::alloc::{AllocError, Global};
 
@@ -69,11 +68,10 @@ impl Form for RecordedBuildScope {
     ghost shallow = { within_depth refl };
 
     fn write(&self, alloc: Global, text: &mut JsonText) -> Result<(), AllocError> {
-        let fields = (
-            Written("build-kind", &self.build_kind),
-            Written("scope", &self.scope),
-        );
-        write_object(alloc, text, &fields)
+        let object = ObjectWriter::begin(alloc, text);
+        let object = object.field(text, "build-kind", &self.build_kind);
+        let object = object.field(text, "scope", &self.scope);
+        object.end(text)
     }
 
     #[tactic(auto, unfolding(crate::specs::ScopeForms::recorded_scope_form))]
@@ -81,9 +79,7 @@ impl Form for RecordedBuildScope {
         let Some(object) = node.as_object() else {
             return Err(FromValueError::NotAValue);
         };
-        Ok(RecordedBuildScope {
-            build_kind: required_field(alloc, object, "build-kind")?,
-            scope: required_field(alloc, object, "scope")?,
-        })
+        let (build_kind, scope) = required_two(alloc, object, "build-kind", "scope")?;
+        Ok(RecordedBuildScope { build_kind, scope })
     }
 }

@@ -1,7 +1,6 @@
 //! Sizes, which are written as their formats.
-use super::written_fields::{Written, write_object};
 use crate::{ComponentSizes, ComponentSizesFormat, RecordedSizes, RecordedSizesFormat};
-use rec_forms::{Form, FromValueError, Held, defaulted_field, required_field};
+use rec_forms::{Form, FromValueError, Held, ObjectWriter, defaulted_field, required_two};
 use rec_json::{JsonText, Node};
 use std::alloc::{AllocError, Global};
 
@@ -28,12 +27,11 @@ impl Form for ComponentSizesFormat {
     ghost shallow = { within_depth refl };
 
     fn write(&self, alloc: Global, text: &mut JsonText) -> Result<(), AllocError> {
-        let fields = (
-            Written("compressed", &self.compressed),
-            Written("entries", &self.entries),
-            Written("uncompressed", &self.uncompressed),
-        );
-        write_object(alloc, text, &fields)
+        let object = ObjectWriter::begin(alloc, text);
+        let object = object.field(text, "compressed", &self.compressed);
+        let object = object.field(text, "entries", &self.entries);
+        let object = object.field(text, "uncompressed", &self.uncompressed);
+        object.end(text)
     }
 
     #[tactic(auto, unfolding(crate::specs::SizeForms::component_format_form))]
@@ -41,10 +39,12 @@ impl Form for ComponentSizesFormat {
         let Some(object) = node.as_object() else {
             return Err(FromValueError::NotAValue);
         };
+        let (compressed, uncompressed) = required_two(alloc, object, "compressed", "uncompressed")?;
+        let entries = defaulted_field(alloc, object, "entries", 0)?;
         Ok(ComponentSizesFormat {
-            compressed: required_field(alloc, object, "compressed")?,
-            uncompressed: required_field(alloc, object, "uncompressed")?,
-            entries: defaulted_field(alloc, object, "entries", 0)?,
+            compressed,
+            uncompressed,
+            entries,
         })
     }
 }
@@ -80,8 +80,10 @@ impl Form for RecordedSizesFormat {
     ghost shallow = { within_depth refl };
 
     fn write(&self, alloc: Global, text: &mut JsonText) -> Result<(), AllocError> {
-        let fields = (Written("log", &self.log), Written("store", &self.store));
-        write_object(alloc, text, &fields)
+        let object = ObjectWriter::begin(alloc, text);
+        let object = object.field(text, "log", &self.log);
+        let object = object.field(text, "store", &self.store);
+        object.end(text)
     }
 
     #[tactic(auto, unfolding(crate::specs::SizeForms::sizes_format_form))]
@@ -89,10 +91,8 @@ impl Form for RecordedSizesFormat {
         let Some(object) = node.as_object() else {
             return Err(FromValueError::NotAValue);
         };
-        Ok(RecordedSizesFormat {
-            log: required_field(alloc, object, "log")?,
-            store: required_field(alloc, object, "store")?,
-        })
+        let (log, store) = required_two(alloc, object, "log", "store")?;
+        Ok(RecordedSizesFormat { log, store })
     }
 }
 

@@ -1,19 +1,30 @@
 //! The statistics of runs that ended: by themselves they are an object, and in a status they stand
 //! beside its name.
-ghost use Rattle.std.specs.Prelude.{◌≡◌, ◌∷◌, OnOk, codes, option_map};
+ghost use Rattle.std.specs.Prelude.{[], ◌∷◌, ⊤, codes, option_map};
 ghost use Rattle.serde_json.specs.Data.{string};
 ghost use Rattle.rec_json.specs.Fields.{in_order};
 ghost use Rattle.rec_json.specs.Nodes.{members_view};
-ghost use Rattle.rec_json.specs.Tokens.{with_fields};
 ghost use Rattle.rec_forms.specs.Gives.{Gives};
+ghost use Rattle.rec_forms.specs.ObjectWriting.{Writes};
 
 use crate::{CompletedRunStats, StressCompletedRunStats};
 use rec_forms::{
-    Form, FromValueError, Held, held_optional, optional_field, required_field, write_field,
-    write_optional,
+    Form, FromValueError, Held, ObjectWriter, held_optional, optional_field, required_four,
+    required_three,
 };
 use rec_json::{JsonText, Node};
 use std::alloc::{AllocError, Global};
+
+/// Writes the name of a status, if any.
+fn write_status(object: ObjectWriter, text: &mut JsonText, status: Option<&str>) -> ObjectWriter
+    ensures { Writes object text.old result text.new
+        ((codes "status", option_map (λ s. string s.now) status.entry) ∷ []) ⊤ }
+{
+    match status {
+        Some(name) => object.text(text, "status", name),
+        None => object,
+    }
+}
 
 impl CompletedRunStats {
     ghost use Rattle.rec_format.specs.StatsForms.{completed_fields, completed_form, AreCompleted};
@@ -21,21 +32,20 @@ impl CompletedRunStats {
     /// Writes the statistics and the status, if any, as fields of an object.
     pub(crate) fn write_fields(
         &self,
-        alloc: Global,
+        object: ObjectWriter,
         text: &mut JsonText,
         status: Option<&str>,
-    ) -> Result<(), AllocError>
-        ensures written { OnOk result (text.new ≡ with_fields text.old (in_order (
-            (codes "status", option_map (λ s. string s.now) status.entry)
-            ∷ completed_fields self.now))) }
-        ensures known { OnOk result (AreCompleted self.now) }
+    ) -> ObjectWriter
+        ensures { Writes object text.old result text.new
+            (in_order ((codes "status", option_map (λ s. string s.now) status.entry)
+            ∷ completed_fields self.now))
+            (AreCompleted self.now) }
     {
-        write_field(alloc, text, "exit-code", &self.exit_code)?;
-        write_field(alloc, text, "failed", &self.failed)?;
-        write_field(alloc, text, "initial-run-count", &self.initial_run_count)?;
-        write_field(alloc, text, "passed", &self.passed)?;
-        text.optional_string_field("status", status)?;
-        Ok(())
+        let object = object.field(text, "exit-code", &self.exit_code);
+        let object = object.field(text, "failed", &self.failed);
+        let object = object.field(text, "initial-run-count", &self.initial_run_count);
+        let object = object.field(text, "passed", &self.passed);
+        write_status(object, text, status)
     }
 
     /// Reads the statistics that an object has.
@@ -46,11 +56,19 @@ impl CompletedRunStats {
     ) -> Result<CompletedRunStats, FromValueError>
         ensures { Gives result (completed_form (members_view object.now)) }
     {
+        let (initial_run_count, passed, failed, exit_code) = required_four(
+            alloc,
+            object,
+            "initial-run-count",
+            "passed",
+            "failed",
+            "exit-code",
+        )?;
         Ok(CompletedRunStats {
-            initial_run_count: required_field(alloc, object, "initial-run-count")?,
-            passed: required_field(alloc, object, "passed")?,
-            failed: required_field(alloc, object, "failed")?,
-            exit_code: required_field(alloc, object, "exit-code")?,
+            initial_run_count,
+            passed,
+            failed,
+            exit_code,
         })
     }
 }
@@ -78,10 +96,9 @@ impl Form for CompletedRunStats {
     ghost shallow = { within_depth refl };
 
     fn write(&self, alloc: Global, text: &mut JsonText) -> Result<(), AllocError> {
-        text.begin_object()?;
-        self.write_fields(alloc, text, None)?;
-        text.end_struct()?;
-        Ok(())
+        let object = ObjectWriter::begin(alloc, text);
+        let object = self.write_fields(object, text, None);
+        object.end(text)
     }
 
     #[tactic(auto, unfolding(crate::specs::StatsForms::completed_stats_form))]
@@ -108,26 +125,24 @@ impl StressCompletedRunStats {
     /// Writes the statistics and the status, if any, as fields of an object.
     pub(crate) fn write_fields(
         &self,
-        alloc: Global,
+        object: ObjectWriter,
         text: &mut JsonText,
         status: Option<&str>,
-    ) -> Result<(), AllocError>
-        ensures written { OnOk result (text.new ≡ with_fields text.old (in_order (
-            (codes "status", option_map (λ s. string s.now) status.entry)
-            ∷ stress_fields self.now))) }
-        ensures known { OnOk result (AreStress self.now) }
+    ) -> ObjectWriter
+        ensures { Writes object text.old result text.new
+            (in_order ((codes "status", option_map (λ s. string s.now) status.entry)
+            ∷ stress_fields self.now))
+            (AreStress self.now) }
     {
-        write_field(alloc, text, "exit-code", &self.exit_code)?;
-        write_field(alloc, text, "failed-count", &self.failed_count)?;
-        write_optional(
-            alloc,
+        let object = object.field(text, "exit-code", &self.exit_code);
+        let object = object.field(text, "failed-count", &self.failed_count);
+        let object = object.optional(
             text,
             "initial-iteration-count",
             &self.initial_iteration_count,
-        )?;
-        text.optional_string_field("status", status)?;
-        write_field(alloc, text, "success-count", &self.success_count)?;
-        Ok(())
+        );
+        let object = write_status(object, text, status);
+        object.field(text, "success-count", &self.success_count)
     }
 
     /// Reads the statistics that an object has.
@@ -138,11 +153,19 @@ impl StressCompletedRunStats {
     ) -> Result<StressCompletedRunStats, FromValueError>
         ensures { Gives result (stress_form (members_view object.now)) }
     {
+        let initial_iteration_count = optional_field(alloc, object, "initial-iteration-count")?;
+        let (success_count, failed_count, exit_code) = required_three(
+            alloc,
+            object,
+            "success-count",
+            "failed-count",
+            "exit-code",
+        )?;
         Ok(StressCompletedRunStats {
-            initial_iteration_count: optional_field(alloc, object, "initial-iteration-count")?,
-            success_count: required_field(alloc, object, "success-count")?,
-            failed_count: required_field(alloc, object, "failed-count")?,
-            exit_code: required_field(alloc, object, "exit-code")?,
+            initial_iteration_count,
+            success_count,
+            failed_count,
+            exit_code,
         })
     }
 }
@@ -170,10 +193,9 @@ impl Form for StressCompletedRunStats {
     ghost shallow = { within_depth refl };
 
     fn write(&self, alloc: Global, text: &mut JsonText) -> Result<(), AllocError> {
-        text.begin_object()?;
-        self.write_fields(alloc, text, None)?;
-        text.end_struct()?;
-        Ok(())
+        let object = ObjectWriter::begin(alloc, text);
+        let object = self.write_fields(object, text, None);
+        object.end(text)
     }
 
     #[tactic(auto, unfolding(crate::specs::StatsForms::stress_stats_form))]

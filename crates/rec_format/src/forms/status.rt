@@ -11,7 +11,7 @@ ghost use Rattle.rec_format.specs.StatusForms.{bare_value, completed_value, stre
 use crate::{
     CompletedRunStats, RecordedRunStatus, RecordedRunStatusFormat, StressCompletedRunStats,
 };
-use rec_forms::{Form, FromValueError, Held};
+use rec_forms::{Form, FromValueError, Held, ObjectWriter};
 use rec_json::{JsonText, Node, member};
 use std::alloc::{AllocError, Global};
 
@@ -23,13 +23,12 @@ fn name_in<'a>(object: &[(&'a str, Node<'a>)]) -> Option<&'a str>
 }
 
 /// Writes a status alone.
-fn write_bare(text: &mut JsonText, name: &str) -> Result<(), AllocError>
+fn write_bare(alloc: Global, text: &mut JsonText, name: &str) -> Result<(), AllocError>
     ensures { OnOk result (text.new ≡ text.old ++ value_tokens (bare_value name.now)) }
 {
-    text.begin_object()?;
-    text.string_field("status", name)?;
-    text.end_struct()?;
-    Ok(())
+    let object = ObjectWriter::begin(alloc, text);
+    let object = object.text(text, "status", name);
+    object.end(text)
 }
 
 /// Writes a status with the statistics of a run beside it.
@@ -43,10 +42,9 @@ fn write_completed(
         (text.new ≡ text.old ++ value_tokens (completed_value name.now stats.now)) }
     ensures known { OnOk result (AreCompleted stats.now) }
 {
-    text.begin_object()?;
-    stats.write_fields(alloc, text, Some(name))?;
-    text.end_struct()?;
-    Ok(())
+    let object = ObjectWriter::begin(alloc, text);
+    let object = stats.write_fields(object, text, Some(name));
+    object.end(text)
 }
 
 /// Writes a status with the statistics of a stress run beside it.
@@ -60,10 +58,9 @@ fn write_stress(
         (text.new ≡ text.old ++ value_tokens (stress_value name.now stats.now)) }
     ensures known { OnOk result (AreStress stats.now) }
 {
-    text.begin_object()?;
-    stats.write_fields(alloc, text, Some(name))?;
-    text.end_struct()?;
-    Ok(())
+    let object = ObjectWriter::begin(alloc, text);
+    let object = stats.write_fields(object, text, Some(name));
+    object.end(text)
 }
 
 /// The status of a name, with what an object has beside it.
@@ -76,14 +73,14 @@ fn status_in<'a>(
 {
     match name {
         "incomplete" => Ok(RecordedRunStatus::Incomplete),
-        "completed" => Ok(RecordedRunStatus::Completed(CompletedRunStats::read(alloc, object)?)),
-        "cancelled" => Ok(RecordedRunStatus::Cancelled(CompletedRunStats::read(alloc, object)?)),
-        "stress-completed" => Ok(RecordedRunStatus::StressCompleted(StressCompletedRunStats::read(
-            alloc, object,
-        )?)),
-        "stress-cancelled" => Ok(RecordedRunStatus::StressCancelled(StressCompletedRunStats::read(
-            alloc, object,
-        )?)),
+        "completed" => CompletedRunStats::read(alloc, object).map(RecordedRunStatus::Completed),
+        "cancelled" => CompletedRunStats::read(alloc, object).map(RecordedRunStatus::Cancelled),
+        "stress-completed" => StressCompletedRunStats::read(alloc, object).map(
+            RecordedRunStatus::StressCompleted,
+        ),
+        "stress-cancelled" => StressCompletedRunStats::read(alloc, object).map(
+            RecordedRunStatus::StressCancelled,
+        ),
         _ => Ok(RecordedRunStatus::Unknown),
     }
 }
@@ -112,7 +109,7 @@ impl Form for RecordedRunStatus {
 
     fn write(&self, alloc: Global, text: &mut JsonText) -> Result<(), AllocError> {
         match self {
-            RecordedRunStatus::Incomplete => write_bare(text, "incomplete"),
+            RecordedRunStatus::Incomplete => write_bare(alloc, text, "incomplete"),
             RecordedRunStatus::Completed(stats) => write_completed(alloc, text, "completed", stats),
             RecordedRunStatus::Cancelled(stats) => write_completed(alloc, text, "cancelled", stats),
             RecordedRunStatus::StressCompleted(stats) => write_stress(
@@ -127,7 +124,7 @@ impl Form for RecordedRunStatus {
                 "stress-cancelled",
                 stats,
             ),
-            RecordedRunStatus::Unknown => write_bare(text, "unknown"),
+            RecordedRunStatus::Unknown => write_bare(alloc, text, "unknown"),
         }
     }
 

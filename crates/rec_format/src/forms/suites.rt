@@ -1,9 +1,21 @@
 //! Test suites: an array in the order of binary ids, which is read in any order.
-use super::written_fields::{Written, write_object};
+ghost use Rattle.rec_forms.specs.Gives.{GivesBy};
+ghost use Rattle.rec_format.specs.SuiteForms.{joined_by};
+
 use crate::{RerunSuites, RerunTestSuiteInfo};
-use rec_forms::{Form, FromValueError, required_field};
+use rec_forms::{Form, FromValueError, ObjectWriter, required_three};
 use rec_json::{JsonText, Node};
 use std::alloc::{AllocError, Global};
+
+/// Puts a suite in, of whose binary there is none.
+fn insert_new(suites: &mut RerunSuites, suite: RerunTestSuiteInfo) -> Result<(), FromValueError>
+    ensures { GivesBy (λ _. suites.new) result (joined_by suites.old suite) }
+{
+    if suites.insert(suite)?.is_some() {
+        return Err(FromValueError::NotAValue);
+    }
+    Ok(())
+}
 
 impl Form for RerunTestSuiteInfo {
     ghost use Rattle.std.specs.Prelude.{refl};
@@ -28,12 +40,11 @@ impl Form for RerunTestSuiteInfo {
     ghost shallow = { within_depth refl };
 
     fn write(&self, alloc: Global, text: &mut JsonText) -> Result<(), AllocError> {
-        let fields = (
-            Written("binary_id", &self.binary_id),
-            Written("outstanding", &self.outstanding),
-            Written("passing", &self.passing),
-        );
-        write_object(alloc, text, &fields)
+        let object = ObjectWriter::begin(alloc, text);
+        let object = object.field(text, "binary_id", &self.binary_id);
+        let object = object.field(text, "outstanding", &self.outstanding);
+        let object = object.field(text, "passing", &self.passing);
+        object.end(text)
     }
 
     #[tactic(auto, unfolding(crate::specs::SuiteForms::suite_form))]
@@ -41,10 +52,17 @@ impl Form for RerunTestSuiteInfo {
         let Some(object) = node.as_object() else {
             return Err(FromValueError::NotAValue);
         };
+        let (binary_id, passing, outstanding) = required_three(
+            alloc,
+            object,
+            "binary_id",
+            "passing",
+            "outstanding",
+        )?;
         Ok(RerunTestSuiteInfo {
-            binary_id: required_field(alloc, object, "binary_id")?,
-            passing: required_field(alloc, object, "passing")?,
-            outstanding: required_field(alloc, object, "outstanding")?,
+            binary_id,
+            passing,
+            outstanding,
         })
     }
 }
@@ -88,9 +106,7 @@ impl Form for RerunSuites {
         let mut suites = RerunSuites::new(alloc);
         for node in nodes {
             let suite = RerunTestSuiteInfo::from_node(alloc, node)?;
-            if suites.insert(suite)?.is_some() {
-                return Err(FromValueError::NotAValue);
-            }
+            insert_new(&mut suites, suite)?;
         }
         Ok(suites)
     }

@@ -1,11 +1,10 @@
 //! A version number is written as its number, and a version as an object of both.
-use super::written_fields::{Written, write_object};
 use crate::{
     PortableRecordingFormatMajorVersion, PortableRecordingFormatMinorVersion,
     PortableRecordingFormatVersion, RunsJsonFormatVersion, StoreFormatMajorVersion,
     StoreFormatMinorVersion, StoreFormatVersion,
 };
-use rec_forms::{Form, FromValueError, Held, required_field};
+use rec_forms::{Form, FromValueError, Held, ObjectWriter, required_two};
 use rec_json::{JsonText, Node};
 use std::alloc::{AllocError, Global};
 
@@ -233,8 +232,10 @@ impl Form for StoreFormatVersion {
     ghost shallow = { within_depth refl };
 
     fn write(&self, alloc: Global, text: &mut JsonText) -> Result<(), AllocError> {
-        let fields = (Written("major", &self.major), Written("minor", &self.minor));
-        write_object(alloc, text, &fields)
+        let object = ObjectWriter::begin(alloc, text);
+        let object = object.field(text, "major", &self.major);
+        let object = object.field(text, "minor", &self.minor);
+        object.end(text)
     }
 
     #[tactic(auto, unfolding(crate::specs::VersionForms::store_version_form))]
@@ -242,10 +243,8 @@ impl Form for StoreFormatVersion {
         let Some(object) = node.as_object() else {
             return Err(FromValueError::NotAValue);
         };
-        Ok(StoreFormatVersion {
-            major: required_field(alloc, object, "major")?,
-            minor: required_field(alloc, object, "minor")?,
-        })
+        let (major, minor) = required_two(alloc, object, "major", "minor")?;
+        Ok(StoreFormatVersion { major, minor })
     }
 }
 
@@ -272,8 +271,10 @@ impl Form for PortableRecordingFormatVersion {
     ghost shallow = { within_depth refl };
 
     fn write(&self, alloc: Global, text: &mut JsonText) -> Result<(), AllocError> {
-        let fields = (Written("major", &self.major), Written("minor", &self.minor));
-        write_object(alloc, text, &fields)
+        let object = ObjectWriter::begin(alloc, text);
+        let object = object.field(text, "major", &self.major);
+        let object = object.field(text, "minor", &self.minor);
+        object.end(text)
     }
 
     #[tactic(auto, unfolding(crate::specs::VersionForms::portable_version_form))]
@@ -284,10 +285,8 @@ impl Form for PortableRecordingFormatVersion {
         let Some(object) = node.as_object() else {
             return Err(FromValueError::NotAValue);
         };
-        Ok(PortableRecordingFormatVersion {
-            major: required_field(alloc, object, "major")?,
-            minor: required_field(alloc, object, "minor")?,
-        })
+        let (major, minor) = required_two(alloc, object, "major", "minor")?;
+        Ok(PortableRecordingFormatVersion { major, minor })
     }
 }
 

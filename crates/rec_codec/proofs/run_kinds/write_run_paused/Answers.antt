@@ -1,11 +1,12 @@
-use Rattle.rec_codec.proofs.Added.{◌▸◌, known, written}
+use Rattle.std.proofs.lemmas.Result.{on_ok_weaker}
+use Rattle.rec_forms.proofs.Writing.{◌▸◌, saying}
 use Rattle.rec_codec.proofs.run_kinds.write_run_paused.Goals as goal
 
 -- which kind it is, and what the calls wrote, one after the other
 pub returns : goal.returns
 returns c =
-    let all = c.elapsed_and_kind.ensures ▸ c.running.ensures in
+    let all = c.with_elapsed_and_kind-object.ensures ▸ c.with_running-object.ensures in
     rw c.in-RunPaused.is (record {
-      written = written all c.end.result c.end.ensures;
-      known = known all c.end.result c.end.ensures (λ k. (k.1.2, k.0, (k.1.0, k.1.1)));
+      written = on_ok_weaker c.leave_open.result all.written c.leave_open.ensures;
+      known = on_ok_weaker c.leave_open.result (saying (λ k. (k.1.2, k.0, (k.1.0, k.1.1))) all).known c.leave_open.ensures;
     })

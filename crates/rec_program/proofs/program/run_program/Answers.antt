@@ -159,11 +159,11 @@ returns-clause-not_salvaged g c = λ path settings asked other.
     c.args.source.now c.run.new.source c.args.bundle.now c.run.new.bundle c.args.out.now c.run.new.out c.args.diag.now c.run.new.diag other runs
 
 pub returns-clause-salvaged_complete : goal.returns-clause-salvaged_complete
-returns-clause-salvaged_complete g c = λ path settings bytes es front stopped asked has short is found whole sound source bundle out.
+returns-clause-salvaged_complete g c = λ path settings bytes es prefix stopped asked has short is found whole sound source bundle out.
     let runs = subst (λ (a : Result Asked WordsError). Runs g.S.Source.left g.S.Source.faults g.B.Sink.taken g.B.Sink.faults g.T.Sink.taken g.T.Sink.faults g.G.Sink.taken g.G.Sink.faults sha256_number a c.run.result
     c.args.source.now c.run.new.source c.args.bundle.now c.run.new.bundle c.args.out.now c.run.new.out c.args.diag.now c.run.new.diag) asked c.run.ensures in
     salvaged_or_memory g.S.Source.left g.S.Source.faults g.B.Sink.taken g.B.Sink.faults g.T.Sink.taken g.T.Sink.faults g.G.Sink.taken g.G.Sink.faults settings c.run.result
-    c.args.source.now c.run.new.source c.args.bundle.now c.run.new.bundle c.args.out.now c.run.new.out c.args.diag.now c.run.new.diag bytes es front stopped has short is found whole sound source bundle out runs
+    c.args.source.now c.run.new.source c.args.bundle.now c.run.new.bundle c.args.out.now c.run.new.out c.args.diag.now c.run.new.diag bytes es prefix stopped has short is found whole sound source bundle out runs
 
 pub returns-clause-faulty_words : goal.returns-clause-faulty_words
 returns-clause-faulty_words g c =

@@ -1,9 +1,10 @@
-use Rattle.std.proofs.Common.{◌∙◌, rules}
+use Rattle.std.proofs.Common.{◌∙◌, ap, map, rules}
+use Rattle.std.proofs.lemmas.List.{take_all}
 use Rattle.std.proofs.lemmas.Result.{err_from_is_err_and}
 use Rattle.rec_events.specs.declared.outputs.LiveSpec.{LiveSpec}
 use Rattle.rec_events.specs.EventMaps.{of_status, status_with}
 use Rattle.rec_replay.proofs.Loaded.{loads_wanting}
-use Rattle.rec_replay.proofs.LoadedEach.{loads_more, loads_stop, same_more}
+use Rattle.rec_replay.proofs.LoadedEach.{loads_done, loads_more, loads_stop, same_more}
 use Rattle.rec_replay.proofs.loading.load_each.Goals as goal
 use Rattle.rec_replay.specs.Loading.{description_names, description_loaded}
 use Rattle.rec_replay.specs.Replaying.{left_out, unloaded}
@@ -44,3 +45,12 @@ loop-status-preserved g c =
           c.loop-status-test.true c.status-item.is c.in_ok-push.ensures.items c.loop-status.invariant.apart c.in_ok-status.ensures.apart;
       as_many = rw c.in_ok-push.ensures.items (search rules);
     }
+
+pub returns-clause-loads : goal.returns-clause-loads
+returns-clause-loads g c =
+    rw c.new.ensures (loads_done (of_status (description_names c.args.load)) (λ es. status_with (description_loaded c.args.load es)) _ _ _ _ _ _ c.args.statuses.now c.loop-status.status-index
+    c.loop-status.loaded.items c.loop-status-test.false c.loop-status.invariant.loads)
+
+pub returns-clause-apart : goal.returns-clause-apart
+returns-clause-apart g c =
+    rw c.new.ensures (c.loop-status.invariant.apart ∙ ap (map (status_with {T = LiveSpec} left_out)) (take_all c.loop-status.status-index c.args.statuses.now c.loop-status-test.false))

@@ -1,8 +1,11 @@
 use Rattle.std.proofs.lemmas.Result.{err_from_is_err_and}
-use Rattle.rec_replay.proofs.Loaded.{loads_error}
+use Rattle.rec_replay.proofs.Loaded.{loads_error, loads_short}
 use Rattle.rec_replay.proofs.loading.load_status.Goals as goal
 
-pub returns-in_err-output-clause-loads : goal.returns-in_err-output-clause-loads
-returns-in_err-output-clause-loads g c =
-    let p = err_from_is_err_and c.from_residual-in_err-output.result c.from_residual-in_err-output.ensures.1 in
-    rw (p.1, p.2) (loads_error _ _ _ _ _ _ _ _ _ _ c.in_err-output.ensures.loads)
+pub returns-in_err-copied-clause-loads : goal.returns-in_err-copied-clause-loads
+returns-in_err-copied-clause-loads g c =
+    let p = err_from_is_err_and c.from_residual.result c.from_residual.ensures.1 in
+    rw (p.1, p.2) (loads_short _ _ _ _ _)
+
+pub returns-in-Err-clause-loads : goal.returns-in-Err-clause-loads
+returns-in-Err-clause-loads g c = loads_error _ _ _ _ _ _ _ _ _ _ c.in-Err.ensures.loads

@@ -4,11 +4,11 @@ use Rattle.rec_salvage.proofs.gathering.take_lines.Goals as goal
 use Rattle.rec_salvage.specs.Gathering.{TakesLine, TakesNone}
 
 pub lines-init : goal.lines-init
-lines-init c = taken_first c.args.front.now.entries c.args.log.now c.new-gathered.result c.new-gathered.ensures
+lines-init c = taken_first c.args.prefix.now.entries c.args.log.now c.new-gathered.result c.new-gathered.ensures
 
 pub lines-preserved : goal.lines-preserved
 lines-preserved c =
-    let es = c.args.front.now.entries in
+    let es = c.args.prefix.now.entries in
     let rest = c.lines.rest.now in
     let old = c.lines.gathered in
     let new = c.take_line.new.self in
@@ -17,7 +17,7 @@ lines-preserved c =
 
 pub returns : goal.returns
 returns c =
-    let es = c.args.front.now.entries in
+    let es = c.args.prefix.now.entries in
     let rest = c.lines.rest.now in
     let old = c.lines.gathered in
     let new = c.take_line.new.self in

@@ -5,7 +5,7 @@ use Rattle.rec_salvage.specs.Salvaged.{salvaged_events}
 
 pub returns : goal.returns
 returns c =
-    let es = c.args.front.now.entries in
+    let es = c.args.prefix.now.entries in
     let log = c.args.log.now in
     let taken = c.in_ok-length.ensures in
     let gathered = c.in_ok-length.gathered in

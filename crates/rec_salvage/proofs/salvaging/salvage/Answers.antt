@@ -3,7 +3,7 @@ use Rattle.rec_salvage.proofs.salvaging.salvage.Goals as goal
 use Rattle.rec_salvage.proofs.Stopped.{nothing_lost}
 
 pub returns-clause-only : goal.returns-clause-only
-returns-clause-only c = λ es front. only_refused c.args.store.now es c.salvage_store.result front c.salvage_store.ensures.err
+returns-clause-only c = λ es prefix. only_refused c.args.store.now es c.salvage_store.result prefix c.salvage_store.ensures.err
 
 pub returns-clause-stopped : goal.returns-clause-stopped
 returns-clause-stopped c = λ number m events stopped.

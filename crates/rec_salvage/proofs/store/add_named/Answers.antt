@@ -8,7 +8,7 @@ use Rattle.rec_salvage.specs.Keeping.{entries_in}
 pub loop-i-preserved : goal.loop-i-preserved
 loop-i-preserved c =
     let paths = c.args.paths.now in
-    let es = c.args.front.now.entries in
+    let es = c.args.prefix.now.entries in
     let i = c.loop-i.i in
     let name = c.name-name.result.now in
     let old = c.loop-i.contents.items in

@@ -7,13 +7,13 @@ use Rattle.rec_salvage.specs.Keeping.{entries_in}
 
 pub spell_store-requires : goal.spell_store-requires
 spell_store-requires c =
-    let es = c.args.front.now.entries in
+    let es = c.args.prefix.now.entries in
     contents_short es c.args.gathered.now.paths c.deref.result.now c.requires
     (ap (map entry_of) c.deref.ensures.value ∙ both_added _ _ _ _ _ c.new-contents.ensures.items c.in_ok-add_metadata.ensures c.in_ok-add_named.ensures)
 
 pub returns : goal.returns
 returns c =
-    let es = c.args.front.now.entries in
+    let es = c.args.prefix.now.entries in
     let g = c.args.gathered.now in
     let is = ap (map entry_of) c.deref.ensures.value ∙ both_added _ _ _ _ _ c.new-contents.ensures.items c.in_ok-add_metadata.ensures c.in_ok-add_named.ensures in
     let counted = count_added _ _ _ _ _ c.new-contents.ensures.items c.in_ok-add_metadata.ensures c.in_ok-add_named.ensures in

@@ -8,6 +8,6 @@ pub returns-in-Err-clause-err_spans : goal.returns-in-Err-clause-err_spans
 returns-in-Err-clause-err_spans c =
     let key = Test c.args.test.now in
     let spans = c.args.open_spans.now in
-    c.close_test.ensures.closed
+    c.close_test.ensures
     ∙ ap (without key) c.in_ok-open_test.ensures.ok
     ∙ put-without key c.args.span spans c.requires.key (subst (λ k. of_key k spans ≡ []) c.requires.key c.requires.key_free)

@@ -1,4 +1,5 @@
-use Rattle.std.proofs.Common.{refl}
+use Rattle.std.proofs.lemmas.Result.{on_ok_weaker}
+use Rattle.rec_forms.proofs.Writing.{◌▸◌, all_written}
 use Rattle.rec_trace.proofs.other_data.write_run.Goals as goal
 use Rattle.rec_trace.proofs.OtherData.{run_written}
 use Rattle.rec_trace.specs.Texts.{other_data}
@@ -6,16 +7,10 @@ use Rattle.rec_trace.specs.Texts.{other_data}
 pub returns-clause-written : goal.returns-clause-written
 unfolding other_data
 returns-clause-written c =
-    c.in_ok-end_struct.ensures _ _ (rw (
-      c.in_ok-write_optional.ensures.written,
-      c.in_ok-write_field-3.ensures.written,
-      c.in_ok-write_field-2.ensures.written,
-      c.in_ok-write_field.ensures.written,
-      c.in_ok-write_words.ensures.written,
-      c.in_ok-begin_object.ensures,
-    ) refl)
+    c.end.ensures.written _ _ (all_written c.begin-object.ensures (c.with_words-object.ensures ▸ c.field-object.ensures ▸ c.field-object-2.ensures ▸ c.field-object-3.ensures ▸ c.optional-object.ensures))
 
 pub returns-clause-known : goal.returns-clause-known
 returns-clause-known c =
-    run_written _ _ c.in_ok-write_field.ensures.known c.in_ok-write_field-3.ensures.known c.in_ok-write_field-2.ensures.known c.in_ok-write_words.ensures.known
-    c.in_ok-write_optional.ensures.known
+    on_ok_weaker c.end.result (λ ok.
+    let k = (c.with_words-object.ensures ▸ c.field-object.ensures ▸ c.field-object-2.ensures ▸ c.field-object-3.ensures ▸ c.optional-object.ensures).known ok in
+    run_written _ _ k.1.0 k.1.1.1.0 k.1.1.0 k.0 k.1.1.1.1) c.end.ensures.goes

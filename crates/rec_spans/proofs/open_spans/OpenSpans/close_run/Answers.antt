@@ -2,23 +2,18 @@ use Rattle.std.proofs.Common.{None, ap, refl, ◌∙◌}
 use Rattle.rec_spans.proofs.open_spans.OpenSpans.close_run.Goals as goal
 use Rattle.rec_spans.proofs.OpenScripts.{noted-other}
 use Rattle.rec_spans.proofs.OpenTests.{closed}
-use Rattle.rec_spans.proofs.Orders.{span-remove, span-updates}
 use Rattle.rec_spans.specs.declared.spans.Place.TheVariants as places
 use Rattle.rec_spans.specs.declared.spans.SpanKey.TheVariants as keys
 use Rattle.rec_spans.specs.Past.{without}
 
 pub invariant_of-self : goal.invariant_of-self
 invariant_of-self c =
-    let spans = c.self.inside.spans in
-    let gone = span-updates places.Run spans c.remove.new.self None c.remove.ensures.updates in
-    let tied = closed c.self.inside.slots.entries spans.entries c.remove.new.self.entries keys.Run places.Run c.self.invariant.0 refl
-    (span-remove spans.entries c.remove.new.self.entries places.Run c.remove.ensures.entries) gone in
-    (tied.0, noted-other c.self.inside.scripts.notes spans.entries c.remove.new.self.entries places.Run None c.self.invariant.1 (λ i. refl) gone, c.self.invariant.2)
+    let spans = c.self.inside.spans.entries in
+    let new = c.take.new.spans.entries in
+    let tied = closed c.self.inside.slots.entries spans new keys.Run places.Run c.self.invariant.0 refl c.take.ensures in
+    (tied.0, noted-other c.self.inside.scripts.notes spans new places.Run None c.self.invariant.1 (λ i. refl) c.take.ensures.1, c.self.invariant.2)
 
 pub returns : goal.returns
 returns c =
-    let spans = c.self.inside.spans in
-    (closed c.self.inside.slots.entries spans.entries c.remove.new.self.entries keys.Run places.Run c.self.invariant.0 refl
-    (span-remove spans.entries c.remove.new.self.entries places.Run c.remove.ensures.entries)
-    (span-updates places.Run spans c.remove.new.self None c.remove.ensures.updates)).1
+    (closed c.self.inside.slots.entries c.self.inside.spans.entries c.take.new.spans.entries keys.Run places.Run c.self.invariant.0 refl c.take.ensures).1
     ∙ ap (without keys.Run) c.self.view_is

@@ -1,7 +1,7 @@
 use Rattle.std.proofs.Common.{◌||◌, ◌++◌, length, map, take, false, ap, sym, ◌∙◌}
 use Rattle.rec_trace_events.specs.EventTexts.{event_value}
 use Rattle.rec_trace.proofs.printed.Printed.put_all.Goals as goal
-use Rattle.rec_trace.proofs.PrintedEvents.{some-append, take-front, texts-append, writable-append}
+use Rattle.rec_trace.proofs.PrintedEvents.{some-append, take-prefix, texts-append, writable-append}
 use Rattle.rec_trace.specs.Kept.{has_some}
 use Rattle.rec_trace.specs.Texts.{event_texts}
 
@@ -29,6 +29,6 @@ returns-in-Err-clause-same c = λ format kept are.
       some = are.some;
       text =
           c.truncate.ensures.items ∙ ap (λ n. take n c.write_events.new.text.items) (ap length c.as_slice-before.ensures.value)
-          ∙ ap (take (length old)) before.1 ∙ take-front old before.0 ∙ are.text;
+          ∙ ap (take (length old)) before.1 ∙ take-prefix old before.0 ∙ are.text;
       writable = are.writable;
     }

@@ -1,14 +1,14 @@
 use Rattle.std.proofs.lemmas.Result.{on_ok_weaker}
+use Rattle.rec_forms.proofs.Writing.{all_written}
 use Rattle.rec_trace_events.proofs.run_args.SubRunBeginArgsArgs.write.Goals as goal
 use Rattle.rec_trace_events.proofs.WritableArgs.{sub_run_begin_written}
-use Rattle.rec_trace_events.proofs.Writing.{all_known, all_written}
 use Rattle.rec_trace_events.specs.Args.{sub_run_begin_args}
 
 -- what each call wrote
 pub returns-clause-written : goal.returns-clause-written
 unfolding sub_run_begin_args
-returns-clause-written c = c.end.ensures.closed _ _ (all_written c.begin.ensures (c.field.ensures))
+returns-clause-written c = c.end.ensures.written _ _ (all_written c.begin.ensures (c.field.ensures))
 
 pub returns-clause-known : goal.returns-clause-known
 returns-clause-known c =
-    on_ok_weaker c.end.result (λ all. let known = all_known (c.field.ensures) all in sub_run_begin_written _ known) c.end.ensures.all
+    on_ok_weaker c.end.result (λ all. sub_run_begin_written _ (c.field.ensures.known all)) c.end.ensures.goes

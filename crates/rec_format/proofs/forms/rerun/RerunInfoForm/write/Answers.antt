@@ -1,9 +1,5 @@
-use Rattle.std.proofs.lemmas.Result.{on_ok_weaker}
-use Rattle.std.specs.Prelude.{refl}
+use Rattle.rec_forms.proofs.Writing.{◌▸◌, all_written}
 use Rattle.rec_format.proofs.forms.rerun.RerunInfoForm.write.Goals as goal
 
 pub returns-clause-written : goal.returns-clause-written
-returns-clause-written c = c.write_object.ensures.written _ refl
-
-pub returns-clause-known : goal.returns-clause-known
-returns-clause-known c = on_ok_weaker c.write_object.result (λ is. record { parent_run_id = is.first; root_info = is.second; test_suites = is.third }) c.write_object.ensures.known
+returns-clause-written c = c.end.ensures.written _ _ (all_written c.begin-object.ensures (c.field-object.ensures ▸ c.field-object-2.ensures ▸ c.field-object-3.ensures))

@@ -1,9 +1,5 @@
-use Rattle.std.proofs.lemmas.Result.{on_ok_weaker}
-use Rattle.std.specs.Prelude.{refl}
+use Rattle.rec_forms.proofs.Writing.{◌▸◌, all_written}
 use Rattle.rec_format.proofs.forms.suites.RerunTestSuiteInfoForm.write.Goals as goal
 
 pub returns-clause-written : goal.returns-clause-written
-returns-clause-written c = c.write_object.ensures.written _ refl
-
-pub returns-clause-known : goal.returns-clause-known
-returns-clause-known c = on_ok_weaker c.write_object.result (λ is. record { binary_id = is.first; passing = is.third; outstanding = is.second }) c.write_object.ensures.known
+returns-clause-written c = c.end.ensures.written _ _ (all_written c.begin-object.ensures (c.field-object.ensures ▸ c.field-object-2.ensures ▸ c.field-object-3.ensures))

@@ -1,0 +1,110 @@
+//! Several fields, read by one call.
+ghost use Rattle.rec_json.specs.Nodes.{members_view};
+ghost use Rattle.rec_forms.specs.Several.{GivesTwo, GivesThree, GivesFour, GivesFive};
+ghost use Rattle.rec_forms.specs.Shape.{maybe, required};
+
+use crate::fields::{optional_field, required_field};
+use crate::{Form, FromValueError};
+use rec_json::Node;
+use std::alloc::Global;
+
+/// Reads two fields that have to be there.
+pub fn required_two<'a, A: Form + Drop, B: Form + Drop>(
+    alloc: Global,
+    object: &[(&'a str, Node<'a>)],
+    first_key: &str,
+    second_key: &str,
+) -> Result<(A, B), FromValueError>
+    ensures { GivesTwo result
+        (required A.form_of first_key.now (members_view object.now))
+        (required B.form_of second_key.now (members_view object.now)) }
+{
+    let first = required_field(alloc, object, first_key)?;
+    let second = required_field(alloc, object, second_key)?;
+    Ok((first, second))
+}
+
+/// Reads three fields that have to be there.
+pub fn required_three<'a, A: Form + Drop, B: Form + Drop, C: Form + Drop>(
+    alloc: Global,
+    object: &[(&'a str, Node<'a>)],
+    first_key: &str,
+    second_key: &str,
+    third_key: &str,
+) -> Result<(A, B, C), FromValueError>
+    ensures { GivesThree result
+        (required A.form_of first_key.now (members_view object.now))
+        (required B.form_of second_key.now (members_view object.now))
+        (required C.form_of third_key.now (members_view object.now)) }
+{
+    let first = required_field(alloc, object, first_key)?;
+    let (second, third) = required_two(alloc, object, second_key, third_key)?;
+    Ok((first, second, third))
+}
+
+/// Reads four fields that have to be there.
+pub fn required_four<'a, A: Form + Drop, B: Form + Drop, C: Form + Drop, D: Form + Drop>(
+    alloc: Global,
+    object: &[(&'a str, Node<'a>)],
+    first_key: &str,
+    second_key: &str,
+    third_key: &str,
+    fourth_key: &str,
+) -> Result<(A, B, C, D), FromValueError>
+    ensures { GivesFour result
+        (required A.form_of first_key.now (members_view object.now))
+        (required B.form_of second_key.now (members_view object.now))
+        (required C.form_of third_key.now (members_view object.now))
+        (required D.form_of fourth_key.now (members_view object.now)) }
+{
+    let first = required_field(alloc, object, first_key)?;
+    let (second, third, fourth) = required_three(alloc, object, second_key, third_key, fourth_key)?;
+    Ok((first, second, third, fourth))
+}
+
+/// Reads five fields that have to be there.
+pub fn required_five<
+    'a,
+    A: Form + Drop,
+    B: Form + Drop,
+    C: Form + Drop,
+    D: Form + Drop,
+    E: Form + Drop,
+>(
+    alloc: Global,
+    object: &[(&'a str, Node<'a>)],
+    first_key: &str,
+    second_key: &str,
+    third_key: &str,
+    fourth_key: &str,
+    fifth_key: &str,
+) -> Result<(A, B, C, D, E), FromValueError>
+    ensures { GivesFive result
+        (required A.form_of first_key.now (members_view object.now))
+        (required B.form_of second_key.now (members_view object.now))
+        (required C.form_of third_key.now (members_view object.now))
+        (required D.form_of fourth_key.now (members_view object.now))
+        (required E.form_of fifth_key.now (members_view object.now)) }
+{
+    let first = required_field(alloc, object, first_key)?;
+    let (second, third, fourth, fifth) = required_four(
+        alloc, object, second_key, third_key, fourth_key, fifth_key,
+    )?;
+    Ok((first, second, third, fourth, fifth))
+}
+
+/// Reads two fields that may be missing or `null`.
+pub fn optional_two<'a, A: Form + Drop, B: Form + Drop>(
+    alloc: Global,
+    object: &[(&'a str, Node<'a>)],
+    first_key: &str,
+    second_key: &str,
+) -> Result<(Option<A>, Option<B>), FromValueError>
+    ensures { GivesTwo result
+        (maybe A.form_of first_key.now (members_view object.now))
+        (maybe B.form_of second_key.now (members_view object.now)) }
+{
+    let first = optional_field(alloc, object, first_key)?;
+    let second = optional_field(alloc, object, second_key)?;
+    Ok((first, second))
+}

@@ -1,0 +1,10 @@
+use Rattle.rec_forms.proofs.Writing.{◌▸◌, all_written}
+use Rattle.rec_junit.proofs.values.JunitSuitePart.write.Goals as goal
+use Rattle.rec_junit.specs.Values.{suite_value}
+
+-- what the calls wrote, one after the other
+pub returns-clause-written : goal.returns-clause-written
+unfolding suite_value
+returns-clause-written c =
+    let all = c.in_ok-object.ensures ▸ c.field-object.ensures ▸ c.in_ok-object-2.ensures in
+    c.end.ensures.written _ _ (λ ok. all_written c.begin-object.ensures all ok)

@@ -1,6 +1,0 @@
-use Rattle.std.proofs.lemmas.Result.{on_ok_weaker}
-use Rattle.std.proofs.lemmas.Str.{is_utf8-from_IsUtf8}
-use Rattle.rec_trace_events.proofs.fields.write_text.Goals as goal
-
-pub returns-clause-known : goal.returns-clause-known
-returns-clause-known c = on_ok_weaker c.string_field.result (λ _. is_utf8-from_IsUtf8 _ c.utf8.value) c.string_field.ensures
