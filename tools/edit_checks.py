@@ -80,11 +80,16 @@ class Clone:
     def unbuilt(self, crates):
         """A line for each library below some crates that is missing, or older than a file that it is made of."""
         for name in sorted({name for crate in crates for name in self.below(crate)}):
-            built = self.rlib(name) / "format"
-            if not built.is_file():
+            built = self.rlib(name)
+            if not (built / "format").is_file():
                 yield f"the library {name} isn't built"
-            elif built.stat().st_mtime < max(map(self.changed, (name, *self.below(name)))):
+            elif self.put_there(built) < max(map(self.changed, (name, *self.below(name)))):
                 yield f"the library {name} is older than its sources, or those of a crate below it"
+
+    @staticmethod
+    def put_there(built):
+        """When a library was built, or put there by `rt ci`, which gives the files of one that it has kept their older times."""
+        return max(path.stat().st_mtime for path in (built, built / "format"))
 
     def changed(self, crate):
         """When a file of a crate was last changed."""

@@ -149,6 +149,7 @@ class Libraries(InFolder):
             self.write(f"{name}/out/rlib/{name}.rlib/format", "")
             self.changed(f"{name}/src/lib.rt", 10)
             self.changed(f"{name}/out/rlib/{name}.rlib/format", 20 + at)
+            self.changed(f"{name}/out/rlib/{name}.rlib", 15)
 
     def changed(self, path, seconds):
         os.utime(self.folder / path, (seconds, seconds))
@@ -168,6 +169,13 @@ class Libraries(InFolder):
         self.changed("rec_a/specs/A.antt", 22)
         self.assertEqual(len(list(self.clone.unbuilt(["rec_c"]))), 2)
         self.assertEqual(list(self.clone.unbuilt(["rec_a"])), [])
+
+    def test_one_with_older_files_is_put_there_later(self):
+        self.changed("rec_a/src/lib.rt", 25)
+        self.assertEqual(len(list(self.clone.unbuilt(["rec_c"]))), 2)
+        for name in ("rec_a", "rec_b"):
+            self.changed(f"{name}/out/rlib/{name}.rlib", 25)
+        self.assertEqual(list(self.clone.unbuilt(["rec_c"])), [])
 
     def test_what_is_built(self):
         with mock.patch.object(try_edits, "CRATES", self.folder), mock.patch.object(try_edits.subprocess, "run") as run:
