@@ -3,7 +3,6 @@
 
 mod adapters;
 mod errors;
-mod failing;
 mod growing;
 mod indexed;
 pub mod laws;
@@ -20,9 +19,8 @@ mod writer;
 
 pub use adapters::{FileSink, StdSink, StdSource, write_flushed};
 pub use errors::{ContainerError, ContainerSizes, ContainerWriteError};
-pub use failing::{FailingSink, FailingSource};
 pub use growing::GrowingSink;
-pub use memory::{EndlessSource, MemorySink, SliceSource};
+pub use memory::SliceSource;
 pub use named_contents::{
     NamedContent, container_length, nested_length, write_container, write_nested,
 };

@@ -1,9 +1,10 @@
 //! Asks a bundle, and prints what it answers.
 
 use crate::bundles::{Bundle, bytes_of};
-use rec_container::{FailingSink, FailingSource, GrowingSink, SliceSource};
+use rec_container::{GrowingSink, SliceSource};
 use rec_format::{RerunInfo, RunFilesExist};
 use rec_forms::{Form, write_text};
+use rec_memory_streams::{FailingSink, FailingSource};
 use rec_portable::{
     PortableRecording, PortableRecordingReadError, PortableStoreReader, UpgradeError, Upgraded,
     upgrade,

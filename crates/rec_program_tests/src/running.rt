@@ -1,6 +1,6 @@
 //! Runs the program over streams that fail, and shows what it did as a text.
 
-use rec_container::{FailingSink, FailingSource};
+use rec_memory_streams::{FailingSink, FailingSource};
 use rec_program::run_program;
 use std::alloc::{AllocError, Global};
 use std::str;

@@ -1,7 +1,8 @@
 //! Reporters of live events, behind others, and where the sink fails.
 
-use rec_container::{FailingSink, GrowingSink, Sink};
+use rec_container::{GrowingSink, Sink};
 use rec_events::{Duration, NextestRunMode, Stamp, TestEvent, TestEventKind};
+use rec_memory_streams::FailingSink;
 use rec_replay::{
     EventReporter, LineReporter, LoadOutput, OutputLoadDecider, ReplayReporterBuilder,
     WriteEventError, write_event_dyn,

@@ -3,10 +3,10 @@
 use crate::made::run;
 use crate::texts::{scope, session};
 use rec_codec::event_from_value;
-use rec_container::FailingSink;
 use rec_events::{LiveSpec, NextestRunMode, RecordOpts, TestEventSummary, TestListSummary};
 use rec_format::RecordedBuildScope;
 use rec_forms::read_text;
+use rec_memory_streams::FailingSink;
 use rec_salvage::salvage;
 use rec_store::{RecorderEnd, RunRecorder, Sha256Namer};
 use serde_json::Value;

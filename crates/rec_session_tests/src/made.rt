@@ -1,12 +1,12 @@
 //! What the tests set sessions up with, and end them with.
 
-use rec_container::FailingSink;
 use rec_events::{
     Duration, FinalRunStats, Items, ReportUuid, RunFinishedStats, RunStats, Stamp,
     StressIndexSummary, StressRunStats, TextMap, Version,
 };
 use rec_format::{ComponentSizes, RecordedBuildScope, RerunInfo, STORE_FORMAT_VERSION};
 use rec_forms::read_text;
+use rec_memory_streams::FailingSink;
 use rec_session::{RecordSessionConfig, RunFinishedInfo};
 use rec_store::StoreSizes;
 use std::alloc::{AllocError, Global};

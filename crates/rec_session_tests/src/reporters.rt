@@ -4,10 +4,11 @@ ghost use Rattle.rec_replay.specs.declared.output_load.OutputLoadDecider.TheVari
 ghost use Rattle.rec_replay.specs.Reporting.{Shows};
 
 use crate::made::sinks;
-use rec_container::{Container, FailingSink, Sink, write_all};
+use rec_container::{Container, Sink, write_all};
 use rec_events::{
     Duration, NextestRunMode, RecordOpts, Stamp, TestEvent, TestEventKind, TestListSummary, TextMap,
 };
+use rec_memory_streams::FailingSink;
 use rec_replay::{
     DisplaySettings, EventReporter, OutputLoadDecider, ReplayHeader, WriteEventError,
 };

@@ -3,8 +3,8 @@
 use crate::keeper::WatchedKeeper;
 use crate::made::{RunEnd, config, run_finished, sinks, sizes};
 use crate::told::{tell_refusal, tell_result, tell_runs, tell_session};
-use rec_container::FailingSink;
 use rec_events::{FinalRunStats, ReportUuid, Text};
+use rec_memory_streams::FailingSink;
 use rec_session::{
     MemoryKeeper, RecordFinalizeWarning, RecordPruneError, RecordRetentionPolicy, RecordSession,
     RecordSessionSetup, RecordSetupFailed, RunKeeper,

@@ -1,7 +1,7 @@
 //! What comes of sessions, as text.
 
-use rec_container::FailingSink;
 use rec_format::{CompletedRunStats, RecordedRunInfo, RecordedRunStatus, StressCompletedRunStats};
+use rec_memory_streams::FailingSink;
 use rec_session::{
     RecordFinalizeResult, RecordSession, RecordSetupError, RecordSetupFailed, RecorderCreateError,
 };

@@ -1,7 +1,8 @@
 //! What calls answer that ask for no recorder, and what errors print.
 
 use crate::errors::{printed, too_large};
-use rec_container::{Container, FailingSink};
+use rec_container::Container;
+use rec_memory_streams::FailingSink;
 use rec_store::parts::{extract_entry, read_output};
 use rec_store::{
     ConstantNamer, CutOutput, OutputNamer, RunStoreError, Sha256Namer, truncate_output,

@@ -5,10 +5,11 @@ use crate::texts::{
     HELLO, NOT_STARTED, STORED, lines, list_text, rerun_text, scope_text,
 };
 use crate::unloaded::{Kind, event_of, unloaded};
-use rec_container::{Container, FailingSink};
+use rec_container::Container;
 use rec_events::{NextestRunMode, RecordOpts, TestListSummary};
 use rec_format::{RecordedBuildScope, RerunInfo};
 use rec_forms::read_text;
+use rec_memory_streams::FailingSink;
 use rec_store::{ConstantNamer, RecorderEnd, RunRecorder, RunStoreError};
 use std::alloc::{AllocError, Global};
 use std::str;

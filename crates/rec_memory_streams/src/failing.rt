@@ -6,9 +6,9 @@ ghost use Rattle.std.specs.Io.KnownBytes.{ReadConsumes, WriteAppends};
 ghost use Rattle.std.specs.Io.{ReadsAtMost};
 ghost use Rattle.std.specs.Prelude.{◌≡◌, ◌<◌, ◌≤◌, ◌+◌, ◌-◌, ◌^◌, ◌++◌, ◌⊎◌, [], length, min, Contains, IfOk, OnOk, OnErr, Some};
 ghost use Rattle.rec_container.specs.Causes.{Counts, HasCause, next_count};
-ghost use Rattle.rec_container.specs.Memory.{piece_len};
+ghost use Rattle.rec_memory_streams.specs.Streams.{piece_len};
 
-use crate::streams::{Sink, SinkFailed, Source, SourceFailed};
+use rec_container::{Sink, SinkFailed, Source, SourceFailed};
 use std::alloc::{AllocError, Global};
 use std::marker::Model;
 
@@ -24,7 +24,7 @@ pub struct FailingSource<'a> {
 }
 
 impl<'a> Model for FailingSource<'a> {
-    ghost use Rattle.rec_container.specs.Memory.{FailingSourceState};
+    ghost use Rattle.rec_memory_streams.specs.Streams.{FailingSourceState};
 
     ghost Value = { FailingSourceState };
 
@@ -102,7 +102,7 @@ pub struct FailingSink {
 
 impl Model for FailingSink {
     ghost use Rattle.std.specs.Prelude.{◌-◌, vec_len, vec_capacity};
-    ghost use Rattle.rec_container.specs.Memory.{FailingSinkState};
+    ghost use Rattle.rec_memory_streams.specs.Streams.{FailingSinkState};
 
     ghost Value = { FailingSinkState };
 
