@@ -59,8 +59,6 @@ use Rattle.rec_reading.specs.Printing.{before, line_prints}
 use Rattle.rec_reading.specs.Reruns.{PrintsRerun, PrintsSelection, RerunParts, parts_after, rerun_parts_of}
 use Rattle.rec_reading.specs.RunParts.{of_bundle, parts_of}
 use Rattle.rec_reading.specs.Slots.{HasUsage, PrintsSlots, run_events, slot_lines}
-use Rattle.rec_bundle_trace.specs.BundleTraces.{PrintsTrace, bundle_trace, trace_of, trace_of_parts, trace_unless}
-use Rattle.rec_bundle_trace.specs.LogTraces.{log_refusal, plain_log}
 use Rattle.rec_export.proofs.Complete.{no_more, same_session}
 use Rattle.rec_export.proofs.TimelinesDrawn.{draws_timeline}
 use Rattle.rec_export.specs.Bundle.{AreOf}
@@ -73,6 +71,8 @@ use Rattle.rec_faults.specs.ReadingLine.{reading_shown}
 use Rattle.rec_faults.specs.Status.{bundle_status, conversion_status, export_status, junit_status, part_status, reading_status, slots_status}
 use Rattle.rec_program.proofs.BundlesShown.{withheld}
 use Rattle.rec_program.proofs.RecordedDrawn.{recorded-is_drawn}
+use Rattle.rec_program.specs.BundleTraces.{PrintsTrace, bundle_trace, trace_of, trace_of_parts, trace_unless}
+use Rattle.rec_program.specs.LogTraces.{log_refusal, plain_log}
 use Rattle.rec_program.specs.ReadingCommands.{IsMadeOf, OfJudged, Shows, Withholds}
 use Rattle.rec_program.specs.Running.{Records, ShowsBundle}
 

@@ -9,7 +9,6 @@ use Rattle.rec_errors.specs.ReadingErrors.{bundle_error}
 use Rattle.rec_reading.specs.Listing.{PrintsInfo, PrintsReplay, PrintsReport}
 use Rattle.rec_reading.specs.Reruns.{PrintsRerun}
 use Rattle.rec_reading.specs.Slots.{PrintsSlots}
-use Rattle.rec_bundle_trace.specs.BundleTraces.{PrintsTrace}
 use Rattle.rec_sample.specs.Session.{sample_session}
 use Rattle.rec_export.specs.declared.settings.Settings.{Settings}
 use Rattle.rec_words.specs.declared.usage.TheConstants.{USAGE}
@@ -20,6 +19,7 @@ use Rattle.rec_faults.specs.Status.{export_status, reading_status}
 use Rattle.rec_faults.specs.WritingCommands.{upgrade_status}
 use Rattle.rec_program.proofs.Commands.{export_above, reading_above}
 use Rattle.rec_program.proofs.WritingCommands.{refusal_above, upgrade_above}
+use Rattle.rec_program.specs.BundleTraces.{PrintsTrace}
 use Rattle.rec_program.specs.Counts.{counts_line}
 use Rattle.rec_program.specs.Running.{Prints, Records, RecordsSample, Runs, RunsSalvage, RunsUpgrade, ShowsBundle}
 use Rattle.rec_program.specs.Salvaging.{refusal_status}

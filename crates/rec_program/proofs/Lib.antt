@@ -1,7 +1,9 @@
 pub mod BundlesShown
 pub mod Commands
 pub mod FaultyWords
+pub mod LogTraced
 pub mod RecordedDrawn
 pub mod RunsSalvaged
 pub mod SamplesRecorded
+pub mod Traced
 pub mod WritingCommands

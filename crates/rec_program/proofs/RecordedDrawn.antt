@@ -27,15 +27,15 @@ use Rattle.rec_spans.specs.Refusals.{events_refusal}
 use Rattle.rec_trace.specs.Traces.{trace_text}
 use Rattle.rec_errors.specs.TraceFaults.{trace_fault}
 use Rattle.rec_reading.specs.LogLines.{log_lines}
-use Rattle.rec_bundle_trace.proofs.LogTraced.{refusal-whole}
-use Rattle.rec_bundle_trace.specs.BundleTraces.{bundle_trace}
-use Rattle.rec_bundle_trace.specs.LogTraces.{log_refusal, log_trace, plain_log}
 use Rattle.rec_export.proofs.Judging.{after_count, after_head, after_lines, events_after}
 use Rattle.rec_export.specs.Bundle.{AreOf, count_refusal, refusal_after, session_events, size_refusal}
 use Rattle.rec_export.specs.declared.settings.Settings.{Settings}
 use Rattle.rec_export.specs.Session.{event_lines, events_of, lines_refusal, session_lines}
 use Rattle.rec_export.specs.SessionTraces.{run_trace, trace_refusal}
-use Rattle.rec_program.specs.LogTraces.{RecordedIsDrawn}
+use Rattle.rec_program.proofs.LogTraced.{refusal-whole}
+use Rattle.rec_program.specs.BundleTraces.{bundle_trace}
+use Rattle.rec_program.specs.LogTraces.{log_refusal, log_trace, plain_log}
+use Rattle.rec_program.specs.Redrawing.{RecordedIsDrawn}
 
 -- ---- what a record's manifest and log are
 

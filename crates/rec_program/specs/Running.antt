@@ -17,7 +17,6 @@ use Rattle.rec_errors.specs.ReadingErrors.{bundle_error}
 use Rattle.rec_reading.specs.Listing.{PrintsInfo, PrintsReplay, PrintsReport}
 use Rattle.rec_reading.specs.Reruns.{PrintsRerun}
 use Rattle.rec_reading.specs.Slots.{PrintsSlots}
-use Rattle.rec_bundle_trace.specs.BundleTraces.{PrintsTrace}
 use Rattle.rec_sample.specs.Session.{sample_session}
 use Rattle.rec_export.specs.declared.counts.Exported.{Exported}
 use Rattle.rec_export.specs.declared.settings.Settings.{Settings}
@@ -30,6 +29,7 @@ use Rattle.rec_faults.specs.ReadingLine.{reading_shown}
 use Rattle.rec_faults.specs.Status.{export_status, reading_status, words_status}
 use Rattle.rec_faults.specs.WritingCommands.{upgrade_shown, upgrade_status}
 use Rattle.rec_faults.specs.WritingFaults.{WritesFault}
+use Rattle.rec_program.specs.BundleTraces.{PrintsTrace}
 use Rattle.rec_program.specs.Counts.{counts_line}
 use Rattle.rec_program.specs.declared.salvage_refusal.SalvageRefusal.TheVariants.{BundleFailed}
 use Rattle.rec_program.specs.declared.salvage_refusal.SalvageRefusal.{SalvageRefusal}

@@ -7,14 +7,17 @@
 #![tactic(auto)]
 
 mod counts;
+mod log_trace;
 mod program;
 mod reading;
 mod salvage;
 mod salvage_refusal;
 mod sample;
+mod trace;
 
 pub use program::run_program;
 pub use rec_export::{Exported, RecordExportError, Settings, laws, record_and_export};
 pub use rec_faults::{FAULTY_WORDS, Line, OUT_OF_MEMORY, Refusal, refuse, write_fault};
 pub use rec_reading::ReadingError;
 pub use rec_words::{Command, WordsError, bundle_path, read_words};
+pub use trace::{Trace, trace_text};

@@ -20,7 +20,7 @@ use Rattle.rec_spans.specs.Refusals.{events_refusal}
 use Rattle.rec_trace.specs.Converting.{Converts, HasNoTrace, IsRefused, IsUnread}
 use Rattle.rec_trace.specs.declared.settings.ChromeTraceMessageFormat.{ChromeTraceMessageFormat}
 use Rattle.rec_trace.specs.Traces.{trace_text}
-use Rattle.rec_bundle_trace.specs.LogTraces.{TracesLog, log_refusal, log_trace, plain_log}
+use Rattle.rec_program.specs.LogTraces.{TracesLog, log_refusal, log_trace, plain_log}
 
 -- ---- the refusal of a log
 

@@ -1,5 +1,5 @@
 //! The trace of the log of a recorded run.
-ghost use Rattle.rec_bundle_trace.specs.LogTraces.{TracesLog};
+ghost use Rattle.rec_program.specs.LogTraces.{TracesLog};
 
 use rec_codec::LineIter;
 use rec_events::{RecordingSpec, Version};

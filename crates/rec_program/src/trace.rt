@@ -2,7 +2,7 @@
 ghost use Rattle.std.specs.Prelude.{List};
 ghost use Rattle.rec_container.specs.Container.{Entry, IsContainer};
 ghost use Rattle.rec_reading.specs.Listing.{Makes};
-ghost use Rattle.rec_bundle_trace.specs.BundleTraces.{PrintsTrace};
+ghost use Rattle.rec_program.specs.BundleTraces.{PrintsTrace};
 
 use crate::log_trace::trace_of_log;
 use rec_errors::ReadingError;

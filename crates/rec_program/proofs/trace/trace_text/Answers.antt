@@ -1,6 +1,6 @@
 use Rattle.std.proofs.lemmas.Result.{err_from_is_err_and}
-use Rattle.rec_bundle_trace.proofs.trace.trace_text.Goals as goal
-use Rattle.rec_bundle_trace.proofs.Traced.{no_log, no_trace, the_trace}
+use Rattle.rec_program.proofs.trace.trace_text.Goals as goal
+use Rattle.rec_program.proofs.Traced.{no_log, no_trace, the_trace}
 
 pub returns-in_err-log : goal.returns-in_err-log
 returns-in_err-log c = λ es is.

@@ -1,5 +1,5 @@
-use Rattle.rec_bundle_trace.proofs.log_trace.trace_of_log.Goals as goal
-use Rattle.rec_bundle_trace.proofs.LogTraced.{traces-log}
+use Rattle.rec_program.proofs.log_trace.trace_of_log.Goals as goal
+use Rattle.rec_program.proofs.LogTraced.{traces-log}
 
 pub returns : goal.returns
 returns c =

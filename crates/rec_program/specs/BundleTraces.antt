@@ -12,7 +12,7 @@ use Rattle.rec_errors.specs.declared.reading_error.ReadingError.{ReadingError}
 use Rattle.rec_errors.specs.ReadingErrors.{trace_error}
 use Rattle.rec_reading.specs.LogLines.{log_lines}
 use Rattle.rec_reading.specs.RunParts.{of_bundle}
-use Rattle.rec_bundle_trace.specs.LogTraces.{log_refusal, log_trace}
+use Rattle.rec_program.specs.LogTraces.{log_refusal, log_trace}
 
 -- the text of a log's trace, unless the log is refused
 abbrev pub trace_unless : List ℕ → Option ChromeTraceError → Result (List ℕ) ReadingError

@@ -18,8 +18,8 @@ use Rattle.rec_errors.specs.ReadingErrors.{bundle_error, trace_error}
 use Rattle.rec_reading.proofs.Listed.{judged_of}
 use Rattle.rec_reading.specs.LogLines.{log_lines}
 use Rattle.rec_reading.specs.RunParts.{of_bundle}
-use Rattle.rec_bundle_trace.specs.BundleTraces.{bundle_trace, trace_of, trace_of_parts, trace_unless}
-use Rattle.rec_bundle_trace.specs.LogTraces.{log_refusal, log_trace}
+use Rattle.rec_program.specs.BundleTraces.{bundle_trace, trace_of, trace_of_parts, trace_unless}
+use Rattle.rec_program.specs.LogTraces.{log_refusal, log_trace}
 
 module _ (limit : ℕ) (bytes : List ℕ) (manifest : PortableManifest) (has : IsJudged bytes limit (Ok manifest)) (es : List Entry) (is : IsContainer bytes es) where
   manifest_at : of_bundle (judged limit es) ≡ Ok manifest

@@ -1,2 +1,0 @@
-pub mod LogTraced
-pub mod Traced

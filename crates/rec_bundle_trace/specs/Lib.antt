@@ -1,2 +1,0 @@
-pub mod BundleTraces
-pub mod LogTraces
