@@ -70,7 +70,7 @@ pub fn prepare<N: OutputNamer>(
     let head = read_head(alloc, take_head(&mut lines))?;
     let result = prepare_run(alloc, settings, namer, &head, lines);
     // By a call: in place, each part of the head would be a case of the proof.
-    drop(head);
+    head.discard();
     result
 }
 

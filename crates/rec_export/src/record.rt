@@ -207,7 +207,7 @@ fn record_event<N: OutputNamer>(
 {
     let Ok(()) = trace.add(alloc, &event) else {
         // By a call: in place, each kind of event would be a case of the proof.
-        drop(event);
+        event.discard();
         return Err(RecordExportError::OutOfMemory);
     };
     record_traced(event, recorder)

@@ -113,6 +113,6 @@ fn convert<'cx>(
     ensures same { Keeps (limit reader.old) (limit reader.new) (holds reader.old) (holds reader.new) }
 {
     let result = context.convert_event(alloc, &event, reader, load_output);
-    drop(event);
+    event.discard();
     Ok(result?)
 }

@@ -73,7 +73,7 @@ fn line_of_event(
     ensures { IfOk result (IsReadItem (Ok event)) }
 {
     let names = named_outputs(alloc, &event);
-    drop(event);
+    event.discard();
     Ok(LogLine::Event(paths_of(alloc, &names?)?))
 }
 

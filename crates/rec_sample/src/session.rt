@@ -49,7 +49,7 @@ fn head_line(alloc: Global, tests: u64) -> Result<Vec<u8>, AllocError>
 {
     let head = sample_head(alloc, tests)?;
     let text = write_text(alloc, &head);
-    drop(head);
+    head.discard();
     let mut line = text?;
     line.push(b'\n')?;
     Ok(line)
@@ -136,7 +136,7 @@ fn append_event(
 {
     let text = event_text(alloc, &event);
     // By a call: in place, each kind of event would be a case of the proof.
-    drop(event);
+    event.discard();
     let text = text?;
     session.extend_from_slice(text.as_bytes())?;
     session.push(b'\n')?;

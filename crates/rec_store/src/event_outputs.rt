@@ -279,7 +279,7 @@ impl<'n, N: OutputNamer> OutputRules<'n, N> {
     {
         // The event is let go of by a call: in place, each of its kinds would be a case of the proof.
         if store.is_failed() {
-            drop(event);
+            event.discard();
             return Err(RunStoreError::Failed);
         }
         self.store_outputs(store, event)

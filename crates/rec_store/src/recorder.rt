@@ -308,11 +308,11 @@ impl<'n, S: Sink, L: Sink, N: OutputNamer> RunRecorder<'n, S, L, N> {
     {
         // An event is let go of by a call: in place, each of its kinds would be a case of the proof.
         if self.is_failed() {
-            drop(event);
+            event.discard();
             return Err(RunStoreError::Failed);
         }
         if !has_all_outputs(&event) {
-            drop(event);
+            event.discard();
             return Err(RunStoreError::NotLoadedOutput);
         }
         self.write_loaded(event)
@@ -326,7 +326,7 @@ impl<'n, S: Sink, L: Sink, N: OutputNamer> RunRecorder<'n, S, L, N> {
         let recorded = self.store_event(event)?;
         let result = self.append_event(&recorded);
         // By a call, as in `write_event`.
-        drop(recorded);
+        recorded.discard();
         result
     }
 

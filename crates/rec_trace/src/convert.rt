@@ -78,6 +78,6 @@ fn add_item(
 {
     let event = item?;
     let result = trace.process_event(alloc, &event);
-    drop(event);
+    event.discard();
     result
 }

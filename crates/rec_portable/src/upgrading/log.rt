@@ -56,7 +56,7 @@ impl RewrittenLog {
             Ok(event) => {
                 let added = self.add_event(alloc, &event);
                 // By a call: in place, each kind of event would be a case of the proof.
-                drop(event);
+                event.discard();
                 added?;
                 Ok(())
             }
