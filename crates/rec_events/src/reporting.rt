@@ -23,7 +23,7 @@ pub enum JunitFlakyFailStatus {
 }
 
 /// Says why a run was cancelled, from the mildest cause to the gravest.
-#[derive(Clone, Copy, PartialEq, Eq, Debug, Drop)]
+#[derive(Clone, Copy, PartialEq, Eq, Drop)]
 pub enum CancelReason {
     /// A setup script failed.
     SetupScriptFailure,

@@ -11,7 +11,7 @@ use std::collections::BTreeSet;
 use std::marker::Model;
 
 /// Holds a set of test names. Contracts see them in the order of their bytes, each once.
-#[derive(Drop, Debug)]
+#[derive(Drop)]
 pub struct TestNames {
     inner: BTreeSet<String>,
 }
