@@ -15,21 +15,13 @@ event_of p args = struct (
     ∷ optional (codes "bp") (λ s. string s.now) p.binding
     ∷ [])
 
--- ---- in the order of the keys
-
--- the keys before `name`, from `args` to `id`
-abbrev pub fields_before_name : EventParts → Option Data → List Field
-fields_before_name p args =
-    given (codes "args") args
-    ∷ optional (codes "bp") (λ s. string s.now) p.binding
+-- the keys after `args`, from `bp` to `ts`, in their order
+abbrev pub fields_after_args : EventParts → List Field
+fields_after_args p =
+    optional (codes "bp") (λ s. string s.now) p.binding
     ∷ field (codes "cat") (string p.category.now)
     ∷ optional (codes "id") natural p.id
-    ∷ []
-
--- the keys from `name` to `ts`
-abbrev pub fields_from_name : EventParts → List Field
-fields_from_name p =
-    field (codes "name") (string p.name.now)
+    ∷ field (codes "name") (string p.name.now)
     ∷ field (codes "ph") (string p.phase.now)
     ∷ field (codes "pid") (natural p.row.pid)
     ∷ optional (codes "s") (λ s. string s.now) p.scope

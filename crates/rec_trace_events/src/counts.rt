@@ -6,14 +6,14 @@ ghost use Rattle.rec_trace_events.specs.TraceEvents.{test_counts};
 use rec_events::RunStats;
 
 /// Counts the tests and the setup scripts that run.
-#[derive(Clone, Copy, PartialEq, Eq, Debug, Drop)]
+#[derive(Clone, Copy, Drop)]
 pub struct RunningCounts {
     pub tests: usize,
     pub scripts: usize,
 }
 
 /// Counts the tests that ended: those that passed, those of them that failed at first, and those that failed.
-#[derive(Clone, Copy, PartialEq, Eq, Debug, Drop)]
+#[derive(Clone, Copy, Drop)]
 pub struct TestCounts {
     pub passed: usize,
     pub flaky: usize,

@@ -1,11 +1,11 @@
 //! What an event of a trace has beside its args.
-ghost use Rattle.std.specs.Prelude.{◌≡◌, ◌++◌, [], ◌∷◌, IfOk, IfSome, OnOk, codes, option_copied, option_map};
+ghost use Rattle.std.specs.Prelude.{◌≡◌, ◌++◌, [], ◌∷◌, IfSome, OnOk, codes, option_copied, option_map};
 ghost use Rattle.serde_json.specs.Data.{string};
 ghost use Rattle.rec_json.specs.Tokens.{value_tokens, with_field};
 ghost use Rattle.rec_events.specs.Names.{IsText};
 ghost use Rattle.rec_forms.specs.ObjectWriting.{Writes};
 ghost use Rattle.rec_forms.specs.Writable.{EachWritten, IfWritten, IsWritable};
-ghost use Rattle.rec_trace_events.specs.EventParts.{event_of, fields_before_name, fields_from_name};
+ghost use Rattle.rec_trace_events.specs.EventParts.{event_of, fields_after_args};
 
 use crate::args::Args;
 use crate::rows::Row;
@@ -31,7 +31,7 @@ pub struct EventParts<'a> {
     pub binding: Option<&'a str>,
 }
 
-/// Writes the args of an event, where there are some.
+/// Writes the args of an event, as its first field, where there are some.
 fn write_args<A: Args>(
     alloc: Global,
     text: &mut JsonText,
@@ -47,26 +47,6 @@ fn write_args<A: Args>(
         }
         None => Ok(()),
     }
-}
-
-/// Writes the args of an event as its first field, where there are some.
-///
-/// # Errors
-///
-/// `AllocError` if memory runs out, or ran out before.
-fn with_args<A: Args>(
-    object: ObjectWriter,
-    alloc: Global,
-    text: &mut JsonText,
-    args: Option<&A>,
-) -> Result<ObjectWriter, AllocError>
-    ensures { IfOk result (λ after. Writes object text.old after text.new
-        ((codes "args", option_map A.value_of (option_copied args.entry)) ∷ [])
-        (IfWritten 8 (option_map A.value_of (option_copied args.entry)))) }
-{
-    object.leave_open()?;
-    write_args(alloc, text, args)?;
-    Ok(ObjectWriter::resume(alloc))
 }
 
 /// Writes a field that is a text, where there is one.
@@ -86,38 +66,18 @@ fn with_optional_text(
     }
 }
 
-/// Writes the fields whose keys come before `name`, from `args` to `id`.
-///
-/// # Errors
-///
-/// `AllocError` if memory runs out for the args, or ran out before.
-fn with_fields_before_name<A: Args>(
-    object: ObjectWriter,
-    alloc: Global,
-    text: &mut JsonText,
-    parts: &EventParts<'_>,
-    args: Option<&A>,
-) -> Result<ObjectWriter, AllocError>
-    ensures { IfOk result (λ after. Writes object text.old after text.new
-        (fields_before_name parts.now (option_map A.value_of (option_copied args.entry)))
-        (EachWritten 8
-        (fields_before_name parts.now (option_map A.value_of (option_copied args.entry))))) }
-{
-    let object = with_args(object, alloc, text, args)?;
-    let object = with_optional_text(object, text, "bp", parts.binding);
-    let object = object.text(text, "cat", parts.category);
-    Ok(object.optional(text, "id", &parts.id))
-}
-
-/// Writes the fields with the keys from `name` to `ts`.
-fn with_fields_from_name(
+/// Writes the fields that come after the args, with the keys from `bp` to `ts`.
+fn with_fields_after_args(
     object: ObjectWriter,
     text: &mut JsonText,
     parts: &EventParts<'_>,
 ) -> ObjectWriter
     ensures { Writes object text.old result text.new
-        (fields_from_name parts.now) (EachWritten 8 (fields_from_name parts.now)) }
+        (fields_after_args parts.now) (EachWritten 8 (fields_after_args parts.now)) }
 {
+    let object = with_optional_text(object, text, "bp", parts.binding);
+    let object = object.text(text, "cat", parts.category);
+    let object = object.optional(text, "id", &parts.id);
     let object = object.text(text, "name", parts.name);
     let object = object.text(text, "ph", parts.phase);
     let object = object.field(text, "pid", &parts.row.pid);
@@ -140,8 +100,8 @@ pub fn write_event<A: Args>(
     ensures written { OnOk result (text.new ≡ text.old ++ value_tokens (event_of parts.now (option_map A.value_of (option_copied args.entry)))) }
     ensures known { OnOk result (IsWritable 9 (event_of parts.now (option_map A.value_of (option_copied args.entry)))) }
 {
-    let object = ObjectWriter::begin(alloc, text);
-    let object = with_fields_before_name(object, alloc, text, parts, args)?;
-    let object = with_fields_from_name(object, text, parts);
+    text.begin_object()?;
+    write_args(alloc, text, args)?;
+    let object = with_fields_after_args(ObjectWriter::resume(alloc), text, parts);
     object.end(text)
 }

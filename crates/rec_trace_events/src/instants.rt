@@ -14,7 +14,7 @@ use rec_json::JsonText;
 use std::alloc::{AllocError, Global};
 
 /// Says what an instant marks of the whole run.
-#[derive(Clone, Copy, PartialEq, Eq, Debug, Drop)]
+#[derive(Clone, Copy, Drop)]
 pub enum RunMark {
     /// No further test is to begin, for this reason.
     Cancelled(CancelReason),

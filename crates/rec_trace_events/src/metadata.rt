@@ -94,6 +94,23 @@ fn pair(alloc: Global, first: TraceEvent, second: TraceEvent) -> Result<Vec<Trac
     Ok(events)
 }
 
+/// Makes the events that name something and say its place among others, of these two kinds.
+fn name_and_place(
+    alloc: Global,
+    naming: &str,
+    placing: &str,
+    row: Row,
+    name: &str,
+    place: u64,
+) -> Result<Vec<TraceEvent>, AllocError>
+    ensures { IfOk result (λ events. map event_value events.items
+        ≡ name_event naming.now row name.now ∷ place_event placing.now row place ∷ []) }
+{
+    let name = name_event(alloc, naming, row, name)?;
+    let place = place_event(alloc, placing, row, place)?;
+    pair(alloc, name, place)
+}
+
 /// Makes the events that name a process and say its place among the others, which is that of its number.
 ///
 /// # Errors
@@ -103,9 +120,7 @@ pub fn process_metadata(alloc: Global, pid: u64, name: &str) -> Result<Vec<Trace
     ensures { IfOk result (λ events. map event_value events.items ≡ process_metadata pid name.now) }
 {
     let row = Row { pid, tid: 0 };
-    let name = name_event(alloc, "process_name", row, name)?;
-    let place = place_event(alloc, "process_sort_index", row, pid)?;
-    pair(alloc, name, place)
+    name_and_place(alloc, "process_name", "process_sort_index", row, name, pid)
 }
 
 /// Makes the events that name a row and say its place among the others of its process, which is that of its
@@ -117,7 +132,12 @@ pub fn process_metadata(alloc: Global, pid: u64, name: &str) -> Result<Vec<Trace
 pub fn thread_metadata(alloc: Global, row: Row, name: &str) -> Result<Vec<TraceEvent>, AllocError>
     ensures { IfOk result (λ events. map event_value events.items ≡ thread_metadata row name.now) }
 {
-    let name = name_event(alloc, "thread_name", row, name)?;
-    let place = place_event(alloc, "thread_sort_index", row, row.tid)?;
-    pair(alloc, name, place)
+    name_and_place(
+        alloc,
+        "thread_name",
+        "thread_sort_index",
+        row,
+        name,
+        row.tid,
+    )
 }

@@ -3,14 +3,14 @@ ghost use Rattle.std.specs.Prelude.{◌≡◌};
 ghost use Rattle.rec_trace_events.specs.TraceEvents.{category_text};
 
 /// Names a row of a trace, which viewers show as a thread of a process.
-#[derive(Clone, Copy, PartialEq, Eq, PartialOrd, Ord, Debug, Drop)]
+#[derive(Clone, Copy, PartialEq, Eq, PartialOrd, Ord, Drop)]
 pub struct Row {
     pub pid: u64,
     pub tid: u64,
 }
 
 /// Says what a slice is of, by which viewers can filter.
-#[derive(Clone, Copy, PartialEq, Eq, Debug, Drop)]
+#[derive(Clone, Copy, Drop)]
 pub enum Category {
     /// The run.
     Run,
