@@ -16,7 +16,7 @@ pub type RecordReadErrorText = LineError;
 /// Says why there is no trace of a history. Events are numbered from 1. Of the first event that is refused,
 /// the first cause is answered in the order number, instant, start that is missing, span that is open,
 /// slot that is busy, row or flow number, count; but want of memory may come at any time.
-#[derive(PartialEq, Drop, Error)]
+#[derive(Drop, Error)]
 pub enum ChromeTraceError {
     /// The history could not be read.
     #[error("the events can't be read: {0}")]

@@ -68,10 +68,14 @@ impl SpanTracker {
         ensures { Judges result (attempt_missing number self.now.spans test.now) }
     {
         if self.open_spans.test(test).is_none() {
+            let OwnedTestInstanceId {
+                binary_id,
+                test_name,
+            } = test.try_clone(alloc)?;
             return Err(ChromeTraceError::MissingTestStart {
                 event: number,
-                binary_id: test.binary_id.try_clone(alloc)?,
-                test_name: test.test_name.try_clone(alloc)?,
+                binary_id,
+                test_name,
             });
         }
         Ok(())

@@ -4,7 +4,7 @@ use rec_trace_events::Row;
 use std::fmt;
 
 /// Names what a span of time is of.
-#[derive(PartialEq, Eq, Debug, Drop)]
+#[derive(Drop)]
 pub enum SpanKey {
     /// The run.
     Run,
@@ -39,7 +39,7 @@ impl fmt::Display for SpanKey {
 
 /// Says where a span stands among those that are open at once: the run, the sub-run, the tests by their
 /// slots, the setup scripts by their indexes.
-#[derive(Clone, Copy, PartialEq, Eq, PartialOrd, Ord, Debug, Drop)]
+#[derive(Clone, Copy, PartialEq, Eq, PartialOrd, Ord, Drop)]
 pub enum Place {
     Run,
     SubRun,
@@ -48,7 +48,7 @@ pub enum Place {
 }
 
 /// Holds a span of time: what it is of, its place, its row and its name.
-#[derive(PartialEq, Eq, Debug, Drop)]
+#[derive(Drop)]
 pub struct Span {
     pub key: SpanKey,
     pub place: Place,
@@ -57,7 +57,7 @@ pub struct Span {
 }
 
 /// Says which end of a slice a mark is.
-#[derive(Clone, Copy, PartialEq, Eq, Debug, Drop)]
+#[derive(Clone, Copy, Drop)]
 pub enum Phase {
     Begin,
     End,
