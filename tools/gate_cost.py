@@ -5,6 +5,7 @@
     tools/gate_cost.py --processors 2    the same on so many of the machine's processors
     tools/gate_cost.py --write           writes it into docs/PROVING.md, between the two comments there, if the gate passes
     tools/gate_cost.py --watch 30        runs nothing: measures each `rt ci` on the machine, until no check was seen for 30 minutes
+    tools/gate_cost.py --first-run 1     measures the first `rt run --jobs 1` in place of `rt ci`; 0 leaves the jobs to `rt`
 
 A crate has a proof; its tests, which are two checks of a crate of tests; a seed, which is a second proof where two edits or more
 begin with it, and the check at the end that it still holds; and the edits themselves. The checker's processes are looked at every
@@ -22,6 +23,7 @@ import pathlib
 import resource
 import subprocess
 import sys
+import tempfile
 import time
 
 from command_line import command_line, whole
@@ -31,6 +33,8 @@ PAGE = TOP / "docs/PROVING.md"
 BEGIN, END = "<!-- gate_cost begins -->\n", "<!-- gate_cost ends -->\n"
 PROGRAM = "rezovamy"
 KINDS = ("proof", "tests", "seed", "edits")
+# `rt run` begins with it where no library is built: it reads the sources of all crates, and proves nothing.
+QUICK_PASS = "quick pass"
 TICKS = os.sysconf("SC_CLK_TCK")
 PAGE_SIZE = os.sysconf("SC_PAGE_SIZE")
 PAUSE = 2
@@ -121,6 +125,9 @@ def check_of(words, folder):
         return crate, "seed"
     if pathlib.Path(folder).name.startswith("rt-edit-"):
         return crate, "edits"
+    # It asks for no function.
+    if ("--only", "") in zip(words, words[1:]):
+        return crate, QUICK_PASS
     return crate, "tests" if "--test" in words else "proof"
 
 
@@ -197,6 +204,34 @@ def run_gate(processors):
         time.sleep(PAUSE)
     minutes = (time.monotonic() - started) / 60
     return Measure(sampler.costs(), minutes, len(usable), gate.returncode, children_seconds() - before)
+
+
+def run_words(jobs, bundle):
+    """The words of the README that prove and run the program, with so many jobs a crate; with 0 `rt` chooses."""
+    return ["rt", "run", *(["--jobs", str(jobs)] if jobs else []), "--", "record", bundle]
+
+
+def first_run(jobs):
+    """Runs the program for the first time in a fresh clone, with so many jobs a crate; with 0 `rt` chooses."""
+    with tempfile.TemporaryDirectory(prefix="first-run-") as room:
+        subprocess.run(["git", "clone", "--quiet", str(TOP), f"{room}/clone"], check=True)
+        folder = pathlib.Path(room, "clone/crates", PROGRAM)
+        sampler, started, before = Sampler(), time.monotonic(), children_seconds()
+        with open(folder / "data/example.session", "rb") as session:
+            run = subprocess.Popen(run_words(jobs, f"{room}/bundle"), cwd=folder, stdin=session, stdout=subprocess.DEVNULL)
+            while run.poll() is None:
+                sampler.look_below(lambda _: [run.pid])
+                time.sleep(PAUSE)
+        minutes = (time.monotonic() - started) / 60
+        return Measure(sampler.costs(), minutes, len(os.sched_getaffinity(0)), run.returncode, children_seconds() - before)
+
+
+def first_lines(measure):
+    """What a first run took, a line for each crate that was proved, in the order in which they began."""
+    for (crate, kind), cost in sorted(measure.costs.items(), key=lambda item: item[1].begun):
+        name = f"`{crate}`" if kind == "proof" else f"the {kind}"
+        yield f"{name}: {cost.seconds / 60:.1f} processor minutes, {cost.clock / 60:.1f} of wall clock, {cost.memory / 1e9:.1f} GB"
+    yield f"{measure.whole / 60:.0f} processor minutes, {measure.minutes:.0f} of wall clock on {measure.processors} processors"
 
 
 def is_gate(words):
@@ -296,9 +331,16 @@ def main():
     parser.add_argument("--processors", type=whole(1, most), default=most, metavar="N", help=f"run the gate on N processors ({most})")
     parser.add_argument("--write", action="store_true", help="write the table into docs/PROVING.md")
     parser.add_argument("--watch", type=whole(1, 10**4), metavar="MINUTES", help="run nothing, and measure the gates that run")
+    parser.add_argument("--first-run", type=whole(0, 64), metavar="JOBS", help="measure the first `rt run` with so many jobs a crate")
     asked = parser.parse_args()
     if asked.watch and asked.write:
         parser.error("of gates that are watched it isn't known whether they pass, so --write doesn't go with --watch")
+    if asked.first_run is not None:
+        if asked.watch or asked.write or asked.processors != most:
+            parser.error("--first-run stands alone")
+        measure = first_run(asked.first_run)
+        print("\n".join(first_lines(measure)))
+        sys.exit(measure.status)
     measure = watch(asked.watch) if asked.watch else run_gate(asked.processors)
     found = table(measure, crates((TOP / "crates.txt").read_text()))
     print(found)

@@ -24,6 +24,10 @@ class Kinds(unittest.TestCase):
         self.assertEqual(check_of(CHECK, "/work/crates/rec_a"), ("rec_a", "proof"))
         self.assertEqual(check_of([*CHECK, "--test", "--jobs", "1"], "/work/crates/rec_a"), ("rec_a", "tests"))
 
+    def test_the_quick_pass_asks_for_no_function(self):
+        self.assertEqual(check_of([*CHECK, "--jobs", "1", "--only", "", "--lib", "rec_b"], "/work/crates/rec_a"), ("rec_a", gate_cost.QUICK_PASS))
+        self.assertEqual(check_of([*CHECK, "--only", "f", ""], "/work/crates/rec_a"), ("rec_a", "proof"))
+
     def test_what_edits_begin_with(self):
         seed = [*CHECK, "--incremental", "/tmp/rt-edits-12-abc/seed"]
         self.assertEqual(check_of(seed, "/tmp/rt-edit-12-xyz"), ("rec_a", "seed"))
@@ -41,6 +45,23 @@ class Kinds(unittest.TestCase):
     def test_gates(self):
         self.assertTrue(gate_cost.is_gate(["python3", "/kit/bin/rt", "ci", "--anew", ""]))
         self.assertFalse(gate_cost.is_gate(["python3", "/kit/bin/rt", "check", ""]))
+
+
+class FirstRun(unittest.TestCase):
+    def test_rt_chooses_how_many_jobs_a_crate_has(self):
+        self.assertEqual(gate_cost.run_words(0, "b"), ["rt", "run", "--", "record", "b"])
+        self.assertEqual(gate_cost.run_words(2, "b"), ["rt", "run", "--jobs", "2", "--", "record", "b"])
+
+    def test_lines(self):
+        made = {
+            ("rec_b", "proof"): Cost(150, int(2e9), 300, 420, 1),
+            ("rezovamy", gate_cost.QUICK_PASS): Cost(60, int(3e9), 0, 30, 1),
+        }
+        self.assertEqual(list(gate_cost.first_lines(Measure(made, 7.2, 4, 0, 60 * 4.6))), [
+            "the quick pass: 1.0 processor minutes, 0.5 of wall clock, 3.0 GB",
+            "`rec_b`: 2.5 processor minutes, 2.0 of wall clock, 2.0 GB",
+            "5 processor minutes, 7 of wall clock on 4 processors",
+        ])
 
 
 class Seen(unittest.TestCase):
