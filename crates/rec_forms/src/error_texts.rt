@@ -1,6 +1,6 @@
 //! What is said of errors.
-use crate::fields::required_field;
 use crate::objects::ObjectWriter;
+use crate::several::required_two;
 use crate::{Form, FromValueError};
 use rec_events::{ErrorSummary, OutputErrorSlice};
 use rec_json::{JsonText, Node};
@@ -40,9 +40,15 @@ impl Form for ErrorSummary {
         let Some(object) = node.as_object() else {
             return Err(FromValueError::NotAValue);
         };
+        let (short_message, description) = required_two(
+            alloc,
+            object,
+            "short-message",
+            "description",
+        )?;
         Ok(ErrorSummary {
-            short_message: required_field(alloc, object, "short-message")?,
-            description: required_field(alloc, object, "description")?,
+            short_message,
+            description,
         })
     }
 }
@@ -81,9 +87,7 @@ impl Form for OutputErrorSlice {
         let Some(object) = node.as_object() else {
             return Err(FromValueError::NotAValue);
         };
-        Ok(OutputErrorSlice {
-            slice: required_field(alloc, object, "slice")?,
-            start: required_field(alloc, object, "start")?,
-        })
+        let (slice, start) = required_two(alloc, object, "slice", "start")?;
+        Ok(OutputErrorSlice { slice, start })
     }
 }

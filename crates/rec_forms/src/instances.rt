@@ -1,6 +1,7 @@
 //! Which test ran, where, and which time.
 use crate::fields::{optional_field, required_field};
 use crate::objects::ObjectWriter;
+use crate::several::required_two;
 use crate::{Form, FromValueError, ItemForm};
 use rec_events::{OwnedTestInstanceId, RetryData, StressIndexSummary, TestSlotAssignment};
 use rec_json::{JsonText, Node};
@@ -40,9 +41,10 @@ impl Form for OwnedTestInstanceId {
         let Some(object) = node.as_object() else {
             return Err(FromValueError::NotAValue);
         };
+        let (binary_id, test_name) = required_two(alloc, object, "binary-id", "test-name")?;
         Ok(OwnedTestInstanceId {
-            binary_id: required_field(alloc, object, "binary-id")?,
-            test_name: required_field(alloc, object, "test-name")?,
+            binary_id,
+            test_name,
         })
     }
 }
@@ -131,9 +133,10 @@ impl Form for RetryData {
         let Some(object) = node.as_object() else {
             return Err(FromValueError::NotAValue);
         };
+        let (attempt, total_attempts) = required_two(alloc, object, "attempt", "total-attempts")?;
         Ok(RetryData {
-            attempt: required_field(alloc, object, "attempt")?,
-            total_attempts: required_field(alloc, object, "total-attempts")?,
+            attempt,
+            total_attempts,
         })
     }
 }

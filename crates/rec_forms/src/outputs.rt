@@ -6,8 +6,9 @@ ghost use Rattle.rec_events.specs.declared.outputs.ZipStoreOutput.TheVariants.{T
 ghost use Rattle.rec_forms.specs.Gives.{Gives};
 ghost use Rattle.rec_forms.specs.Outputs.{stored_output_value, truncated_form, split_form, IsStoredOutput};
 
-use crate::fields::{optional_field, required_field, write_tagged};
+use crate::fields::write_tagged;
 use crate::objects::ObjectWriter;
+use crate::several::{optional_two, required_two};
 use crate::{Form, FromValueError};
 use hex::FromHexError;
 use rec_events::{ChildSingleOutput, OutputFileName, ZipStoreOutput, ZipStoreOutputDescription};
@@ -63,9 +64,10 @@ fn truncated_from(alloc: Global, node: &Node<'_>) -> Result<ZipStoreOutput, From
     let Some(fields) = node.as_object() else {
         return Err(FromValueError::NotAValue);
     };
+    let (file_name, original_size) = required_two(alloc, fields, "file-name", "original-size")?;
     Ok(ZipStoreOutput::Truncated {
-        file_name: required_field(alloc, fields, "file-name")?,
-        original_size: required_field(alloc, fields, "original-size")?,
+        file_name,
+        original_size,
     })
 }
 
@@ -77,10 +79,8 @@ fn split_from(alloc: Global, node: &Node<'_>) -> Result<ZipStoreOutputDescriptio
     let Some(fields) = node.as_object() else {
         return Err(FromValueError::NotAValue);
     };
-    Ok(ZipStoreOutputDescription::Split {
-        stdout: optional_field(alloc, fields, "stdout")?,
-        stderr: optional_field(alloc, fields, "stderr")?,
-    })
+    let (stdout, stderr) = optional_two(alloc, fields, "stdout", "stderr")?;
+    Ok(ZipStoreOutputDescription::Split { stdout, stderr })
 }
 
 /// Writes an output that was cut.

@@ -7,6 +7,7 @@ ghost use Rattle.rec_forms.specs.Results.{abort_form, fail_form};
 use crate::fields::{optional_field, required_field, write_tagged};
 use crate::names::named_item;
 use crate::objects::ObjectWriter;
+use crate::several::required_two;
 use crate::{Form, FromValueError};
 use rec_events::{
     ExecutionResultDescription, FailureDescription, FlakyResult, LeakTimeoutResult,
@@ -283,8 +284,6 @@ fn fail_from(alloc: Global, node: &Node<'_>) -> Result<ExecutionResultDescriptio
     let Some(fields) = node.as_object() else {
         return Err(FromValueError::NotAValue);
     };
-    Ok(ExecutionResultDescription::Fail {
-        failure: required_field(alloc, fields, "failure")?,
-        leaked: required_field(alloc, fields, "leaked")?,
-    })
+    let (failure, leaked) = required_two(alloc, fields, "failure", "leaked")?;
+    Ok(ExecutionResultDescription::Fail { failure, leaked })
 }

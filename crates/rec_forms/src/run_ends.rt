@@ -1,7 +1,8 @@
 //! How a run ended.
-use crate::fields::{required_field, write_tagged};
+use crate::fields::write_tagged;
 use crate::names::named_item;
 use crate::objects::ObjectWriter;
+use crate::several::{required_four, required_two};
 use crate::{Form, FromValueError};
 use rec_events::{
     FinalRunStats, RunFinishedStats, RunStats, StressFinalRunStats, StressRunStats,
@@ -140,11 +141,19 @@ impl Form for StressRunStats {
         let Some(object) = node.as_object() else {
             return Err(FromValueError::NotAValue);
         };
+        let (completed, success_count, failed_count, last_final_stats) = required_four(
+            alloc,
+            object,
+            "completed",
+            "success-count",
+            "failed-count",
+            "last-final-stats",
+        )?;
         Ok(StressRunStats {
-            completed: required_field(alloc, object, "completed")?,
-            success_count: required_field(alloc, object, "success-count")?,
-            failed_count: required_field(alloc, object, "failed-count")?,
-            last_final_stats: required_field(alloc, object, "last-final-stats")?,
+            completed,
+            success_count,
+            failed_count,
+            last_final_stats,
         })
     }
 }
@@ -229,9 +238,10 @@ impl Form for TestsNotSeenSummary {
         let Some(object) = node.as_object() else {
             return Err(FromValueError::NotAValue);
         };
+        let (not_seen, total_not_seen) = required_two(alloc, object, "not-seen", "total-not-seen")?;
         Ok(TestsNotSeenSummary {
-            not_seen: required_field(alloc, object, "not-seen")?,
-            total_not_seen: required_field(alloc, object, "total-not-seen")?,
+            not_seen,
+            total_not_seen,
         })
     }
 }

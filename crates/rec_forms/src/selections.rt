@@ -1,6 +1,6 @@
 //! What of a workspace is built.
-use crate::fields::defaulted_field;
 use crate::objects::ObjectWriter;
+use crate::several::{defaulted_three, defaulted_two};
 use crate::{Form, FromValueError};
 use rec_events::{
     BuildScope, FeatureSelection, Items, NamedTargets, PackageSelection, TargetSelection,
@@ -42,10 +42,13 @@ impl Form for NamedTargets {
         let Some(object) = node.as_object() else {
             return Err(FromValueError::NotAValue);
         };
-        Ok(NamedTargets {
-            names: defaulted_field(alloc, object, "names", Items::empty(alloc))?,
-            all: defaulted_field(alloc, object, "all", false)?,
-        })
+        let (names, all) = defaulted_two(
+            alloc,
+            object,
+            ("names", Items::empty(alloc)),
+            ("all", false),
+        )?;
+        Ok(NamedTargets { names, all })
     }
 }
 
@@ -84,10 +87,17 @@ impl Form for PackageSelection {
         let Some(object) = node.as_object() else {
             return Err(FromValueError::NotAValue);
         };
+        let (specs, workspace, exclude) = defaulted_three(
+            alloc,
+            object,
+            ("specs", Items::empty(alloc)),
+            ("workspace", false),
+            ("exclude", Items::empty(alloc)),
+        )?;
         Ok(PackageSelection {
-            specs: defaulted_field(alloc, object, "specs", Items::empty(alloc))?,
-            workspace: defaulted_field(alloc, object, "workspace", false)?,
-            exclude: defaulted_field(alloc, object, "exclude", Items::empty(alloc))?,
+            specs,
+            workspace,
+            exclude,
         })
     }
 }
@@ -130,13 +140,27 @@ impl Form for TargetSelection {
         let Some(object) = node.as_object() else {
             return Err(FromValueError::NotAValue);
         };
+        let (lib, all_targets, bins) = defaulted_three(
+            alloc,
+            object,
+            ("lib", false),
+            ("all-targets", false),
+            ("bins", NamedTargets::none(alloc)),
+        )?;
+        let (examples, tests, benches) = defaulted_three(
+            alloc,
+            object,
+            ("examples", NamedTargets::none(alloc)),
+            ("tests", NamedTargets::none(alloc)),
+            ("benches", NamedTargets::none(alloc)),
+        )?;
         Ok(TargetSelection {
-            lib: defaulted_field(alloc, object, "lib", false)?,
-            all_targets: defaulted_field(alloc, object, "all-targets", false)?,
-            bins: defaulted_field(alloc, object, "bins", NamedTargets::none(alloc))?,
-            examples: defaulted_field(alloc, object, "examples", NamedTargets::none(alloc))?,
-            tests: defaulted_field(alloc, object, "tests", NamedTargets::none(alloc))?,
-            benches: defaulted_field(alloc, object, "benches", NamedTargets::none(alloc))?,
+            lib,
+            all_targets,
+            bins,
+            examples,
+            tests,
+            benches,
         })
     }
 }
@@ -176,10 +200,17 @@ impl Form for FeatureSelection {
         let Some(object) = node.as_object() else {
             return Err(FromValueError::NotAValue);
         };
+        let (features, all_features, no_default_features) = defaulted_three(
+            alloc,
+            object,
+            ("features", Items::empty(alloc)),
+            ("all-features", false),
+            ("no-default-features", false),
+        )?;
         Ok(FeatureSelection {
-            features: defaulted_field(alloc, object, "features", Items::empty(alloc))?,
-            all_features: defaulted_field(alloc, object, "all-features", false)?,
-            no_default_features: defaulted_field(alloc, object, "no-default-features", false)?,
+            features,
+            all_features,
+            no_default_features,
         })
     }
 }
@@ -219,10 +250,17 @@ impl Form for BuildScope {
         let Some(object) = node.as_object() else {
             return Err(FromValueError::NotAValue);
         };
+        let (packages, targets, features) = defaulted_three(
+            alloc,
+            object,
+            ("packages", PackageSelection::none(alloc)),
+            ("targets", TargetSelection::none(alloc)),
+            ("features", FeatureSelection::none(alloc)),
+        )?;
         Ok(BuildScope {
-            packages: defaulted_field(alloc, object, "packages", PackageSelection::none(alloc))?,
-            targets: defaulted_field(alloc, object, "targets", TargetSelection::none(alloc))?,
-            features: defaulted_field(alloc, object, "features", FeatureSelection::none(alloc))?,
+            packages,
+            targets,
+            features,
         })
     }
 }

@@ -1,9 +1,9 @@
 //! Several fields, read by one call.
 ghost use Rattle.rec_json.specs.Nodes.{members_view};
 ghost use Rattle.rec_forms.specs.Several.{GivesTwo, GivesThree, GivesFour, GivesFive};
-ghost use Rattle.rec_forms.specs.Shape.{maybe, required};
+ghost use Rattle.rec_forms.specs.Shape.{defaulted, maybe, required};
 
-use crate::fields::{optional_field, required_field};
+use crate::fields::{defaulted_field, optional_field, required_field};
 use crate::{Form, FromValueError};
 use rec_json::Node;
 use std::alloc::Global;
@@ -107,4 +107,38 @@ pub fn optional_two<'a, A: Form + Drop, B: Form + Drop>(
     let first = optional_field(alloc, object, first_key)?;
     let second = optional_field(alloc, object, second_key)?;
     Ok((first, second))
+}
+
+/// Reads two fields, each of which is as given where its member is missing.
+pub(crate) fn defaulted_two<'a, A: Form + Drop, B: Form + Drop>(
+    alloc: Global,
+    object: &[(&'a str, Node<'a>)],
+    first: (&str, A),
+    second: (&str, B),
+) -> Result<(A, B), FromValueError>
+    ensures { GivesTwo result
+        (defaulted first.entry.1 A.form_of first.entry.0.now (members_view object.now))
+        (defaulted second.entry.1 B.form_of second.entry.0.now (members_view object.now)) }
+{
+    let first = defaulted_field(alloc, object, first.0, first.1)?;
+    let second = defaulted_field(alloc, object, second.0, second.1)?;
+    Ok((first, second))
+}
+
+/// Reads three fields, each of which is as given where its member is missing.
+pub(crate) fn defaulted_three<'a, A: Form + Drop, B: Form + Drop, C: Form + Drop>(
+    alloc: Global,
+    object: &[(&'a str, Node<'a>)],
+    first: (&str, A),
+    second: (&str, B),
+    third: (&str, C),
+) -> Result<(A, B, C), FromValueError>
+    ensures { GivesThree result
+        (defaulted first.entry.1 A.form_of first.entry.0.now (members_view object.now))
+        (defaulted second.entry.1 B.form_of second.entry.0.now (members_view object.now))
+        (defaulted third.entry.1 C.form_of third.entry.0.now (members_view object.now)) }
+{
+    let first = defaulted_field(alloc, object, first.0, first.1)?;
+    let (second, third) = defaulted_two(alloc, object, second, third)?;
+    Ok((first, second, third))
 }

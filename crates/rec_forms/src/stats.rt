@@ -3,8 +3,9 @@ ghost use Rattle.rec_json.specs.Nodes.{members_view};
 ghost use Rattle.rec_forms.specs.Gives.{Gives};
 ghost use Rattle.rec_forms.specs.ObjectWriting.{Writes};
 
-use crate::fields::{optional_field, required_field};
+use crate::fields::optional_field;
 use crate::objects::ObjectWriter;
+use crate::several::{required_four, required_three};
 use crate::{Form, FromValueError};
 use rec_events::RunStats;
 use rec_json::{JsonText, Node};
@@ -45,13 +46,27 @@ impl FirstCounts {
     ) -> Result<FirstCounts, FromValueError>
         ensures { Gives result (first_counts_form (members_view object.now)) }
     {
+        let (exec_failed, failed, failed_slow) = required_three(
+            alloc,
+            object,
+            "exec-failed",
+            "failed",
+            "failed-slow",
+        )?;
+        let (failed_timed_out, finished_count, flaky) = required_three(
+            alloc,
+            object,
+            "failed-timed-out",
+            "finished-count",
+            "flaky",
+        )?;
         Ok(FirstCounts {
-            exec_failed: required_field(alloc, object, "exec-failed")?,
-            failed: required_field(alloc, object, "failed")?,
-            failed_slow: required_field(alloc, object, "failed-slow")?,
-            failed_timed_out: required_field(alloc, object, "failed-timed-out")?,
-            finished_count: required_field(alloc, object, "finished-count")?,
-            flaky: required_field(alloc, object, "flaky")?,
+            exec_failed,
+            failed,
+            failed_slow,
+            failed_timed_out,
+            finished_count,
+            flaky,
         })
     }
 }
@@ -91,13 +106,27 @@ impl MiddleCounts {
     ) -> Result<MiddleCounts, FromValueError>
         ensures { Gives result (middle_counts_form (members_view object.now)) }
     {
+        let (initial_run_count, leaky, leaky_failed) = required_three(
+            alloc,
+            object,
+            "initial-run-count",
+            "leaky",
+            "leaky-failed",
+        )?;
+        let (passed, passed_slow, passed_timed_out) = required_three(
+            alloc,
+            object,
+            "passed",
+            "passed-slow",
+            "passed-timed-out",
+        )?;
         Ok(MiddleCounts {
-            initial_run_count: required_field(alloc, object, "initial-run-count")?,
-            leaky: required_field(alloc, object, "leaky")?,
-            leaky_failed: required_field(alloc, object, "leaky-failed")?,
-            passed: required_field(alloc, object, "passed")?,
-            passed_slow: required_field(alloc, object, "passed-slow")?,
-            passed_timed_out: required_field(alloc, object, "passed-timed-out")?,
+            initial_run_count,
+            leaky,
+            leaky_failed,
+            passed,
+            passed_slow,
+            passed_timed_out,
         })
     }
 }
@@ -152,22 +181,34 @@ impl LastCounts {
     fn read<'a>(alloc: Global, object: &[(&'a str, Node<'a>)]) -> Result<LastCounts, FromValueError>
         ensures { Gives result (last_counts_form (members_view object.now)) }
     {
+        let (
+            setup_scripts_exec_failed,
+            setup_scripts_failed,
+            setup_scripts_finished_count,
+            setup_scripts_initial_count,
+        ) = required_four(
+            alloc,
+            object,
+            "setup-scripts-exec-failed",
+            "setup-scripts-failed",
+            "setup-scripts-finished-count",
+            "setup-scripts-initial-count",
+        )?;
+        let (setup_scripts_passed, setup_scripts_timed_out, skipped) = required_three(
+            alloc,
+            object,
+            "setup-scripts-passed",
+            "setup-scripts-timed-out",
+            "skipped",
+        )?;
         Ok(LastCounts {
-            setup_scripts_exec_failed: required_field(alloc, object, "setup-scripts-exec-failed")?,
-            setup_scripts_failed: required_field(alloc, object, "setup-scripts-failed")?,
-            setup_scripts_finished_count: required_field(
-                alloc,
-                object,
-                "setup-scripts-finished-count",
-            )?,
-            setup_scripts_initial_count: required_field(
-                alloc,
-                object,
-                "setup-scripts-initial-count",
-            )?,
-            setup_scripts_passed: required_field(alloc, object, "setup-scripts-passed")?,
-            setup_scripts_timed_out: required_field(alloc, object, "setup-scripts-timed-out")?,
-            skipped: required_field(alloc, object, "skipped")?,
+            setup_scripts_exec_failed,
+            setup_scripts_failed,
+            setup_scripts_finished_count,
+            setup_scripts_initial_count,
+            setup_scripts_passed,
+            setup_scripts_timed_out,
+            skipped,
         })
     }
 }

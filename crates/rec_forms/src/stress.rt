@@ -6,8 +6,9 @@ ghost use Rattle.rec_events.specs.declared.stress.StressProgress.TheVariants.{Co
 ghost use Rattle.rec_forms.specs.Gives.{Gives};
 ghost use Rattle.rec_forms.specs.Stress.{count_progress_form, time_progress_form, stress_progress_value, IsStressProgress};
 
-use crate::fields::{optional_field, required_field, write_tagged};
+use crate::fields::{optional_field, write_tagged};
 use crate::objects::ObjectWriter;
+use crate::several::{required_three, required_two};
 use crate::{Form, FromValueError};
 use rec_events::{Duration, StressConditionSummary, StressProgress};
 use rec_json::{JsonText, Node, only_member};
@@ -166,10 +167,12 @@ fn count_from(alloc: Global, node: &Node<'_>) -> Result<StressProgress, FromValu
     let Some(fields) = node.as_object() else {
         return Err(FromValueError::NotAValue);
     };
+    let total = optional_field(alloc, fields, "total")?;
+    let (elapsed, completed) = required_two(alloc, fields, "elapsed", "completed")?;
     Ok(StressProgress::Count {
-        total: optional_field(alloc, fields, "total")?,
-        elapsed: required_field(alloc, fields, "elapsed")?,
-        completed: required_field(alloc, fields, "completed")?,
+        total,
+        elapsed,
+        completed,
     })
 }
 
@@ -181,9 +184,16 @@ fn time_from(alloc: Global, node: &Node<'_>) -> Result<StressProgress, FromValue
     let Some(fields) = node.as_object() else {
         return Err(FromValueError::NotAValue);
     };
+    let (total, elapsed, completed) = required_three(
+        alloc,
+        fields,
+        "total",
+        "elapsed",
+        "completed",
+    )?;
     Ok(StressProgress::Time {
-        total: required_field(alloc, fields, "total")?,
-        elapsed: required_field(alloc, fields, "elapsed")?,
-        completed: required_field(alloc, fields, "completed")?,
+        total,
+        elapsed,
+        completed,
     })
 }

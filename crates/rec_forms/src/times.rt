@@ -1,6 +1,6 @@
 //! Instants and spans of time.
-use crate::fields::required_field;
 use crate::objects::ObjectWriter;
+use crate::several::{required_three, required_two};
 use crate::{Form, FromValueError, Held};
 use rec_events::{Duration, Stamp};
 use rec_json::{JsonText, Node};
@@ -41,9 +41,7 @@ impl Form for Stamp {
         let Some(object) = node.as_object() else {
             return Err(FromValueError::NotAValue);
         };
-        let secs = required_field(alloc, object, "secs")?;
-        let nanos = required_field(alloc, object, "nanos")?;
-        let offset = required_field(alloc, object, "offset")?;
+        let (secs, nanos, offset) = required_three(alloc, object, "secs", "nanos", "offset")?;
         Stamp::new(secs, nanos, offset).ok_or(FromValueError::NotAValue)
     }
 }
@@ -90,8 +88,7 @@ impl Form for Duration {
         let Some(object) = node.as_object() else {
             return Err(FromValueError::NotAValue);
         };
-        let secs = required_field(alloc, object, "secs")?;
-        let nanos = required_field(alloc, object, "nanos")?;
+        let (secs, nanos) = required_two(alloc, object, "secs", "nanos")?;
         Duration::new(secs, nanos).ok_or(FromValueError::NotAValue)
     }
 }
