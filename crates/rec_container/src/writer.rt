@@ -62,12 +62,14 @@ fn head(alloc: Global, is_first: bool, name: &str, content: usize) -> Result<Vec
     requires { length name.now < 65536 }
     ensures { IfOk result (λ v. v.items ≡ (if is_first then magic else []) ++ entry_head name.now content) }
 {
-    let mut head = Vec::new(alloc);
-    if is_first {
-        head.extend_from_slice(b"nxtcont1")?;
-    }
-    head.push(1)?;
-    head.extend_from_slice(&(name.len() as u16).to_be_bytes())?;
+    let start = if is_first {
+        b"nxtcont1".as_slice()
+    } else {
+        &[]
+    };
+    let [high, low] = (name.len() as u16).to_be_bytes();
+    let mut head = Vec::from_slice(alloc, start)?;
+    head.extend_from_slice(&[1, high, low])?;
     head.extend_from_slice(name.as_bytes())?;
     head.extend_from_slice(&(content as u64).to_be_bytes())?;
     Ok(head)
@@ -84,8 +86,7 @@ pub(crate) fn write_two<K: Sink>(
     ensures cause { HasCause (K.faults sink.old) (K.faults sink.new) result }
 {
     write_all(sink, first)?;
-    write_all(sink, second)?;
-    Ok(())
+    write_all(sink, second)
 }
 
 impl<K: Sink> ContainerWriter<K> {
@@ -131,7 +132,7 @@ impl<K: Sink> ContainerWriter<K> {
         requires { i < length self.now.entries }
         ensures { slice_get (map (λ e. e.name) self.now.entries) i ≡ Some result.now }
     {
-        self.entries.get_index(i).unwrap().0.as_str()
+        self.entry(i).name
     }
 
     /// Returns the content of an entry.
@@ -139,7 +140,7 @@ impl<K: Sink> ContainerWriter<K> {
         requires { i < length self.now.entries }
         ensures { slice_get (map (λ e. e.content) self.now.entries) i ≡ Some result.now }
     {
-        self.entries.get_index(i).unwrap().1.as_slice()
+        self.entry(i).content
     }
 
     /// Returns the sizes of the container that the entries make.

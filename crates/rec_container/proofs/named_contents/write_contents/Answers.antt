@@ -1,9 +1,9 @@
-use Rattle.std.proofs.Common.{◌≡◌, ◌++◌, [], get_or, arith, ap, sym, subst, append-nil, ◌∙◌, map}
+use Rattle.std.proofs.Common.{◌≡◌, ◌++◌, [], get_or, arith, ap, sym, subst, append-nil, ◌∙◌, map, refl}
 use Rattle.std.proofs.KnownBytes.{Appends-trans}
 use Rattle.std.specs.Io.KnownBytes.{Appends}
 use Rattle.rec_container.proofs.ContentsLeft.{all_more, left, left_all, left_end, left_parts, left_step, nothing}
 use Rattle.rec_container.proofs.named_contents.write_contents.Goals as goal
-use Rattle.rec_container.proofs.Parts.{took_part}
+use Rattle.rec_container.proofs.Parts.{took_first, took_part}
 use Rattle.rec_container.proofs.Results.{on_err}
 use Rattle.rec_container.specs.Container.{entry, magic}
 use Rattle.rec_container.specs.NamedContents.{begun, entry_of}
@@ -39,3 +39,6 @@ returns-clause-ok g c =
     let l = c.loop-content in
     subst (Appends (g.K.Sink.taken c.args.sink.now) (g.K.Sink.taken l.sink))
     (sym (left_end entry_of c.args.contents.now l.content-index l.invariant.done [] (begun c.args.contents.now) c.loop-content-test.false l.invariant.whole ∙ append-nil l.invariant.done)) l.invariant.taken
+
+pub returns-in_err-write_magic-clause-fault : goal.returns-in_err-write_magic-clause-fault
+returns-in_err-write_magic-clause-fault g c = on_err _ (took_first _ _ _ _ _ c.in_err-write_magic.ensures.fault refl)

@@ -1,4 +1,4 @@
-use Rattle.std.proofs.Common.{rules, ◌≡◌, ◌≤◌, ◌++◌, ◌+◌, length, take, ◌∙◌, ap, arith, length-append, refl, subst, sym}
+use Rattle.std.proofs.Common.{rules, ◌≡◌, ◌≤◌, ◌++◌, ◌+◌, length, take, ◌∙◌, ap, arith, length-append, length-take, refl, subst, sym}
 use Rattle.std.proofs.KnownBytes.{Consumes-kept, Consumes-trans}
 use Rattle.std.specs.Io.KnownBytes.{Consumes}
 use Rattle.rec_container.proofs.Results.{err_is}
@@ -11,7 +11,7 @@ returns-in_err-extend_from_slice-in-Ok-clause-err g c =
     let given = take c.in-Ok.count c.read.new.buf in
     let got = c.pieces.bytes.items in
     let fits : length got + c.in-Ok.count ≤ c.args.limit + 1 = search rules in
-    let long : length (got ++ given) ≡ length got + c.in-Ok.count = search (rules, length-append got given) in
+    let long : length (got ++ given) ≡ length got + c.in-Ok.count = omega (arith, length-append got given, length-take c.in-Ok.count c.read.new.buf, c.in-Ok.ensures.bound) in
     err_is c.from_residual.result OutOfMemory _ c.from_residual.ensures.1 (
       c.in-Ok.ensures.faultless ∙ c.pieces.invariant.faultless,
       (
@@ -39,7 +39,7 @@ pieces-preserved g c =
     let given = take c.in-Ok.count c.read.new.buf in
     let got = c.pieces.bytes.items in
     let fits : length got + c.in-Ok.count ≤ c.args.limit + 1 = search rules in
-    let long : length (got ++ given) ≡ length got + c.in-Ok.count = search (rules, length-append got given) in
+    let long : length (got ++ given) ≡ length got + c.in-Ok.count = omega (arith, length-append got given, length-take c.in-Ok.count c.read.new.buf, c.in-Ok.ensures.bound) in
     let items : c.extend_from_slice.new.self.items ≡ got ++ given = c.in_ok-extend_from_slice-in-Ok.ensures.items in
     let longer : length c.extend_from_slice.new.self.items ≡ length got + c.in-Ok.count = ap length items ∙ long in
     record {

@@ -1,4 +1,4 @@
-use Rattle.std.proofs.Common.{◌∙◌, ◌+◌, ap, arith, length, drop, sym, subst}
+use Rattle.std.proofs.Common.{◌≡◌, Bool, true, false, ◌∙◌, ◌+◌, ap, arith, length, drop, sym, subst}
 use Rattle.rec_container.proofs.Grammar.{step_at-some}
 use Rattle.rec_container.proofs.Placed.{prefix_placed}
 use Rattle.rec_container.proofs.Prefixes.{reading_begins, reading_goes_on, magic_tested}
@@ -6,6 +6,9 @@ use Rattle.rec_container.proofs.reader.Container.parse_prefix.Goals as goal
 use Rattle.rec_container.specs.Container.{ParsedContainer}
 use Rattle.rec_container.specs.Placed.{placed_entry, placed_entries}
 use Rattle.rec_container.specs.WholePrefixes.{IsWholePrefix}
+
+never_both : {b : Bool} {P : Type 0} → b ≡ true → b ≡ false → P
+never_both there missing = absurd cc
 
 pub loop-held-init : goal.loop-held-init
 loop-held-init c =
@@ -39,10 +42,10 @@ returns-clause-prefix c =
     (ap (λ (p : ParsedContainer). p.bytes) made, subst (λ (p : ParsedContainer). IsWholePrefix c.args.bytes.now p.entries) (sym made) whole)
 
 pub returns-in_err-push-clause-magic : goal.returns-in_err-push-clause-magic
-returns-in_err-push-clause-magic c = λ h. absurd (let k = magic_tested c.args.bytes.now c.as_slice.result.now _ c.as_slice.ensures c.in-Some.ensures.cases.0 in cc)
+returns-in_err-push-clause-magic c = λ none. never_both (magic_tested c.args.bytes.now c.as_slice.result.now _ c.as_slice.ensures c.in-Some.ensures.cases.0) none
 
 pub returns-clause-magic : goal.returns-clause-magic
-returns-clause-magic c = λ h. absurd (let k = magic_tested c.args.bytes.now c.as_slice.result.now _ c.as_slice.ensures c.in-Some.ensures.cases.0 in cc)
+returns-clause-magic c = λ none. never_both (magic_tested c.args.bytes.now c.as_slice.result.now _ c.as_slice.ensures c.in-Some.ensures.cases.0) none
 
 pub returns-in_err-container_of-clause-magic : goal.returns-in_err-container_of-clause-magic
-returns-in_err-container_of-clause-magic c = λ h. absurd (let k = magic_tested c.args.bytes.now c.as_slice.result.now _ c.as_slice.ensures c.in-Some.ensures.cases.0 in cc)
+returns-in_err-container_of-clause-magic c = λ none. never_both (magic_tested c.args.bytes.now c.as_slice.result.now _ c.as_slice.ensures c.in-Some.ensures.cases.0) none

@@ -3,11 +3,15 @@ use Rattle.std.proofs.KnownBytes.{Appends-trans}
 use Rattle.std.specs.Io.KnownBytes.{Appends}
 use Rattle.std.specs.List.{flat_map}
 use Rattle.rec_container.proofs.ContentsLeft.{entry_found, left, left_end, left_parts, left_step, no_entry}
-use Rattle.rec_container.proofs.Parts.{took_both, took_part, took_second}
+use Rattle.rec_container.proofs.Parts.{took_both, took_first, took_part, took_second}
 use Rattle.rec_container.proofs.Results.{err_then, ok_then, on_err}
 use Rattle.rec_container.proofs.writer.ContainerWriter.write_to.Goals as goal
 use Rattle.rec_container.specs.Container.{Entry, entry, magic}
 use Rattle.rec_container.specs.Writing.{entry_named}
+
+pub returns-in_err-write_magic-clause-fault : goal.returns-in_err-write_magic-clause-fault
+returns-in_err-write_magic-clause-fault g c =
+    on_err _ (took_first _ _ _ _ _ c.in_err-write_magic.ensures.fault (append_assoc magic (flat_map entry c.args.self.now.entries) (0 ∷ [])))
 
 pub loop-i-init : goal.loop-i-init
 loop-i-init g c = record {
