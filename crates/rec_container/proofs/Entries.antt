@@ -123,8 +123,3 @@ IsSound-one_more es old mid new made name content compressed uncompressed size s
 pub entry_of_pair : (es : List Entry) (ps : List (String Global × Vec ℕ Global)) (i : ℕ) (p : String Global × Vec ℕ Global) → es ≡ entries_of ps → slice_get ps i ≡ Some p
     → slice_get es i ≡ Some (entry_of p)
 entry_of_pair es ps i p is at = ap (λ l. slice_get l i) is ∙ slice_get-map entry_of ps i ∙ ap (option_map entry_of) at
-
-pub entry_at : {T : Type 0} (show : Entry → T) (es : List Entry) (ps : List (String Global × Vec ℕ Global)) (i : ℕ) (p : String Global × Vec ℕ Global) → es ≡ entries_of ps → slice_get ps i ≡ Some p
-    → slice_get (map show es) i ≡ Some (show (entry_of p))
-entry_at show es ps i p is at =
-    slice_get-map show es i ∙ ap (option_map show) (entry_of_pair es ps i p is at)

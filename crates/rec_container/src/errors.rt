@@ -8,7 +8,7 @@ use std::fmt;
 use thiserror::Error;
 
 /// Says why a container was not written further.
-#[derive(Clone, Copy, Debug, PartialEq, Eq, Error)]
+#[derive(Clone, Copy, Debug, Error)]
 pub enum ContainerWriteError {
     /// The sink failed at a call before this one.
     Failed,
@@ -48,7 +48,7 @@ impl From<AllocError> for ContainerWriteError {
 }
 
 /// Says how large a written container is.
-#[derive(Clone, Copy, Debug, PartialEq, Eq)]
+#[derive(Clone, Copy)]
 pub struct ContainerSizes {
     /// The container's bytes, from the magic to the end mark.
     pub compressed: u64,

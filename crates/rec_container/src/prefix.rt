@@ -14,7 +14,7 @@ use std::alloc::{AllocError, Global};
 use thiserror::Error;
 
 /// Says why bytes have no whole prefix.
-#[derive(Clone, Copy, Debug, PartialEq, Eq, Error)]
+#[derive(Clone, Copy, Debug, Error)]
 pub enum PrefixError {
     /// The bytes don't begin with `nxtcont1`.
     #[error("not a container: it doesn't begin with nxtcont1")]

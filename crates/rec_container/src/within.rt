@@ -9,7 +9,7 @@ use thiserror::Error;
 const PIECE: usize = 4096;
 
 /// Says why the bytes of a source were not read.
-#[derive(Clone, Copy, Debug, PartialEq, Eq, Error)]
+#[derive(Clone, Copy, Debug, Error)]
 pub enum ReadError {
     /// The source failed.
     #[error("the source failed")]
