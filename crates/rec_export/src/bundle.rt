@@ -77,5 +77,7 @@ fn build_manifest(
     ensures { IfOk result (λ b. b.items ≡ compact_text (manifest_value (manifest_of (recorded_info head.now sizes)))) }
 {
     let info = head.run_info(alloc, sizes)?;
-    write_manifest(alloc, &info)
+    let text = write_manifest(alloc, &info);
+    info.discard();
+    text
 }

@@ -36,6 +36,11 @@ pub struct RecordedRunInfo {
     pub status: RecordedRunStatus,
 }
 
+impl RecordedRunInfo {
+    /// Lets the information go, as `PortableManifest::discard` does with a manifest.
+    pub fn discard(self) {}
+}
+
 /// Describes a recorded run as it stands in manifests and run lists, where the two numbers of its
 /// store's version stand apart.
 #[derive(Drop)]

@@ -211,6 +211,10 @@ impl PortableRecording {
     {
         extract(alloc, &self.bytes, self.limit, file_name, out, check_limit)
     }
+
+    /// Lets the bundle go, as `drop` does. A crate that lets one go by this call doesn't prove anew how each part of its manifest is
+    /// let go.
+    pub fn discard(self) {}
 }
 
 impl RunFilesExist for PortableRecording {

@@ -27,7 +27,7 @@ pub fn read_bundle<S: Source, P: BundleText>(
     let bundle = open_bundle(alloc, settings, source)?;
     let result = printer.text(alloc, &bundle);
     // By a call: in place, each part of the manifest would be a case of the proof.
-    drop(bundle);
+    bundle.discard();
     result
 }
 

@@ -63,7 +63,7 @@ fn salvage_source<S: Source>(
     let bundle = open_bundle(alloc, settings, source)?;
     let result = salvage_opened(alloc, &bundle);
     // By a call: in place, each part of the manifest would be a case of the proof.
-    drop(bundle);
+    bundle.discard();
     result
 }
 
@@ -76,7 +76,7 @@ fn salvage_opened(alloc: Global, bundle: &PortableRecording) -> Result<Salvaged,
     let store = find_store(alloc, bundle)?;
     let run = bundle.run_info(alloc)?;
     let result = salvage_parts(alloc, &run, log, store);
-    drop(run);
+    run.discard();
     result
 }
 

@@ -129,7 +129,7 @@ fn make_bundle(
 {
     let manifest = manifest_with(alloc, run, sizes)?;
     let bundle = bundle_text(alloc, &manifest, log, store);
-    drop(manifest);
+    manifest.discard();
     bundle
 }
 

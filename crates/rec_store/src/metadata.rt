@@ -64,5 +64,7 @@ pub fn write_manifest(alloc: Global, run: &RecordedRunInfo) -> Result<Vec<u8>, A
     ensures { IfOk result (λ text. text.items ≡ compact_text (manifest_value (manifest_of run.now))) }
 {
     let manifest = PortableManifest::new(alloc, run)?;
-    write_text(alloc, &manifest)
+    let text = write_text(alloc, &manifest);
+    manifest.discard();
+    text
 }
