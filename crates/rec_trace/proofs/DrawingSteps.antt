@@ -2,6 +2,7 @@
 use Rattle.std.proofs.Common.{◌≡◌, ◌∙◌, ℕ, ℤ, List, [], ◌∷◌, ◌++◌, map, Option, Some, option_map, ap, sym}
 use Rattle.std.proofs.lemmas.Grind.{flat_map-append}
 use Rattle.std.proofs.lemmas.List.{append_assoc}
+use Rattle.std.specs.Prelude.{OnOk, Result}
 use Rattle.semver.specs.Parse.{Parts}
 use Rattle.serde_json.specs.Data.{Data}
 use Rattle.rec_events.specs.declared.groups.TestGroup.{TestGroup}
@@ -12,6 +13,7 @@ use Rattle.rec_events.specs.declared.statuses.ExecuteStatus.{ExecuteStatus}
 use Rattle.rec_events.specs.declared.statuses.ExecutionStatuses.{ExecutionStatuses}
 use Rattle.rec_trace_events.specs.Args.{counted_flaky_result, finished_test_args, last_attempt_args, last_status}
 use Rattle.rec_trace_events.specs.declared.counts.TestCounts.{TestCounts}
+use Rattle.rec_trace_events.specs.declared.rows.Row.{Row}
 use Rattle.rec_trace_events.specs.EventTexts.{event_value}
 use Rattle.rec_spans.specs.declared.settings.ChromeTraceGroupBy.{ChromeTraceGroupBy}
 use Rattle.rec_spans.specs.declared.spans.Span.{Span}
@@ -34,6 +36,12 @@ pub span_is : (o : Option Span) (x y : Span) → o ≡ Some x → o ≡ Some y �
 span_is o x y e f = cc
 
 module _ (version : Parts) (g : ChromeTraceGroupBy) (state : TraceState) (known : Known) (t : ℤ) where
+  -- the names of a row, under other names of the same texts
+  pub names_of : {T E : Type 0} (row : Row) (p q n m : List ℕ) (x y : List (List ℕ)) (r : Result T E) → p ≡ q → n ≡ m
+      → OnOk r (Draws (naming version g state known t row p n) x y)
+      → OnOk r (Draws (naming version g state known t row q m) x y)
+  names_of row p q n m x y r e f drawn = rw (sym e, sym f) drawn
+
   -- a span that starts, after the names of its row
   pub start_of : (s span : Span) (p n : List ℕ) (a args : Option Data) (x y z : List (List ℕ))
       → span ≡ s → args ≡ a

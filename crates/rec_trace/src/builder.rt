@@ -167,6 +167,8 @@ impl<'t, T: TraceTarget> TraceBuilder<'t, T> {
             → view v ≡ other_data version (known_of g events).last_run) }
     {
         let tracer = &self.handing.tracer;
-        other_data(alloc, tracer.version(), tracer.last_run())
+        let told = other_data(alloc, tracer.version(), tracer.last_run());
+        drop(self.handing);
+        told
     }
 }

@@ -59,7 +59,10 @@ pub fn draw_event<S: OutputSpec>(
         judged,
     };
     let mut events = Vec::new(alloc);
-    draw_kind(&sight, &event.kind, &mut events)?;
+    let Ok(()) = draw_kind(&sight, &event.kind, &mut events) else {
+        drop(events);
+        return Err(AllocError);
+    };
     Ok(events)
 }
 

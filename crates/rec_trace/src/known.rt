@@ -155,5 +155,6 @@ impl Known {
     {
         self.names.let_go(news.row);
         self.notes.let_go(&news.test);
+        drop(news);
     }
 }

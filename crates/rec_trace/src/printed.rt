@@ -86,10 +86,16 @@ impl Printed {
         ensures { IfOk result (λ s. (format : ChromeTraceMessageFormat) (events : List Data) → AreKept format events self
             → s.items ≡ text_in format (trace_value (other_data version.now last_run.now) events)) }
     {
+        let Printed {
+            format,
+            mut text,
+            has_events,
+            scratch,
+        } = self;
+        drop(scratch);
         let other_data = other_data_text(alloc, version, last_run)?;
-        let prefix = trace_prefix(alloc, self.format, &other_data)?;
-        let end = trace_end(self.format, self.has_events);
-        let mut text = self.text;
+        let prefix = trace_prefix(alloc, format, &other_data)?;
+        let end = trace_end(format, has_events);
         text.reserve_exact(prefix.len().saturating_add(end.len()))?;
         text.insert_str(0, &prefix)?;
         text.extend_from_slice(end.as_bytes())?;

@@ -73,7 +73,9 @@ impl PrintedTrace {
             → Prints (map event_value drawn.events.items) before (plain event.now) self.old self.new result }
     {
         let DrawnEvent { events, prepared } = drawn;
-        match self.printed.put_all(alloc, &events) {
+        let put = self.printed.put_all(alloc, &events);
+        drop(events);
+        match put {
             Ok(()) => {
                 self.tracer.accept(event, prepared);
                 Ok(())
@@ -94,7 +96,9 @@ impl PrintedTrace {
         ensures { IfOk result (λ text. (format : ChromeTraceMessageFormat) (g : ChromeTraceGroupBy) (version : Parts) (events : List PlainEvent)
             → HasTraced format g version events self → text.items ≡ trace_text format g version events) }
     {
-        self.printed
-            .into_bytes(alloc, self.tracer.version(), self.tracer.last_run())
+        let PrintedTrace { tracer, printed } = self;
+        let text = printed.into_bytes(alloc, tracer.version(), tracer.last_run());
+        drop(tracer);
+        text
     }
 }

@@ -2,7 +2,7 @@
 use rec_events::{Items, ReportUuid, StressConditionSummary, Text};
 
 /// Holds what the start of a run says of it.
-#[derive(PartialEq, Drop)]
+#[derive(Drop)]
 pub struct RunStart {
     pub run_id: ReportUuid,
     pub profile_name: Text,

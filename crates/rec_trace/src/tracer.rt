@@ -111,8 +111,14 @@ impl Tracer {
         ensures err { OnErr result (StaysSame self.old self.new) }
     {
         let judged = self.tracker.judge_event(alloc, self.group_by, event)?;
-        let events = self.draw(alloc, event, &judged)?;
-        let prepared = self.open(alloc, event, judged)?;
+        let Ok(events) = self.draw(alloc, event, &judged) else {
+            drop(judged);
+            return Err(ChromeTraceError::OutOfMemory);
+        };
+        let Ok(prepared) = self.open(alloc, event, judged) else {
+            drop(events);
+            return Err(ChromeTraceError::OutOfMemory);
+        };
         Ok(DrawnEvent { events, prepared })
     }
 
@@ -149,7 +155,10 @@ impl Tracer {
         ensures err { OnErr result (StaysSame self.old self.new) }
     {
         let flow = self.tracker.next_flow();
-        let news = self.known.prepare(alloc, flow, &judged.started, event)?;
+        let Ok(news) = self.known.prepare(alloc, flow, &judged.started, event) else {
+            drop(judged);
+            return Err(AllocError);
+        };
         match self
             .tracker
             .open_started(alloc, self.group_by, event, judged)

@@ -46,8 +46,7 @@ fn draw_attempt_names(
 {
     let name = slot_name(sight.alloc, slot)?;
     let process = test_process(sight.group_by, test);
-    draw_names(sight, row, process, name.as_str(), events)?;
-    Ok(())
+    draw_names(sight, row, process, name.as_str(), events)
 }
 
 /// Draws that an attempt of a test started on a slot, at which the arrow of this number finishes, if there is
@@ -73,8 +72,7 @@ fn draw_attempt_start<A: Args>(
     draw_slice(sight, Phase::Begin, span, Some(args), events)?;
     draw_arrow_finish(sight, test, span.row, flow, events)?;
     draw_in_pause(sight, Phase::End, span, events)?;
-    draw_counter(sight, running, sight.judged.running_scripts, events)?;
-    Ok(())
+    draw_counter(sight, running, sight.judged.running_scripts, events)
 }
 
 /// Draws that the first attempt of a test started.
@@ -102,8 +100,7 @@ pub fn draw_test_start(
         command_line,
     };
     let slot = slot_assignment.global_slot;
-    draw_attempt_start(sight, test_instance, slot, &args, None, *running, events)?;
-    Ok(())
+    draw_attempt_start(sight, test_instance, slot, &args, None, *running, events)
 }
 
 /// Draws that a further attempt of a test started.
@@ -134,8 +131,7 @@ pub fn draw_retry_start(
     };
     let slot = slot_assignment.global_slot;
     let flow = sight.known.arrow(test_instance);
-    draw_attempt_start(sight, test_instance, slot, &args, flow, *running, events)?;
-    Ok(())
+    draw_attempt_start(sight, test_instance, slot, &args, flow, *running, events)
 }
 
 /// Draws that a test is slow.
@@ -165,8 +161,7 @@ pub fn draw_slow_test(
         will_terminate: *will_terminate,
     };
     let span = sight.tracker.open_spans().test(test_instance);
-    draw_slow(sight, Category::Test, span, &args, events)?;
-    Ok(())
+    draw_slow(sight, Category::Test, span, &args, events)
 }
 
 /// Draws that an attempt of a test failed, after which another one follows.
@@ -200,8 +195,7 @@ pub fn draw_failed_attempt<S: OutputSpec>(
     let span = sight.tracker.open_spans().test(test_instance);
     draw_end(sight, span, &args, events)?;
     draw_arrow_start(sight, test_instance, span, events)?;
-    draw_counter(sight, *running, sight.judged.running_scripts, events)?;
-    Ok(())
+    draw_counter(sight, *running, sight.judged.running_scripts, events)
 }
 
 /// Draws that the last attempt of a test ended.
@@ -239,6 +233,5 @@ pub fn draw_test_end<S: OutputSpec>(
     let span = sight.tracker.open_spans().test(test_instance);
     draw_end(sight, span, &args, events)?;
     draw_counter(sight, *running, sight.judged.running_scripts, events)?;
-    draw_results(sight, counts, events)?;
-    Ok(())
+    draw_results(sight, counts, events)
 }

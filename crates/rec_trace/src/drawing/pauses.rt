@@ -31,8 +31,7 @@ pub fn draw_cancel(
     };
     let (scripts, tests) = (*setup_scripts_running, *running);
     draw_counter(sight, tests, scripts, events)?;
-    draw_run_mark(sight, RunMark::Cancelled(*reason), tests, scripts, events)?;
-    Ok(())
+    draw_run_mark(sight, RunMark::Cancelled(*reason), tests, scripts, events)
 }
 
 /// Draws the ends of all open spans, unless the run is in a pause already.
@@ -40,10 +39,10 @@ fn draw_pause(sight: &Sight<'_>, events: &mut Vec<TraceEvent>) -> Result<(), All
     ensures { OnOk result (Draws (if sight.now.tracker.now.in_pause then [] else bare phases.End sight.now.judged.now.at sight.now.tracker.now.spans)
         events.old.items events.new.items) }
 {
-    if !sight.tracker.in_pause() {
-        draw_all(sight, Phase::End, events)?;
+    if sight.tracker.in_pause() {
+        return Ok(());
     }
-    Ok(())
+    draw_all(sight, Phase::End, events)
 }
 
 /// Draws that a run paused.
@@ -65,8 +64,7 @@ pub fn draw_run_pause(
     let (scripts, tests) = (*setup_scripts_running, *running);
     draw_counter(sight, tests, scripts, events)?;
     draw_pause(sight, events)?;
-    draw_run_mark(sight, RunMark::Paused, tests, scripts, events)?;
-    Ok(())
+    draw_run_mark(sight, RunMark::Paused, tests, scripts, events)
 }
 
 /// Draws the begins of all open spans, where the run is in a pause.
@@ -74,10 +72,10 @@ fn draw_resume(sight: &Sight<'_>, events: &mut Vec<TraceEvent>) -> Result<(), Al
     ensures { OnOk result (Draws (if sight.now.tracker.now.in_pause then bare phases.Begin sight.now.judged.now.at sight.now.tracker.now.spans else [])
         events.old.items events.new.items) }
 {
-    if sight.tracker.in_pause() {
-        draw_all(sight, Phase::Begin, events)?;
+    if !sight.tracker.in_pause() {
+        return Ok(());
     }
-    Ok(())
+    draw_all(sight, Phase::Begin, events)
 }
 
 /// Draws that a run goes on.
@@ -99,6 +97,5 @@ pub fn draw_run_continuation(
     let (scripts, tests) = (*setup_scripts_running, *running);
     draw_counter(sight, tests, scripts, events)?;
     draw_run_mark(sight, RunMark::Continued, tests, scripts, events)?;
-    draw_resume(sight, events)?;
-    Ok(())
+    draw_resume(sight, events)
 }

@@ -1,5 +1,7 @@
 //! Draws the parts of which the trace events of every kind of event are made.
-ghost use Rattle.std.specs.Prelude.{◌≡◌, [], ◌∷◌, Some, IfOk, OnOk, if◌then◌else◌, map, option_copied, option_map, option_to_list};
+ghost use Rattle.std.specs.Prelude.{◌≡◌, ◌++◌, [], ◌∷◌, Some, IfOk, OnOk, if◌then◌else◌, map, option_copied, option_map, option_to_list};
+ghost use Rattle.serde_json.specs.Data.{Data};
+ghost use Rattle.rec_trace_events.specs.EventTexts.{event_value};
 ghost use Rattle.rec_trace_events.specs.TraceEvents.{process_row};
 ghost use Rattle.rec_spans.specs.Past.{mark};
 ghost use Rattle.rec_trace.specs.Drawing.{Draws, in_sight};
@@ -18,6 +20,15 @@ use rec_trace_events::{
 };
 use std::alloc::AllocError;
 
+/// Puts an event after those so far, where it was made.
+fn put(events: &mut Vec<TraceEvent>, made: Result<TraceEvent, AllocError>) -> Result<(), AllocError>
+    ensures { (value : Data) → IfOk made (λ e. event_value e ≡ value)
+        → OnOk result (map event_value events.new.items ≡ map event_value events.old.items ++ value ∷ []) }
+{
+    events.push(made?)?;
+    Ok(())
+}
+
 // ---- names
 
 /// Names a process, where it wasn't named before.
@@ -30,11 +41,11 @@ fn name_process(
     ensures { OnOk result (Draws (if (known_in sight.now.known.now).is_named (process_row pid) then [] else ProcessNamed pid name.now ∷ [])
         events.old.items events.new.items) }
 {
-    if !sight.known.is_named(Row { pid, tid: 0 }) {
-        let mut names = process_metadata(sight.alloc, pid, name)?;
-        events.append(&mut names)?;
+    if sight.known.is_named(Row { pid, tid: 0 }) {
+        return Ok(());
     }
-    Ok(())
+    let mut names = process_metadata(sight.alloc, pid, name)?;
+    events.append(&mut names)
 }
 
 /// Names a row, where it wasn't named before.
@@ -47,11 +58,11 @@ fn name_row(
     ensures { OnOk result (Draws (if (known_in sight.now.known.now).is_named row then [] else RowNamed row name.now ∷ [])
         events.old.items events.new.items) }
 {
-    if !sight.known.is_named(row) {
-        let mut names = thread_metadata(sight.alloc, row, name)?;
-        events.append(&mut names)?;
+    if sight.known.is_named(row) {
+        return Ok(());
     }
-    Ok(())
+    let mut names = thread_metadata(sight.alloc, row, name)?;
+    events.append(&mut names)
 }
 
 /// Names the process of a row, and the row, each where it wasn't named before.
@@ -65,8 +76,7 @@ pub fn draw_names(
     ensures { OnOk result (Draws (in_sight sight.now naming row process.now name.now) events.old.items events.new.items) }
 {
     name_process(sight, row.pid, process, events)?;
-    name_row(sight, row, name, events)?;
-    Ok(())
+    name_row(sight, row, name, events)
 }
 
 /// Makes the name of the process of the run, under the profile of the run that started last.
@@ -90,8 +100,7 @@ pub fn draw_run_names(
     ensures { OnOk result (Draws (in_sight sight.now naming row (in_sight sight.now run_process) name.now) events.old.items events.new.items) }
 {
     let process = run_process(sight)?;
-    draw_names(sight, row, process.as_str(), name, events)?;
-    Ok(())
+    draw_names(sight, row, process.as_str(), name, events)
 }
 
 // ---- slices
@@ -121,12 +130,16 @@ pub fn draw_slice<A: Args>(
 {
     let (name, category) = (span.name.as_str(), category_of(&span.key));
     let (row, at) = (span.row, sight.judged.at);
-    let event = match phase {
-        Phase::Begin => begin_event(sight.alloc, name, category, row, at, args)?,
-        Phase::End => end_event(sight.alloc, name, category, row, at, args)?,
-    };
-    events.push(event)?;
-    Ok(())
+    match phase {
+        Phase::Begin => put(
+            events,
+            begin_event(sight.alloc, name, category, row, at, args),
+        ),
+        Phase::End => put(
+            events,
+            end_event(sight.alloc, name, category, row, at, args),
+        ),
+    }
 }
 
 /// Draws in a pause the begin or the end of a slice of a span without args, and else nothing.
@@ -139,10 +152,10 @@ pub fn draw_in_pause(
     ensures { OnOk result (Draws (if sight.now.tracker.now.in_pause then bare phase sight.now.judged.now.at (span.now ∷ []) else [])
         events.old.items events.new.items) }
 {
-    if sight.tracker.in_pause() {
-        draw_slice(sight, phase, span, None::<&NoArgs>, events)?;
+    if !sight.tracker.in_pause() {
+        return Ok(());
     }
-    Ok(())
+    draw_slice(sight, phase, span, None::<&NoArgs>, events)
 }
 
 /// Draws the begin of a span. In a pause the span ends at once.
@@ -156,8 +169,7 @@ pub fn draw_start<A: Args>(
         events.old.items events.new.items) }
 {
     draw_slice(sight, Phase::Begin, span, args, events)?;
-    draw_in_pause(sight, Phase::End, span, events)?;
-    Ok(())
+    draw_in_pause(sight, Phase::End, span, events)
 }
 
 /// Draws the end of a span, where it is open. In a pause the span begins before that.
@@ -170,11 +182,9 @@ pub fn draw_end<A: Args>(
     ensures { OnOk result (Draws (in_sight sight.now closes (option_to_list (option_copied span.entry)) (Some (A.value_of args.now)))
         events.old.items events.new.items) }
 {
-    if let Some(span) = span {
-        draw_in_pause(sight, Phase::Begin, span, events)?;
-        draw_slice(sight, Phase::End, span, Some(args), events)?;
-    }
-    Ok(())
+    let Some(span) = span else { return Ok(()) };
+    draw_in_pause(sight, Phase::Begin, span, events)?;
+    draw_slice(sight, Phase::End, span, Some(args), events)
 }
 
 /// Draws the begins, or the ends, of all open spans without args.
@@ -203,8 +213,10 @@ pub fn draw_counter(
     ensures { OnOk result (Draws (in_sight sight.now counter tests scripts ∷ []) events.old.items events.new.items) }
 {
     let running = RunningCounts { tests, scripts };
-    events.push(concurrency_event(sight.alloc, running, sight.judged.at)?)?;
-    Ok(())
+    put(
+        events,
+        concurrency_event(sight.alloc, running, sight.judged.at),
+    )
 }
 
 /// Draws how many tests ended, and how.
@@ -215,8 +227,7 @@ pub fn draw_results(
 ) -> Result<(), AllocError>
     ensures { OnOk result (Draws (Results counts sight.now.judged.now.at ∷ []) events.old.items events.new.items) }
 {
-    events.push(results_event(sight.alloc, counts, sight.judged.at)?)?;
-    Ok(())
+    put(events, results_event(sight.alloc, counts, sight.judged.at))
 }
 
 /// Draws a mark over the run, with so many tests and setup scripts running.
@@ -231,8 +242,10 @@ pub fn draw_run_mark(
 {
     draw_run_names(sight, Row { pid: 0, tid: 1 }, "run", events)?;
     let running = RunningCounts { tests, scripts };
-    events.push(mark_event(sight.alloc, what, running, sight.judged.at)?)?;
-    Ok(())
+    put(
+        events,
+        mark_event(sight.alloc, what, running, sight.judged.at),
+    )
 }
 
 /// Draws that a span is slow, where it is open.
@@ -246,10 +259,13 @@ pub fn draw_slow<A: Args>(
     ensures { OnOk result (Draws (map (λ s. Slow category s.row sight.now.judged.now.at (A.value_of args.now)) (option_to_list (option_copied span.entry)))
         events.old.items events.new.items) }
 {
-    if let Some(span) = span {
-        events.push(slow_event(sight.alloc, category, span.row, sight.judged.at, args)?)?;
+    match span {
+        Some(span) => put(
+            events,
+            slow_event(sight.alloc, category, span.row, sight.judged.at, args),
+        ),
+        None => Ok(()),
     }
-    Ok(())
 }
 
 // ---- arrows
@@ -264,11 +280,16 @@ pub fn draw_arrow_start(
     ensures { OnOk result (Draws (map (λ s. ArrowStarts test.now s.row sight.now.judged.now.at sight.now.tracker.now.next_flow) (option_to_list (option_copied span.entry)))
         events.old.items events.new.items) }
 {
-    if let Some(span) = span {
-        let flow = sight.tracker.next_flow();
-        events.push(arrow_start(sight.alloc, span.row, sight.judged.at, flow)?)?;
+    match span {
+        Some(span) => {
+            let flow = sight.tracker.next_flow();
+            put(
+                events,
+                arrow_start(sight.alloc, span.row, sight.judged.at, flow),
+            )
+        }
+        None => Ok(()),
     }
-    Ok(())
 }
 
 /// Draws the finish of the arrow of this number, if there is one, for a test on a row.
@@ -281,8 +302,11 @@ pub fn draw_arrow_finish(
 ) -> Result<(), AllocError>
     ensures { OnOk result (Draws (option_to_list (option_map (ArrowFinishes test.now row sight.now.judged.now.at) flow)) events.old.items events.new.items) }
 {
-    if let Some(flow) = flow {
-        events.push(arrow_finish(sight.alloc, row, sight.judged.at, flow)?)?;
+    match flow {
+        Some(flow) => put(
+            events,
+            arrow_finish(sight.alloc, row, sight.judged.at, flow),
+        ),
+        None => Ok(()),
     }
-    Ok(())
 }

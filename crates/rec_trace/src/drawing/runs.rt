@@ -28,8 +28,7 @@ fn draw_profile_names(
     ensures { OnOk result (Draws (in_sight sight.now naming row (run_process_name (Some profile.now)) (codes "run")) events.old.items events.new.items) }
 {
     let process = run_process_name(sight.alloc, Some(profile))?;
-    draw_names(sight, row, process.as_str(), "run", events)?;
-    Ok(())
+    draw_names(sight, row, process.as_str(), "run", events)
 }
 
 /// Draws that a run started.
@@ -62,8 +61,7 @@ pub fn draw_run_start(
         cli_args,
         stress_condition,
     };
-    draw_start(sight, span, Some(&args), events)?;
-    Ok(())
+    draw_start(sight, span, Some(&args), events)
 }
 
 /// Returns the profile of the run that started last, or an empty text.
@@ -101,8 +99,7 @@ pub fn draw_run_end(
         run_stats,
         outstanding_not_seen,
     };
-    draw_end(sight, sight.tracker.open_spans().run(), &args, events)?;
-    Ok(())
+    draw_end(sight, sight.tracker.open_spans().run(), &args, events)
 }
 
 /// Draws that one of a stress run's runs started.
@@ -123,8 +120,7 @@ pub fn draw_sub_run_start(
     };
     draw_run_names(sight, span.row, "stress sub-runs", events)?;
     let args = SubRunBeginArgs { progress };
-    draw_start(sight, span, Some(&args), events)?;
-    Ok(())
+    draw_start(sight, span, Some(&args), events)
 }
 
 /// Draws that one of a stress run's runs ended.
@@ -149,6 +145,5 @@ pub fn draw_sub_run_end(
         time_taken: sub_elapsed,
         sub_stats,
     };
-    draw_end(sight, sight.tracker.open_spans().sub_run(), &args, events)?;
-    Ok(())
+    draw_end(sight, sight.tracker.open_spans().sub_run(), &args, events)
 }

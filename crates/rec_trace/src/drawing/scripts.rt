@@ -26,8 +26,7 @@ fn draw_script_names(
     ensures { OnOk result (Draws (in_sight sight.now naming row (codes "setup-scripts") (script_name index)) events.old.items events.new.items) }
 {
     let name = script_name(sight.alloc, index)?;
-    draw_names(sight, row, "setup-scripts", name.as_str(), events)?;
-    Ok(())
+    draw_names(sight, row, "setup-scripts", name.as_str(), events)
 }
 
 /// Draws that a setup script started.
@@ -49,8 +48,7 @@ pub fn draw_script_start(
     draw_script_names(sight, span.row, *index, events)?;
     draw_start(sight, span, None::<&NoArgs>, events)?;
     let (tests, scripts) = (sight.known.running(), sight.judged.running_scripts);
-    draw_counter(sight, tests, scripts, events)?;
-    Ok(())
+    draw_counter(sight, tests, scripts, events)
 }
 
 /// Draws that a setup script is slow: of those that run under its id, the one with the smallest index.
@@ -79,8 +77,7 @@ pub fn draw_slow_script(
         will_terminate: *will_terminate,
     };
     let span = sight.tracker.open_spans().some_script(script_id);
-    draw_slow(sight, Category::SetupScript, span, &args, events)?;
-    Ok(())
+    draw_slow(sight, Category::SetupScript, span, &args, events)
 }
 
 /// Draws that a setup script ended.
@@ -111,6 +108,5 @@ pub fn draw_script_end<S: OutputSpec>(
     let span = sight.tracker.open_spans().script(*index);
     draw_end(sight, span, &args, events)?;
     let (tests, scripts) = (sight.known.running(), sight.judged.running_scripts);
-    draw_counter(sight, tests, scripts, events)?;
-    Ok(())
+    draw_counter(sight, tests, scripts, events)
 }

@@ -266,10 +266,15 @@ pub fn news_of<S: OutputSpec>(
 ) -> Result<News, AllocError>
     ensures { IfOk result (λ news. news ≡ news_with row (option_map test_told test.entry) (plain_kind kind.now)) }
 {
+    let run = run_of(alloc, kind)?;
+    let Ok(test) = test_copied(alloc, test) else {
+        drop(run);
+        return Err(AllocError);
+    };
     Ok(News {
         row,
         running: running_of(kind),
-        run: run_of(alloc, kind)?,
-        test: test_copied(alloc, test)?,
+        run,
+        test,
     })
 }

@@ -175,7 +175,9 @@ impl Notes {
     {
         // The entries of tests that ended aren't kept for all of a long run.
         if notes.group.is_none() && notes.arrow.is_none() {
+            drop(notes);
             self.forget(&test);
+            drop(test);
             return;
         }
         self.replace(test, notes);

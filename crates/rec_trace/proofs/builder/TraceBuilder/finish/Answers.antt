@@ -6,8 +6,8 @@ use Rattle.rec_trace.specs.Texts.{other_data}
 
 pub returns : goal.returns
 returns g c =
-    IfOk-weaker c.other_data.result _ _
+    IfOk-weaker c.other_data-told.result _ _
     (λ v is k version events has.
     is ∙ ap (λ x. other_data x c.last_run.result.now) (c.version.ensures ∙ has.version_kept)
     ∙ ap (other_data version) (c.last_run.ensures ∙ ap (λ (x : Known). x.last_run) has.knows))
-    c.other_data.ensures
+    c.other_data-told.ensures

@@ -1,4 +1,5 @@
 use Rattle.std.proofs.Common.{Some, ap, sym, ◌∙◌}
+use Rattle.std.proofs.lemmas.Result.{on_ok_weaker}
 use Rattle.rec_trace_events.proofs.WithoutOutputs.{failed_attempt_args-with}
 use Rattle.rec_trace_events.specs.Args.{failed_attempt_args}
 use Rattle.rec_trace_events.specs.AttemptEnds.{group_or_global}
@@ -22,6 +23,9 @@ returns g c =
     (ap (λ g. failed_attempt_args k.test_instance k.stress_index (group_or_global g) k.run_status k.delay_before_next_attempt) c.group.ensures)
     (sym (failed_attempt_args-with (Unit {0}) (λ o. tt) k.test_instance k.stress_index group k.run_status k.delay_before_next_attempt)) in
     let scripts = c.requires.judged.scripts ∙ ap (λ kind. scripts_after (output_act (plain_output_kind kind)) s.tracker.now.scripts) k.is in
-    rw k.is
+    on_ok_weaker
+    c.draw_counter.result
+    (λ drawn. rw k.is
     (failed_of s.version.now s.group_by s.tracker.now (known_in s.known.now) s.judged.now.at k.test_instance k.running _ _ _ _ _ _ _ _ _ _
-    spans (ap Some args) scripts c.in_ok-draw_end.ensures c.in_ok-draw_arrow_start.ensures c.in_ok-draw_counter.ensures)
+    spans (ap Some args) scripts c.in_ok-draw_end.ensures c.in_ok-draw_arrow_start.ensures drawn))
+    c.draw_counter.ensures

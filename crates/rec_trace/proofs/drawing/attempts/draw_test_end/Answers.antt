@@ -1,4 +1,5 @@
 use Rattle.std.proofs.Common.{ap, sym, ◌∙◌}
+use Rattle.std.proofs.lemmas.Result.{on_ok_weaker}
 use Rattle.rec_trace_events.proofs.WithoutOutputs.{finished_test_args-with}
 use Rattle.rec_trace_events.specs.Args.{finished_test_args}
 use Rattle.rec_trace_events.specs.AttemptEnds.{group_or_global}
@@ -23,6 +24,9 @@ returns g c =
     (finished_args k.test_instance k.stress_index group _ k.run_statuses c.last_status-last.result.now _ c.last_status-last.ensures c.counted_flaky_result.ensures
     (ap group_or_global c.group.ensures)) in
     let scripts = c.requires.judged.scripts ∙ ap (λ kind. scripts_after (output_act (plain_output_kind kind)) s.tracker.now.scripts) k.is in
-    rw k.is
+    on_ok_weaker
+    c.draw_results.result
+    (λ drawn. rw k.is
     (finished_of s.version.now s.group_by s.tracker.now (known_in s.known.now) s.judged.now.at k.running _ _ _ _ _ _ _ _ _ _ _ _
-    spans (sym args) scripts c.in-Some.ensures.value c.in_ok-draw_end.ensures c.in_ok-draw_counter.ensures c.in_ok-draw_results.ensures)
+    spans (sym args) scripts c.in-Some.ensures.value c.in_ok-draw_end.ensures c.in_ok-draw_counter.ensures drawn))
+    c.draw_results.ensures

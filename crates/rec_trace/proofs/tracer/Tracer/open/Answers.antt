@@ -6,21 +6,21 @@ use Rattle.rec_trace.proofs.tracer.Tracer.open.Goals as goal
 use Rattle.rec_trace.specs.KnownNews.{Tells, known_in}
 use Rattle.rec_trace.specs.Steps.{seen_by}
 
-pub returns-in-Ok-clause-ok : goal.returns-in-Ok-clause-ok
-returns-in-Ok-clause-ok g c =
+pub returns-in-Ok-open_started-clause-ok : goal.returns-in-Ok-open_started-clause-ok
+returns-in-Ok-open_started-clause-ok g c =
     let old = c.args.self.now in
     let event = plain c.args.event.now in
     record {
       group = refl;
       version = refl;
-      opened = c.in-Ok.ensures.opened;
-      stands = c.in-Ok.ensures.ok;
+      opened = c.in-Ok-open_started.ensures.opened;
+      stands = c.in-Ok-open_started.ensures.ok;
       knows = c.prepare.ensures.same;
-      told = subst (λ flow. Tells flow c.args.judged.started (plain_kind c.args.event.now.kind) c.in_ok-news.news) c.next_flow-flow.ensures c.in_ok-news.ensures.tells
+      told = subst (λ flow. Tells flow c.args.judged.started (plain_kind c.args.event.now.kind) c.in-Ok.news) c.next_flow-flow.ensures c.in-Ok.ensures.tells
           (seen_by old event) c.requires.starts refl (known_in old.known);
-      has_room = c.in_ok-news.ensures.room;
-      each_says = c.in_ok-news.ensures.says;
-      numbered = c.in-Ok.ensures.opened.numbered ∙ ap suc (sym (ap (λ (t : TraceState). t.number) c.in-Ok.ensures.ok));
+      has_room = c.in-Ok.ensures.room;
+      each_says = c.in-Ok.ensures.says;
+      numbered = c.in-Ok-open_started.ensures.opened.numbered ∙ ap suc (sym (ap (λ (t : TraceState). t.number) c.in-Ok-open_started.ensures.ok));
     }
 
 pub returns-in-Err-clause-err : goal.returns-in-Err-clause-err
@@ -29,5 +29,5 @@ returns-in-Err-clause-err g c = record {
   version = refl;
   stands = c.in-Err.ensures.err;
   knows = same-trans c.let_go.ensures.same c.prepare.ensures.same;
-  each_says = λ says. c.let_go.ensures.says (c.in_ok-news.ensures.says says);
+  each_says = λ says. c.let_go.ensures.says (c.in-Ok.ensures.says says);
 }

@@ -1,4 +1,4 @@
-use Rattle.std.proofs.Common.{inl, refl}
+use Rattle.std.proofs.Common.{refl}
 use Rattle.std.proofs.lemmas.Result.{err_from_is_err_and}
 use Rattle.rec_trace.proofs.Same.{same-self}
 use Rattle.rec_trace.proofs.tracer.Tracer.prepare.Goals as goal
@@ -18,23 +18,3 @@ pub returns-in_err-judged-clause-err : goal.returns-in_err-judged-clause-err
 returns-in_err-judged-clause-err g c =
     let p = err_from_is_err_and c.from_residual.result c.from_residual.ensures.1 in
     rw (p.1) (same c.args.self.now)
-
-pub returns-in_err-events-clause-judged : goal.returns-in_err-events-clause-judged
-returns-in_err-events-clause-judged g c =
-    let p = err_from_is_err_and c.from_residual-in_err-events.result c.from_residual-in_err-events.ensures.1 in
-    rw (p.1, p.2) (inl refl)
-
-pub returns-in_err-events-clause-err : goal.returns-in_err-events-clause-err
-returns-in_err-events-clause-err g c =
-    let p = err_from_is_err_and c.from_residual-in_err-events.result c.from_residual-in_err-events.ensures.1 in
-    rw (p.1) (same c.args.self.now)
-
-pub returns-in_err-prepared-clause-judged : goal.returns-in_err-prepared-clause-judged
-returns-in_err-prepared-clause-judged g c =
-    let p = err_from_is_err_and c.from_residual-in_err-prepared.result c.from_residual-in_err-prepared.ensures.1 in
-    rw (p.1, p.2) (inl refl)
-
-pub returns-in_err-prepared-clause-err : goal.returns-in_err-prepared-clause-err
-returns-in_err-prepared-clause-err g c =
-    let p = err_from_is_err_and c.from_residual-in_err-prepared.result c.from_residual-in_err-prepared.ensures.1 in
-    rw (p.1) c.in_err-prepared.ensures.err

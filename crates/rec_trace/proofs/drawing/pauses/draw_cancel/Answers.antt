@@ -1,0 +1,15 @@
+use Rattle.std.proofs.lemmas.Result.{on_ok_weaker}
+use Rattle.std.specs.Prelude.{[], ◌∷◌}
+use Rattle.rec_trace.proofs.drawing.pauses.draw_cancel.Goals as goal
+use Rattle.rec_trace.proofs.DrawingSteps.{draws_then}
+use Rattle.rec_trace.specs.Drawing.{in_sight}
+use Rattle.rec_trace.specs.Table.{counter}
+
+pub returns : goal.returns
+returns c =
+    let k = c.in-RunBeginCancel in
+    let counted = in_sight c.args.sight.now counter k.running k.setup_scripts_running in
+    on_ok_weaker
+    c.draw_run_mark.result
+    (λ drawn. rw k.is (draws_then (counted ∷ []) _ _ _ _ c.in_ok-draw_counter.ensures drawn))
+    c.draw_run_mark.ensures
