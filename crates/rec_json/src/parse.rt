@@ -37,7 +37,10 @@ impl<'a> Node<'a> {
         let node = read_node(alloc, &mut reader, MAX_DEPTH)?;
         match reader.next() {
             None => Ok(node),
-            Some(_) => Err(ReadError::Invalid),
+            Some(_) => {
+                drop(node);
+                Err(ReadError::Invalid)
+            }
         }
     }
 }
