@@ -33,7 +33,7 @@ pub struct SlotReport {
 
 /// Says why there is no report of the slots of a run. Events are numbered from 1. Where several causes hold
 /// the first is answered, in the order in which they stand here; but want of memory may come at any time.
-#[derive(PartialEq, Drop, Error)]
+#[derive(Drop, Error)]
 pub enum SlotError {
     /// A trace of the events would be refused.
     #[error("{0}")]
