@@ -1,2 +1,3 @@
+pub mod FieldSteps
 pub mod ReadBack
 pub mod Writing
