@@ -2,7 +2,7 @@
 use rec_events::NonZeroCount;
 
 /// Counts the tests of a run that ended.
-#[derive(Copy, Clone, PartialEq, Eq)]
+#[derive(Copy, Clone)]
 pub struct CompletedRunStats {
     /// How many tests were to run when the run began.
     pub initial_run_count: usize,
@@ -15,7 +15,7 @@ pub struct CompletedRunStats {
 }
 
 /// Counts the sub-runs of a stress run that ended: each runs the tests once.
-#[derive(Copy, Clone, PartialEq, Eq)]
+#[derive(Copy, Clone)]
 pub struct StressCompletedRunStats {
     /// How many sub-runs were asked for; `None` where no number was.
     pub initial_iteration_count: Option<NonZeroCount>,
@@ -28,7 +28,7 @@ pub struct StressCompletedRunStats {
 }
 
 /// Says how a recorded run ended.
-#[derive(Copy, Clone, PartialEq, Eq)]
+#[derive(Copy, Clone)]
 pub enum RecordedRunStatus {
     /// The run goes on, or it was cut off.
     Incomplete,
@@ -45,7 +45,7 @@ pub enum RecordedRunStatus {
 }
 
 /// Holds a `RecordedRunStatus` as it stands in JSON.
-#[derive(Copy, Clone, PartialEq, Eq)]
+#[derive(Copy, Clone)]
 pub enum RecordedRunStatusFormat {
     /// The run goes on, or it was cut off.
     Incomplete,

@@ -48,8 +48,7 @@ impl fmt::Display for StoreFormatMajorVersion {
     ghost output = { λ v. Some (decimal v) };
 
     fn fmt<W: fmt::Write>(&self, f: &mut fmt::Formatter<W>) -> fmt::Result {
-        let version = self.version;
-        write!(f, "{version}")
+        fmt::Display::fmt(&self.version, f)
     }
 }
 
@@ -102,8 +101,7 @@ impl fmt::Display for StoreFormatMinorVersion {
     ghost output = { λ v. Some (decimal v) };
 
     fn fmt<W: fmt::Write>(&self, f: &mut fmt::Formatter<W>) -> fmt::Result {
-        let version = self.version;
-        write!(f, "{version}")
+        fmt::Display::fmt(&self.version, f)
     }
 }
 
@@ -146,8 +144,7 @@ impl fmt::Display for PortableRecordingFormatMajorVersion {
     ghost output = { λ v. Some (decimal v) };
 
     fn fmt<W: fmt::Write>(&self, f: &mut fmt::Formatter<W>) -> fmt::Result {
-        let version = self.version;
-        write!(f, "{version}")
+        fmt::Display::fmt(&self.version, f)
     }
 }
 
@@ -200,8 +197,7 @@ impl fmt::Display for PortableRecordingFormatMinorVersion {
     ghost output = { λ v. Some (decimal v) };
 
     fn fmt<W: fmt::Write>(&self, f: &mut fmt::Formatter<W>) -> fmt::Result {
-        let version = self.version;
-        write!(f, "{version}")
+        fmt::Display::fmt(&self.version, f)
     }
 }
 
@@ -387,8 +383,7 @@ impl fmt::Display for RunsJsonFormatVersion {
     ghost output = { λ v. Some (decimal v) };
 
     fn fmt<W: fmt::Write>(&self, f: &mut fmt::Formatter<W>) -> fmt::Result {
-        let version = self.version;
-        write!(f, "{version}")
+        fmt::Display::fmt(&self.version, f)
     }
 }
 

@@ -40,7 +40,7 @@ impl Form for StoreFormatMajorVersion {
         alloc: Global,
         node: &Node<'_>,
     ) -> Result<StoreFormatMajorVersion, FromValueError> {
-        Ok(StoreFormatMajorVersion::new(u32::from_node(alloc, node)?))
+        u32::from_node(alloc, node).map(StoreFormatMajorVersion::new)
     }
 }
 
@@ -82,7 +82,7 @@ impl Form for StoreFormatMinorVersion {
         alloc: Global,
         node: &Node<'_>,
     ) -> Result<StoreFormatMinorVersion, FromValueError> {
-        Ok(StoreFormatMinorVersion::new(u32::from_node(alloc, node)?))
+        u32::from_node(alloc, node).map(StoreFormatMinorVersion::new)
     }
 }
 
@@ -124,7 +124,7 @@ impl Form for PortableRecordingFormatMajorVersion {
         alloc: Global,
         node: &Node<'_>,
     ) -> Result<PortableRecordingFormatMajorVersion, FromValueError> {
-        Ok(PortableRecordingFormatMajorVersion::new(u32::from_node(alloc, node)?))
+        u32::from_node(alloc, node).map(PortableRecordingFormatMajorVersion::new)
     }
 }
 
@@ -166,7 +166,7 @@ impl Form for PortableRecordingFormatMinorVersion {
         alloc: Global,
         node: &Node<'_>,
     ) -> Result<PortableRecordingFormatMinorVersion, FromValueError> {
-        Ok(PortableRecordingFormatMinorVersion::new(u32::from_node(alloc, node)?))
+        u32::from_node(alloc, node).map(PortableRecordingFormatMinorVersion::new)
     }
 }
 
@@ -205,7 +205,7 @@ impl Form for RunsJsonFormatVersion {
     }
 
     fn from_node(alloc: Global, node: &Node<'_>) -> Result<RunsJsonFormatVersion, FromValueError> {
-        Ok(RunsJsonFormatVersion::new(u32::from_node(alloc, node)?))
+        u32::from_node(alloc, node).map(RunsJsonFormatVersion::new)
     }
 }
 
