@@ -10,7 +10,7 @@ use std::fmt;
 use thiserror::Error;
 
 /// Says how a slot was used, in nanoseconds. The three add up to the length of the run.
-#[derive(Clone, Copy, PartialEq, Eq, Debug, Drop)]
+#[derive(Clone, Copy, Drop)]
 pub struct SlotUsage {
     /// The slot's number among all slots.
     pub slot: u64,
