@@ -59,7 +59,7 @@ impl ScriptNotes {
     {
         let mut indexes = BTreeSet::new(alloc);
         indexes.insert(index)?;
-        self.notes.insert(String::from_str(alloc, id)?, indexes)?;
+        drop(self.notes.insert(String::from_str(alloc, id)?, indexes)?);
         Ok(())
     }
 
@@ -73,7 +73,7 @@ impl ScriptNotes {
         };
         indexes.remove(&index);
         if indexes.is_empty() {
-            self.notes.remove(id);
+            drop(self.notes.remove(id));
         }
     }
 }
