@@ -1,5 +1,5 @@
 -- The order of tests, by which maps and sets find them, finds the same test; and a test is the same as itself alone.
-use Rattle.std.proofs.Common.{◌≡◌, ◌&&◌, Bool, true, refl, ◌∙◌, ap, bytes_eq}
+use Rattle.std.proofs.Common.{◌≡◌, ◌&&◌, true, refl, ◌∙◌, ap, bytes_eq}
 use Rattle.std.proofs.lemmas.Bool.{and_parts, and_from}
 use Rattle.std.proofs.lemmas.Map.Text.{is_eq-slice_cmp}
 use Rattle.std.proofs.lemmas.Slice.Eq.{bytes_eq-Decides}

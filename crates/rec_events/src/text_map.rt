@@ -67,7 +67,6 @@ impl<V> TextMap<V> {
 }
 
 impl<V: TryClone + Drop> TryClone for TextMap<V> {
-    #[tactic(auto, using(crate::specs::PairLaws::put_next))]
     fn try_clone(&self, alloc: Global) -> Result<TextMap<V>, AllocError> {
         let mut copy = TextMap::empty(alloc);
         for (key, value) in self.as_map() {
