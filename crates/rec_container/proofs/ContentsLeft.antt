@@ -1,11 +1,11 @@
 -- What is left of contents that are written one after the other.
-use Rattle.std.proofs.Common.{zero, suc, ◌≡◌, ℕ, ◌+◌, ◌<◌, ◌≤◌, List, [], ◌∷◌, ◌++◌, length, get_or, drop, map, slice_get, Some, refl, sym, ap, ◌∙◌, subst, length-append, append_assoc, append-nil, arith}
+use Rattle.std.proofs.Common.{zero, suc, ◌≡◌, ℕ, ◌+◌, ◌<◌, ◌≤◌, List, [], ◌∷◌, ◌++◌, length, get_or, drop, map, slice_get, Some, refl, sym, ap, ◌∙◌, subst, length-append, append_assoc, append-nil}
 use Rattle.std.proofs.lemmas.Grind.{flat_map-append}
 use Rattle.std.proofs.lemmas.List.{drop_more, drop_all}
 use Rattle.std.specs.Int.{w64, to_be_bytes}
 use Rattle.std.specs.List.{AllByRecursion, flat_map}
 use Rattle.rec_container.proofs.Lengths.{length-entry}
-use Rattle.rec_container.specs.Container.{AreFrom, Entry, IsEntry, entry, entry_head, magic, spell}
+use Rattle.rec_container.specs.Container.{AreFrom, Entry, entry, entry_head, magic, spell}
 use Rattle.rec_container.specs.declared.named_contents.NamedContent.{NamedContent}
 use Rattle.rec_container.specs.NamedContents.{begun, container_of, entry_of, nested, tagged_name}
 use Rattle.rec_container.specs.Writing.{entry_named}

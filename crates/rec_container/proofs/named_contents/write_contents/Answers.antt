@@ -1,4 +1,4 @@
-use Rattle.std.proofs.Common.{◌≡◌, ◌++◌, [], get_or, arith, ap, sym, subst, append-nil, ◌∙◌, map, refl}
+use Rattle.std.proofs.Common.{◌++◌, [], get_or, arith, ap, sym, subst, append-nil, ◌∙◌, refl}
 use Rattle.std.proofs.KnownBytes.{Appends-trans}
 use Rattle.std.specs.Io.KnownBytes.{Appends}
 use Rattle.rec_container.proofs.ContentsLeft.{all_more, left, left_all, left_end, left_parts, left_step, nothing}

@@ -1,9 +1,8 @@
-use Rattle.std.proofs.Common.{◌≡◌, ◌++◌, ap, sym, ◌∙◌}
+use Rattle.std.proofs.Common.{◌++◌, ap, sym, ◌∙◌}
 use Rattle.rec_container.proofs.ContentsLeft.{head_parts}
 use Rattle.rec_container.proofs.named_contents.write_head.Goals as goal
 use Rattle.rec_container.proofs.Parts.{took_both, took_first, took_second}
 use Rattle.rec_container.proofs.Results.{err_then, ok_then, on_err}
-use Rattle.rec_container.specs.Container.{entry_head}
 use Rattle.rec_container.specs.NamedContents.{tagged_name}
 
 pub returns-in_err-write_name-clause-fault : goal.returns-in_err-write_name-clause-fault

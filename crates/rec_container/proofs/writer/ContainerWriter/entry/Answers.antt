@@ -1,9 +1,8 @@
-use Rattle.std.proofs.Common.{◌≡◌, ◌∙◌, ◌<◌, ap, sym, subst, ℕ, List, [], String, Vec, Bor, option_map, Some, length, slice_get, refl}
+use Rattle.std.proofs.Common.{◌∙◌, ◌<◌, ap, sym, subst, ℕ, List, [], String, Vec, Bor, option_map, Some, length, refl}
 use Rattle.std.specs.declared.alloc.Global.{Global}
 use Rattle.rec_container.proofs.ContentsLeft.{short_name}
 use Rattle.rec_container.proofs.Entries.{entry_of_pair}
 use Rattle.rec_container.proofs.writer.ContainerWriter.entry.Goals as goal
-use Rattle.rec_container.specs.Container.{Entry}
 use Rattle.rec_container.specs.Writing.{Writing, entry_named}
 
 pub returns-clause-found : goal.returns-clause-found

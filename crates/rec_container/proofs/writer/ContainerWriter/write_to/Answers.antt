@@ -1,4 +1,4 @@
-use Rattle.std.proofs.Common.{◌≡◌, ◌∷◌, [], ◌++◌, ◌<◌, ◌≤◌, length, get_or, arith, ap, sym, subst, ◌∙◌, ◌+◌, List, ℕ, append_assoc}
+use Rattle.std.proofs.Common.{◌∷◌, [], ◌++◌, ◌<◌, ◌≤◌, length, get_or, arith, ap, sym, subst, ◌∙◌, ◌+◌, append_assoc}
 use Rattle.std.proofs.KnownBytes.{Appends-trans}
 use Rattle.std.specs.Io.KnownBytes.{Appends}
 use Rattle.std.specs.List.{flat_map}
@@ -6,7 +6,7 @@ use Rattle.rec_container.proofs.ContentsLeft.{entry_found, left, left_end, left_
 use Rattle.rec_container.proofs.Parts.{took_both, took_first, took_part, took_second}
 use Rattle.rec_container.proofs.Results.{err_then, ok_then, on_err}
 use Rattle.rec_container.proofs.writer.ContainerWriter.write_to.Goals as goal
-use Rattle.rec_container.specs.Container.{Entry, entry, magic}
+use Rattle.rec_container.specs.Container.{entry, magic}
 use Rattle.rec_container.specs.Writing.{entry_named}
 
 pub returns-in_err-write_magic-clause-fault : goal.returns-in_err-write_magic-clause-fault
