@@ -38,7 +38,7 @@ pub(crate) fn addition_of<D: ErrorDescriber>(
     match kind {
         TestEventKind::SetupScriptFinished { .. } => script_finished(alloc, mode, describer, kind),
         TestEventKind::TestFinished { .. } => test_finished(alloc, mode, describer, kind),
-        TestEventKind::TestSkipped { .. } => Ok(test_skipped(alloc, mode, describer, kind)?),
+        TestEventKind::TestSkipped { .. } => test_skipped(alloc, mode, describer, kind),
         _ => Ok(None),
     }
 }
@@ -195,7 +195,7 @@ fn finished_addition<D: ErrorDescriber>(
 {
     let attempts = statuses.describe();
     let case = maker.test_case(test, statuses.flaky_result(), fail_status, &attempts)?;
-    Ok(Some(test_addition(maker.alloc, stress_index, test, case)?))
+    test_addition(maker.alloc, stress_index, test, case)
 }
 
 /// Makes what a test adds that doesn't run.
@@ -204,9 +204,9 @@ fn test_skipped<D: ErrorDescriber>(
     mode: NextestRunMode,
     describer: &D,
     kind: &TestEventKind<'_>,
-) -> Result<Option<Addition>, AllocError>
+) -> Result<Option<Addition>, JunitError>
     requires kind { kind_name kind.now ≡ codes "test-skipped" }
-    ensures { IfOk result (λ added. addition_of mode (D.text_of describer.now) kind.now ≡ Ok added) }
+    ensures { Judges result (addition_of mode (D.text_of describer.now) kind.now) }
 {
     let TestEventKind::TestSkipped {
         stress_index,
@@ -220,7 +220,7 @@ fn test_skipped<D: ErrorDescriber>(
     if !junit_report_skipped.should_report(*reason) {
         return Ok(None);
     }
-    skipped_addition(alloc, stress_index, test_instance, *reason).map(Some)
+    skipped_addition(alloc, stress_index, test_instance, *reason)
 }
 
 /// Adds the case of a test that doesn't run.
@@ -229,8 +229,8 @@ fn skipped_addition(
     stress_index: &Option<StressIndex>,
     test: &TestInstanceId<'_>,
     reason: MismatchReason,
-) -> Result<Addition, AllocError>
-    ensures { IfOk result (λ added. added ≡ test_addition stress_index.now test.now (skipped_case test.now reason)) }
+) -> Result<Option<Addition>, JunitError>
+    ensures { Judges result (Ok (Some (test_addition stress_index.now test.now (skipped_case test.now reason)))) }
 {
     let case = skipped_case(alloc, test, reason)?;
     test_addition(alloc, stress_index, test, case)
@@ -242,18 +242,18 @@ fn test_addition(
     stress_index: &Option<StressIndex>,
     test: &TestInstanceId<'_>,
     case: JunitCase,
-) -> Result<Addition, AllocError>
-    ensures { IfOk result (λ added. added ≡ test_addition stress_index.now test.now case) }
+) -> Result<Option<Addition>, JunitError>
+    ensures { Judges result (Ok (Some (test_addition stress_index.now test.now case))) }
 {
     let Ok(key) = SuiteKey::of_binary(alloc, test.binary_id, stress_index) else {
         drop(case);
-        return Err(AllocError);
+        return Err(JunitError::OutOfMemory);
     };
-    Ok(Addition {
+    Ok(Some(Addition {
         key,
         case,
         properties: Items::empty(alloc),
-    })
+    }))
 }
 
 /// Says of a script's suite what was run, and which variables it set.

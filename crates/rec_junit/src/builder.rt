@@ -1,5 +1,5 @@
 //! The report of a run, built event by event.
-ghost use Rattle.std.specs.Prelude.{◌≡◌, ◌++◌, ◌∷◌, [], List, None, Some, IfOk, OnOk, OnErr, codes, string_bytes};
+ghost use Rattle.std.specs.Prelude.{◌≡◌, ◌++◌, ◌∷◌, [], List, None, IfOk, OnOk, OnErr, codes, string_bytes};
 ghost use Rattle.rec_events.specs.declared.live_events.TestEvent.{TestEvent};
 ghost use Rattle.rec_events.specs.LiveEvents.{kind_name};
 ghost use Rattle.rec_junit.specs.Histories.{refusal_of, report_after, report_with, suites_after, suites_by, StandsFor};
@@ -10,7 +10,7 @@ use crate::additions::addition_of;
 use crate::suites::OpenSuites;
 use crate::{ErrorDescriber, JunitError, JunitReport};
 use rec_events::{NextestRunMode, TestEvent, TestEventKind, Text, TryClone};
-use std::alloc::{AllocError, Global};
+use std::alloc::Global;
 use std::mem;
 
 /// Builds the report of a run from its events, and begins anew at the end of a run.
@@ -82,16 +82,17 @@ impl<'a, D: ErrorDescriber> JunitBuilder<'a, D> {
         ensures settings { self.new ≡ record self.old { suites = self.new.suites } }
     {
         match &event.kind {
-            TestEventKind::RunFinished { .. } => Ok(Some(self.finish_run(&event.kind)?)),
+            TestEventKind::RunFinished { .. } => self.finish_run(&event.kind),
             _ => self.add_event(&event.kind),
         }
     }
 
     /// Answers the report of a run that ended, and begins anew.
-    fn finish_run(&mut self, kind: &TestEventKind<'_>) -> Result<JunitReport, AllocError>
+    fn finish_run(&mut self, kind: &TestEventKind<'_>) -> Result<Option<JunitReport>, JunitError>
         requires kind { kind_name kind.now ≡ codes "run-finished" }
         ensures new { OnOk result (self.new.suites ≡ no_suites) }
-        ensures reports { IfOk result (λ report. report_with self.old.name self.old.suites kind.now ≡ Some report) }
+        ensures reports { IfOk result (λ report. report ≡ report_with self.old.name self.old.suites kind.now) }
+        ensures judged { IsJudged result None }
         ensures unchanged { OnErr result (self.new ≡ self.old) }
         ensures settings { self.new ≡ record self.old { suites = self.new.suites } }
     {
@@ -106,13 +107,13 @@ impl<'a, D: ErrorDescriber> JunitBuilder<'a, D> {
         };
         let name = self.name.try_clone(self.alloc)?;
         let suites = mem::replace(&mut self.suites, OpenSuites::new(self.alloc));
-        Ok(JunitReport {
+        Ok(Some(JunitReport {
             name,
             run_id: *run_id,
             timestamp: *start_time,
             time: *elapsed,
             suites: suites.into_suites(),
-        })
+        }))
     }
 
     /// Adds what an event of the run gives.

@@ -48,7 +48,7 @@ impl ErrorDescriber for PlainDescriber {
     ) -> Result<Option<ErrorText>, AllocError> {
         match output {
             ChildExecutionOutputDescription::StartError { message } => {
-                Ok(Some(same_text(alloc, message)?))
+                same_text(alloc, message).map(Some)
             }
             ChildExecutionOutputDescription::Output { errors, .. } => match errors {
                 Some(errors) => describe_errors(alloc, errors.as_slice()),

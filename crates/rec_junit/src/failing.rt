@@ -1,12 +1,10 @@
 //! How a result is reported that is no success.
 ghost use Rattle.std.specs.Prelude.{◌≡◌, ◌++◌, ℕ, List, Some, IfOk, codes};
 ghost use Rattle.rec_events.specs.declared.results.ExecutionResultDescription.TheVariants.{Leak, Fail, Timeout};
-ghost use Rattle.rec_junit.specs.declared.errors.JunitError.TheVariants.{SuccessAsFailure};
 ghost use Rattle.rec_junit.specs.declared.report.JunitKind.TheVariants.{Error};
 ghost use Rattle.rec_junit.specs.Failing.{failed, failing, failure_text, leaked_note, script_unit, test_unit};
-ghost use Rattle.rec_junit.specs.Judging.{Judges, or_refused};
 
-use crate::{JunitError, JunitKind};
+use crate::JunitKind;
 use rec_events::{
     ExecutionResultDescription, FailureDescription, LeakTimeoutResult, NextestRunMode,
     SlowTimeoutResult, Text,
@@ -37,26 +35,27 @@ pub(crate) fn script_unit() -> &'static str
     "script"
 }
 
-/// Says how an ending is reported.
+/// Says how an ending is reported: not at all where it is a pass, or a timeout that counts as one.
 ///
 /// # Errors
 ///
-/// - `SuccessAsFailure` exactly where it is a pass, or a timeout that counts as one.
-/// - `OutOfMemory` if memory runs out.
+/// `AllocError` means that there was not enough memory.
 pub(crate) fn failing(
     alloc: Global,
     unit: &str,
     ending: &ExecutionResultDescription,
-) -> Result<FailureKind, JunitError>
-    ensures { Judges result (or_refused SuccessAsFailure (failing unit.now ending.now)) }
+) -> Result<Option<FailureKind>, AllocError>
+    ensures { IfOk result (λ failure. failure ≡ failing unit.now ending.now) }
 {
     match ending {
-        ExecutionResultDescription::Pass => Err(JunitError::SuccessAsFailure),
-        ExecutionResultDescription::Leak { result } => Ok(leak_failure(alloc, unit, *result)?),
-        ExecutionResultDescription::Fail { failure, leaked } => {
-            Ok(process_failure(alloc, unit, failure, *leaked)?)
+        ExecutionResultDescription::Pass => Ok(None),
+        ExecutionResultDescription::Leak { result } => {
+            leak_failure(alloc, unit, *result).map(Some)
         }
-        ExecutionResultDescription::ExecFail => Ok(start_failure(alloc)?),
+        ExecutionResultDescription::Fail { failure, leaked } => {
+            process_failure(alloc, unit, failure, *leaked).map(Some)
+        }
+        ExecutionResultDescription::ExecFail => start_failure(alloc).map(Some),
         ExecutionResultDescription::Timeout { result } => timeout_failure(alloc, unit, *result),
     }
 }
@@ -113,10 +112,12 @@ fn failure_text(
     ensures { IfOk result (λ text. text ≡ failure_text unit.now failure.now note.now) }
 {
     match failure {
-        FailureDescription::ExitCode { code } => Ok(Text::new(format!(in alloc;
-            "{unit} failure with exit code {code}{note}"
-        )?)),
-        FailureDescription::Abort { .. } => Ok(Text::new(format!(in alloc; "{unit} abort{note}")?)),
+        FailureDescription::ExitCode { code } => {
+            format!(in alloc; "{unit} failure with exit code {code}{note}").map(Text::new)
+        }
+        FailureDescription::Abort { .. } => {
+            format!(in alloc; "{unit} abort{note}").map(Text::new)
+        }
     }
 }
 
@@ -142,14 +143,14 @@ fn timeout_failure(
     alloc: Global,
     unit: &str,
     counts_as: SlowTimeoutResult,
-) -> Result<FailureKind, JunitError>
-    ensures { Judges result (or_refused SuccessAsFailure (failing unit.now (Timeout counts_as))) }
+) -> Result<Option<FailureKind>, AllocError>
+    ensures { IfOk result (λ failure. failure ≡ failing unit.now (Timeout counts_as)) }
 {
     match counts_as {
-        SlowTimeoutResult::Pass => Err(JunitError::SuccessAsFailure),
-        SlowTimeoutResult::Fail => Ok(FailureKind {
+        SlowTimeoutResult::Pass => Ok(None),
+        SlowTimeoutResult::Fail => Ok(Some(FailureKind {
             kind: JunitKind::Failure,
             type_text: Text::new(format!(in alloc; "{unit} timeout")?),
-        }),
+        })),
     }
 }

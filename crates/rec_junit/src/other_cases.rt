@@ -33,14 +33,14 @@ impl<D: ErrorDescriber> CaseMaker<'_, D> {
         ensures { Judges result (script_case (D.text_of self.now.describer.now) self.now.storing script.now suite.now ran.now) }
     {
         let judged = self.judged_script(ran.result.is_success(), ran)?;
-        Ok(case_of(
+        case_of(
             self.alloc,
             script.as_str(),
             suite,
             &ran.start_time,
             &ran.time_taken,
             judged,
-        )?)
+        )
     }
 
     /// Says how a setup script ended, and then what it wrote.
@@ -110,7 +110,7 @@ fn skip_message(alloc: Global, reason: MismatchReason) -> Result<Text, AllocErro
     ensures { IfOk result (λ message. message ≡ codes "Skipped: test " ++ reason_text reason) }
 {
     let reason = reason_text(reason);
-    Ok(Text::new(format!(in alloc; "Skipped: test {reason}")?))
+    format!(in alloc; "Skipped: test {reason}").map(Text::new)
 }
 
 /// Says why a test doesn't run.

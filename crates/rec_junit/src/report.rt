@@ -47,7 +47,7 @@ pub struct JunitCase {
 }
 
 /// Says whether a test failed, or something about it went wrong.
-#[derive(Clone, Copy, PartialEq, Eq, Drop)]
+#[derive(Clone, Copy, Drop)]
 pub enum JunitKind {
     Failure,
     Error,
@@ -55,7 +55,7 @@ pub enum JunitKind {
 
 /// Says what further attempts of a case that did not succeed were: reruns of a failure, or the
 /// attempts before a pass.
-#[derive(Clone, Copy, PartialEq, Eq, Drop)]
+#[derive(Clone, Copy, Drop)]
 pub enum JunitRerunKind {
     Rerun,
     Flaky,

@@ -96,7 +96,9 @@ impl<D: ErrorDescriber> CaseMaker<'_, D> {
     ) -> Result<Failure, JunitError>
         ensures { Judges result (failure_of self.now.unit.now (D.text_of self.now.describer.now) ending.now execution.now) }
     {
-        let kind = failing(self.alloc, self.unit, ending)?;
+        let Some(kind) = failing(self.alloc, self.unit, ending)? else {
+            return Err(JunitError::SuccessAsFailure);
+        };
         match self.describer.describe(self.alloc, execution) {
             Ok(text) => Ok((kind, text)),
             Err(_) => {

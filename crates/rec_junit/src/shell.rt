@@ -51,7 +51,7 @@ pub fn shell_join(alloc: Global, words: &[String]) -> Result<String, AllocError>
 pub(crate) fn join_texts(alloc: Global, words: &[Text]) -> Result<Text, AllocError>
     ensures { IfOk result (λ line. line ≡ shell_words (λ w. w) words.now) }
 {
-    Ok(Text::new(join(alloc, words)?))
+    join(alloc, words).map(Text::new)
 }
 
 /// Joins words with spaces.
@@ -87,8 +87,7 @@ fn put_quoted(line: &mut String, word: &str) -> Result<(), AllocError>
 {
     line.push_str("'")?;
     put_characters(line, word)?;
-    line.push_str("'")?;
-    Ok(())
+    line.push_str("'")
 }
 
 /// Adds the characters of a word that stands between quotes.

@@ -95,7 +95,7 @@ impl SuiteSubject {
         match self {
             SuiteSubject::Script(id) => {
                 let id = id.as_str();
-                Ok(Text::new(format!(in alloc; "@setup-script:{id}")?))
+                format!(in alloc; "@setup-script:{id}").map(Text::new)
             }
             SuiteSubject::Binary(id) => Text::from_str(alloc, id.as_str()),
         }
@@ -107,5 +107,5 @@ fn with_stress_suffix(alloc: Global, subject: Text, current: u32) -> Result<Text
     ensures { IfOk result (λ name. name ≡ subject ++ (codes "@stress-" ++ decimal current)) }
 {
     let subject = subject.as_str();
-    Ok(Text::new(format!(in alloc; "{subject}@stress-{current}")?))
+    format!(in alloc; "{subject}@stress-{current}").map(Text::new)
 }

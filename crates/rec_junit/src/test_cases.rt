@@ -1,5 +1,5 @@
 //! The cases of finished tests.
-ghost use Rattle.std.specs.Prelude.{◌≡◌, IfOk, Some, string_bytes};
+ghost use Rattle.std.specs.Prelude.{◌≡◌, IfOk, None, Ok, Some, string_bytes};
 ghost use Rattle.rec_events.specs.declared.reporting.JunitFlakyFailStatus.TheVariants as reported;
 ghost use Rattle.rec_events.specs.declared.results.FlakyResult.TheVariants as flaky;
 ghost use Rattle.rec_events.specs.Results.{flaky_text};
@@ -56,14 +56,14 @@ impl<D: ErrorDescriber> CaseMaker<'_, D> {
     {
         let main = main_of(attempts);
         let judged = self.judged_test(flaky_result, fail_status, attempts)?;
-        Ok(case_of(
+        case_of(
             self.alloc,
             test.test_name.as_str(),
             test.binary_id.as_str(),
             &main.start_time,
             &main.time_taken,
             judged,
-        )?)
+        )
     }
 
     /// Says how a finished test ended, and then what its main attempt wrote.
@@ -99,7 +99,7 @@ impl<D: ErrorDescriber> CaseMaker<'_, D> {
                 ..
             } => {
                 let reruns = self.reruns_of(*prior_statuses)?;
-                Ok(self.flaky_status(flaky_result, fail_status, *last_status, reruns)?)
+                self.flaky_status(flaky_result, fail_status, *last_status, reruns)
             }
             ExecutionDescription::Failure {
                 first_status,
@@ -116,8 +116,8 @@ impl<D: ErrorDescriber> CaseMaker<'_, D> {
         fail_status: JunitFlakyFailStatus,
         last: &ExecuteStatus<LiveSpec>,
         reruns: Items<JunitRerun>,
-    ) -> Result<JunitStatus, AllocError>
-        ensures { IfOk result (λ status. status ≡ flaky_status flaky_result fail_status last.now (D.text_of self.now.describer.now last.now.output) reruns) }
+    ) -> Result<JunitStatus, JunitError>
+        ensures { Judges result (Ok (flaky_status flaky_result fail_status last.now (D.text_of self.now.describer.now last.now.output) reruns)) }
     {
         if flaky_result == FlakyResult::Pass || fail_status == JunitFlakyFailStatus::Success {
             return Ok(JunitStatus::Success { reruns });
@@ -130,16 +130,16 @@ impl<D: ErrorDescriber> CaseMaker<'_, D> {
         &self,
         last: &ExecuteStatus<LiveSpec>,
         reruns: Items<JunitRerun>,
-    ) -> Result<JunitStatus, AllocError>
-        ensures { IfOk result (λ status. status ≡ flaky_status flaky.Fail reported.Failure last.now (D.text_of self.now.describer.now last.now.output) reruns) }
+    ) -> Result<JunitStatus, JunitError>
+        ensures { Judges result (Ok (flaky_status flaky.Fail reported.Failure last.now (D.text_of self.now.describer.now last.now.output) reruns)) }
     {
         let Ok(type_text) = Text::from_str(self.alloc, "flaky failure") else {
             drop(reruns);
-            return Err(AllocError);
+            return Err(JunitError::OutOfMemory);
         };
         let Ok((message, description)) = self.flaky_words(last) else {
             drop((type_text, reruns));
-            return Err(AllocError);
+            return Err(JunitError::OutOfMemory);
         };
         Ok(JunitStatus::NonSuccess {
             kind: JunitKind::Failure,
@@ -163,13 +163,16 @@ impl<D: ErrorDescriber> CaseMaker<'_, D> {
     {
         match self.describer.describe(self.alloc, &last.output)? {
             Some(text) => Ok((Some(text.message), Some(text.description))),
-            None => Ok((self.flaky_message(last)?, None)),
+            None => self.flaky_message(last),
         }
     }
 
     /// Says that a test passed and counts as failed.
-    fn flaky_message(&self, last: &ExecuteStatus<LiveSpec>) -> Result<Option<Text>, AllocError>
-        ensures { IfOk result (λ message. message ≡ flaky_text flaky.Fail last.now.retry_data.attempt last.now.retry_data.total_attempts) }
+    fn flaky_message(
+        &self,
+        last: &ExecuteStatus<LiveSpec>,
+    ) -> Result<(Option<Text>, Option<Text>), AllocError>
+        ensures { IfOk result (λ words. words ≡ (flaky_text flaky.Fail last.now.retry_data.attempt last.now.retry_data.total_attempts, None)) }
     {
         let retry = last.retry_data;
         let message = FlakyResult::Fail.fail_message(
@@ -178,8 +181,8 @@ impl<D: ErrorDescriber> CaseMaker<'_, D> {
             retry.total_attempts,
         )?;
         match message {
-            Some(message) => Ok(Some(Text::new(message))),
-            None => Ok(None),
+            Some(message) => Ok((Some(Text::new(message)), None)),
+            None => Ok((None, None)),
         }
     }
 
@@ -210,12 +213,12 @@ pub(crate) fn case_of(
     start_time: &Stamp,
     time_taken: &Duration,
     judged: (JunitStatus, StoredOutput),
-) -> Result<JunitCase, AllocError>
-    ensures { IfOk result (λ case. case ≡ case_of name.now classname.now start_time.now time_taken.now judged) }
+) -> Result<JunitCase, JunitError>
+    ensures { Judges result (Ok (case_of name.now classname.now start_time.now time_taken.now judged)) }
 {
     let Ok((name, classname)) = two_texts(alloc, name, classname) else {
         drop(judged);
-        return Err(AllocError);
+        return Err(JunitError::OutOfMemory);
     };
     let (status, output) = judged;
     Ok(JunitCase {

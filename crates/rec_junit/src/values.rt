@@ -230,8 +230,7 @@ impl<T: Part> Part for Items<T> {
         for item in self.as_slice() {
             item.write(alloc, text)?;
         }
-        text.end_list()?;
-        Ok(())
+        text.end_list()
     }
 }
 

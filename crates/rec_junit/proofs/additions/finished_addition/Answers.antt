@@ -1,4 +1,4 @@
-use Rattle.std.proofs.Common.{Some, Ok, refl, sym}
+use Rattle.std.proofs.Common.{Some, Ok, sym}
 use Rattle.std.proofs.lemmas.Result.{err_from_is_err_and}
 use Rattle.rec_junit.proofs.additions.finished_addition.Goals as goal
 use Rattle.rec_junit.proofs.Attempts.{described}
@@ -14,4 +14,4 @@ returns-in_err-case g c =
 pub returns : goal.returns
 returns g c =
     let tried = described c.args.statuses.now c.describe-attempts.result c.describe-attempts.ensures in
-    rw (tried, sym c.flaky_result.ensures, c.in_ok-case.ensures, c.in_ok-test_addition.ensures) refl
+    rw (tried, sym c.flaky_result.ensures, c.in_ok-case.ensures) c.test_addition.ensures

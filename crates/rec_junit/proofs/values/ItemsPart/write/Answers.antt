@@ -25,4 +25,4 @@ returns-clause-written g c =
     let begun = c.args.text.now ++ begin_array ∷ [] in
     let none = items_written g.T.Part.value_of c.loop-item.text items c.loop-item.item-index c.loop-item-test.false in
     let same = ap (λ xs. with_items begun (map g.T.Part.value_of xs)) c.as_slice-item-items.ensures in
-    c.in_ok-end_list.ensures c.args.text.now (map g.T.Part.value_of c.args.self.now) (sym none ∙ c.loop-item.invariant.written ∙ same)
+    c.end_list.ensures c.args.text.now (map g.T.Part.value_of c.args.self.now) (sym none ∙ c.loop-item.invariant.written ∙ same)
