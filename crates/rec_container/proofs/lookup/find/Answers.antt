@@ -57,3 +57,21 @@ returns-clause-found g c =
     let ordered = here.invariant.ordered in
     let test = c.loop-from-test.false in
     none_between c.args.sorted.now c.args.name.now here.from here.to c.requires here.invariant.between (omega arith)
+
+pub overflow_add-middle : goal.overflow_add-middle
+overflow_add-middle g c = omega (arith, c.loop-from-test.true, c.loop-from.invariant.inside)
+
+pub overflow_add-from : goal.overflow_add-from
+overflow_add-from g c = omega (arith, c.loop-from-test.true, c.loop-from.invariant.inside)
+
+pub bounds-sorted-middle : goal.bounds-sorted-middle
+bounds-sorted-middle g c = omega (arith, c.loop-from-test.true, c.loop-from.invariant.inside)
+
+pub loop-from-smaller-in-Less : goal.loop-from-smaller-in-Less
+loop-from-smaller-in-Less g c = omega (arith, c.loop-from-test.true)
+
+pub loop-from-smaller : goal.loop-from-smaller
+loop-from-smaller g c = omega (arith, c.loop-from-test.true)
+
+pub returns-clause-cost : goal.returns-clause-cost
+returns-clause-cost g c = c.loop-from.invariant.halved.cheap

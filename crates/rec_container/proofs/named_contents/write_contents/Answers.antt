@@ -3,7 +3,7 @@ use Rattle.std.proofs.KnownBytes.{Appends-trans}
 use Rattle.std.specs.Io.KnownBytes.{Appends}
 use Rattle.rec_container.proofs.ContentsLeft.{all_more, left, left_all, left_end, left_parts, left_step, nothing}
 use Rattle.rec_container.proofs.named_contents.write_contents.Goals as goal
-use Rattle.rec_container.proofs.Parts.{took_first, took_part}
+use Rattle.rec_container.proofs.Parts.{cause_at, took_first, took_part}
 use Rattle.rec_container.proofs.Results.{on_err}
 use Rattle.rec_container.specs.Container.{entry, magic}
 use Rattle.rec_container.specs.NamedContents.{begun, entry_of}
@@ -42,3 +42,8 @@ returns-clause-ok g c =
 
 pub returns-in_err-write_magic-clause-fault : goal.returns-in_err-write_magic-clause-fault
 returns-in_err-write_magic-clause-fault g c = on_err _ (took_first _ _ _ _ _ c.in_err-write_magic.ensures.fault refl)
+
+pub returns-in_err-write_content-clause-cause : goal.returns-in_err-write_content-clause-cause
+returns-in_err-write_content-clause-cause g c =
+    let h = c.in_err-write_content.ensures.cause in
+    cause_at _ _ _ _ c.loop-content.invariant.later h.later h.failed

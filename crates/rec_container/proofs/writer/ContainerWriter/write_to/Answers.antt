@@ -3,7 +3,7 @@ use Rattle.std.proofs.KnownBytes.{Appends-trans}
 use Rattle.std.specs.Io.KnownBytes.{Appends}
 use Rattle.std.specs.List.{flat_map}
 use Rattle.rec_container.proofs.ContentsLeft.{entry_found, left, left_end, left_parts, left_step, no_entry}
-use Rattle.rec_container.proofs.Parts.{took_both, took_first, took_part, took_second}
+use Rattle.rec_container.proofs.Parts.{cause_at, cause_of_last, took_both, took_first, took_part, took_second}
 use Rattle.rec_container.proofs.Results.{err_then, ok_then, on_err}
 use Rattle.rec_container.proofs.writer.ContainerWriter.write_to.Goals as goal
 use Rattle.rec_container.specs.Container.{entry, magic}
@@ -56,3 +56,11 @@ returns-clause-fault g c =
     let none : length c.args.self.now.entries ≤ l.i = omega (arith, c.loop-i-test.false, c.len-i-end.ensures) in
     let whole = left_end (λ e. e) c.args.self.now.entries l.i l.invariant.done (0 ∷ []) _ none l.invariant.whole in
     err_then c.write_all.result (λ part. took_second _ _ _ _ _ _ l.invariant.taken part whole) c.write_all.ensures.fault
+
+pub returns-in_err-write_content-clause-cause : goal.returns-in_err-write_content-clause-cause
+returns-in_err-write_content-clause-cause g c =
+    let h = c.in_err-write_content.ensures.cause in
+    cause_at _ _ _ _ c.loop-i.invariant.later h.later h.failed
+
+pub returns-clause-cause : goal.returns-clause-cause
+returns-clause-cause g c = cause_of_last _ _ _ c.write_all.result c.loop-i.invariant.later c.write_all.ensures.cause
