@@ -1,48 +1,8 @@
-use Rattle.std.specs.Prelude.{refl}
 use Rattle.rec_forms.proofs.stats.LastCounts.write.Goals as goal
+use Rattle.rec_forms.proofs.Writing.{◌▸◌, saying}
 
--- what each call wrote, from the last one back
 pub returns : goal.returns
-returns c = record {
-  goes = λ at7.
-      let at6 = c.field.ensures.goes at7 in
-      let at5 = c.field-object-6.ensures.goes at6 in
-      let at4 = c.field-object-5.ensures.goes at5 in
-      let at3 = c.field-object-4.ensures.goes at4 in
-      let at2 = c.field-object-3.ensures.goes at3 in
-      let at1 = c.field-object-2.ensures.goes at2 in
-      let at0 = c.field-object.ensures.goes at1 in
-      at0;
-  written = λ at7.
-      let at6 = c.field.ensures.goes at7 in
-      let at5 = c.field-object-6.ensures.goes at6 in
-      let at4 = c.field-object-5.ensures.goes at5 in
-      let at3 = c.field-object-4.ensures.goes at4 in
-      let at2 = c.field-object-3.ensures.goes at3 in
-      let at1 = c.field-object-2.ensures.goes at2 in
-      rw (
-        c.field.ensures.written at7,
-        c.field-object-6.ensures.written at6,
-        c.field-object-5.ensures.written at5,
-        c.field-object-4.ensures.written at4,
-        c.field-object-3.ensures.written at3,
-        c.field-object-2.ensures.written at2,
-        c.field-object.ensures.written at1,
-      ) refl;
-  known = λ at7.
-      let at6 = c.field.ensures.goes at7 in
-      let at5 = c.field-object-6.ensures.goes at6 in
-      let at4 = c.field-object-5.ensures.goes at5 in
-      let at3 = c.field-object-4.ensures.goes at4 in
-      let at2 = c.field-object-3.ensures.goes at3 in
-      let at1 = c.field-object-2.ensures.goes at2 in
-      record {
-        setup_scripts_exec_failed = c.field-object.ensures.known at1;
-        setup_scripts_failed = c.field-object-2.ensures.known at2;
-        setup_scripts_finished_count = c.field-object-3.ensures.known at3;
-        setup_scripts_initial_count = c.field-object-4.ensures.known at4;
-        setup_scripts_passed = c.field-object-5.ensures.known at5;
-        setup_scripts_timed_out = c.field-object-6.ensures.known at6;
-        skipped = c.field.ensures.known at7;
-      };
-}
+returns c =
+    saying
+    (λ k. record { setup_scripts_exec_failed = k.0; setup_scripts_failed = k.1.0; setup_scripts_finished_count = k.1.1.0; setup_scripts_initial_count = k.1.1.1.0; setup_scripts_passed = k.1.1.1.1.0; setup_scripts_timed_out = k.1.1.1.1.1.0; skipped = k.1.1.1.1.1.1 })
+    (c.field-object.ensures ▸ c.field-object-2.ensures ▸ c.field-object-3.ensures ▸ c.field-object-4.ensures ▸ c.field-object-5.ensures ▸ c.field-object-6.ensures ▸ c.field.ensures)
