@@ -6,3 +6,5 @@ pub mod ReadEventLaws
 pub mod LineItemLemmas
 pub mod LineReadings
 pub mod KindTables
+pub mod LoadedWriting
+pub mod Refusals

@@ -19,3 +19,4 @@ pub mod EventFormLaws
 pub mod LineEvents
 pub mod LineItems
 pub mod LineReading
+pub mod LoadedWriting

@@ -11,6 +11,7 @@ mod line_iter;
 mod lines;
 mod live;
 mod loaded;
+mod loaded_fields;
 mod loaded_form;
 mod log_lines;
 mod output;

@@ -91,9 +91,9 @@ impl OutputForm for LiveSpec {
         };
         match only_member(object) {
             Some(("split", node)) => split_from(alloc, node),
-            Some(("combined", node)) => Ok(ChildOutputDescription::Combined {
-                output: ChildSingleOutput::from_node(alloc, node)?,
-            }),
+            Some(("combined", node)) => ChildSingleOutput::from_node(alloc, node).map(
+                |output| ChildOutputDescription::Combined { output },
+            ),
             _ => Err(FromValueError::NotAValue),
         }
     }

@@ -3,7 +3,7 @@ ghost use Rattle.std.specs.List.{AllByRecursion};
 ghost use Rattle.std.specs.Prelude.{◌≡◌, ◌++◌, ℕ, Bool, Option, Some, OnOk};
 ghost use Rattle.serde_json.specs.Data.{Data};
 ghost use Rattle.rec_json.specs.Nodes.{members_view, view};
-ghost use Rattle.rec_json.specs.Tokens.{value_tokens, with_field};
+ghost use Rattle.rec_json.specs.Tokens.{value_tokens};
 ghost use Rattle.rec_forms.specs.Gives.{Gives};
 ghost use Rattle.rec_forms.specs.GivesWellFormed.{GivesWellFormed};
 ghost use Rattle.rec_forms.specs.Lists.{list_value, list_form, some_form};
@@ -63,22 +63,6 @@ pub trait LoadedForm: Sized {
     // What is written is no null, is given back by its text, has no float, and nests no deeper than
     // `levels`.
     ghost writable: { (x : Self) → well_formed x → IsWritable levels (value_of x) };
-}
-
-/// Writes a field that holds outputs.
-pub fn write_loaded<T: LoadedForm>(
-    alloc: Global,
-    text: &mut JsonText,
-    key: &str,
-    item: &T,
-) -> Result<(), ToValueError>
-    ensures written { OnOk result
-        (text.new ≡ with_field key.now (Some (T.value_of item.now)) text.old) }
-    ensures loaded { WritesLoaded result (T.loaded item.now) }
-    ensures known { OnOk result (T.well_formed item.now) }
-{
-    text.key(key)?;
-    item.write(alloc, text)
 }
 
 /// Reads a field that holds outputs and has to be there.

@@ -9,7 +9,8 @@ ghost use Rattle.rec_codec.specs.Writes.{WritesLoaded};
 use crate::event_parts::{
     with_args_to_index, with_finished, with_reporting, with_script, with_test,
 };
-use crate::loaded_form::{required_loaded, write_loaded};
+use crate::loaded_fields::{left_open, with_loaded};
+use crate::loaded_form::required_loaded;
 use crate::script_kinds::{Command, Place};
 use crate::{OutputForm, ToValueError};
 use rec_events::{Duration, JunitFlakyFailStatus, OutputEventKind, Stamp, TestOutputDisplay};
@@ -92,12 +93,9 @@ fn write_script_finished<S: OutputForm>(
     let object = object.text(text, "kind", "setup-script-finished");
     let object = object.field(text, "no-capture", no_capture);
     let object = object.field(text, "program", program);
-    object.leave_open()?;
-    write_loaded(alloc, text, "run-status", run_status)?;
-    let object = ObjectWriter::resume(alloc);
+    let object = with_loaded(alloc, object, text, "run-status", run_status)?;
     let object = with_script(object, text, script_id, stress_index, timestamp, *total);
-    object.leave_open()?;
-    Ok(())
+    left_open(object)
 }
 
 /// Writes the members of a failed attempt.
@@ -130,13 +128,10 @@ fn write_attempt_failed<S: OutputForm>(
     let object = object.field(text, "elapsed", elapsed);
     let object = object.field(text, "failure-output", failure_output);
     let object = object.text(text, "kind", "test-attempt-failed-will-retry");
-    object.leave_open()?;
-    write_loaded(alloc, text, "run-status", run_status)?;
-    let object = ObjectWriter::resume(alloc);
+    let object = with_loaded(alloc, object, text, "run-status", run_status)?;
     let object = object.field(text, "running", running);
     let object = with_test(object, text, stress_index, test_instance, timestamp);
-    object.leave_open()?;
-    Ok(())
+    left_open(object)
 }
 
 /// Writes the members of a finished test.
@@ -180,9 +175,7 @@ fn write_test_finished<S: OutputForm>(
         *junit_store_success_output,
     );
     let object = object.text(text, "kind", "test-finished");
-    object.leave_open()?;
-    write_loaded(alloc, text, "run-statuses", run_statuses)?;
-    let object = ObjectWriter::resume(alloc);
+    let object = with_loaded(alloc, object, text, "run-statuses", run_statuses)?;
     let object = object.field(text, "running", running);
     let object = with_finished(
         object,
@@ -192,8 +185,7 @@ fn write_test_finished<S: OutputForm>(
         test_instance,
         timestamp,
     );
-    object.leave_open()?;
-    Ok(())
+    left_open(object)
 }
 
 /// Writes the members of an event of a kind with outputs.

@@ -1,6 +1,7 @@
 //! The runs of setup scripts, with their outputs.
 
-use crate::loaded_form::{LoadedForm, required_loaded, write_loaded};
+use crate::loaded_fields::{ended, with_loaded};
+use crate::loaded_form::{LoadedForm, required_loaded};
 use crate::{OutputForm, ToValueError};
 use rec_events::SetupScriptExecuteStatus;
 use rec_forms::{FromValueError, ObjectWriter, optional_two, required_four};
@@ -33,14 +34,11 @@ impl<S: OutputForm> LoadedForm for SetupScriptExecuteStatus<S> {
         let object = object.optional(text, "env-map", &self.env_map);
         let object = object.optional(text, "error-summary", &self.error_summary);
         let object = object.field(text, "is-slow", &self.is_slow);
-        object.leave_open()?;
-        write_loaded(alloc, text, "output", &self.output)?;
-        let object = ObjectWriter::resume(alloc);
+        let object = with_loaded(alloc, object, text, "output", &self.output)?;
         let object = object.field(text, "result", &self.result);
         let object = object.field(text, "start-time", &self.start_time);
         let object = object.field(text, "time-taken", &self.time_taken);
-        object.end(text)?;
-        Ok(())
+        ended(object, text)
     }
 
     #[tactic(auto, unfolding(crate::specs::ScriptStatus::script_status_form))]

@@ -1,7 +1,7 @@
 //! The attempts of a test, with their outputs.
-ghost use Rattle.std.specs.Prelude.{◌≡◌, ◌++◌, OnOk, Some};
+ghost use Rattle.std.specs.Prelude.{◌≡◌, ◌++◌, OnOk};
 ghost use Rattle.rec_json.specs.Nodes.{members_view, view};
-ghost use Rattle.rec_json.specs.Tokens.{value_tokens, with_field};
+ghost use Rattle.rec_json.specs.Tokens.{value_tokens};
 ghost use Rattle.rec_events.specs.declared.outputs.ChildExecutionOutputDescription.TheVariants.{Output};
 ghost use Rattle.rec_forms.specs.Gives.{Gives};
 ghost use Rattle.rec_forms.specs.ObjectWriting.{Writes};
@@ -9,7 +9,8 @@ ghost use Rattle.rec_forms.specs.Shape.{required};
 ghost use Rattle.rec_codec.specs.Status.{description_value, IsDescription, output_case_form, before_output, before_output_fields, before_output_form, IsBeforeOutput, after_output, after_output_fields, after_output_form, IsAfterOutput, attempts_form};
 ghost use Rattle.rec_codec.specs.Writes.{WritesLoaded};
 
-use crate::loaded_form::{LoadedForm, required_loaded, required_some, write_each, write_loaded};
+use crate::loaded_fields::{begin_field, ended, with_loaded, with_output};
+use crate::loaded_form::{LoadedForm, required_loaded, required_some, write_each};
 use crate::{OutputForm, ToValueError};
 use rec_events::{
     ChildExecutionOutputDescription, Duration, ErrorSummary, ExecuteStatus,
@@ -39,28 +40,9 @@ fn write_outputs<S: OutputForm>(
 {
     let object = ObjectWriter::begin_tagged(alloc, text, "output");
     let object = object.optional(text, "errors", errors);
-    object.leave_open()?;
-    write_output_field::<S>(alloc, text, "output", output)?;
-    let object = ObjectWriter::resume(alloc);
+    let object = with_output::<S>(alloc, object, text, "output", output)?;
     let object = object.optional(text, "result", ended);
-    object.end_tagged(text)?;
-    Ok(())
-}
-
-/// Writes an output as a field.
-fn write_output_field<S: OutputForm>(
-    alloc: Global,
-    text: &mut JsonText,
-    key: &str,
-    output: &S::ChildOutput,
-) -> Result<(), ToValueError>
-    ensures written { OnOk result
-        (text.new ≡ with_field key.now (Some (S.output_value output.now)) text.old) }
-    ensures loaded { WritesLoaded result (S.loaded output.now) }
-    ensures known { OnOk result (S.output_well_formed output.now) }
-{
-    text.key(key)?;
-    S::output_write(alloc, output, text)
+    Ok(object.end_tagged(text)?)
 }
 
 /// Reads an output that has to be there.
@@ -283,12 +265,9 @@ impl<S: OutputForm> LoadedForm for ExecuteStatus<S> {
     fn write(&self, alloc: Global, text: &mut JsonText) -> Result<(), ToValueError> {
         let object = ObjectWriter::begin(alloc, text);
         let object = with_before_output(object, text, self);
-        object.leave_open()?;
-        write_loaded(alloc, text, "output", &self.output)?;
-        let object = ObjectWriter::resume(alloc);
+        let object = with_loaded(alloc, object, text, "output", &self.output)?;
         let object = with_after_output(object, text, self);
-        object.end(text)?;
-        Ok(())
+        ended(object, text)
     }
 
     #[tactic(auto, unfolding(crate::specs::Status::status_form))]
@@ -357,12 +336,9 @@ impl<S: OutputForm> LoadedForm for ExecutionStatuses<S> {
     fn write(&self, alloc: Global, text: &mut JsonText) -> Result<(), ToValueError> {
         let object = ObjectWriter::begin(alloc, text);
         let object = object.field(text, "flaky-result", &self.flaky_result);
-        object.leave_open()?;
-        text.key("statuses")?;
+        begin_field(object, text, "statuses")?;
         write_each(alloc, text, self.statuses.as_slice())?;
-        let object = ObjectWriter::resume(alloc);
-        object.end(text)?;
-        Ok(())
+        ended(ObjectWriter::resume(alloc), text)
     }
 
     #[tactic(auto, unfolding(crate::specs::Status::statuses_form))]

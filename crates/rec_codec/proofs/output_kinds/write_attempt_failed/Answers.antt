@@ -1,21 +1,13 @@
-use Rattle.std.proofs.Common.{refl}
-use Rattle.rec_forms.proofs.Writing.{◌▸◌}
+use Rattle.rec_forms.proofs.Writing.{◌▸◌, saying}
+use Rattle.rec_codec.proofs.LoadedWriting.{at_end, loaded_at_end}
 use Rattle.rec_codec.proofs.output_kinds.write_attempt_failed.Goals as goal
 
--- which kind it is, and what the calls wrote, from the last ones back
-pub returns-clause-written : goal.returns-clause-written
-returns-clause-written g c =
-    let before = c.field-object.ensures ▸ c.field-object-2.ensures ▸ c.field-object-3.ensures ▸ c.text-object.ensures in
-    let after = c.field-object-4.ensures ▸ c.with_test-object.ensures in
-    rw (
-      c.in-TestAttemptFailedWillRetry.is,
-      after.written c.in_ok-leave_open-2.ensures,
-      c.in_ok-write_loaded.ensures.written,
-      before.written c.in_ok-leave_open.ensures,
-    ) refl
-
-pub returns-clause-known : goal.returns-clause-known
-returns-clause-known g c =
-    let before = (c.field-object.ensures ▸ c.field-object-2.ensures ▸ c.field-object-3.ensures ▸ c.text-object.ensures).known c.in_ok-leave_open.ensures in
-    let after = (c.field-object-4.ensures ▸ c.with_test-object.ensures).known c.in_ok-leave_open-2.ensures in
-    rw c.in-TestAttemptFailedWillRetry.is (after.1.2, before.1.0, (after.1.0, after.1.1, c.in_ok-write_loaded.ensures.known, before.0, after.0))
+-- which kind it is, and what the calls wrote, one after the other
+pub returns : goal.returns
+returns g c =
+    let all = c.field-object.ensures ▸ c.field-object-2.ensures ▸ c.field-object-3.ensures ▸ c.text-object.ensures ▸ c.in_ok-object.ensures.written ▸ c.field-object-4.ensures ▸ c.with_test-object.ensures in
+    rw c.in-TestAttemptFailedWillRetry.is (record {
+      written = at_end _ _ c.left_open.result all.written c.left_open.ensures;
+      loaded = loaded_at_end _ _ c.left_open.result c.in_ok-object.ensures.loaded c.left_open.ensures;
+      known = at_end _ _ c.left_open.result (saying (λ k. (k.1.1.1.1.1.1.2, k.1.0, (k.1.1.1.1.1.1.0, k.1.1.1.1.1.1.1, k.1.1.1.1.0, k.0, k.1.1.1.1.1.0))) all).known c.left_open.ensures;
+    })
