@@ -131,14 +131,14 @@ pub fn draw_slice<A: Args>(
     let (name, category) = (span.name.as_str(), category_of(&span.key));
     let (row, at) = (span.row, sight.judged.at);
     match phase {
-        Phase::Begin => put(
-            events,
-            begin_event(sight.alloc, name, category, row, at, args),
-        ),
-        Phase::End => put(
-            events,
-            end_event(sight.alloc, name, category, row, at, args),
-        ),
+        Phase::Begin => {
+            let begin = begin_event(sight.alloc, name, category, row, at, args);
+            put(events, begin)
+        }
+        Phase::End => {
+            let end = end_event(sight.alloc, name, category, row, at, args);
+            put(events, end)
+        }
     }
 }
 
@@ -213,10 +213,8 @@ pub fn draw_counter(
     ensures { OnOk result (Draws (in_sight sight.now counter tests scripts ∷ []) events.old.items events.new.items) }
 {
     let running = RunningCounts { tests, scripts };
-    put(
-        events,
-        concurrency_event(sight.alloc, running, sight.judged.at),
-    )
+    let counter = concurrency_event(sight.alloc, running, sight.judged.at);
+    put(events, counter)
 }
 
 /// Draws how many tests ended, and how.
@@ -227,7 +225,8 @@ pub fn draw_results(
 ) -> Result<(), AllocError>
     ensures { OnOk result (Draws (Results counts sight.now.judged.now.at ∷ []) events.old.items events.new.items) }
 {
-    put(events, results_event(sight.alloc, counts, sight.judged.at))
+    let results = results_event(sight.alloc, counts, sight.judged.at);
+    put(events, results)
 }
 
 /// Draws a mark over the run, with so many tests and setup scripts running.
@@ -242,10 +241,8 @@ pub fn draw_run_mark(
 {
     draw_run_names(sight, Row { pid: 0, tid: 1 }, "run", events)?;
     let running = RunningCounts { tests, scripts };
-    put(
-        events,
-        mark_event(sight.alloc, what, running, sight.judged.at),
-    )
+    let mark = mark_event(sight.alloc, what, running, sight.judged.at);
+    put(events, mark)
 }
 
 /// Draws that a span is slow, where it is open.
@@ -260,10 +257,10 @@ pub fn draw_slow<A: Args>(
         events.old.items events.new.items) }
 {
     match span {
-        Some(span) => put(
-            events,
-            slow_event(sight.alloc, category, span.row, sight.judged.at, args),
-        ),
+        Some(span) => {
+            let slow = slow_event(sight.alloc, category, span.row, sight.judged.at, args);
+            put(events, slow)
+        }
         None => Ok(()),
     }
 }
@@ -283,10 +280,8 @@ pub fn draw_arrow_start(
     match span {
         Some(span) => {
             let flow = sight.tracker.next_flow();
-            put(
-                events,
-                arrow_start(sight.alloc, span.row, sight.judged.at, flow),
-            )
+            let start = arrow_start(sight.alloc, span.row, sight.judged.at, flow);
+            put(events, start)
         }
         None => Ok(()),
     }
@@ -303,10 +298,10 @@ pub fn draw_arrow_finish(
     ensures { OnOk result (Draws (option_to_list (option_map (ArrowFinishes test.now row sight.now.judged.now.at) flow)) events.old.items events.new.items) }
 {
     match flow {
-        Some(flow) => put(
-            events,
-            arrow_finish(sight.alloc, row, sight.judged.at, flow),
-        ),
+        Some(flow) => {
+            let finish = arrow_finish(sight.alloc, row, sight.judged.at, flow);
+            put(events, finish)
+        }
         None => Ok(()),
     }
 }

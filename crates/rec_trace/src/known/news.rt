@@ -232,17 +232,17 @@ pub fn new_test<S: OutputSpec>(flow: u64, kind: &TestEventKindSummary<S>) -> Opt
 fn test_copied(alloc: Global, test: Option<NewTest<'_>>) -> Result<Option<TestNews>, AllocError>
     ensures { IfOk result (λ news. news ≡ option_map test_told test.entry) }
 {
-    match test {
-        Some(news) => {
-            let copy = TestNews {
-                arrow: news.arrow,
-                group: group_copied(alloc, news.group)?,
-                test: news.test.try_clone(alloc)?,
-            };
-            Ok(Some(copy))
-        }
-        None => Ok(None),
-    }
+    let Some(news) = test else { return Ok(None) };
+    let group = group_copied(alloc, news.group)?;
+    let Ok(test) = news.test.try_clone(alloc) else {
+        drop(group);
+        return Err(AllocError);
+    };
+    Ok(Some(TestNews {
+        test,
+        group,
+        arrow: news.arrow,
+    }))
 }
 
 /// Makes a copy of a group.

@@ -98,13 +98,11 @@ impl Notes {
             return Ok(());
         }
         let key = test.try_clone(alloc)?;
-        self.tests.insert(
-            key,
-            TestNotes {
-                group: None,
-                arrow: None,
-            },
-        )?;
+        let nothing = TestNotes {
+            group: None,
+            arrow: None,
+        };
+        drop(self.tests.insert(key, nothing)?);
         Ok(())
     }
 
