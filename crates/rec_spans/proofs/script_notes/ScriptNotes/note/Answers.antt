@@ -4,9 +4,22 @@ use Rattle.std.proofs.lemmas.Result.{err_from_is_err_and}
 use Rattle.std.specs.BTreeMap.{is_at}
 use Rattle.std.specs.List.{list_any}
 use Rattle.std.specs.Ordering.{nat_cmp}
+use Rattle.std.specs.Prelude.{OnErr, OnOk}
 use Rattle.rec_spans.proofs.Notings.{none_empty, renoted, same_noted}
 use Rattle.rec_spans.proofs.script_notes.ScriptNotes.note.Goals as goal
-use Rattle.rec_spans.specs.Noted.{is_among}
+use Rattle.rec_spans.specs.Noted.{AreSame, NoneIsEmpty, Renotes, is_among}
+
+-- where no index is noted under the id
+pub returns-in_default-clause-ok : goal.returns-in_default-clause-ok
+returns-in_default-clause-ok c =
+    subst (λ old. OnOk c.note_first.result (Renotes true old c.args.id.now c.args.index c.note_first.new.self.notes)) c.get_mut.follows.holds-at-none c.note_first.ensures.ok
+
+pub returns-in_default-clause-err : goal.returns-in_default-clause-err
+returns-in_default-clause-err c = subst (λ old. OnErr c.note_first.result (AreSame old c.note_first.new.self.notes)) c.get_mut.follows.holds-at-none c.note_first.ensures.err
+
+pub returns-in_default-clause-none_empty : goal.returns-in_default-clause-none_empty
+returns-in_default-clause-none_empty c =
+    subst (λ old. NoneIsEmpty old → NoneIsEmpty c.note_first.new.self.notes) c.get_mut.follows.holds-at-none c.note_first.ensures.none_empty
 
 pub returns-in_err-insert-clause-err : goal.returns-in_err-insert-clause-err
 returns-in_err-insert-clause-err c =
