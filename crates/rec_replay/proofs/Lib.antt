@@ -1,4 +1,5 @@
 pub mod Converted
+pub mod LineSteps
 pub mod Loaded
 pub mod LoadedEach
 pub mod Recorded

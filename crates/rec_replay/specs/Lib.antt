@@ -7,4 +7,5 @@ pub mod Loading
 pub mod Replaying
 pub mod Conversions
 pub mod Lines
+pub mod LinePieces
 pub mod LiveKept

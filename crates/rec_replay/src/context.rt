@@ -7,7 +7,7 @@ ghost use Rattle.rec_replay.specs.declared.conversion_error.ReplayConversionErro
 ghost use Rattle.rec_replay.specs.Registration.{is_registered};
 
 use crate::conversion_error::ReplayConversionError;
-use rec_events::{NextestRunMode, OwnedTestInstanceId, TestInstanceId, TestList, TryClone};
+use rec_events::{NextestRunMode, OwnedTestInstanceId, TestInstanceId, TestList, clone_both};
 use std::alloc::{AllocError, Global};
 use std::collections::BTreeSet;
 
@@ -84,8 +84,7 @@ impl<'a> ReplayContext<'a> {
 fn not_found(alloc: Global, test: &OwnedTestInstanceId) -> Result<ReplayConversionError, AllocError>
     ensures { IfOk result (λ e. e ≡ TestNotFound test.now.binary_id test.now.test_name) }
 {
-    let binary_id = test.binary_id.try_clone(alloc)?;
-    let test_name = test.test_name.try_clone(alloc)?;
+    let (binary_id, test_name) = clone_both(alloc, &test.binary_id, &test.test_name)?;
     Ok(ReplayConversionError::TestNotFound {
         binary_id,
         test_name,

@@ -12,12 +12,12 @@ ghost use Rattle.rec_replay.specs.Replaying.{event_unloaded, kind_replayed, kind
 
 use crate::context::ReplayContext;
 use crate::conversion_error::ReplayConversionError;
-use crate::core_conversion::replay_index;
+use crate::core_conversion::{replay_index, script_copies};
 use crate::loading::{load_script_status, load_status, load_statuses};
 use crate::output_load::LoadOutput;
 use rec_events::{
     OutputEventKind, RecordingSpec, TestEvent, TestEventKind, TestEventKindSummary,
-    TestEventSummary, TryClone,
+    TestEventSummary,
 };
 use rec_store::StoreReader;
 use std::alloc::Global;
@@ -243,10 +243,15 @@ fn script_finished<'cx>(
     else {
         unreachable!()
     };
-    let script_id = script_id.try_clone(alloc)?;
-    let program = program.try_clone(alloc)?;
-    let args = args.try_clone(alloc)?;
-    let run_status = load_script_status(alloc, reader, load, run_status)?;
+    let named = script_copies(alloc, script_id, program, args)?;
+    let run_status = match load_script_status(alloc, reader, load, run_status) {
+        Ok(run_status) => run_status,
+        Err(error) => {
+            drop(named);
+            return Err(ReplayConversionError::from(error));
+        }
+    };
+    let (script_id, program, args) = named;
     Ok(TestEventKind::SetupScriptFinished {
         stress_index: replay_index(stress_index),
         index: *index,

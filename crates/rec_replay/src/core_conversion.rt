@@ -1,5 +1,5 @@
 //! Recorded events without outputs, as they are replayed.
-ghost use Rattle.std.specs.Prelude.{◌≡◌, codes, option_map, Some};
+ghost use Rattle.std.specs.Prelude.{◌≡◌, codes, IfOk, option_map, Some};
 ghost use Rattle.rec_events.specs.LiveEvents.{kind_name};
 ghost use Rattle.rec_events.specs.Stats.{no_stats};
 ghost use Rattle.rec_replay.specs.Conversions.{Converts, condition_refusal, core_refusal};
@@ -9,10 +9,11 @@ ghost use Rattle.rec_replay.specs.Replaying.{condition_replayed, core_replayed, 
 use crate::context::ReplayContext;
 use crate::conversion_error::ReplayConversionError;
 use rec_events::{
-    CancelReason, CoreEventKind, NonZeroCount, RunStats, StressCondition, StressConditionSummary,
-    StressCount, StressIndex, StressIndexSummary, TestEventKind, TryClone,
+    CancelReason, CoreEventKind, Items, NonZeroCount, RunStats, ScriptId, StressCondition,
+    StressConditionSummary, StressCount, StressIndex, StressIndexSummary, TestEventKind, Text,
+    TryClone, clone_both,
 };
-use std::alloc::Global;
+use std::alloc::{AllocError, Global};
 
 impl<'a> ReplayContext<'a> {
     /// Replays the start of a run.
@@ -34,11 +35,12 @@ impl<'a> ReplayContext<'a> {
             unreachable!()
         };
         let stress_condition = replay_condition(stress_condition)?;
+        let (profile_name, cli_args) = clone_both(alloc, profile_name, cli_args)?;
         Ok(TestEventKind::RunStarted {
             test_list: self.test_list,
             run_id: *run_id,
-            profile_name: profile_name.try_clone(alloc)?,
-            cli_args: cli_args.try_clone(alloc)?,
+            profile_name,
+            cli_args,
             stress_condition,
         })
     }
@@ -64,13 +66,14 @@ impl<'a> ReplayContext<'a> {
             unreachable!()
         };
         let test_instance = self.find(alloc, test_instance)?;
+        let (slot_assignment, command_line) = clone_both(alloc, slot_assignment, command_line)?;
         Ok(TestEventKind::TestStarted {
             stress_index: replay_index(stress_index),
             test_instance,
-            slot_assignment: slot_assignment.try_clone(alloc)?,
+            slot_assignment,
             current_stats: *current_stats,
             running: *running,
-            command_line: command_line.try_clone(alloc)?,
+            command_line,
         })
     }
 
@@ -124,13 +127,14 @@ impl<'a> ReplayContext<'a> {
             unreachable!()
         };
         let test_instance = self.find(alloc, test_instance)?;
+        let (slot_assignment, command_line) = clone_both(alloc, slot_assignment, command_line)?;
         Ok(TestEventKind::TestRetryStarted {
             stress_index: replay_index(stress_index),
             test_instance,
-            slot_assignment: slot_assignment.try_clone(alloc)?,
+            slot_assignment,
             retry_data: *retry_data,
             running: *running,
-            command_line: command_line.try_clone(alloc)?,
+            command_line,
         })
     }
 
@@ -182,13 +186,14 @@ impl<'a> ReplayContext<'a> {
         else {
             unreachable!()
         };
+        let (script_id, program, args) = script_copies(alloc, script_id, program, args)?;
         Ok(TestEventKind::SetupScriptStarted {
             stress_index: replay_index(stress_index),
             index: *index,
             total: *total,
-            script_id: script_id.try_clone(alloc)?,
-            program: program.try_clone(alloc)?,
-            args: args.try_clone(alloc)?,
+            script_id,
+            program,
+            args,
             no_capture: *no_capture,
         })
     }
@@ -213,11 +218,12 @@ impl<'a> ReplayContext<'a> {
         else {
             unreachable!()
         };
+        let (script_id, program, args) = script_copies(alloc, script_id, program, args)?;
         Ok(TestEventKind::SetupScriptSlow {
             stress_index: replay_index(stress_index),
-            script_id: script_id.try_clone(alloc)?,
-            program: program.try_clone(alloc)?,
-            args: args.try_clone(alloc)?,
+            script_id,
+            program,
+            args,
             elapsed: *elapsed,
             will_terminate: *will_terminate,
         })
@@ -307,6 +313,23 @@ impl<'a> ReplayContext<'a> {
             CoreEventKind::RunFinished { .. } => self.run_finished(alloc, kind),
         }
     }
+}
+
+/// Copies what names a setup script and what it runs.
+pub(crate) fn script_copies(
+    alloc: Global,
+    script_id: &ScriptId,
+    program: &Text,
+    args: &Items<Text>,
+) -> Result<(ScriptId, Text, Items<Text>), AllocError>
+    ensures { IfOk result (λ c. c ≡ (script_id.now, program.now, args.now)) }
+{
+    let script_id = script_id.try_clone(alloc)?;
+    let Ok((program, args)) = clone_both(alloc, program, args) else {
+        drop(script_id);
+        return Err(AllocError);
+    };
+    Ok((script_id, program, args))
 }
 
 /// Gives the statistics of a cancel: nothing but its reason.

@@ -13,7 +13,7 @@ use rec_events::{
     ChildExecutionOutputDescription, ChildOutputDescription, ChildSingleOutput, ErrorSummary,
     ExecuteStatus, ExecutionResultDescription, ExecutionStatuses, Items, LiveSpec,
     OutputErrorSlice, OutputFileName, RecordingSpec, SetupScriptExecuteStatus, Text, TextMap,
-    TryClone, ZipStoreOutput, ZipStoreOutputDescription,
+    TryClone, ZipStoreOutput, ZipStoreOutputDescription, clone_both,
 };
 use rec_store::{RecordReadError, StoreReader};
 use std::alloc::{AllocError, Global};
@@ -126,17 +126,18 @@ fn load_execution(
             output,
             errors,
         } => {
-            let errors = errors.try_clone(alloc)?;
-            let result = result.try_clone(alloc)?;
+            let copied = clone_both(alloc, errors, result)?;
             match load_description(alloc, reader, load, output) {
-                Ok(output) => Ok(ChildExecutionOutputDescription::Output {
-                    result,
-                    output,
-                    errors,
-                }),
+                Ok(output) => {
+                    let (errors, result) = copied;
+                    Ok(ChildExecutionOutputDescription::Output {
+                        result,
+                        output,
+                        errors,
+                    })
+                }
                 Err(error) => {
-                    drop(result);
-                    drop(errors);
+                    drop(copied);
                     Err(error)
                 }
             }
@@ -198,9 +199,12 @@ fn copy_result(
 >
     ensures { IfOk result (λ c. c ≡ (status.now.error_summary, status.now.output_error_slice, status.now.result)) }
 {
-    let error_summary = status.error_summary.try_clone(alloc)?;
-    let output_error_slice = status.output_error_slice.try_clone(alloc)?;
     let result = status.result.try_clone(alloc)?;
+    let Ok(errors) = clone_both(alloc, &status.error_summary, &status.output_error_slice) else {
+        drop(result);
+        return Err(AllocError);
+    };
+    let (error_summary, output_error_slice) = errors;
     Ok((error_summary, output_error_slice, result))
 }
 
@@ -251,9 +255,12 @@ fn copy_script_result(
 >
     ensures { IfOk result (λ c. c ≡ (status.now.env_map, status.now.error_summary, status.now.result)) }
 {
-    let env_map = status.env_map.try_clone(alloc)?;
-    let error_summary = status.error_summary.try_clone(alloc)?;
     let result = status.result.try_clone(alloc)?;
+    let Ok(said) = clone_both(alloc, &status.env_map, &status.error_summary) else {
+        drop(result);
+        return Err(AllocError);
+    };
+    let (env_map, error_summary) = said;
     Ok((env_map, error_summary, result))
 }
 
