@@ -1,5 +1,7 @@
 -- Several fields that are read by one call.
 use Rattle.std.specs.Prelude.{◌≡◌, Option, Some, Result, Ok, Err}
+use Rattle.serde_json.specs.Data.{Data, Members}
+use Rattle.serde_json.specs.Find.{as_object}
 use Rattle.rec_forms.specs.declared.errors.FromValueError.{FromValueError}
 use Rattle.rec_forms.specs.Gives.{Refuses}
 use Rattle.rec_forms.specs.Shape.{◌>>=◌}
@@ -33,3 +35,14 @@ GivesFour (Err e) a b c d = Refuses e (four a b c d)
 abbrev pub GivesFive : {A B C D E : Type 0} → Result (A × B × C × D × E) FromValueError → Option A → Option B → Option C → Option D → Option E → Type 0
 GivesFive (Ok t) a b c d e = (a ≡ Some t.0) × (b ≡ Some t.1) × (c ≡ Some t.2) × (d ≡ Some t.3) × (e ≡ Some t.4)
 GivesFive (Err err) a b c d e = Refuses err (five a b c d e)
+
+-- two of the fields that an object has
+pub record AreTwoOf {A B : Type 0} (d : Data) (first : Members → Option A) (second : Members → Option B) (t : A × B) : Type 0 where
+  pub members : Members
+  pub members_are : as_object d ≡ Some members
+  pub first_is : first members ≡ Some t.0
+  pub second_is : second members ≡ Some t.1
+
+abbrev pub GivesTwoOf : {A B : Type 0} → Result (A × B) FromValueError → Data → (Members → Option A) → (Members → Option B) → Type 0
+GivesTwoOf (Ok t) d first second = AreTwoOf d first second t
+GivesTwoOf (Err e) d first second = Refuses e (as_object d >>= λ ms. two (first ms) (second ms))

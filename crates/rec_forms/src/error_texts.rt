@@ -1,6 +1,6 @@
 //! What is said of errors.
 use crate::objects::ObjectWriter;
-use crate::several::required_two;
+use crate::several::object_of_two;
 use crate::{Form, FromValueError};
 use rec_events::{ErrorSummary, OutputErrorSlice};
 use rec_json::{JsonText, Node};
@@ -37,12 +37,9 @@ impl Form for ErrorSummary {
 
     #[tactic(auto, unfolding(crate::specs::ErrorTexts::error_summary_form))]
     fn from_node(alloc: Global, node: &Node<'_>) -> Result<ErrorSummary, FromValueError> {
-        let Some(object) = node.as_object() else {
-            return Err(FromValueError::NotAValue);
-        };
-        let (short_message, description) = required_two(
+        let (short_message, description) = object_of_two(
             alloc,
-            object,
+            node,
             "short-message",
             "description",
         )?;
@@ -84,10 +81,7 @@ impl Form for OutputErrorSlice {
 
     #[tactic(auto, unfolding(crate::specs::ErrorTexts::error_slice_form))]
     fn from_node(alloc: Global, node: &Node<'_>) -> Result<OutputErrorSlice, FromValueError> {
-        let Some(object) = node.as_object() else {
-            return Err(FromValueError::NotAValue);
-        };
-        let (slice, start) = required_two(alloc, object, "slice", "start")?;
+        let (slice, start) = object_of_two(alloc, node, "slice", "start")?;
         Ok(OutputErrorSlice { slice, start })
     }
 }

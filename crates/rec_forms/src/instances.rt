@@ -1,7 +1,7 @@
 //! Which test ran, where, and which time.
 use crate::fields::{optional_field, required_field};
 use crate::objects::ObjectWriter;
-use crate::several::required_two;
+use crate::several::object_of_two;
 use crate::{Form, FromValueError, ItemForm};
 use rec_events::{OwnedTestInstanceId, RetryData, StressIndexSummary, TestSlotAssignment};
 use rec_json::{JsonText, Node};
@@ -38,10 +38,7 @@ impl Form for OwnedTestInstanceId {
 
     #[tactic(auto, unfolding(crate::specs::Instances::test_instance_form))]
     fn from_node(alloc: Global, node: &Node<'_>) -> Result<OwnedTestInstanceId, FromValueError> {
-        let Some(object) = node.as_object() else {
-            return Err(FromValueError::NotAValue);
-        };
-        let (binary_id, test_name) = required_two(alloc, object, "binary-id", "test-name")?;
+        let (binary_id, test_name) = object_of_two(alloc, node, "binary-id", "test-name")?;
         Ok(OwnedTestInstanceId {
             binary_id,
             test_name,
@@ -130,10 +127,7 @@ impl Form for RetryData {
 
     #[tactic(auto, unfolding(crate::specs::Instances::retry_data_form))]
     fn from_node(alloc: Global, node: &Node<'_>) -> Result<RetryData, FromValueError> {
-        let Some(object) = node.as_object() else {
-            return Err(FromValueError::NotAValue);
-        };
-        let (attempt, total_attempts) = required_two(alloc, object, "attempt", "total-attempts")?;
+        let (attempt, total_attempts) = object_of_two(alloc, node, "attempt", "total-attempts")?;
         Ok(RetryData {
             attempt,
             total_attempts,

@@ -42,6 +42,8 @@ pub use laws::{
     read_items_are_well_formed, well_formed_items_read_back, writable_values_read_back,
 };
 pub use objects::ObjectWriter;
-pub use several::{optional_two, required_five, required_four, required_three, required_two};
+pub use several::{
+    object_of_two, optional_two, required_five, required_four, required_three, required_two,
+};
 pub use text_form::{parse_node, read_text, write_text};
 pub use values::value_of_text;

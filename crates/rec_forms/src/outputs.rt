@@ -6,9 +6,9 @@ ghost use Rattle.rec_events.specs.declared.outputs.ZipStoreOutput.TheVariants.{T
 ghost use Rattle.rec_forms.specs.Gives.{Gives};
 ghost use Rattle.rec_forms.specs.Outputs.{stored_output_value, truncated_form, split_form, IsStoredOutput};
 
-use crate::fields::write_tagged;
+use crate::fields::{optional_field, write_tagged};
 use crate::objects::ObjectWriter;
-use crate::several::{optional_two, required_two};
+use crate::several::object_of_two;
 use crate::{Form, FromValueError};
 use hex::FromHexError;
 use rec_events::{ChildSingleOutput, OutputFileName, ZipStoreOutput, ZipStoreOutputDescription};
@@ -61,10 +61,7 @@ impl Form for ChildSingleOutput {
 fn truncated_from(alloc: Global, node: &Node<'_>) -> Result<ZipStoreOutput, FromValueError>
     ensures { Gives result (truncated_form (view node.now)) }
 {
-    let Some(fields) = node.as_object() else {
-        return Err(FromValueError::NotAValue);
-    };
-    let (file_name, original_size) = required_two(alloc, fields, "file-name", "original-size")?;
+    let (file_name, original_size) = object_of_two(alloc, node, "file-name", "original-size")?;
     Ok(ZipStoreOutput::Truncated {
         file_name,
         original_size,
@@ -79,8 +76,10 @@ fn split_from(alloc: Global, node: &Node<'_>) -> Result<ZipStoreOutputDescriptio
     let Some(fields) = node.as_object() else {
         return Err(FromValueError::NotAValue);
     };
-    let (stdout, stderr) = optional_two(alloc, fields, "stdout", "stderr")?;
-    Ok(ZipStoreOutputDescription::Split { stdout, stderr })
+    Ok(ZipStoreOutputDescription::Split {
+        stdout: optional_field(alloc, fields, "stdout")?,
+        stderr: optional_field(alloc, fields, "stderr")?,
+    })
 }
 
 /// Writes an output that was cut.

@@ -7,7 +7,7 @@ ghost use Rattle.rec_forms.specs.Results.{abort_form, fail_form};
 use crate::fields::{optional_field, required_field, write_tagged};
 use crate::names::named_item;
 use crate::objects::ObjectWriter;
-use crate::several::required_two;
+use crate::several::object_of_two;
 use crate::{Form, FromValueError};
 use rec_events::{
     ExecutionResultDescription, FailureDescription, FlakyResult, LeakTimeoutResult,
@@ -281,9 +281,6 @@ impl Form for ExecutionResultDescription {
 fn fail_from(alloc: Global, node: &Node<'_>) -> Result<ExecutionResultDescription, FromValueError>
     ensures { Gives result (fail_form (view node.now)) }
 {
-    let Some(fields) = node.as_object() else {
-        return Err(FromValueError::NotAValue);
-    };
-    let (failure, leaked) = required_two(alloc, fields, "failure", "leaked")?;
+    let (failure, leaked) = object_of_two(alloc, node, "failure", "leaked")?;
     Ok(ExecutionResultDescription::Fail { failure, leaked })
 }

@@ -2,7 +2,7 @@
 use crate::fields::write_tagged;
 use crate::names::named_item;
 use crate::objects::ObjectWriter;
-use crate::several::{required_four, required_two};
+use crate::several::{object_of_two, required_four};
 use crate::{Form, FromValueError};
 use rec_events::{
     FinalRunStats, RunFinishedStats, RunStats, StressFinalRunStats, StressRunStats,
@@ -235,10 +235,7 @@ impl Form for TestsNotSeenSummary {
 
     #[tactic(auto, unfolding(crate::specs::RunEnds::tests_not_seen_form))]
     fn from_node(alloc: Global, node: &Node<'_>) -> Result<TestsNotSeenSummary, FromValueError> {
-        let Some(object) = node.as_object() else {
-            return Err(FromValueError::NotAValue);
-        };
-        let (not_seen, total_not_seen) = required_two(alloc, object, "not-seen", "total-not-seen")?;
+        let (not_seen, total_not_seen) = object_of_two(alloc, node, "not-seen", "total-not-seen")?;
         Ok(TestsNotSeenSummary {
             not_seen,
             total_not_seen,

@@ -1,6 +1,6 @@
 //! Several fields, read by one call.
-ghost use Rattle.rec_json.specs.Nodes.{members_view};
-ghost use Rattle.rec_forms.specs.Several.{GivesTwo, GivesThree, GivesFour, GivesFive};
+ghost use Rattle.rec_json.specs.Nodes.{members_view, view};
+ghost use Rattle.rec_forms.specs.Several.{GivesTwo, GivesThree, GivesFour, GivesFive, GivesTwoOf};
 ghost use Rattle.rec_forms.specs.Shape.{defaulted, maybe, required};
 
 use crate::fields::{defaulted_field, optional_field, required_field};
@@ -141,4 +141,25 @@ pub(crate) fn defaulted_three<'a, A: Form + Drop, B: Form + Drop, C: Form + Drop
     let first = defaulted_field(alloc, object, first.0, first.1)?;
     let (second, third) = defaulted_two(alloc, object, second, third)?;
     Ok((first, second, third))
+}
+
+/// Reads an object by two fields that have to be there.
+///
+/// # Errors
+///
+/// - `NotAValue` if `node` is no object, a field isn't there, or its value stands for no item.
+/// - `OutOfMemory` if memory runs out.
+pub fn object_of_two<A: Form + Drop, B: Form + Drop>(
+    alloc: Global,
+    node: &Node<'_>,
+    first_key: &str,
+    second_key: &str,
+) -> Result<(A, B), FromValueError>
+    ensures { GivesTwoOf result (view node.now)
+        (required A.form_of first_key.now) (required B.form_of second_key.now) }
+{
+    let Some(object) = node.as_object() else {
+        return Err(FromValueError::NotAValue);
+    };
+    required_two(alloc, object, first_key, second_key)
 }

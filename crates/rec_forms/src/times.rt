@@ -1,6 +1,6 @@
 //! Instants and spans of time.
 use crate::objects::ObjectWriter;
-use crate::several::{required_three, required_two};
+use crate::several::{object_of_two, required_three};
 use crate::{Form, FromValueError, Held};
 use rec_events::{Duration, Stamp};
 use rec_json::{JsonText, Node};
@@ -85,10 +85,7 @@ impl Form for Duration {
 
     #[tactic(auto, unfolding(crate::specs::Times::duration_form))]
     fn from_node(alloc: Global, node: &Node<'_>) -> Result<Duration, FromValueError> {
-        let Some(object) = node.as_object() else {
-            return Err(FromValueError::NotAValue);
-        };
-        let (secs, nanos) = required_two(alloc, object, "secs", "nanos")?;
+        let (secs, nanos) = object_of_two(alloc, node, "secs", "nanos")?;
         Duration::new(secs, nanos).ok_or(FromValueError::NotAValue)
     }
 }
