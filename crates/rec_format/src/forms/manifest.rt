@@ -1,6 +1,6 @@
 //! The manifest of a bundle.
 use crate::PortableManifest;
-use rec_forms::{Form, FromValueError, Held, ObjectWriter, required_two};
+use rec_forms::{Form, FromValueError, Held, ObjectWriter, object_of_two};
 use rec_json::{JsonText, Node};
 use std::alloc::{AllocError, Global};
 
@@ -35,10 +35,7 @@ impl Form for PortableManifest {
 
     #[tactic(auto, unfolding(crate::specs::RunForms::manifest_form))]
     fn from_node(alloc: Global, node: &Node<'_>) -> Result<PortableManifest, FromValueError> {
-        let Some(object) = node.as_object() else {
-            return Err(FromValueError::NotAValue);
-        };
-        let (format_version, run) = required_two(alloc, object, "format-version", "run")?;
+        let (format_version, run) = object_of_two(alloc, node, "format-version", "run")?;
         Ok(PortableManifest {
             format_version,
             run,

@@ -1,6 +1,6 @@
 //! What a rerun is a rerun of.
 use crate::{RerunInfo, RerunRootInfo};
-use rec_forms::{Form, FromValueError, ObjectWriter, required_field, required_two};
+use rec_forms::{Form, FromValueError, ObjectWriter, object_of_two, required_field, required_two};
 use rec_json::{JsonText, Node};
 use std::alloc::{AllocError, Global};
 
@@ -35,10 +35,7 @@ impl Form for RerunRootInfo {
 
     #[tactic(auto, unfolding(crate::specs::RerunForms::rerun_root_form))]
     fn from_node(alloc: Global, node: &Node<'_>) -> Result<RerunRootInfo, FromValueError> {
-        let Some(object) = node.as_object() else {
-            return Err(FromValueError::NotAValue);
-        };
-        let (run_id, build_scope) = required_two(alloc, object, "run-id", "build-scope")?;
+        let (run_id, build_scope) = object_of_two(alloc, node, "run-id", "build-scope")?;
         Ok(RerunRootInfo {
             run_id,
             build_scope,

@@ -1,6 +1,6 @@
 //! What was built.
 use crate::{BuildKind, RecordedBuildScope};
-use rec_forms::{Form, FromValueError, ObjectWriter, required_two};
+use rec_forms::{Form, FromValueError, ObjectWriter, object_of_two};
 use rec_json::{JsonText, Node};
 use std::alloc::{AllocError, Global};
 
@@ -76,10 +76,7 @@ impl Form for RecordedBuildScope {
 
     #[tactic(auto, unfolding(crate::specs::ScopeForms::recorded_scope_form))]
     fn from_node(alloc: Global, node: &Node<'_>) -> Result<RecordedBuildScope, FromValueError> {
-        let Some(object) = node.as_object() else {
-            return Err(FromValueError::NotAValue);
-        };
-        let (build_kind, scope) = required_two(alloc, object, "build-kind", "scope")?;
+        let (build_kind, scope) = object_of_two(alloc, node, "build-kind", "scope")?;
         Ok(RecordedBuildScope { build_kind, scope })
     }
 }

@@ -1,6 +1,8 @@
 //! Sizes, which are written as their formats.
 use crate::{ComponentSizes, ComponentSizesFormat, RecordedSizes, RecordedSizesFormat};
-use rec_forms::{Form, FromValueError, Held, ObjectWriter, defaulted_field, required_two};
+use rec_forms::{
+    Form, FromValueError, Held, ObjectWriter, defaulted_field, object_of_two, required_two,
+};
 use rec_json::{JsonText, Node};
 use std::alloc::{AllocError, Global};
 
@@ -88,10 +90,7 @@ impl Form for RecordedSizesFormat {
 
     #[tactic(auto, unfolding(crate::specs::SizeForms::sizes_format_form))]
     fn from_node(alloc: Global, node: &Node<'_>) -> Result<RecordedSizesFormat, FromValueError> {
-        let Some(object) = node.as_object() else {
-            return Err(FromValueError::NotAValue);
-        };
-        let (log, store) = required_two(alloc, object, "log", "store")?;
+        let (log, store) = object_of_two(alloc, node, "log", "store")?;
         Ok(RecordedSizesFormat { log, store })
     }
 }

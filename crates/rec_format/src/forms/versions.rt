@@ -4,7 +4,7 @@ use crate::{
     PortableRecordingFormatVersion, RunsJsonFormatVersion, StoreFormatMajorVersion,
     StoreFormatMinorVersion, StoreFormatVersion,
 };
-use rec_forms::{Form, FromValueError, Held, ObjectWriter, required_two};
+use rec_forms::{Form, FromValueError, Held, ObjectWriter, object_of_two};
 use rec_json::{JsonText, Node};
 use std::alloc::{AllocError, Global};
 
@@ -240,10 +240,7 @@ impl Form for StoreFormatVersion {
 
     #[tactic(auto, unfolding(crate::specs::VersionForms::store_version_form))]
     fn from_node(alloc: Global, node: &Node<'_>) -> Result<StoreFormatVersion, FromValueError> {
-        let Some(object) = node.as_object() else {
-            return Err(FromValueError::NotAValue);
-        };
-        let (major, minor) = required_two(alloc, object, "major", "minor")?;
+        let (major, minor) = object_of_two(alloc, node, "major", "minor")?;
         Ok(StoreFormatVersion { major, minor })
     }
 }
@@ -282,10 +279,7 @@ impl Form for PortableRecordingFormatVersion {
         alloc: Global,
         node: &Node<'_>,
     ) -> Result<PortableRecordingFormatVersion, FromValueError> {
-        let Some(object) = node.as_object() else {
-            return Err(FromValueError::NotAValue);
-        };
-        let (major, minor) = required_two(alloc, object, "major", "minor")?;
+        let (major, minor) = object_of_two(alloc, node, "major", "minor")?;
         Ok(PortableRecordingFormatVersion { major, minor })
     }
 }
