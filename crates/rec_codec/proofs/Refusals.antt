@@ -1,5 +1,5 @@
 -- What refuses a part of a form refuses the whole.
-use Rattle.std.proofs.Common.{◌≡◌, refl, Option, Some, None}
+use Rattle.std.proofs.Common.{refl, Option, Some, None}
 use Rattle.rec_forms.specs.declared.errors.FromValueError.TheVariants.{NotAValue, OutOfMemory}
 use Rattle.rec_forms.specs.declared.errors.FromValueError.{FromValueError}
 use Rattle.rec_forms.specs.Gives.{Refuses}
