@@ -162,7 +162,10 @@ pub fn event_from_value<S: OutputForm>(
     ensures known { IfOk result (IsEvent S.output_well_formed) }
 {
     let node = Node::of_value(alloc, value)?;
-    event_from_node(alloc, &node)
+    let event = event_from_node(alloc, &node);
+    // by a call: in place, each kind of node is a case of the proof
+    drop(node);
+    event
 }
 
 /// Reads the event for which `node` stands.

@@ -42,7 +42,10 @@ fn event_from_text<S: OutputForm>(
     ensures { Gives result (text_form (event_form S.output_form) text.now) }
 {
     let node = parse_node(alloc, text, scratch)?;
-    event_from_node(alloc, &node)
+    let event = event_from_node(alloc, &node);
+    // by a call: in place, each kind of node is a case of the proof
+    drop(node);
+    event
 }
 
 /// Reads the event of a line. `None` comes exactly where the line is blank. `scratch` is memory for

@@ -87,7 +87,10 @@ pub trait OutputForm: OutputSpec {
         ensures read { Gives result (output_form (view value.now)) }
     {
         let node = Node::of_value(alloc, value)?;
-        Self::output_from_node(alloc, &node)
+        let output = Self::output_from_node(alloc, &node);
+        // by a call: in place, each kind of node is a case of the proof
+        drop(node);
+        output
     }
 
     // What was written is read back.
