@@ -30,6 +30,9 @@ pub fn bundle_text(
     let length = bundle_length(&manifest, log, store).ok_or(AllocError)?;
     let mut bundle = GrowingSink::with_capacity(alloc, length as usize)?;
     // The write fails only where the sink does, and a growing sink only for want of memory.
-    write_bundle(&mut bundle, &manifest, log, store).map_err(|_| AllocError)?;
+    let Ok(()) = write_bundle(&mut bundle, &manifest, log, store) else {
+        drop(bundle);
+        return Err(AllocError);
+    };
     Ok(bundle.into_bytes())
 }

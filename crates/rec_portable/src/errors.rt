@@ -16,7 +16,7 @@ use thiserror::Error;
 /// Says why a bundle, or a part of it, isn't read. A bundle is judged in the order of the variants up
 /// to `UnsupportedStoreFormatVersion`, and the first refusal is answered. Want of memory may come at any
 /// time.
-#[derive(PartialEq, Drop, Error)]
+#[derive(Drop, Error)]
 pub enum PortableRecordingReadError {
     /// The source of the bundle failed.
     #[error("reading the bundle failed")]

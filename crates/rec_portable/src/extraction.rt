@@ -10,7 +10,7 @@ use rec_events::Text;
 use std::alloc::{AllocError, Global};
 
 /// Says what was written of an entry of a bundle.
-#[derive(Clone, Copy, Debug, PartialEq, Eq)]
+#[derive(Clone, Copy)]
 pub struct ExtractOuterFileResult {
     /// The length of the entry, in bytes. All of them were written.
     pub bytes_written: u64,

@@ -84,29 +84,29 @@ fn format_version(manifest: &PortableManifest) -> PortableRecordingFormatVersion
 fn check_format_version(manifest: &PortableManifest) -> Result<(), PortableRecordingReadError>
     ensures { result ≡ format_checked manifest.now.format_version }
 {
-    format_version(manifest)
-        .check_readable_by(PORTABLE_RECORDING_FORMAT_VERSION)
-        .map_err(
-            |incompatibility| PortableRecordingReadError::UnsupportedFormatVersion {
-                found: format_version(manifest),
-                supported: PORTABLE_RECORDING_FORMAT_VERSION,
-                incompatibility,
-            },
-        )
+    match format_version(manifest).check_readable_by(PORTABLE_RECORDING_FORMAT_VERSION) {
+        Ok(()) => Ok(()),
+        Err(incompatibility) => Err(PortableRecordingReadError::UnsupportedFormatVersion {
+            found: format_version(manifest),
+            supported: PORTABLE_RECORDING_FORMAT_VERSION,
+            incompatibility,
+        }),
+    }
 }
 
 /// Judges the version of the store in a bundle.
 fn check_store_version(manifest: &PortableManifest) -> Result<(), PortableRecordingReadError>
     ensures { result ≡ store_checked (version_in manifest.now.run) }
 {
-    manifest
+    match manifest
         .store_format_version()
         .check_readable_by(STORE_FORMAT_VERSION)
-        .map_err(
-            |incompatibility| PortableRecordingReadError::UnsupportedStoreFormatVersion {
-                found: manifest.store_format_version(),
-                supported: STORE_FORMAT_VERSION,
-                incompatibility,
-            },
-        )
+    {
+        Ok(()) => Ok(()),
+        Err(incompatibility) => Err(PortableRecordingReadError::UnsupportedStoreFormatVersion {
+            found: manifest.store_format_version(),
+            supported: STORE_FORMAT_VERSION,
+            incompatibility,
+        }),
+    }
 }

@@ -18,7 +18,7 @@ use rec_store::write_bundle;
 use std::alloc::Global;
 
 /// Counts what was written of a bundle.
-#[derive(Clone, Copy, Debug, PartialEq, Eq)]
+#[derive(Clone, Copy)]
 pub struct Upgraded {
     /// How many events the run has.
     pub events: u64,
@@ -103,7 +103,10 @@ fn upgrade_from<S: Source, B: Sink>(
     let rewritten = rewrite(alloc, &recording);
     drop(recording);
     let rewritten = rewritten?;
-    deliver(&rewritten, bundle)?;
+    if let Err(fault) = deliver(&rewritten, bundle) {
+        drop(rewritten);
+        return Err(fault);
+    }
     // What was accepted is read, and what was written of it.
     accepted_bundles_are_read();
     Ok(rewritten.upgraded)

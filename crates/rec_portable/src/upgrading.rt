@@ -1,12 +1,12 @@
 //! A bundle that is written anew, in memory.
 ghost use Rattle.std.specs.List.{AllByRecursion};
-ghost use Rattle.std.specs.Prelude.{◌≡◌, ◌⊎◌, ◌<◌, [], Ok, Err, Some, None, IfOk, IfErr, length, map};
-ghost use Rattle.rec_container.specs.Container.{AreFrom};
+ghost use Rattle.std.specs.Prelude.{◌≡◌, ◌⊎◌, ◌<◌, List, [], Ok, Err, Some, None, IfOk, IfErr, length, map};
+ghost use Rattle.rec_container.specs.Container.{AreFrom, Entry, IsContainer};
 ghost use Rattle.rec_container.specs.NamedContents.{entry_of};
 ghost use Rattle.rec_store.specs.RunParts.{RunParts};
 ghost use Rattle.rec_portable.specs.declared.upgrade_error.UpgradeError.TheVariants.{OutOfMemory};
-ghost use Rattle.rec_portable.specs.Rewriting.{IsMadeOf, IsRewritten, settled_text};
-ghost use Rattle.rec_portable.specs.Upgrading.{IsAccepted, IsRefused, run_judged, written_refusal};
+ghost use Rattle.rec_portable.specs.Rewriting.{IsMadeOf, IsRewritten, Judges, settled_text};
+ghost use Rattle.rec_portable.specs.Upgrading.{IsAccepted, IsRefused, names_judged, run_judged, written_refusal};
 
 mod log;
 mod metadata;
@@ -49,9 +49,23 @@ pub(crate) fn rewrite(
     let manifest = recording.manifest();
     let log = recording.read_run_log(alloc)?;
     let store = recording.open_store(alloc)?;
+    if let Err(refusal) = judge_outer(alloc, recording) {
+        drop(store);
+        return Err(refusal);
+    }
+    let written = rewrite_run(alloc, recording.limit(), manifest, &log, store.entries());
+    drop(store);
+    written
+}
+
+/// Judges the names of the entries of a bundle that is open.
+fn judge_outer(alloc: Global, recording: &PortableRecording) -> Result<(), UpgradeError>
+    ensures { (es : List Entry) → IsContainer recording.now.bytes es → Judges (names_judged es) result }
+{
     let outer = recording.outer_entries(alloc)?;
-    judge_names(alloc, &outer)?;
-    rewrite_run(alloc, recording.limit(), manifest, &log, store.entries())
+    let judged = judge_names(alloc, &outer);
+    drop(outer);
+    judged
 }
 
 /// Judges a run with this manifest, log and store, and writes it anew.
@@ -67,7 +81,10 @@ fn rewrite_run(
     ensures err { IfErr result (λ e. (e ≡ OutOfMemory) ⊎ (run_judged limit manifest.now log.now entries.now.entries ≡ Err e)) }
 {
     let run = rewrite_parts(alloc, limit, log, entries)?;
-    judge_store_names(alloc, &run.paths, entries)?;
+    if let Err(refusal) = judge_store_names(alloc, &run.paths, entries) {
+        drop(run);
+        return Err(refusal);
+    }
     let RewrittenRun {
         metadata,
         log,
@@ -76,14 +93,21 @@ fn rewrite_run(
     } = run;
     // The set goes before the store takes memory.
     drop(paths);
-    let contents = store_contents(alloc, &metadata, entries)?;
+    let Ok(contents) = store_contents(alloc, &metadata, entries) else {
+        drop(log);
+        drop(metadata);
+        return Err(UpgradeError::OutOfMemory);
+    };
     let outputs = (contents.len() - metadata.count()) as u64;
     let texts = RunTexts {
         log,
         events,
         outputs,
     };
-    write_anew(alloc, limit, manifest, texts, &contents)
+    let written = write_anew(alloc, limit, manifest, texts, &contents);
+    drop(contents);
+    drop(metadata);
+    written
 }
 
 /// Holds the log of a run, and how many events and outputs the run has.

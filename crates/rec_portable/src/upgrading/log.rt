@@ -37,7 +37,10 @@ pub(crate) fn rewrite_log(
     };
     let mut events = log.events(alloc);
     for item in &mut events {
-        rewritten.add_item(alloc, item)?;
+        if let Err(refusal) = rewritten.add_item(alloc, item) {
+            drop(rewritten);
+            return Err(refusal);
+        }
     }
     Ok(rewritten)
 }
@@ -73,9 +76,13 @@ impl RewrittenLog {
         ensures ok { OnOk result (AddsEvent event.now self.old self.new) }
     {
         let line = log_line(alloc, event)?;
-        self.text.extend_from_slice(&line)?;
+        let extended = self.text.extend_from_slice(&line);
+        drop(line);
+        extended?;
         let names = named_outputs(alloc, event)?;
-        self.names.extend_from_slice(&names)?;
+        let extended = self.names.extend_from_slice(&names);
+        drop(names);
+        extended?;
         // More events than a u64 counts fit no memory.
         self.events = self.events.checked_add(1).ok_or(AllocError)?;
         Ok(())

@@ -73,7 +73,10 @@ pub(crate) fn spell_store(
     };
     let mut sink = GrowingSink::with_capacity(alloc, compressed as usize)?;
     // The write fails only where the sink does, and a growing sink only for want of memory.
-    write_container(&mut sink, contents).map_err(|_| AllocError)?;
+    let Ok(()) = write_container(&mut sink, contents) else {
+        drop(sink);
+        return Err(UpgradeError::OutOfMemory);
+    };
     Ok(SpelledStore {
         bytes: sink.into_bytes(),
         sizes: ComponentSizes {

@@ -21,15 +21,14 @@ returns-in_err-rewritten-clause-err g c =
     let p = err_from_is_err_and c.from_residual-in_err-rewritten.result c.from_residual-in_err-rewritten.ensures.1 in
     rw (p.1, p.2) (not_rewritten g.S.Source.left g.S.Source.faults g.B.Sink.taken g.B.Sink.faults c.args.spool_limit c.args.read_limit c.args.source.now c.open.new.source _ o c.in_ok-recording.ensures.ok _ _ refused)
 
-pub returns-in_err-deliver-clause-err : goal.returns-in_err-deliver-clause-err
-returns-in_err-deliver-clause-err g c =
+pub returns-in-Err-clause-err : goal.returns-in-Err-clause-err
+returns-in-Err-clause-err g c =
     let o = c.in_ok-recording.recording in
     let made = subst (λ (r : Result Rewritten UpgradeError). IfOk r (λ x. (p : RunParts) × IsAccepted o.bytes o.limit p × IsRewritten p x)) c.in_ok-rewritten.was c.rewrite-rewritten.ensures.ok in
-    let p = err_from_is_err_and c.from_residual-in_err-deliver.result c.from_residual-in_err-deliver.ensures.1 in
-    rw (p.1, p.2) (not_delivered g.S.Source.left g.S.Source.faults g.B.Sink.taken g.B.Sink.faults c.args.spool_limit c.args.read_limit c.args.source.now c.open.new.source _ o c.in_ok-recording.ensures.ok made.0 _ made.1 made.2 _ _ _ c.in_err-deliver.ensures.err)
+    not_delivered g.S.Source.left g.S.Source.faults g.B.Sink.taken g.B.Sink.faults c.args.spool_limit c.args.read_limit c.args.source.now c.open.new.source _ o c.in_ok-recording.ensures.ok made.0 _ made.1 made.2 _ _ _ c.in-Err.ensures.err
 
 pub returns-clause-ok : goal.returns-clause-ok
 returns-clause-ok g c =
     let o = c.in_ok-recording.recording in
     let made = subst (λ (r : Result Rewritten UpgradeError). IfOk r (λ x. (p : RunParts) × IsAccepted o.bytes o.limit p × IsRewritten p x)) c.in_ok-rewritten.was c.rewrite-rewritten.ensures.ok in
-    delivered g.S.Source.left g.S.Source.faults g.B.Sink.taken g.B.Sink.faults c.args.spool_limit c.args.read_limit c.args.source.now c.open.new.source _ o c.in_ok-recording.ensures.ok made.0 _ made.1 made.2 _ _ c.accepted_bundles_are_read.ensures c.in_ok-deliver.ensures.ok
+    delivered g.S.Source.left g.S.Source.faults g.B.Sink.taken g.B.Sink.faults c.args.spool_limit c.args.read_limit c.args.source.now c.open.new.source _ o c.in_ok-recording.ensures.ok made.0 _ made.1 made.2 _ _ c.accepted_bundles_are_read.ensures c.in_default.ensures.ok

@@ -1,5 +1,4 @@
 use Rattle.std.proofs.Common.{refl, ap, ◌∙◌}
-use Rattle.std.proofs.lemmas.Result.{err_from_is_err_and}
 use Rattle.rec_portable.proofs.RewrittenLogs.{log_fault, log_whole, nothing_rewritten, one_rewritten, refuses_log}
 use Rattle.rec_portable.proofs.upgrading.log.rewrite_log.Goals as goal
 
@@ -7,14 +6,13 @@ pub loop-item-init : goal.loop-item-init
 loop-item-init c = nothing_rewritten _ c.new.ensures.items refl c.new-2.ensures.items
 
 pub loop-item-preserved : goal.loop-item-preserved
-loop-item-preserved c = one_rewritten _ c.in-Some.item _ _ c.loop-item.invariant c.in_ok-add_item.ensures.ok
+loop-item-preserved c = one_rewritten _ c.in-Some.item _ _ c.loop-item.invariant c.in_default.ensures.ok
 
-pub returns-in_err-add_item : goal.returns-in_err-add_item
-returns-in_err-add_item c =
+pub returns-in-Err : goal.returns-in-Err
+returns-in-Err c =
     let has = c.loop-item.invariant in
-    let p = err_from_is_err_and c.from_residual.result c.from_residual.ensures.1 in
-    rw (p.1, p.2) (refuses_log c.args.log.now c.in-Some.item _ c.in_err-add_item.ensures.err
-    (λ fault is memory. log_fault c.args.log.now _ _ _ _ has.events (ap (λ b. b.now) c.into_iter-item-iterator.ensures.into_iter_gives ∙ c.events-events.ensures) has.are c.loop-item.yielded_by c.in-Some.item fault c.in-Some.ensures.steps is memory))
+    refuses_log c.args.log.now c.in-Some.item _ c.in-Err.ensures.err
+    (λ fault is memory. log_fault c.args.log.now _ _ _ _ has.events (ap (λ b. b.now) c.into_iter-item-iterator.ensures.into_iter_gives ∙ c.events-events.ensures) has.are c.loop-item.yielded_by c.in-Some.item fault c.in-Some.ensures.steps is memory)
 
 pub returns : goal.returns
 returns c =
