@@ -76,8 +76,13 @@ fn salvage_store(
     ensures magic { has_magic store.now ≡ false → result ≡ Err BadMagic }
 {
     let prefix = read_prefix(alloc, store)?;
-    check_metadata(alloc, &prefix)?;
-    Ok(keep(alloc, run, log, &prefix)?)
+    if let Err(refusal) = check_metadata(alloc, &prefix) {
+        drop(prefix);
+        return Err(refusal);
+    }
+    let kept = keep(alloc, run, log, &prefix);
+    drop(prefix);
+    Ok(kept?)
 }
 
 /// Reads the whole prefix of a store.
@@ -104,16 +109,22 @@ fn keep(
     ensures { IfOk result (IsMade run.now log.now prefix.now.entries) }
 {
     let (length, gathered) = take_lines(alloc, prefix, log)?;
-    let store = keep_store(alloc, prefix, &gathered)?;
+    let events = gathered.events;
+    let store = keep_store(alloc, prefix, &gathered);
+    // By calls: in place, what goes would be a case of the proof at each exit.
+    drop(gathered);
+    let store = store?;
+    let outputs = store.outputs;
     let sizes = RecordedSizes {
-        log: log_sizes(length as u64, gathered.events),
+        log: log_sizes(length as u64, events),
         store: store.sizes,
     };
-    let bundle = make_bundle(alloc, run, sizes, &log[..length], &store.bytes)?;
+    let bundle = make_bundle(alloc, run, sizes, &log[..length], &store.bytes);
+    drop(store);
     Ok(Salvaged {
-        bundle,
-        events: gathered.events,
-        outputs: store.outputs,
+        bundle: bundle?,
+        events,
+        outputs,
     })
 }
 

@@ -42,7 +42,9 @@ pub(crate) fn keep_store(
     let metadata = contents.len();
     add_named(&mut contents, prefix, &gathered.paths)?;
     let outputs = (contents.len() - metadata) as u64;
-    spell_store(alloc, &contents, outputs)
+    let store = spell_store(alloc, &contents, outputs);
+    drop(contents);
+    store
 }
 
 /// Adds the metadata that there is.
@@ -105,7 +107,10 @@ fn spell_store(
     let uncompressed = bytes_of_contents(contents).ok_or(AllocError)?;
     let mut store = GrowingSink::with_capacity(alloc, compressed as usize)?;
     // A growing sink fails only for want of memory.
-    write_container(&mut store, contents).map_err(|_| AllocError)?;
+    let Ok(()) = write_container(&mut store, contents) else {
+        drop(store);
+        return Err(AllocError);
+    };
     Ok(KeptStore {
         bytes: store.into_bytes(),
         sizes: ComponentSizes {

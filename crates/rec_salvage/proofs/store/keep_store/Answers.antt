@@ -5,8 +5,8 @@ use Rattle.rec_salvage.proofs.store.keep_store.Goals as goal
 use Rattle.rec_salvage.proofs.StoreSteps.{both_added, contents_short, count_added, store_is}
 use Rattle.rec_salvage.specs.Keeping.{entries_in}
 
-pub spell_store-requires : goal.spell_store-requires
-spell_store-requires c =
+pub spell_store-store-requires : goal.spell_store-store-requires
+spell_store-store-requires c =
     let es = c.args.prefix.now.entries in
     contents_short es c.args.gathered.now.paths c.deref.result.now c.requires
     (ap (map entry_of) c.deref.ensures.value ∙ both_added _ _ _ _ _ c.new-contents.ensures.items c.in_ok-add_metadata.ensures c.in_ok-add_named.ensures)
@@ -18,4 +18,4 @@ returns c =
     let is = ap (map entry_of) c.deref.ensures.value ∙ both_added _ _ _ _ _ c.new-contents.ensures.items c.in_ok-add_metadata.ensures c.in_ok-add_named.ensures in
     let counted = count_added _ _ _ _ _ c.new-contents.ensures.items c.in_ok-add_metadata.ensures c.in_ok-add_named.ensures in
     let count : c.len.result - c.len-metadata.result ≡ length (entries_in g.paths es) = omega (arith, counted, c.len.ensures, c.len-metadata.ensures) in
-    IfOk-weaker c.spell_store.result _ _ (λ s made events h. store_is es events g h c.deref.result.now (c.len.result - c.len-metadata.result) s is count made) c.spell_store.ensures
+    IfOk-weaker c.spell_store-store.result _ _ (λ s made events h. store_is es events g h c.deref.result.now (c.len.result - c.len-metadata.result) s is count made) c.spell_store-store.ensures
