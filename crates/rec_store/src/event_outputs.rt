@@ -38,9 +38,17 @@ impl<'n, N: OutputNamer> OutputRules<'n, N> {
             output_error_slice,
             cpu_time,
         } = status;
+        let output = match self.store_execution(store, output) {
+            Ok(output) => output,
+            Err(error) => {
+                // By a call: in place, each case of what is let go of is one of the proof.
+                drop((result, error_summary, output_error_slice));
+                return Err(error);
+            }
+        };
         Ok(ExecuteStatus {
             retry_data,
-            output: self.store_execution(store, output)?,
+            output,
             result,
             start_time,
             time_taken,
@@ -92,8 +100,15 @@ impl<'n, N: OutputNamer> OutputRules<'n, N> {
             env_map,
             error_summary,
         } = status;
+        let output = match self.store_execution(store, output) {
+            Ok(output) => output,
+            Err(error) => {
+                drop((result, error_summary, env_map));
+                return Err(error);
+            }
+        };
         Ok(SetupScriptExecuteStatus {
-            output: self.store_execution(store, output)?,
+            output,
             result,
             start_time,
             time_taken,
@@ -168,7 +183,13 @@ impl<'n, N: OutputNamer> OutputRules<'n, N> {
         else {
             unreachable!()
         };
-        let run_status = self.store_script_status(store, run_status)?;
+        let run_status = match self.store_script_status(store, run_status) {
+            Ok(run_status) => run_status,
+            Err(error) => {
+                drop((script_id, program, args));
+                return Err(error);
+            }
+        };
         Ok(OutputEventKind::SetupScriptFinished {
             stress_index,
             index,
@@ -204,7 +225,13 @@ impl<'n, N: OutputNamer> OutputRules<'n, N> {
         else {
             unreachable!()
         };
-        let run_status = self.store_status(store, run_status)?;
+        let run_status = match self.store_status(store, run_status) {
+            Ok(run_status) => run_status,
+            Err(error) => {
+                drop(test_instance);
+                return Err(error);
+            }
+        };
         Ok(OutputEventKind::TestAttemptFailedWillRetry {
             stress_index,
             test_instance,
@@ -242,7 +269,13 @@ impl<'n, N: OutputNamer> OutputRules<'n, N> {
         else {
             unreachable!()
         };
-        let run_statuses = self.store_statuses(store, run_statuses)?;
+        let run_statuses = match self.store_statuses(store, run_statuses) {
+            Ok(run_statuses) => run_statuses,
+            Err(error) => {
+                drop(test_instance);
+                return Err(error);
+            }
+        };
         Ok(OutputEventKind::TestFinished {
             stress_index,
             test_instance,

@@ -148,7 +148,13 @@ impl<'n, N: OutputNamer> OutputRules<'n, N> {
                 let stored = self.store_description(store, &output);
                 // By a call: in place, each form of output would be a case of the proof.
                 drop(output);
-                let output = stored?;
+                let output = match stored {
+                    Ok(output) => output,
+                    Err(error) => {
+                        drop((result, errors));
+                        return Err(error);
+                    }
+                };
                 Ok(ChildExecutionOutputDescription::Output {
                     result,
                     output,

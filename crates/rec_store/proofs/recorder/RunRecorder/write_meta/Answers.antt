@@ -1,5 +1,5 @@
-use Rattle.std.proofs.Common.{◌≡◌, ℕ, List, Option, Some, None, is_some, IsTrue, option_and_then, ◌∙◌, ap, subst, sym, inr, arith, if◌then◌else◌}
-use Rattle.std.proofs.lemmas.Result.{on_ok_weaker}
+use Rattle.std.proofs.Common.{◌≡◌, ℕ, List, Option, Some, None, is_some, IsTrue, option_and_then, ◌∙◌, ap, refl, subst, sym, inl, inr, arith, if◌then◌else◌}
+use Rattle.std.proofs.lemmas.Result.{err_from_is_err_and, on_ok_weaker}
 use Rattle.std.proofs.lemmas.Str.{is_utf8-from_IsUtf8}
 use Rattle.std.specs.Str.{is_utf8}
 use Rattle.serde_json.specs.Data.{Data}
@@ -9,9 +9,9 @@ use Rattle.rec_container.specs.Container.{Entry}
 use Rattle.rec_forms.specs.Recording.{test_list_form, test_list_value, record_opts_form, record_opts_value}
 use Rattle.rec_forms.specs.TextForm.{bytes_form, text_form}
 use Rattle.rec_store.proofs.Accepted.{entries_accepted}
-use Rattle.rec_store.proofs.Counts.{counts_of_store}
+use Rattle.rec_store.proofs.Counts.{counts_of_store, counts_same}
 use Rattle.rec_store.proofs.EntrySpellings.{test_list_is, cargo_metadata_is, record_opts_is}
-use Rattle.rec_store.proofs.Growing.{entries_stand, keeps_all}
+use Rattle.rec_store.proofs.Growing.{entries_stand, keeps_all, keeps_same}
 use Rattle.rec_store.proofs.recorder.RunRecorder.write_meta.Goals as goal
 use Rattle.rec_store.proofs.Refusals.{if_err_weaker}
 use Rattle.rec_store.specs.declared.error.RunStoreError.{RunStoreError}
@@ -69,3 +69,42 @@ pub returns-clause-stands : goal.returns-clause-stands
 returns-clause-stands g c =
     entries_stand g.S.Sink.taken g.S.Sink.faults c.args.self.now.store c.store_three.new.self.store (three_entries c.deref.result.now c.as_bytes.result.now c.deref-2.result.now)
     c.store_three.result (c.is_failed.ensures.store c.if-is_failed.false) c.store_three.ensures.ok
+
+-- nothing was stored
+
+pub returns-then-is_failed : goal.returns-then-is_failed
+returns-then-is_failed g c = record {
+  ok = tt;
+  read = tt;
+  err = inl (refl, sym c.is_failed.ensures.value ∙ c.if-is_failed.true, refl);
+  entries = keeps_same c.args.self.now.store c.args.self.now.store refl;
+  later = counts_same g.S.Sink.faults g.L.Sink.faults c.args.self.now c.args.self.now refl;
+  accepted = λ _ h. h;
+  stands = tt;
+}
+
+pub returns-in_err-test_list : goal.returns-in_err-test_list
+returns-in_err-test_list g c =
+    let p = err_from_is_err_and c.from_residual.result c.from_residual.ensures.1 in
+    rw (p.1, p.2) (record {
+      ok = tt;
+      read = tt;
+      err = inr (sym c.is_failed.ensures.value ∙ c.if-is_failed.false, refl, inl refl);
+      entries = keeps_same c.args.self.now.store c.args.self.now.store refl;
+      later = counts_same g.S.Sink.faults g.L.Sink.faults c.args.self.now c.args.self.now refl;
+      accepted = λ _ h. h;
+      stands = tt;
+    })
+
+pub returns-in_err-opts : goal.returns-in_err-opts
+returns-in_err-opts g c =
+    let p = err_from_is_err_and c.from_residual-in_err-opts.result c.from_residual-in_err-opts.ensures.1 in
+    rw (p.1, p.2) (record {
+      ok = tt;
+      read = tt;
+      err = inr (sym c.is_failed.ensures.value ∙ c.if-is_failed.false, refl, inl refl);
+      entries = keeps_same c.args.self.now.store c.args.self.now.store refl;
+      later = counts_same g.S.Sink.faults g.L.Sink.faults c.args.self.now c.args.self.now refl;
+      accepted = λ _ h. h;
+      stands = tt;
+    })
