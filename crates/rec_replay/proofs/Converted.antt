@@ -21,6 +21,7 @@ use Rattle.rec_events.specs.TestLists.{Tests}
 use Rattle.rec_store.specs.declared.read_error.RecordReadError.TheVariants as reading
 use Rattle.rec_store.specs.declared.read_error.RecordReadError.{RecordReadError}
 use Rattle.rec_store.specs.EventOutputs.{Recorded}
+use Rattle.rec_replay.proofs.Loaded.{keeps_all}
 use Rattle.rec_replay.specs.Conversions.{Converts, ConvertsAs, Judges, Replays, conversion_error}
 use Rattle.rec_replay.specs.declared.conversion_error.ReplayConversionError.TheVariants.{TestNotFound, RecordRead, InvalidStressCount, OutOfMemory}
 use Rattle.rec_replay.specs.declared.conversion_error.ReplayConversionError.{ReplayConversionError}
@@ -91,6 +92,20 @@ module _ {T U : Type 0} (l m f g : ℕ) (O N : List Entry → Type 0) (refusal :
   replays_error (TestNotFound b t) h = record { judged = h.judged; answer = h.answer; same = h.same; cause = record { later = h.cause.later; failed = h.cause.failed } }
   replays_error InvalidStressCount h = record { judged = h.judged; answer = h.answer; same = h.same; cause = record { later = h.cause.later; failed = h.cause.failed } }
   replays_error (RecordRead e) h = record { judged = h.judged; answer = h.answer; same = h.same; cause = record { later = h.cause.later; failed = h.cause.failed } }
+
+-- what was converted without a reader leaves it as it was
+pub converts_replays : {T : Type 0} (l f : ℕ) (O : List Entry → Type 0) (refusal : Option ReplayConversionError) (x : T) (r : Result T ReplayConversionError) → Converts refusal x r
+    → Replays l l f f O O refusal [] (λ es. x) r
+converts_replays l f O refusal x (Ok y) h = record {
+  judged = h.0;
+  answer = λ es w. (refl, h.1);
+  same = keeps_all l O;
+  cause = record { later = omega arith; failed = tt };
+}
+converts_replays l f O refusal x (Err OutOfMemory) h = record { judged = h; answer = λ es w. tt; same = keeps_all l O; cause = record { later = omega arith; failed = tt } }
+converts_replays l f O refusal x (Err (TestNotFound b t)) h = record { judged = h; answer = λ es w. tt; same = keeps_all l O; cause = record { later = omega arith; failed = tt } }
+converts_replays l f O refusal x (Err InvalidStressCount) h = record { judged = h; answer = λ es w. tt; same = keeps_all l O; cause = record { later = omega arith; failed = tt } }
+converts_replays l f O refusal x (Err (RecordRead e)) h = absurd h
 
 -- ---- skipped outputs
 

@@ -1,10 +1,7 @@
 -- Texts that are put at the end of a line, one after the other.
-use Rattle.std.proofs.Common.{◌≡◌, ℕ, false, true, List, [], ◌∷◌, ◌++◌, codes, ap, refl, sym, ◌∙◌, append_assoc, append-nil}
-use Rattle.rec_events.specs.declared.live_events.TestEventKind.{TestEventKind}
-use Rattle.rec_events.specs.Times.{Moment}
+use Rattle.std.proofs.Common.{ℕ, List, ◌++◌, ap, ◌∙◌, append_assoc}
 use Rattle.rec_replay.specs.declared.lines.Line.{Line}
-use Rattle.rec_replay.specs.LinePieces.{Puts, named_line}
-use Rattle.rec_replay.specs.Lines.{line_of}
+use Rattle.rec_replay.specs.LinePieces.{Puts}
 
 module _ {a b : Line} {s : List ℕ} where
   -- a text after another
@@ -14,7 +11,3 @@ module _ {a b : Line} {s : List ℕ} where
     goes = λ ok. first.goes (second.goes ok);
     written = λ ok. second.written ok ∙ ap (λ line. line ++ t) (first.written (second.goes ok)) ∙ append_assoc a.text.items s t;
   }
-
--- no text
-pub nothing : (a : Line) → Puts a a []
-nothing a = record { goes = λ ok. ok; written = λ ok. sym (append-nil a.text.items) }

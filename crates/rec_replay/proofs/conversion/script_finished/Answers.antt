@@ -9,3 +9,7 @@ returns-in-Err-clause-replays g c =
 pub returns-clause-replays : goal.returns-clause-replays
 returns-clause-replays g c =
     rw c.in-SetupScriptFinished.is (replays_loaded _ _ _ _ _ _ _ _ _ _ _ _ refl (λ es h. rw (h, c.replay_index.ensures, c.in_ok-named.ensures)) c.in-Ok.ensures.loads)
+
+pub returns-clause-apart : goal.returns-clause-apart
+returns-clause-apart g c =
+    rw (c.in-SetupScriptFinished.is, c.replay_index.ensures, c.in_ok-named.ensures, c.in-Ok.ensures.apart)

@@ -14,3 +14,9 @@ returns-clause-loads g c =
     let h = c.in_ok-loaded.ensures.loads in
     let loads = rw c.as_slice.ensures.value at h in
     loads_as _ _ _ _ _ _ _ _ _ _ _ (λ es is. rw (c.new.ensures, c.into_vec.ensures, is)) loads
+
+pub returns-clause-apart : goal.returns-clause-apart
+returns-clause-apart g c =
+    let h = c.in_ok-loaded.ensures.apart in
+    let apart = rw c.as_slice.ensures.value at h in
+    rw (c.new.ensures, c.into_vec.ensures, apart)

@@ -17,3 +17,7 @@ returns-clause-replays g c =
 
 pub returns-clause-refused : goal.returns-clause-refused
 returns-clause-refused g c = λ e h. let i = rw c.in-TestAttemptFailedWillRetry.is at h in absurd (not_refused _ e c.in_ok-test_instance.ensures.0 i)
+
+pub returns-clause-apart : goal.returns-clause-apart
+returns-clause-apart g c =
+    rw (c.in-TestAttemptFailedWillRetry.is, c.in_ok-test_instance.ensures.1, c.replay_index.ensures, c.in_ok-run_status.ensures.apart)
