@@ -43,7 +43,8 @@ pub use laws::{
 };
 pub use objects::ObjectWriter;
 pub use several::{
-    object_of_two, optional_two, required_five, required_four, required_three, required_two,
+    defaulted_two, object_of_two, optional_two, required_five, required_four, required_three,
+    required_two,
 };
 pub use text_form::{parse_node, read_text, write_text};
 pub use values::value_of_text;

@@ -110,7 +110,7 @@ pub fn optional_two<'a, A: Form + Drop, B: Form + Drop>(
 }
 
 /// Reads two fields, each of which is as given where its member is missing.
-pub(crate) fn defaulted_two<'a, A: Form + Drop, B: Form + Drop>(
+pub fn defaulted_two<'a, A: Form + Drop, B: Form + Drop>(
     alloc: Global,
     object: &[(&'a str, Node<'a>)],
     first: (&str, A),

@@ -1,17 +1,12 @@
 //! The fields that a head and a run's metadata share, and those that both kinds of a run's metadata
 //! share, as they are read. Each part stands in JSON without a gap: its fields follow each other in the
 //! order of all keys.
-ghost use Rattle.std.specs.Prelude.{[], codes};
 ghost use Rattle.rec_json.specs.Nodes.{members_view};
 ghost use Rattle.rec_forms.specs.Gives.{Gives};
-ghost use Rattle.rec_forms.specs.Lists.{list_form};
-ghost use Rattle.rec_forms.specs.Maps.{map_form};
-ghost use Rattle.rec_forms.specs.Several.{GivesTwo};
-ghost use Rattle.rec_forms.specs.Shape.{defaulted, text_of};
 
 use crate::{RecordedRunStatusFormat, RecordedSizesFormat};
 use rec_events::{Duration, Items, ReportUuid, Stamp, Text, TextMap, Version};
-use rec_forms::{FromValueError, defaulted_field, optional_two, required_four, required_two};
+use rec_forms::{FromValueError, defaulted_two, optional_two, required_four, required_two};
 use rec_json::Node;
 use std::alloc::Global;
 
@@ -24,20 +19,6 @@ pub(crate) struct Invocation {
     pub last_written_at: Stamp,
     pub nextest_version: Version,
     pub parent_run_id: Option<ReportUuid>,
-}
-
-/// Reads the command line and the environment variables, which may be left out.
-fn read_words<'a>(
-    alloc: Global,
-    object: &[(&'a str, Node<'a>)],
-) -> Result<(Items<Text>, TextMap<Text>), FromValueError>
-    ensures { GivesTwo result
-        (defaulted [] (list_form text_of) (codes "cli-args") (members_view object.now))
-        (defaulted [] (map_form text_of) (codes "env-vars") (members_view object.now)) }
-{
-    let cli_args = defaulted_field(alloc, object, "cli-args", Items::empty(alloc))?;
-    let env_vars = defaulted_field(alloc, object, "env-vars", TextMap::empty(alloc))?;
-    Ok((cli_args, env_vars))
 }
 
 impl Invocation {
@@ -57,7 +38,12 @@ impl Invocation {
             "last-written-at",
             "nextest-version",
         )?;
-        let (cli_args, env_vars) = read_words(alloc, object)?;
+        let (cli_args, env_vars) = defaulted_two(
+            alloc,
+            object,
+            ("cli-args", Items::empty(alloc)),
+            ("env-vars", TextMap::empty(alloc)),
+        )?;
         Ok(Invocation {
             cli_args,
             duration,
