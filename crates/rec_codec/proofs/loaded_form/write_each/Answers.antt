@@ -1,9 +1,27 @@
-use Rattle.std.proofs.Common.{◌≡◌, ◌+◌, ◌∷◌, ◌&&◌, sym, ◌∙◌, ap, map, drop, subst}
+use Rattle.std.proofs.Common.{◌≡◌, ◌+◌, ◌∷◌, ◌&&◌, Bool, refl, sym, ◌∙◌, ap, map, drop, subst}
 use Rattle.std.proofs.lemmas.List.{drop_more}
+use Rattle.std.proofs.lemmas.Result.{err_from_is_err_and}
 use Rattle.std.specs.List.{AllByRecursion}
 use Rattle.rec_json.proofs.WriteLaws.{item_written, items_written}
 use Rattle.rec_codec.proofs.loaded_form.write_each.Goals as goal
-use Rattle.rec_codec.specs.Writes.{every}
+use Rattle.rec_codec.specs.declared.errors.ToValueError.TheVariants.{NotLoaded, OutOfMemory}
+use Rattle.rec_codec.specs.declared.errors.ToValueError.{ToValueError}
+use Rattle.rec_codec.specs.Writes.{FailsUnloaded, every}
+
+-- an output that is missing is missing among all
+fails_here : (e : ToValueError) (here rest : Bool) → FailsUnloaded e here → FailsUnloaded e (here && rest)
+fails_here NotLoaded here rest h = rw h refl
+fails_here OutOfMemory here rest h = tt
+
+pub returns-in_err-write-clause-loaded : goal.returns-in_err-write-clause-loaded
+returns-in_err-write-clause-loaded g c =
+    let items = c.args.items.now in
+    let i = c.loop-item.item-index in
+    let item = c.item-item.result in
+    let rest = drop (i + 1) items in
+    let here : drop i items ≡ item ∷ rest = drop_more items i item c.loop-item-test.true ∙ ap (λ x. x ∷ rest) (sym c.item-item.is) in
+    let p = err_from_is_err_and c.from_residual-in_err-write.result c.from_residual-in_err-write.ensures.1 in
+    rw (p.1, p.2, ← c.loop-item.invariant.loaded, here) (fails_here _ (g.T.LoadedForm.loaded item) (every g.T.LoadedForm.loaded rest) c.in_err-write.ensures.loaded)
 
 pub loop-item-preserved : goal.loop-item-preserved
 loop-item-preserved g c =
