@@ -76,13 +76,9 @@ impl RewrittenLog {
         ensures ok { OnOk result (AddsEvent event.now self.old self.new) }
     {
         let line = log_line(alloc, event)?;
-        let extended = self.text.extend_from_slice(&line);
-        drop(line);
-        extended?;
+        self.text.extend_from_slice(&line)?;
         let names = named_outputs(alloc, event)?;
-        let extended = self.names.extend_from_slice(&names);
-        drop(names);
-        extended?;
+        self.names.extend_from_slice(&names)?;
         // More events than a u64 counts fit no memory.
         self.events = self.events.checked_add(1).ok_or(AllocError)?;
         Ok(())
