@@ -111,7 +111,7 @@ fn prepare_run<N: OutputNamer>(
         Ok(manifest) => manifest,
         Err(error) => {
             // By a call, as the head in `prepare`.
-            drop(trace);
+            trace.discard();
             return Err(error);
         }
     };

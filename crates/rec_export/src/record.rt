@@ -85,14 +85,14 @@ pub fn record_run<N: OutputNamer>(
     // Recorder and trace are let go of by calls: in place, each of their parts would be a case of the proof.
     let Ok(()) = record_head(&mut recorder, head) else {
         drop(recorder);
-        drop(trace);
+        trace.discard();
         return Err(RecordExportError::OutOfMemory);
     };
     match record_lines(alloc, lines, &mut recorder, &mut trace) {
         Ok(()) => end_run(alloc, settings.read_limit, recorder, trace),
         Err(error) => {
             drop(recorder);
-            drop(trace);
+            trace.discard();
             Err(error)
         }
     }
@@ -128,7 +128,7 @@ fn end_run<N: OutputNamer>(
 {
     let Ok(too_large) = first_too_large(alloc, limit, recorder.store()) else {
         drop(recorder);
-        drop(trace);
+        trace.discard();
         return Err(RecordExportError::OutOfMemory);
     };
     let sizes = recorder.sizes();

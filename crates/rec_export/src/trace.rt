@@ -63,6 +63,13 @@ impl SessionTrace {
         }
     }
 
+    /// Lets the trace go, as [`PrintedTrace::discard`] does with its text.
+    pub fn discard(self) {
+        let SessionTrace { trace, refusal } = self;
+        trace.discard();
+        drop(refusal);
+    }
+
     /// Writes the text of the trace, in UTF-8.
     ///
     /// # Errors
@@ -76,7 +83,10 @@ impl SessionTrace {
         let SessionTrace { trace, refusal } = self;
         match refusal {
             None => Ok(trace.into_bytes(alloc)?),
-            Some(refusal) => Err(RecordExportError::from(refusal)),
+            Some(refusal) => {
+                trace.discard();
+                Err(RecordExportError::from(refusal))
+            }
         }
     }
 }
