@@ -1,6 +1,9 @@
 //! What writers answer and write, and what is read of sources that fail.
 
-use rec_container::{Container, ContainerWriteError, ContainerWriter, NamedContent, Source, container_length, read_within, write_all_dyn, write_container};
+use rec_container::{
+    Container, ContainerWriteError, ContainerWriter, NamedContent, Source, container_length,
+    read_within, write_all_dyn, write_container,
+};
 use rec_memory_streams::{EndlessSource, FailingSink, FailingSource, MemorySink};
 use std::alloc::{AllocError, Global};
 use std::str;
