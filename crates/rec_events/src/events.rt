@@ -244,5 +244,7 @@ pub struct TestEventSummary<S: OutputSpec> {
 
 impl<S: OutputSpec> TestEventSummary<S> {
     /// Lets the event go, as `drop` does. A crate that lets one go by this call doesn't prove anew how each of its parts is let go.
-    pub fn discard(self) {}
+    pub fn discard(self) {
+        drop(self);
+    }
 }

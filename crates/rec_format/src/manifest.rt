@@ -54,5 +54,7 @@ impl PortableManifest {
     }
 
     /// Lets the manifest go, as `drop` does. A crate that lets one go by this call doesn't prove anew how each of its parts is let go.
-    pub fn discard(self) {}
+    pub fn discard(self) {
+        drop(self);
+    }
 }

@@ -38,7 +38,9 @@ pub struct RecordedRunInfo {
 
 impl RecordedRunInfo {
     /// Lets the information go, as `PortableManifest::discard` does with a manifest.
-    pub fn discard(self) {}
+    pub fn discard(self) {
+        drop(self);
+    }
 }
 
 /// Describes a recorded run as it stands in manifests and run lists, where the two numbers of its

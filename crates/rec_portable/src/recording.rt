@@ -214,7 +214,9 @@ impl PortableRecording {
 
     /// Lets the bundle go, as `drop` does. A crate that lets one go by this call doesn't prove anew how each part of its manifest is
     /// let go.
-    pub fn discard(self) {}
+    pub fn discard(self) {
+        drop(self);
+    }
 }
 
 impl RunFilesExist for PortableRecording {

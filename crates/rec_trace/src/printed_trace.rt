@@ -88,7 +88,9 @@ impl PrintedTrace {
     }
 
     /// Lets the trace go, as `drop` does. A crate that lets one go by this call doesn't prove anew how each of its parts is let go.
-    pub fn discard(self) {}
+    pub fn discard(self) {
+        drop(self);
+    }
 
     /// Writes the text of the trace, in UTF-8.
     ///
