@@ -1,7 +1,7 @@
 use Rattle.std.proofs.Common.{refl}
 use Rattle.std.proofs.lemmas.Result.{err_from_is_err_and}
-use Rattle.rec_codec.proofs.Refusals.{at_first, at_two}
 use Rattle.rec_codec.proofs.event.event_from.Goals as goal
+use Rattle.rec_codec.proofs.Refusals.{at_first, at_two}
 use Rattle.rec_codec.specs.EventForms.{event_form}
 
 pub returns-in_err-timestamp : goal.returns-in_err-timestamp

@@ -1,7 +1,7 @@
 use Rattle.std.proofs.Common.{refl}
 use Rattle.std.proofs.lemmas.Result.{err_from_is_err_and}
-use Rattle.rec_codec.proofs.Refusals.{at_first, around_four}
 use Rattle.rec_codec.proofs.output_kinds.attempt_failed_from.Goals as goal
+use Rattle.rec_codec.proofs.Refusals.{at_first, around_four}
 use Rattle.rec_codec.specs.OutputKinds.{attempt_failed_form}
 
 pub returns-in_err-stress_index : goal.returns-in_err-stress_index
