@@ -105,7 +105,8 @@ fn script_or_test_from<'a>(
     object: &[(&'a str, Node<'a>)],
     name: &str,
 ) -> Result<CoreEventKind, FromValueError>
-    ensures { Gives result (kind_in (script_kinds ++ test_kinds) name.now (members_view object.now)) }
+    ensures { Gives result
+        (kind_in (script_kinds ++ test_kinds) name.now (members_view object.now)) }
 {
     match name {
         "setup-script-started" => setup_script_started_from(alloc, object),

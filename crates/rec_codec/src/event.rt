@@ -26,7 +26,8 @@ fn write_members<S: OutputForm>(
     event: &TestEventSummary<S>,
     text: &mut JsonText,
 ) -> Result<(), ToValueError>
-    ensures written { OnOk result (text.new ≡ with_fields text.old (event_fields S.output_value event.now)) }
+    ensures written { OnOk result
+        (text.new ≡ with_fields text.old (event_fields S.output_value event.now)) }
     ensures loaded { WritesLoaded result (kind_loaded S.loaded event.now.kind) }
     ensures known { OnOk result (IsEvent S.output_well_formed event.now) }
 {
@@ -60,7 +61,8 @@ pub fn write_event<S: OutputForm>(
     event: &TestEventSummary<S>,
     text: &mut JsonText,
 ) -> Result<(), ToValueError>
-    ensures written { OnOk result (text.new ≡ text.old ++ value_tokens (event_value S.output_value event.now)) }
+    ensures written { OnOk result
+        (text.new ≡ text.old ++ value_tokens (event_value S.output_value event.now)) }
     ensures loaded { WritesLoaded result (kind_loaded S.loaded event.now.kind) }
     ensures known { OnOk result (IsEvent S.output_well_formed event.now) }
 {
@@ -75,7 +77,8 @@ fn value_from<S: OutputForm>(
     alloc: Global,
     event: &TestEventSummary<S>,
 ) -> Result<Value, ToValueError>
-    ensures written { Writes result (event_value S.output_value event.now) (kind_loaded S.loaded event.now.kind) }
+    ensures written { Writes result (event_value S.output_value event.now)
+        (kind_loaded S.loaded event.now.kind) }
     ensures known { OnOk result (IsEvent S.output_well_formed event.now) }
 {
     let mut text = JsonText::new(alloc);
@@ -96,7 +99,8 @@ pub fn event_to_value<S: OutputForm>(
     alloc: Global,
     event: &TestEventSummary<S>,
 ) -> Result<Value, ToValueError>
-    ensures written { Writes result (event_value S.output_value event.now) (kind_loaded S.loaded event.now.kind) }
+    ensures written { Writes result (event_value S.output_value event.now)
+        (kind_loaded S.loaded event.now.kind) }
     ensures known { OnOk result (IsEvent S.output_well_formed event.now) }
     ensures reads_back { IfOk result (λ v. event_form S.output_form (view v) ≡ Some event.now) }
 {
@@ -128,7 +132,8 @@ fn kind_named<'a, S: OutputForm>(
 
 /// Returns the name of the kind that an object has.
 fn kind_name<'a>(object: &[(&'a str, Node<'a>)]) -> Option<&'a str>
-    ensures { option_map (λ name. name.now) result ≡ required as_str (codes "kind") (members_view object.now) }
+    ensures { option_map (λ name. name.now) result
+        ≡ required as_str (codes "kind") (members_view object.now) }
 {
     member(object, "kind")?.as_str()
 }

@@ -61,7 +61,8 @@ pub fn read_line<S: OutputForm>(
     line: Line<'_>,
     scratch: &mut Scratch,
 ) -> Option<Result<TestEventSummary<S>, LineError>>
-    ensures { Answers (event_form S.output_form) result line.entry.number (text_of line.entry.bytes.now) }
+    ensures { Answers (event_form S.output_form) result line.entry.number
+        (text_of line.entry.bytes.now) }
 {
     let Some(text) = line.text() else {
         return Some(Err(LineError::ReadRunLog {

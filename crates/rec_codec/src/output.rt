@@ -94,14 +94,18 @@ pub trait OutputForm: OutputSpec {
     }
 
     // What was written is read back.
-    ghost output_reads_back: { (o : Self.ChildOutput) → output_well_formed o → output_form (output_value o) ≡ Some o };
+    ghost output_reads_back: { (o : Self.ChildOutput)
+        → output_well_formed o
+        → output_form (output_value o) ≡ Some o };
 
     // What is read is well-formed.
     ghost output_reads_well_formed: { GivesWellFormed output_well_formed output_form };
 
     // What is written is no null, is given back by its text, has no float, and nests no deeper than
     // `output_levels`.
-    ghost output_writable: { (o : Self.ChildOutput) → output_well_formed o → IsWritable output_levels (output_value o) };
+    ghost output_writable: { (o : Self.ChildOutput)
+        → output_well_formed o
+        → IsWritable output_levels (output_value o) };
 
     // An output within an event, where it nests up to ten deeper, is no deeper than what is read as JSON.
     ghost output_shallow: { output_levels + 10 ≤ max_depth };

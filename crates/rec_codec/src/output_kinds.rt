@@ -71,9 +71,11 @@ fn write_script_finished<S: OutputForm>(
 ) -> Result<(), ToValueError>
     requires named { output_name kind.now ≡ codes "setup-script-finished" }
     ensures written { OnOk result (text.new
-        ≡ with_fields text.old (output_event_fields S.output_value timestamp.now elapsed.now kind.now)) }
+        ≡ with_fields text.old
+        (output_event_fields S.output_value timestamp.now elapsed.now kind.now)) }
     ensures loaded { WritesLoaded result (output_loaded S.loaded kind.now) }
-    ensures known { OnOk result (IsOutputEvent S.output_well_formed timestamp.now elapsed.now kind.now) }
+    ensures known { OnOk result
+        (IsOutputEvent S.output_well_formed timestamp.now elapsed.now kind.now) }
 {
     let OutputEventKind::SetupScriptFinished {
         stress_index,
@@ -108,9 +110,11 @@ fn write_attempt_failed<S: OutputForm>(
 ) -> Result<(), ToValueError>
     requires named { output_name kind.now ≡ codes "test-attempt-failed-will-retry" }
     ensures written { OnOk result (text.new
-        ≡ with_fields text.old (output_event_fields S.output_value timestamp.now elapsed.now kind.now)) }
+        ≡ with_fields text.old
+        (output_event_fields S.output_value timestamp.now elapsed.now kind.now)) }
     ensures loaded { WritesLoaded result (output_loaded S.loaded kind.now) }
-    ensures known { OnOk result (IsOutputEvent S.output_well_formed timestamp.now elapsed.now kind.now) }
+    ensures known { OnOk result
+        (IsOutputEvent S.output_well_formed timestamp.now elapsed.now kind.now) }
 {
     let OutputEventKind::TestAttemptFailedWillRetry {
         stress_index,
@@ -144,9 +148,11 @@ fn write_test_finished<S: OutputForm>(
 ) -> Result<(), ToValueError>
     requires named { output_name kind.now ≡ codes "test-finished" }
     ensures written { OnOk result (text.new
-        ≡ with_fields text.old (output_event_fields S.output_value timestamp.now elapsed.now kind.now)) }
+        ≡ with_fields text.old
+        (output_event_fields S.output_value timestamp.now elapsed.now kind.now)) }
     ensures loaded { WritesLoaded result (output_loaded S.loaded kind.now) }
-    ensures known { OnOk result (IsOutputEvent S.output_well_formed timestamp.now elapsed.now kind.now) }
+    ensures known { OnOk result
+        (IsOutputEvent S.output_well_formed timestamp.now elapsed.now kind.now) }
 {
     let OutputEventKind::TestFinished {
         stress_index,
@@ -197,9 +203,11 @@ pub fn write_output<S: OutputForm>(
     kind: &OutputEventKind<S>,
 ) -> Result<(), ToValueError>
     ensures written { OnOk result (text.new
-        ≡ with_fields text.old (output_event_fields S.output_value timestamp.now elapsed.now kind.now)) }
+        ≡ with_fields text.old
+        (output_event_fields S.output_value timestamp.now elapsed.now kind.now)) }
     ensures loaded { WritesLoaded result (output_loaded S.loaded kind.now) }
-    ensures known { OnOk result (IsOutputEvent S.output_well_formed timestamp.now elapsed.now kind.now) }
+    ensures known { OnOk result
+        (IsOutputEvent S.output_well_formed timestamp.now elapsed.now kind.now) }
 {
     match kind {
         OutputEventKind::SetupScriptFinished { .. } => write_script_finished(

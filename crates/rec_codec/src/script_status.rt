@@ -23,11 +23,14 @@ impl<S: OutputForm> LoadedForm for SetupScriptExecuteStatus<S> {
 
     ghost levels = { S.output_levels + 7 };
 
-    ghost reads_back = { script_status_back S.output_well_formed S.output_value S.output_form S.output_reads_back };
+    ghost reads_back = { script_status_back S.output_well_formed S.output_value S.output_form
+        S.output_reads_back };
 
-    ghost reads_well_formed = { script_status_well_formed S.output_well_formed S.output_form S.output_reads_well_formed };
+    ghost reads_well_formed = { script_status_well_formed S.output_well_formed S.output_form
+        S.output_reads_well_formed };
 
-    ghost writable = { script_status_writable S.output_well_formed S.output_levels S.output_value S.output_writable };
+    ghost writable = { script_status_writable S.output_well_formed S.output_levels S.output_value
+        S.output_writable };
 
     fn write(&self, alloc: Global, text: &mut JsonText) -> Result<(), ToValueError> {
         let object = ObjectWriter::begin(alloc, text);

@@ -101,11 +101,14 @@ impl<S: OutputForm> LoadedForm for ChildExecutionOutputDescription<S> {
 
     ghost levels = { S.output_levels + 6 };
 
-    ghost reads_back = { description_back S.output_well_formed S.output_value S.output_form S.output_reads_back };
+    ghost reads_back = { description_back S.output_well_formed S.output_value S.output_form
+        S.output_reads_back };
 
-    ghost reads_well_formed = { description_well_formed S.output_well_formed S.output_form S.output_reads_well_formed };
+    ghost reads_well_formed = { description_well_formed S.output_well_formed S.output_form
+        S.output_reads_well_formed };
 
-    ghost writable = { description_writable S.output_well_formed S.output_levels S.output_value S.output_writable };
+    ghost writable = { description_writable S.output_well_formed S.output_levels S.output_value
+        S.output_writable };
 
     fn write(&self, alloc: Global, text: &mut JsonText) -> Result<(), ToValueError> {
         match self {
@@ -256,11 +259,14 @@ impl<S: OutputForm> LoadedForm for ExecuteStatus<S> {
 
     ghost levels = { S.output_levels + 7 };
 
-    ghost reads_back = { status_back S.output_well_formed S.output_value S.output_form S.output_reads_back };
+    ghost reads_back = { status_back S.output_well_formed S.output_value S.output_form
+        S.output_reads_back };
 
-    ghost reads_well_formed = { status_well_formed S.output_well_formed S.output_form S.output_reads_well_formed };
+    ghost reads_well_formed = { status_well_formed S.output_well_formed S.output_form
+        S.output_reads_well_formed };
 
-    ghost writable = { status_writable S.output_well_formed S.output_levels S.output_value S.output_writable };
+    ghost writable = { status_writable S.output_well_formed S.output_levels S.output_value
+        S.output_writable };
 
     fn write(&self, alloc: Global, text: &mut JsonText) -> Result<(), ToValueError> {
         let object = ObjectWriter::begin(alloc, text);
@@ -307,7 +313,8 @@ fn attempts_from<'a, S: OutputForm>(
     object: &[(&'a str, Node<'a>)],
     key: &str,
 ) -> Result<NonEmpty<ExecuteStatus<S>>, FromValueError>
-    ensures { Gives result (required (attempts_form S.output_form) key.now (members_view object.now)) }
+    ensures { Gives result
+        (required (attempts_form S.output_form) key.now (members_view object.now)) }
 {
     required_some(alloc, object, key)
 }
@@ -327,11 +334,14 @@ impl<S: OutputForm> LoadedForm for ExecutionStatuses<S> {
 
     ghost levels = { S.output_levels + 9 };
 
-    ghost reads_back = { statuses_back S.output_well_formed S.output_value S.output_form S.output_reads_back };
+    ghost reads_back = { statuses_back S.output_well_formed S.output_value S.output_form
+        S.output_reads_back };
 
-    ghost reads_well_formed = { statuses_well_formed S.output_well_formed S.output_form S.output_reads_well_formed };
+    ghost reads_well_formed = { statuses_well_formed S.output_well_formed S.output_form
+        S.output_reads_well_formed };
 
-    ghost writable = { statuses_writable S.output_well_formed S.output_levels S.output_value S.output_writable };
+    ghost writable = { statuses_writable S.output_well_formed S.output_levels S.output_value
+        S.output_writable };
 
     fn write(&self, alloc: Global, text: &mut JsonText) -> Result<(), ToValueError> {
         let object = ObjectWriter::begin(alloc, text);

@@ -38,7 +38,8 @@ impl<R: Read> Source for StdSource<R> {
         ensures faultless { OnOk result (self.new.faults ≡ self.old.faults) }
 
         // It gives what the reader gives, where that is known.
-        ensures given { ReadConsumes (R.remaining self.old.reader) (R.remaining self.new.reader) result buf.new }
+        ensures given { ReadConsumes (R.remaining self.old.reader) (R.remaining self.new.reader)
+            result buf.new }
         ensures counted { Counts self.old.faults self.new.faults result }
     {
         match self.reader.read(buf) {
@@ -76,7 +77,8 @@ impl<W: Write> StdSink<W> {
 pub fn write_flushed<W: Write>(writer: &mut W, piece: &[u8]) -> Option<usize>
     ensures bound { IfSome result (λ n. n ≤ length piece.now) }
     ensures progress { IfSome result (λ n. 0 < length piece.now → 0 < n) }
-    ensures passed { IfSome result (λ n. Appends (W.contents writer.old) (W.contents writer.new) (take n piece.now)) }
+    ensures passed { IfSome result
+        (λ n. Appends (W.contents writer.old) (W.contents writer.new) (take n piece.now)) }
 {
     match writer.write(piece) {
         Ok(count) if count > 0 || piece.is_empty() => match writer.flush() {
@@ -99,7 +101,9 @@ impl<W: Write> Sink for StdSink<W> {
         ensures cause { HasCause self.old.faults self.new.faults result }
 
         // The writer took what it answers, where that is known.
-        ensures passed { IfOk result (λ n. Appends (W.contents self.old.writer) (W.contents self.new.writer) (take n piece.now)) }
+        ensures passed { IfOk result
+            (λ n. Appends (W.contents self.old.writer) (W.contents self.new.writer)
+            (take n piece.now)) }
         ensures counted { Counts self.old.faults self.new.faults result }
     {
         match write_flushed(&mut self.writer, piece) {

@@ -26,7 +26,8 @@ pub struct NamedContent<'a> {
 /// Returns the length in bytes of the container that has these contents in their order, or none
 /// where that is no u64.
 pub fn container_length(contents: &[NamedContent<'_>]) -> Option<u64>
-    ensures { SomeIff result (length (container_of contents.now) < 2 ^ 64) (length (container_of contents.now)) }
+    ensures { SomeIff result (length (container_of contents.now) < 2 ^ 64)
+        (length (container_of contents.now)) }
 {
     // The magic and the end mark.
     let mut length = 9u64;
@@ -46,8 +47,10 @@ pub fn write_container<K: Sink>(
     contents: &[NamedContent<'_>],
 ) -> Result<(), SinkFailed>
     requires names { AllByRecursion (λ c. length c.name.now < 65536) contents.now }
-    ensures ok { OnOk result (Appends (K.taken sink.old) (K.taken sink.new) (container_of contents.now)) }
-    ensures fault { OnErr result (TookPart (K.taken sink.old) (K.taken sink.new) (container_of contents.now)) }
+    ensures ok { OnOk result
+        (Appends (K.taken sink.old) (K.taken sink.new) (container_of contents.now)) }
+    ensures fault { OnErr result
+        (TookPart (K.taken sink.old) (K.taken sink.new) (container_of contents.now)) }
     ensures cause { HasCause (K.faults sink.old) (K.faults sink.new) result }
 {
     write_contents(sink, contents)?;
@@ -61,7 +64,8 @@ pub fn nested_length<K: Sink>(
     name: &str,
     inner: &ContainerWriter<K>,
 ) -> Option<u64>
-    ensures { SomeIff result (length (nested contents.now name.now inner.now.entries) < 2 ^ 64) (length (nested contents.now name.now inner.now.entries)) }
+    ensures { SomeIff result (length (nested contents.now name.now inner.now.entries) < 2 ^ 64)
+        (length (nested contents.now name.now inner.now.entries)) }
 {
     let length = container_length(contents)?;
     grown(length, name.len(), inner.sizes().compressed as usize)
@@ -81,8 +85,12 @@ pub fn write_nested<T: Sink, K: Sink>(
 ) -> Result<(), SinkFailed>
     requires names { AllByRecursion (λ c. length c.name.now < 65536) contents.now }
     requires name { length name.now < 65536 }
-    ensures ok { OnOk result (Appends (T.taken sink.old) (T.taken sink.new) (nested contents.now name.now inner.now.entries)) }
-    ensures fault { OnErr result (TookPart (T.taken sink.old) (T.taken sink.new) (nested contents.now name.now inner.now.entries)) }
+    ensures ok { OnOk result
+        (Appends (T.taken sink.old) (T.taken sink.new)
+        (nested contents.now name.now inner.now.entries)) }
+    ensures fault { OnErr result
+        (TookPart (T.taken sink.old) (T.taken sink.new)
+        (nested contents.now name.now inner.now.entries)) }
     ensures cause { HasCause (T.faults sink.old) (T.faults sink.new) result }
 {
     write_contents(sink, contents)?;
@@ -95,7 +103,8 @@ pub fn write_nested<T: Sink, K: Sink>(
 fn write_contents<K: Sink>(sink: &mut K, contents: &[NamedContent<'_>]) -> Result<(), SinkFailed>
     requires names { AllByRecursion (λ c. length c.name.now < 65536) contents.now }
     ensures ok { OnOk result (Appends (K.taken sink.old) (K.taken sink.new) (begun contents.now)) }
-    ensures fault { OnErr result (TookPart (K.taken sink.old) (K.taken sink.new) (begun contents.now)) }
+    ensures fault { OnErr result
+        (TookPart (K.taken sink.old) (K.taken sink.new) (begun contents.now)) }
     ensures cause { HasCause (K.faults sink.old) (K.faults sink.new) result }
 {
     write_magic(sink)?;
@@ -121,8 +130,10 @@ pub(crate) fn write_content<K: Sink>(
     content: &NamedContent<'_>,
 ) -> Result<(), SinkFailed>
     requires { length content.now.name.now < 65536 }
-    ensures ok { OnOk result (Appends (K.taken sink.old) (K.taken sink.new) (entry (entry_of content.now))) }
-    ensures fault { OnErr result (TookPart (K.taken sink.old) (K.taken sink.new) (entry (entry_of content.now))) }
+    ensures ok { OnOk result
+        (Appends (K.taken sink.old) (K.taken sink.new) (entry (entry_of content.now))) }
+    ensures fault { OnErr result
+        (TookPart (K.taken sink.old) (K.taken sink.new) (entry (entry_of content.now))) }
     ensures cause { HasCause (K.faults sink.old) (K.faults sink.new) result }
 {
     write_head(sink, content.name, content.content.len() as u64)?;
@@ -132,8 +143,10 @@ pub(crate) fn write_content<K: Sink>(
 /// Writes what stands before a content of this length in bytes.
 fn write_head<K: Sink>(sink: &mut K, name: &str, content: u64) -> Result<(), SinkFailed>
     requires { length name.now < 65536 }
-    ensures ok { OnOk result (Appends (K.taken sink.old) (K.taken sink.new) (entry_head name.now content)) }
-    ensures fault { OnErr result (TookPart (K.taken sink.old) (K.taken sink.new) (entry_head name.now content)) }
+    ensures ok { OnOk result
+        (Appends (K.taken sink.old) (K.taken sink.new) (entry_head name.now content)) }
+    ensures fault { OnErr result
+        (TookPart (K.taken sink.old) (K.taken sink.new) (entry_head name.now content)) }
     ensures cause { HasCause (K.faults sink.old) (K.faults sink.new) result }
 {
     write_name(sink, name)?;
@@ -143,8 +156,10 @@ fn write_head<K: Sink>(sink: &mut K, name: &str, content: u64) -> Result<(), Sin
 /// Writes the tag of an entry, and its name after the name's length.
 fn write_name<K: Sink>(sink: &mut K, name: &str) -> Result<(), SinkFailed>
     requires { length name.now < 65536 }
-    ensures ok { OnOk result (Appends (K.taken sink.old) (K.taken sink.new) (tagged_name name.now)) }
-    ensures fault { OnErr result (TookPart (K.taken sink.old) (K.taken sink.new) (tagged_name name.now)) }
+    ensures ok { OnOk result
+        (Appends (K.taken sink.old) (K.taken sink.new) (tagged_name name.now)) }
+    ensures fault { OnErr result
+        (TookPart (K.taken sink.old) (K.taken sink.new) (tagged_name name.now)) }
     ensures cause { HasCause (K.faults sink.old) (K.faults sink.new) result }
 {
     let [high, low] = (name.len() as u16).to_be_bytes();

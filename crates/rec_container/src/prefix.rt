@@ -43,7 +43,8 @@ impl<'a> Container<'a> {
     /// - `BadMagic` exactly where the bytes don't begin with `nxtcont1`.
     /// - `OutOfMemory` where memory is short.
     pub fn parse_prefix(alloc: Global, bytes: &'a [u8]) -> Result<Container<'a>, PrefixError>
-        ensures prefix { IfOk result (λ c. (c.bytes ≡ bytes.now) × IsWholePrefix bytes.now c.entries) }
+        ensures prefix { IfOk result
+            (λ c. (c.bytes ≡ bytes.now) × IsWholePrefix bytes.now c.entries) }
         // `BadMagic` comes exactly where the magic isn't there.
         ensures fault { IfErr result (λ e. e ≡ BadMagic → has_magic bytes.now ≡ false) }
         ensures magic { has_magic bytes.now ≡ false → result ≡ Err BadMagic }
@@ -70,8 +71,11 @@ fn next_entry<'a>(
 ) -> Option<(PlacedEntry<'a>, &'a [u8])>
     requires { at + length bytes.now < 2 ^ 64 }
     ensures step { MatchOption result (IsStuck (placed_entries seen.now) bytes.now)
-        (λ x. step_at at (placed_entries seen.now) bytes.now ≡ Ok (Some (placed_entry x.0, x.1.now))) }
-    ensures place { IfSome result (λ x. (x.0.place ≡ at + 11 + length x.0.name.now) × (x.0.place + length x.0.content.now + length x.1.now ≡ at + length bytes.now)) }
+        (λ x. step_at at (placed_entries seen.now) bytes.now
+        ≡ Ok (Some (placed_entry x.0, x.1.now))) }
+    ensures place { IfSome result
+        (λ x. (x.0.place ≡ at + 11 + length x.0.name.now)
+        × (x.0.place + length x.0.content.now + length x.1.now ≡ at + length bytes.now)) }
 {
     match read_step(bytes, at, seen) {
         Ok(found) => found,

@@ -34,7 +34,8 @@ impl<'a> Model for Container<'a> {
 
     ghost view = { λ c. record { bytes = c.bytes.now; entries = placed_entries c.entries.items } };
 
-    ghost invariant = { λ c. ArePlaced c.bytes.now c.entries.items × IsSortedOf c.sorted.items c.entries.items };
+    ghost invariant = { λ c. ArePlaced c.bytes.now c.entries.items
+        × IsSortedOf c.sorted.items c.entries.items };
 }
 
 impl<'a> Container<'a> {
@@ -70,7 +71,9 @@ impl<'a> Container<'a> {
         // The entries are a list that the bytes spell.
         ensures found { IfOk result (λ c. (c.bytes ≡ bytes.now) × IsContainer bytes.now c.entries) }
         // Bytes that spell a list give it, but for want of memory.
-        ensures only { (es : List Entry) → IsContainer bytes.now es → MatchResult result (λ c. c.entries ≡ es) (λ e. e ≡ OutOfMemory) }
+        ensures only { (es : List Entry)
+            → IsContainer bytes.now es
+            → MatchResult result (λ c. c.entries ≡ es) (λ e. e ≡ OutOfMemory) }
         // Each fault has its cause in the bytes.
         ensures fault { IfErr result (λ e. (e ≡ OutOfMemory) ⊎ IsFault bytes.now e) }
     {
@@ -123,7 +126,9 @@ impl<'a> Container<'a> {
         ensures place { result ≡ place_from 8 self.now.entries i }
 
         // There the parsed bytes have the content, and it ends within them.
-        ensures stands { (content : List ℕ) → slice_get (map (λ e. e.content) self.now.entries) i ≡ Some content → StandsWithin self.now.bytes result content }
+        ensures stands { (content : List ℕ)
+            → slice_get (map (λ e. e.content) self.now.entries) i ≡ Some content
+            → StandsWithin self.now.bytes result content }
     {
         self.entries[i].place
     }
@@ -163,7 +168,8 @@ pub(crate) fn container_of<'a>(
     entries: IndexedEntries<'a>,
 ) -> Result<Container<'a>, AllocError>
     requires { ArePlaced bytes.now entries }
-    ensures { IfOk result (λ c. c ≡ record { bytes = bytes.now; entries = placed_entries entries.entry }) }
+    ensures { IfOk result
+        (λ c. c ≡ record { bytes = bytes.now; entries = placed_entries entries.entry }) }
 {
     let (entries, sorted) = entries.into_sorted(alloc)?;
     Ok(Container {

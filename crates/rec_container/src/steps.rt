@@ -39,7 +39,8 @@ fn read_u64(bytes: &[u8], at: usize) -> Result<(u64, &[u8]), ContainerError>
 
 /// Returns the bytes as text, where they are UTF-8.
 fn text_of(bytes: &[u8]) -> Option<&str>
-    ensures { MatchOption result (is_utf8 bytes.now ≡ false) (λ text. (is_utf8 bytes.now ≡ true) × (text.now ≡ bytes.now)) }
+    ensures { MatchOption result (is_utf8 bytes.now ≡ false)
+        (λ text. (is_utf8 bytes.now ≡ true) × (text.now ≡ bytes.now)) }
 {
     match str::from_utf8(bytes) {
         Ok(text) => Some(text),
@@ -92,8 +93,11 @@ fn read_entry<'a>(
     seen: &IndexedEntries<'a>,
 ) -> Result<(PlacedEntry<'a>, &'a [u8]), ContainerError>
     requires { at + length bytes.now < 2 ^ 64 }
-    ensures entry { Gives (λ x. (placed_entry x.0, x.1.now)) result (entry_at at (placed_entries seen.now) bytes.now) }
-    ensures place { IfOk result (λ x. (x.0.place ≡ at + 10 + length x.0.name.now) × (x.0.place + length x.0.content.now + length x.1.now ≡ at + length bytes.now)) }
+    ensures entry { Gives (λ x. (placed_entry x.0, x.1.now)) result
+        (entry_at at (placed_entries seen.now) bytes.now) }
+    ensures place { IfOk result
+        (λ x. (x.0.place ≡ at + 10 + length x.0.name.now)
+        × (x.0.place + length x.0.content.now + length x.1.now ≡ at + length bytes.now)) }
 {
     let (name, rest) = read_name(bytes, at)?;
     if seen.contains(name) {
@@ -117,8 +121,12 @@ pub(crate) fn read_step<'a>(
     seen: &IndexedEntries<'a>,
 ) -> Result<Option<(PlacedEntry<'a>, &'a [u8])>, ContainerError>
     requires { at + length bytes.now < 2 ^ 64 }
-    ensures step { Gives (option_map (λ x. (placed_entry x.0, x.1.now))) result (step_at at (placed_entries seen.now) bytes.now) }
-    ensures place { IfOk result (λ o. IfSome o (λ x. (x.0.place ≡ at + 11 + length x.0.name.now) × (x.0.place + length x.0.content.now + length x.1.now ≡ at + length bytes.now))) }
+    ensures step { Gives (option_map (λ x. (placed_entry x.0, x.1.now))) result
+        (step_at at (placed_entries seen.now) bytes.now) }
+    ensures place { IfOk result
+        (λ o. IfSome o
+        (λ x. (x.0.place ≡ at + 11 + length x.0.name.now)
+        × (x.0.place + length x.0.content.now + length x.1.now ≡ at + length bytes.now))) }
 {
     match bytes {
         [] => Err(ContainerError::Truncated { at }),

@@ -48,7 +48,8 @@ pub fn read_within<S: Source>(
     limit: u64,
     source: &mut S,
 ) -> Result<Vec<u8>, ReadError>
-    ensures ok { IfOk result (λ bytes. Gave S.left S.faults limit source.old source.new bytes.items) }
+    ensures ok { IfOk result
+        (λ bytes. Gave S.left S.faults limit source.old source.new bytes.items) }
     ensures err { IfErr result (Unread S.left S.faults limit source.old source.new) }
 {
     let mut bytes = Vec::new(alloc);

@@ -51,7 +51,8 @@ impl<K: Sink> Model for ContainerWriter<K> {
 
     ghost Value = { Writing K };
 
-    ghost view = { λ w. record { entries = entries_of w.entries.entries; sink = w.sink; failed = w.failed } };
+    ghost view = { λ w.
+        record { entries = entries_of w.entries.entries; sink = w.sink; failed = w.failed } };
 
     ghost invariant = { λ w. IsSound (entries_of w.entries.entries) w.compressed w.uncompressed };
 }
@@ -60,7 +61,8 @@ impl<K: Sink> Model for ContainerWriter<K> {
 #[tactic(auto, unfolding(crate::specs::Container::magic, crate::specs::Container::entry_head))]
 fn head(alloc: Global, is_first: bool, name: &str, content: usize) -> Result<Vec<u8>, AllocError>
     requires { length name.now < 65536 }
-    ensures { IfOk result (λ v. v.items ≡ (if is_first then magic else []) ++ entry_head name.now content) }
+    ensures { IfOk result
+        (λ v. v.items ≡ (if is_first then magic else []) ++ entry_head name.now content) }
 {
     let start = if is_first {
         b"nxtcont1".as_slice()
@@ -81,8 +83,10 @@ pub(crate) fn write_two<K: Sink>(
     first: &[u8],
     second: &[u8],
 ) -> Result<(), SinkFailed>
-    ensures ok { OnOk result (Appends (K.taken sink.old) (K.taken sink.new) (first.now ++ second.now)) }
-    ensures fault { OnErr result (TookPart (K.taken sink.old) (K.taken sink.new) (first.now ++ second.now)) }
+    ensures ok { OnOk result
+        (Appends (K.taken sink.old) (K.taken sink.new) (first.now ++ second.now)) }
+    ensures fault { OnErr result
+        (TookPart (K.taken sink.old) (K.taken sink.new) (first.now ++ second.now)) }
     ensures cause { HasCause (K.faults sink.old) (K.faults sink.new) result }
 {
     write_all(sink, first)?;
@@ -163,8 +167,10 @@ impl<K: Sink> ContainerWriter<K> {
     ///
     /// `SinkFailed` means that this sink failed. It took a proper prefix of the container.
     pub fn write_to<T: Sink>(&self, sink: &mut T) -> Result<(), SinkFailed>
-        ensures ok { OnOk result (Appends (T.taken sink.old) (T.taken sink.new) (spell self.now.entries)) }
-        ensures fault { OnErr result (TookPart (T.taken sink.old) (T.taken sink.new) (spell self.now.entries)) }
+        ensures ok { OnOk result
+            (Appends (T.taken sink.old) (T.taken sink.new) (spell self.now.entries)) }
+        ensures fault { OnErr result
+            (TookPart (T.taken sink.old) (T.taken sink.new) (spell self.now.entries)) }
         ensures cause { HasCause (T.faults sink.old) (T.faults sink.new) result }
     {
         write_magic(sink)?;
@@ -177,7 +183,8 @@ impl<K: Sink> ContainerWriter<K> {
     /// Returns an entry.
     fn entry(&self, i: usize) -> NamedContent<'_>
         requires { i < length self.now.entries }
-        ensures found { slice_get self.now.entries i ≡ Some (entry_named result.name.now result.content.now) }
+        ensures found { slice_get self.now.entries i
+            ≡ Some (entry_named result.name.now result.content.now) }
         ensures short { length result.name.now < 65536 }
     {
         let (name, content) = self.entries.get_index(i).unwrap();
@@ -208,17 +215,20 @@ impl<K: Sink> ContainerWriter<K> {
     ///
     /// All errors but `SinkFault` leave the writer and the sink as they were.
     pub fn add(&mut self, name: &str, bytes: &[u8]) -> Result<(), ContainerWriteError>
-        ensures accepted { OnOk result (refusal self.old.failed self.old.entries name.now bytes.now ≡ None) }
+        ensures accepted { OnOk result
+            (refusal self.old.failed self.old.entries name.now bytes.now ≡ None) }
         ensures added { OnOk result (Adds K.taken K.faults self.old self.new name.now bytes.now) }
-        ensures refused { IfErr result (Refuses K.taken K.faults self.old self.new name.now bytes.now) }
+        ensures refused { IfErr result
+            (Refuses K.taken K.faults self.old self.new name.now bytes.now) }
         ensures later { K.faults self.old.sink ≤ K.faults self.new.sink }
 
         // Names are distinct, and each entry has a spelling.
         ensures entries { AreFrom [] self.new.entries }
 
         // What the sink took since any time before goes on as the prefix of the entries.
-        ensures prefix { (start : Option (List ℕ)) → Appends start (K.taken self.old.sink) (prefix self.old.entries) →
-            OnOk result (Appends start (K.taken self.new.sink) (prefix self.new.entries)) }
+        ensures prefix { (start : Option (List ℕ))
+            → Appends start (K.taken self.old.sink) (prefix self.old.entries)
+            → OnOk result (Appends start (K.taken self.new.sink) (prefix self.new.entries)) }
     {
         let judged = judge(self.failed, &self.entries, self.compressed, name, bytes);
         match judged {
@@ -234,11 +244,16 @@ impl<K: Sink> ContainerWriter<K> {
         requires some { 0 < length name.now }
         requires length { length name.now < 65536 }
         requires absent { content_of self.old.entries name.now ≡ None }
-        requires size { compressed ≡ length (spell (self.old.entries ++ entry_named name.now bytes.now ∷ [])) }
-        ensures entries { OnOk result (self.new.entries ≡ self.old.entries ++ entry_named name.now bytes.now ∷ []) }
+        requires size { compressed
+            ≡ length (spell (self.old.entries ++ entry_named name.now bytes.now ∷ [])) }
+        ensures entries { OnOk result
+            (self.new.entries ≡ self.old.entries ++ entry_named name.now bytes.now ∷ []) }
         ensures sound { OnOk result (self.new.failed ≡ false) }
-        ensures taken { OnOk result (Appends (K.taken self.old.sink) (K.taken self.new.sink) (addition self.old.entries (entry_named name.now bytes.now))) }
-        ensures late { IfErr result (RefusesLate K.taken K.faults self.old self.new name.now bytes.now) }
+        ensures taken { OnOk result
+            (Appends (K.taken self.old.sink) (K.taken self.new.sink)
+            (addition self.old.entries (entry_named name.now bytes.now))) }
+        ensures late { IfErr result
+            (RefusesLate K.taken K.faults self.old self.new name.now bytes.now) }
         ensures later { K.faults self.old.sink ≤ K.faults self.new.sink }
         ensures spelled { AreFrom [] self.new.entries }
     {
@@ -262,15 +277,17 @@ impl<K: Sink> ContainerWriter<K> {
     /// call; it is then as it was. It is `SinkFault` where the sink fails now, with a proper prefix
     /// taken of what was to be written. No other error comes.
     pub fn finish(self) -> ContainerEnd<K>
-        ensures ok { IfOk result.result (λ sizes. (self.failed ≡ false) × HasSizesOf self.entries sizes
+        ensures ok { IfOk result.result
+            (λ sizes. (self.failed ≡ false) × HasSizesOf self.entries sizes
             × Appends (K.taken self.sink) (K.taken result.sink) (ending self.entries)) }
         ensures refused { IfErr result.result (Unfinished K.taken K.faults self result.sink) }
         ensures later { K.faults self.sink ≤ K.faults result.sink }
         ensures entries { AreFrom [] self.entries }
 
         // What the sink took since any time before, if it is the prefix of the entries, is now their spelling.
-        ensures whole { (start : Option (List ℕ)) → Appends start (K.taken self.sink) (prefix self.entries) →
-            OnOk result.result (Appends start (K.taken result.sink) (spell self.entries)) }
+        ensures whole { (start : Option (List ℕ))
+            → Appends start (K.taken self.sink) (prefix self.entries)
+            → OnOk result.result (Appends start (K.taken result.sink) (spell self.entries)) }
     {
         let failed = self.is_failed();
         let sizes = self.sizes();
@@ -298,7 +315,8 @@ fn prepare(
     requires { length name.now < 65536 }
     ensures kept { entries.new.entries ≡ entries.old.entries }
     ensures room { OnOk result (0 < spare entries.new) }
-    ensures entry { IfOk result (λ e. entry_of (e.name, e.content) ≡ entry_named name.now bytes.now) }
+    ensures entry { IfOk result
+        (λ e. entry_of (e.name, e.content) ≡ entry_named name.now bytes.now) }
     ensures bytes { IfOk result (λ e. e.head.items ++ e.content.items
         ≡ addition (entries_of entries.old.entries) (entry_named name.now bytes.now)) }
 {
@@ -314,8 +332,11 @@ fn new_entry(
     bytes: &[u8],
 ) -> Result<NewEntry, AllocError>
     requires { length name.now < 65536 }
-    ensures entry { IfOk result (λ e. entry_of (e.name, e.content) ≡ entry_named name.now bytes.now) }
-    ensures head { IfOk result (λ e. e.head.items ≡ (if is_first then magic else []) ++ entry_head name.now (length bytes.now)) }
+    ensures entry { IfOk result
+        (λ e. entry_of (e.name, e.content) ≡ entry_named name.now bytes.now) }
+    ensures head { IfOk result
+        (λ e. e.head.items
+        ≡ (if is_first then magic else []) ++ entry_head name.now (length bytes.now)) }
 {
     let head = head(alloc, is_first, name, bytes.len())?;
     let name = String::from_str(alloc, name)?;
@@ -335,8 +356,10 @@ fn append<K: Sink>(
 ) -> Result<(), SinkFailed>
     requires room { 0 < spare entries.old }
     requires absent { content_of (entries_of entries.old.entries) (string_bytes entry.name) ≡ None }
-    ensures ok { OnOk result (Appends (K.taken sink.old) (K.taken sink.new) (entry.head.items ++ entry.content.items)) }
-    ensures fault { OnErr result (TookPart (K.taken sink.old) (K.taken sink.new) (entry.head.items ++ entry.content.items)) }
+    ensures ok { OnOk result
+        (Appends (K.taken sink.old) (K.taken sink.new) (entry.head.items ++ entry.content.items)) }
+    ensures fault { OnErr result
+        (TookPart (K.taken sink.old) (K.taken sink.new) (entry.head.items ++ entry.content.items)) }
     ensures cause { HasCause (K.faults sink.old) (K.faults sink.new) result }
     ensures entries { OnOk result (entries_of entries.new.entries
         ≡ entries_of entries.old.entries ++ entry_of (entry.name, entry.content) ∷ []) }
@@ -358,7 +381,8 @@ fn append<K: Sink>(
 fn keep(entries: &mut IndexMap<String, Vec<u8>>, entry: NewEntry)
     requires room { 0 < spare entries.old }
     requires absent { content_of (entries_of entries.old.entries) (string_bytes entry.name) ≡ None }
-    ensures { entries_of entries.new.entries ≡ entries_of entries.old.entries ++ entry_of (entry.name, entry.content) ∷ [] }
+    ensures { entries_of entries.new.entries
+        ≡ entries_of entries.old.entries ++ entry_of (entry.name, entry.content) ∷ [] }
 {
     let NewEntry { name, content, .. } = entry;
     drop(entries.insert(name, content).unwrap());
@@ -374,7 +398,9 @@ fn write_end<K: Sink>(
     ensures taken { (es : List Entry) → length es ≡ sizes.entries
         → OnOk result (Appends (K.taken sink.old) (K.taken sink.new) (ending es)) }
     ensures refused { (es : List Entry) → length es ≡ sizes.entries →
-        IfErr result (Unfinished K.taken K.faults (record { entries = es; sink = sink.old; failed = failed }) sink.new) }
+        IfErr result
+        (Unfinished K.taken K.faults (record { entries = es; sink = sink.old; failed = failed })
+        sink.new) }
     ensures later { K.faults sink.old ≤ K.faults sink.new }
 {
     if failed {
@@ -403,8 +429,10 @@ fn judge(
     bytes: &[u8],
 ) -> Result<Option<u64>, ContainerWriteError>
     requires { compressed ≡ length (spell (entries_of entries.now.entries)) }
-    ensures refused { IfErr result (λ e. refusal failed (entries_of entries.now.entries) name.now bytes.now ≡ Some e) }
-    ensures accepted { IfOk result (Accepts failed (entries_of entries.now.entries) name.now bytes.now) }
+    ensures refused { IfErr result
+        (λ e. refusal failed (entries_of entries.now.entries) name.now bytes.now ≡ Some e) }
+    ensures accepted { IfOk result
+        (Accepts failed (entries_of entries.now.entries) name.now bytes.now) }
 {
     if failed {
         return Err(ContainerWriteError::Failed);
@@ -429,7 +457,8 @@ fn judge(
 
 /// Returns a container's length with one more entry, where it is a u64.
 pub(crate) fn grown(compressed: u64, name: usize, content: usize) -> Option<u64>
-    ensures { SomeIff result (compressed + (11 + name + content) < 2 ^ 64) (compressed + (11 + name + content)) }
+    ensures { SomeIff result (compressed + (11 + name + content) < 2 ^ 64)
+        (compressed + (11 + name + content)) }
 {
     compressed
         .checked_add(11)?

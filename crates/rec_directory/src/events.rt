@@ -39,7 +39,14 @@ impl<'r, D: Disk> Model for RecordEventIter<'r, D> {
 
     ghost Value = { EventReading D };
 
-    ghost view = { λ r. record { disk = r.disk; path = r.path; len = r.len; left = left_of (option_map (λ v. v.items) r.log) r.place } };
+    ghost view = { λ r.
+        record {
+          disk = r.disk;
+          path = r.path;
+          len = r.len;
+          left = left_of
+              (option_map (λ v. v.items) r.log) r.place;
+        } };
 
     ghost invariant = { λ r. IsPlaced (option_map (λ v. v.items) r.log) r.place };
 }
@@ -103,10 +110,14 @@ fn next_item<D: Disk>(
 ) -> Option<Result<TestEventSummary<RecordingSpec>, RecordReadError>>
     requires { IsPlaced (option_map (λ v. v.items) log.old) place.old }
     ensures placed { IsPlaced (option_map (λ v. v.items) log.new) place.new }
-    ensures gives { Gives D.files D.faults (event_form stored_outputs_form) disk.old disk.new path.now len (left_of (option_map (λ v. v.items) log.old) place.old) result (left_of (option_map (λ v. v.items) log.new) place.new) }
+    ensures gives { Gives D.files D.faults (event_form stored_outputs_form) disk.old disk.new
+        path.now len (left_of (option_map (λ v. v.items) log.old) place.old) result
+        (left_of (option_map (λ v. v.items) log.new) place.new) }
     ensures same { D.files disk.new ≡ D.files disk.old }
     ensures later { D.faults disk.old ≤ D.faults disk.new }
-    ensures fewer { OnSome result (most_of len (left_of (option_map (λ v. v.items) log.new) place.new) < most_of len (left_of (option_map (λ v. v.items) log.old) place.old)) }
+    ensures fewer { OnSome result
+        (most_of len (left_of (option_map (λ v. v.items) log.new) place.new)
+        < most_of len (left_of (option_map (λ v. v.items) log.old) place.old)) }
 {
     if let Some(bytes) = log {
         return item_at(alloc, bytes, place, scratch);
@@ -133,7 +144,8 @@ fn read_log<D: Disk>(
     len: u64,
 ) -> Result<Vec<u8>, RecordReadError>
     ensures ok { IfOk result (λ v. ReadsLog (D.files disk.old) path.now len v.items) }
-    ensures err { IfErr result (LogFault (D.faults disk.old) (D.faults disk.new) (D.files disk.old) path.now) }
+    ensures err { IfErr result
+        (LogFault (D.faults disk.old) (D.faults disk.new) (D.files disk.old) path.now) }
     ensures same { D.files disk.new ≡ D.files disk.old }
     ensures later { D.faults disk.old ≤ D.faults disk.new }
 {
@@ -166,7 +178,8 @@ fn item_at(
 ) -> Option<Result<TestEventSummary<RecordingSpec>, RecordReadError>>
     requires { IsPlace log.now place.old }
     ensures place { IsPlace log.now place.new }
-    ensures gives { GivesLifted (event_form stored_outputs_form) (left_at log.now place.old) result (left_at log.now place.new) }
+    ensures gives { GivesLifted (event_form stored_outputs_form) (left_at log.now place.old) result
+        (left_at log.now place.new) }
 {
     match next_event(alloc, log, place, scratch) {
         Some(Ok(event)) => Some(Ok(event)),

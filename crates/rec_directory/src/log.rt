@@ -26,7 +26,8 @@ pub(crate) fn next_event<S: OutputForm>(
 ) -> Option<Result<TestEventSummary<S>, LineError>>
     requires { IsPlace log.now place.old }
     ensures place { IsPlace log.now place.new }
-    ensures gives { GivesNext (event_form S.output_form) (left_at log.now place.old) result (left_at log.now place.new) }
+    ensures gives { GivesNext (event_form S.output_form) (left_at log.now place.old) result
+        (left_at log.now place.new) }
 {
     while let Some((line, after)) = line_at(log, *place) {
         *place = after;
@@ -56,7 +57,9 @@ fn keep_after<S: OutputForm>(
 /// Returns the line at a place, and the place after it.
 fn line_at(log: &[u8], place: LogPlace) -> Option<(Line<'_>, LogPlace)>
     requires { IsPlace log.now place }
-    ensures line { MatchOption result (left_at log.now place ≡ []) (λ x. (left_at log.now place ≡ line_view x.0 ∷ left_at log.now x.1) × IsPlace log.now x.1 × (place.at < x.1.at)) }
+    ensures line { MatchOption result (left_at log.now place ≡ [])
+        (λ x. (left_at log.now place ≡ line_view x.0 ∷ left_at log.now x.1) × IsPlace log.now x.1
+        × (place.at < x.1.at)) }
 {
     if place.at >= log.len() {
         return None;

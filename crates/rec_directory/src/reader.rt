@@ -43,7 +43,13 @@ impl<'d, D: Disk> Model for RecordReader<'d, D> {
 
     ghost Value = { Directory D };
 
-    ghost view = { λ r. record { disk = r.disk; run_dir = string_bytes r.run_dir; limit = r.limit; store = option_map (λ v. v.items) r.store } };
+    ghost view = { λ r.
+        record {
+          disk = r.disk;
+          run_dir = string_bytes r.run_dir;
+          limit = r.limit;
+          store = option_map (λ v. v.items) r.store;
+        } };
 }
 
 impl<'d, D: Disk> RecordReader<'d, D> {
@@ -60,7 +66,8 @@ impl<'d, D: Disk> RecordReader<'d, D> {
         run_dir: String,
         read_limit: u64,
     ) -> Result<RecordReader<'d, D>, RecordReadError>
-        ensures ok { IfOk result (Opens D.files D.faults disk.entry (string_bytes run_dir) read_limit) }
+        ensures ok { IfOk result
+            (Opens D.files D.faults disk.entry (string_bytes run_dir) read_limit) }
         ensures err { IfErr result (Unopened D.files D.faults disk.old (string_bytes run_dir)) }
     {
         match find_run(disk, run_dir.as_str()) {
@@ -108,7 +115,8 @@ impl<'d, D: Disk> RecordReader<'d, D> {
     /// - `OutOfMemory` if memory runs out.
     pub fn events(&mut self) -> Result<RecordEventIter<'_, D>, RecordReadError>
         ensures ok { IfOk result (OpensLog D.files D.faults self.old) }
-        ensures err { IfErr result (UnopenedLog D.files D.faults self.old.disk.now (path_of_log self.old.run_dir)) }
+        ensures err { IfErr result
+            (UnopenedLog D.files D.faults self.old.disk.now (path_of_log self.old.run_dir)) }
     {
         let (path, len) = self.measure()?;
         Ok(RecordEventIter::new(self.alloc, self.disk, path, len))
@@ -116,8 +124,12 @@ impl<'d, D: Disk> RecordReader<'d, D> {
 
     /// Returns the path of the log, and its length. The reader stays but for what the disk counts.
     fn measure(&mut self) -> Result<(Text, u64), RecordReadError>
-        ensures ok { IfOk result (λ x. (x.0 ≡ path_of_log self.old.run_dir) × HasLength (D.files self.old.disk.now) (path_of_log self.old.run_dir) x.1) }
-        ensures err { IfErr result (LogFault (D.faults self.old.disk.now) (D.faults self.new.disk.now) (D.files self.old.disk.now) (path_of_log self.old.run_dir)) }
+        ensures ok { IfOk result
+            (λ x. (x.0 ≡ path_of_log self.old.run_dir)
+            × HasLength (D.files self.old.disk.now) (path_of_log self.old.run_dir) x.1) }
+        ensures err { IfErr result
+            (LogFault (D.faults self.old.disk.now) (D.faults self.new.disk.now)
+            (D.files self.old.disk.now) (path_of_log self.old.run_dir)) }
         ensures stays { Stays D.files self.old self.new }
         ensures cause { DiskCause (D.faults self.old.disk.now) (D.faults self.new.disk.now) result }
     {
@@ -131,8 +143,12 @@ fn measure_log<D: Disk>(
     disk: &mut D,
     run_dir: &str,
 ) -> Result<(Text, u64), RecordReadError>
-    ensures ok { IfOk result (λ x. (x.0 ≡ path_of_log run_dir.now) × HasLength (D.files disk.old) (path_of_log run_dir.now) x.1) }
-    ensures err { IfErr result (LogFault (D.faults disk.old) (D.faults disk.new) (D.files disk.old) (path_of_log run_dir.now)) }
+    ensures ok { IfOk result
+        (λ x. (x.0 ≡ path_of_log run_dir.now)
+        × HasLength (D.files disk.old) (path_of_log run_dir.now) x.1) }
+    ensures err { IfErr result
+        (LogFault (D.faults disk.old) (D.faults disk.new) (D.files disk.old)
+        (path_of_log run_dir.now)) }
     ensures same { D.files disk.new ≡ D.files disk.old }
     ensures cause { DiskCause (D.faults disk.old) (D.faults disk.new) result }
 {
@@ -154,10 +170,12 @@ impl<D: Disk> RecordReader<'_, D> {
     /// Reads the store where it isn't kept yet.
     fn load(&mut self, alloc: Global) -> Result<(), RecordReadError>
         ensures ok { OnOk result (IsSome self.new.store) }
-        ensures err { IfErr result (Unread (D.files self.old.disk.now) (path_of_store self.old.run_dir)) }
+        ensures err { IfErr result
+            (Unread (D.files self.old.disk.now) (path_of_store self.old.run_dir)) }
         ensures unread { OnErr result ((self.old.store ≡ None) × (self.new.store ≡ None)) }
         ensures kept { KeepsRun D.files self.old self.new }
-        ensures same { Keeps self.old.limit self.new.limit (Holds D.files self.old) (Holds D.files self.new) }
+        ensures same { Keeps self.old.limit self.new.limit (Holds D.files self.old)
+            (Holds D.files self.new) }
         ensures cause { DiskCause (D.faults self.old.disk.now) (D.faults self.new.disk.now) result }
     {
         if self.store.is_some() {
@@ -198,10 +216,14 @@ impl<D: Disk> RecordReader<'_, D> {
     /// - `NotUtf8` exactly where it isn't UTF-8.
     /// - `OutOfMemory` if memory runs out.
     pub fn read_cargo_metadata(&mut self, alloc: Global) -> Result<String, RecordReadError>
-        ensures answer { (es : List Entry) → Holds D.files self.old es → Answers string_bytes (utf8_part cargo_metadata_path es self.old.limit) result }
-        ensures same { Keeps self.old.limit self.new.limit (Holds D.files self.old) (Holds D.files self.new) }
+        ensures answer { (es : List Entry)
+            → Holds D.files self.old es
+            → Answers string_bytes (utf8_part cargo_metadata_path es self.old.limit) result }
+        ensures same { Keeps self.old.limit self.new.limit (Holds D.files self.old)
+            (Holds D.files self.new) }
         ensures cause { DiskCause (D.faults self.old.disk.now) (D.faults self.new.disk.now) result }
-        ensures store { JudgesStore (D.files self.old.disk.now) (path_of_store self.old.run_dir) self.new.store result }
+        ensures store { JudgesStore (D.files self.old.disk.now) (path_of_store self.old.run_dir)
+            self.new.store result }
         ensures kept { KeepsRun D.files self.old self.new }
     {
         self.load(alloc)?;
@@ -219,10 +241,15 @@ impl<D: Disk> RecordReader<'_, D> {
     /// - `DeserializeMetadata` exactly where it stands for no list.
     /// - `OutOfMemory` if memory runs out.
     pub fn read_test_list(&mut self, alloc: Global) -> Result<TestListSummary, RecordReadError>
-        ensures answer { (es : List Entry) → Holds D.files self.old es → Answers (λ x. x) (metadata_part test_list_form test_list_path es self.old.limit) result }
-        ensures same { Keeps self.old.limit self.new.limit (Holds D.files self.old) (Holds D.files self.new) }
+        ensures answer { (es : List Entry)
+            → Holds D.files self.old es
+            → Answers (λ x. x) (metadata_part test_list_form test_list_path es self.old.limit)
+            result }
+        ensures same { Keeps self.old.limit self.new.limit (Holds D.files self.old)
+            (Holds D.files self.new) }
         ensures cause { DiskCause (D.faults self.old.disk.now) (D.faults self.new.disk.now) result }
-        ensures store { JudgesStore (D.files self.old.disk.now) (path_of_store self.old.run_dir) self.new.store result }
+        ensures store { JudgesStore (D.files self.old.disk.now) (path_of_store self.old.run_dir)
+            self.new.store result }
         ensures kept { KeepsRun D.files self.old self.new }
     {
         self.load(alloc)?;
@@ -240,10 +267,15 @@ impl<D: Disk> RecordReader<'_, D> {
     /// - `DeserializeMetadata` exactly where it stands for no options.
     /// - `OutOfMemory` if memory runs out.
     pub fn read_record_opts(&mut self, alloc: Global) -> Result<RecordOpts, RecordReadError>
-        ensures answer { (es : List Entry) → Holds D.files self.old es → Answers (λ x. x) (metadata_part record_opts_form record_opts_path es self.old.limit) result }
-        ensures same { Keeps self.old.limit self.new.limit (Holds D.files self.old) (Holds D.files self.new) }
+        ensures answer { (es : List Entry)
+            → Holds D.files self.old es
+            → Answers (λ x. x) (metadata_part record_opts_form record_opts_path es self.old.limit)
+            result }
+        ensures same { Keeps self.old.limit self.new.limit (Holds D.files self.old)
+            (Holds D.files self.new) }
         ensures cause { DiskCause (D.faults self.old.disk.now) (D.faults self.new.disk.now) result }
-        ensures store { JudgesStore (D.files self.old.disk.now) (path_of_store self.old.run_dir) self.new.store result }
+        ensures store { JudgesStore (D.files self.old.disk.now) (path_of_store self.old.run_dir)
+            self.new.store result }
         ensures kept { KeepsRun D.files self.old self.new }
     {
         self.load(alloc)?;
@@ -261,10 +293,15 @@ impl<D: Disk> RecordReader<'_, D> {
     /// - `DeserializeMetadata` exactly where it stands for no scope.
     /// - `OutOfMemory` if memory runs out.
     pub fn read_build_scope(&mut self, alloc: Global) -> Result<RecordedBuildScope, RecordReadError>
-        ensures answer { (es : List Entry) → Holds D.files self.old es → Answers (λ x. x) (metadata_part recorded_scope_form build_scope_path es self.old.limit) result }
-        ensures same { Keeps self.old.limit self.new.limit (Holds D.files self.old) (Holds D.files self.new) }
+        ensures answer { (es : List Entry)
+            → Holds D.files self.old es
+            → Answers (λ x. x)
+            (metadata_part recorded_scope_form build_scope_path es self.old.limit) result }
+        ensures same { Keeps self.old.limit self.new.limit (Holds D.files self.old)
+            (Holds D.files self.new) }
         ensures cause { DiskCause (D.faults self.old.disk.now) (D.faults self.new.disk.now) result }
-        ensures store { JudgesStore (D.files self.old.disk.now) (path_of_store self.old.run_dir) self.new.store result }
+        ensures store { JudgesStore (D.files self.old.disk.now) (path_of_store self.old.run_dir)
+            self.new.store result }
         ensures kept { KeepsRun D.files self.old self.new }
     {
         self.load(alloc)?;
@@ -281,10 +318,14 @@ impl<D: Disk> RecordReader<'_, D> {
     /// - `DeserializeMetadata` exactly where it stands for no rerun information.
     /// - `OutOfMemory` if memory runs out.
     pub fn read_rerun_info(&mut self, alloc: Global) -> Result<Option<RerunInfo>, RecordReadError>
-        ensures answer { (es : List Entry) → Holds D.files self.old es → Answers (λ x. x) (rerun_info_part es self.old.limit) result }
-        ensures same { Keeps self.old.limit self.new.limit (Holds D.files self.old) (Holds D.files self.new) }
+        ensures answer { (es : List Entry)
+            → Holds D.files self.old es
+            → Answers (λ x. x) (rerun_info_part es self.old.limit) result }
+        ensures same { Keeps self.old.limit self.new.limit (Holds D.files self.old)
+            (Holds D.files self.new) }
         ensures cause { DiskCause (D.faults self.old.disk.now) (D.faults self.new.disk.now) result }
-        ensures store { JudgesStore (D.files self.old.disk.now) (path_of_store self.old.run_dir) self.new.store result }
+        ensures store { JudgesStore (D.files self.old.disk.now) (path_of_store self.old.run_dir)
+            self.new.store result }
         ensures kept { KeepsRun D.files self.old self.new }
     {
         self.load(alloc)?;
@@ -306,10 +347,14 @@ impl<D: Disk> RecordReader<'_, D> {
         alloc: Global,
         file_name: &str,
     ) -> Result<Vec<u8>, RecordReadError>
-        ensures answer { (es : List Entry) → Holds D.files self.old es → Answers (λ v. v.items) (output_part file_name.now es self.old.limit) result }
-        ensures same { Keeps self.old.limit self.new.limit (Holds D.files self.old) (Holds D.files self.new) }
+        ensures answer { (es : List Entry)
+            → Holds D.files self.old es
+            → Answers (λ v. v.items) (output_part file_name.now es self.old.limit) result }
+        ensures same { Keeps self.old.limit self.new.limit (Holds D.files self.old)
+            (Holds D.files self.new) }
         ensures cause { DiskCause (D.faults self.old.disk.now) (D.faults self.new.disk.now) result }
-        ensures store { JudgesStore (D.files self.old.disk.now) (path_of_store self.old.run_dir) self.new.store result }
+        ensures store { JudgesStore (D.files self.old.disk.now) (path_of_store self.old.run_dir)
+            self.new.store result }
         ensures kept { KeepsRun D.files self.old self.new }
     {
         self.load(alloc)?;
@@ -332,12 +377,17 @@ impl<D: Disk> RecordReader<'_, D> {
         store_path: &str,
         out: &mut dyn Sink,
     ) -> Result<u64, RecordReadError>
-        ensures answer { (es : List Entry) → Holds D.files self.old es → Extracts (taken out.old) (taken out.new) store_path.now es result }
-        ensures same { Keeps self.old.limit self.new.limit (Holds D.files self.old) (Holds D.files self.new) }
+        ensures answer { (es : List Entry)
+            → Holds D.files self.old es
+            → Extracts (taken out.old) (taken out.new) store_path.now es result }
+        ensures same { Keeps self.old.limit self.new.limit (Holds D.files self.old)
+            (Holds D.files self.new) }
         ensures cause { DiskCause (D.faults self.old.disk.now) (D.faults self.new.disk.now) result }
-        ensures store { JudgesStore (D.files self.old.disk.now) (path_of_store self.old.run_dir) self.new.store result }
+        ensures store { JudgesStore (D.files self.old.disk.now) (path_of_store self.old.run_dir)
+            self.new.store result }
         ensures kept { KeepsRun D.files self.old self.new }
-        ensures sink { SinkCause ((⟦<dyn Sink as Sink>⟧ out.old.0).faults out.old.1) ((⟦<dyn Sink as Sink>⟧ out.new.0).faults out.new.1) result }
+        ensures sink { SinkCause ((⟦<dyn Sink as Sink>⟧ out.old.0).faults out.old.1)
+            ((⟦<dyn Sink as Sink>⟧ out.new.0).faults out.new.1) result }
         ensures left { IfErr result (LeavesSink (taken out.old) (taken out.new)) }
     {
         self.load(alloc)?;

@@ -21,7 +21,8 @@ pub(crate) fn read_store<D: Disk>(
     disk: &mut D,
     run_dir: &str,
 ) -> Result<Vec<u8>, RecordReadError>
-    ensures ok { IfOk result (λ bytes. IsWhole (D.files disk.old) (path_of_store run_dir.now) bytes.items) }
+    ensures ok { IfOk result
+        (λ bytes. IsWhole (D.files disk.old) (path_of_store run_dir.now) bytes.items) }
     ensures err { IfErr result (Unread (D.files disk.old) (path_of_store run_dir.now)) }
     ensures same { D.files disk.new ≡ D.files disk.old }
     ensures cause { DiskCause (D.faults disk.old) (D.faults disk.new) result }

@@ -28,8 +28,11 @@ pub(crate) struct StoreBytes<'s> {
 impl StoreBytes<'_> {
     /// Reads the item under a path.
     pub(crate) fn metadata<T: Form>(&self, alloc: Global, path: &str) -> Result<T, RecordReadError>
-        ensures answer { (es : List Entry) → IsContainer self.now.bytes.now es → Reads (λ x. x) (metadata_part T.form_of path.now es self.now.limit) result }
-        ensures judged { JudgesBytes (path_of_store self.now.run_dir.now) self.now.bytes.now result }
+        ensures answer { (es : List Entry)
+            → IsContainer self.now.bytes.now es
+            → Reads (λ x. x) (metadata_part T.form_of path.now es self.now.limit) result }
+        ensures judged { JudgesBytes (path_of_store self.now.run_dir.now) self.now.bytes.now
+            result }
         ensures disk { NoDiskFault result }
     {
         let entries = parse_store(alloc, self.run_dir, self.bytes)?;
@@ -38,8 +41,11 @@ impl StoreBytes<'_> {
 
     /// Reads the text under a path.
     pub(crate) fn text(&self, alloc: Global, path: &str) -> Result<String, RecordReadError>
-        ensures answer { (es : List Entry) → IsContainer self.now.bytes.now es → Reads string_bytes (utf8_part path.now es self.now.limit) result }
-        ensures judged { JudgesBytes (path_of_store self.now.run_dir.now) self.now.bytes.now result }
+        ensures answer { (es : List Entry)
+            → IsContainer self.now.bytes.now es
+            → Reads string_bytes (utf8_part path.now es self.now.limit) result }
+        ensures judged { JudgesBytes (path_of_store self.now.run_dir.now) self.now.bytes.now
+            result }
         ensures disk { NoDiskFault result }
     {
         let entries = parse_store(alloc, self.run_dir, self.bytes)?;
@@ -48,8 +54,11 @@ impl StoreBytes<'_> {
 
     /// Reads which run this one is a rerun of, where it is one.
     pub(crate) fn rerun_info(&self, alloc: Global) -> Result<Option<RerunInfo>, RecordReadError>
-        ensures answer { (es : List Entry) → IsContainer self.now.bytes.now es → Reads (λ x. x) (rerun_info_part es self.now.limit) result }
-        ensures judged { JudgesBytes (path_of_store self.now.run_dir.now) self.now.bytes.now result }
+        ensures answer { (es : List Entry)
+            → IsContainer self.now.bytes.now es
+            → Reads (λ x. x) (rerun_info_part es self.now.limit) result }
+        ensures judged { JudgesBytes (path_of_store self.now.run_dir.now) self.now.bytes.now
+            result }
         ensures disk { NoDiskFault result }
     {
         let entries = parse_store(alloc, self.run_dir, self.bytes)?;
@@ -58,8 +67,11 @@ impl StoreBytes<'_> {
 
     /// Reads the output of a name.
     pub(crate) fn output(&self, alloc: Global, file_name: &str) -> Result<Vec<u8>, RecordReadError>
-        ensures answer { (es : List Entry) → IsContainer self.now.bytes.now es → Reads (λ v. v.items) (output_part file_name.now es self.now.limit) result }
-        ensures judged { JudgesBytes (path_of_store self.now.run_dir.now) self.now.bytes.now result }
+        ensures answer { (es : List Entry)
+            → IsContainer self.now.bytes.now es
+            → Reads (λ v. v.items) (output_part file_name.now es self.now.limit) result }
+        ensures judged { JudgesBytes (path_of_store self.now.run_dir.now) self.now.bytes.now
+            result }
         ensures disk { NoDiskFault result }
     {
         let entries = parse_store(alloc, self.run_dir, self.bytes)?;
@@ -73,8 +85,11 @@ impl StoreBytes<'_> {
         path: &str,
         out: &mut dyn Sink,
     ) -> Result<u64, RecordReadError>
-        ensures answer { (es : List Entry) → IsContainer self.now.bytes.now es → Extracts (taken out.old) (taken out.new) path.now es result }
-        ensures judged { JudgesBytes (path_of_store self.now.run_dir.now) self.now.bytes.now result }
+        ensures answer { (es : List Entry)
+            → IsContainer self.now.bytes.now es
+            → Extracts (taken out.old) (taken out.new) path.now es result }
+        ensures judged { JudgesBytes (path_of_store self.now.run_dir.now) self.now.bytes.now
+            result }
         ensures left { IfErr result (LeavesSink (taken out.old) (taken out.new)) }
         ensures sink { SinkCause (faults out.old) (faults out.new) result }
         ensures disk { NoDiskFault result }

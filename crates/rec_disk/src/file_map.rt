@@ -83,7 +83,8 @@ impl FileMap {
     /// Gives a file another path, in the place of a file that is there. An error means that
     /// no file stands at `from`, or that memory ran out, and leaves all files as they were.
     pub(crate) fn rename(&mut self, from: &str, to: &str) -> Result<(), DiskError>
-        ensures answer { RenamesFile (file_at self.old) (file_at self.new) from.now to.now (file_at self.old from.now) result }
+        ensures answer { RenamesFile (file_at self.old) (file_at self.new) from.now to.now
+            (file_at self.old from.now) result }
         ensures missing { IfErr result (IsRefusal (file_at self.old from.now)) }
     {
         let Some(bytes) = self.get(from) else {

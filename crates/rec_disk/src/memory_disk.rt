@@ -27,7 +27,8 @@ impl Model for MemoryDisk {
 
     ghost Value = { MemoryDiskState };
 
-    ghost view = { λ d. record { files = d.files; faults = d.faults; calls = d.calls; fail_at = d.fail_at.items } };
+    ghost view = { λ d.
+        record { files = d.files; faults = d.faults; calls = d.calls; fail_at = d.fail_at.items } };
 }
 
 impl MemoryDisk {
@@ -126,7 +127,8 @@ impl Disk for MemoryDisk {
     }
 
     fn create(&mut self, path: &str) -> Result<(), DiskError>
-        ensures answer { CreatesIn (file_at self.old.files) (file_at self.new.files) path.now result }
+        ensures answer { CreatesIn (file_at self.old.files) (file_at self.new.files) path.now
+            result }
         ensures present { IfErr result NotMissing }
         ensures cause { HasDiskCause self.old.faults self.new.faults result }
         ensures call { IsCall self.old self.new result }
@@ -139,7 +141,8 @@ impl Disk for MemoryDisk {
     fn append(&mut self, path: &str, piece: &[u8]) -> Result<usize, DiskError>
         ensures bound { IfOk result (λ n. n ≤ length piece.now) }
         ensures progress { IfOk result (λ n. 0 < length piece.now → 0 < n) }
-        ensures answer { AppendsBytes (file_at self.old.files) (file_at self.new.files) path.now (file_at self.old.files path.now) piece.now result }
+        ensures answer { AppendsBytes (file_at self.old.files) (file_at self.new.files) path.now
+            (file_at self.old.files path.now) piece.now result }
         ensures cause { HasDiskCause self.old.faults self.new.faults result }
         ensures call { IsCall self.old self.new result }
 
@@ -152,7 +155,8 @@ impl Disk for MemoryDisk {
     }
 
     fn rename(&mut self, from: &str, to: &str) -> Result<(), DiskError>
-        ensures answer { RenamesFile (file_at self.old.files) (file_at self.new.files) from.now to.now (file_at self.old.files from.now) result }
+        ensures answer { RenamesFile (file_at self.old.files) (file_at self.new.files) from.now
+            to.now (file_at self.old.files from.now) result }
         ensures cause { HasDiskCause self.old.faults self.new.faults result }
         ensures call { IsCall self.old self.new result }
     {

@@ -63,7 +63,10 @@ impl OutputFileName {
     pub fn parse(text: &str) -> Option<OutputFileName>
         ensures value { result ≡ file_name_of text.now }
         ensures spelled { IfSome result (λ name. file_name_text name ≡ text.now) }
-        ensures complete { (name : OutputFileName) → name.number < 2 ^ 64 → file_name_text name ≡ text.now → result ≡ Some name }
+        ensures complete { (name : OutputFileName)
+            → name.number < 2 ^ 64
+            → file_name_text name ≡ text.now
+            → result ≡ Some name }
     {
         parse_bytes(text.as_bytes())
     }

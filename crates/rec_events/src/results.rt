@@ -27,7 +27,9 @@ impl FlakyResult {
         attempt: u32,
         total_attempts: u32,
     ) -> Result<Option<String>, AllocError>
-        ensures { IfOk result (λ message. option_map string_bytes message ≡ flaky_text self.now attempt total_attempts) }
+        ensures { IfOk result
+            (λ message. option_map string_bytes message
+            ≡ flaky_text self.now attempt total_attempts) }
     {
         match self {
             FlakyResult::Pass => Ok(None),

@@ -77,7 +77,8 @@ impl Stamp {
     /// Makes the instant of these numbers; `None` where `nanos` is a whole second or more.
     pub fn new(secs: i64, nanos: u32, offset: i32) -> Option<Stamp>
         ensures some { IsSome result ↔ (nanos < 1000000000) }
-        ensures fields { IfSome result (λ s. s ≡ record { secs = secs; nanos = nanos; offset = offset }) }
+        ensures fields { IfSome result
+            (λ s. s ≡ record { secs = secs; nanos = nanos; offset = offset }) }
     {
         if nanos < 1000000000 {
             Some(Stamp {

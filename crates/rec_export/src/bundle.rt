@@ -42,10 +42,18 @@ pub fn judge_contents(
     log: &[u8],
     store: &ContainerWriter<DiscardingSink>,
 ) -> Result<JudgedManifest, RecordExportError>
-    ensures text { IfOk result (λ j. j.text.items ≡ compact_text (manifest_value (manifest_of (recorded_info head.now sizes)))) }
-    ensures bytes { IfOk result (λ j. j.bundle_bytes ≡ length (bundle_of_contents j.text.items log.now (spell store.now.entries))) }
-    ensures fits { IfOk result (λ j. length (bundle_of_contents j.text.items log.now (spell store.now.entries)) < 2 ^ 64) }
-    ensures judged { AnswersRefusal result (contents_refusal limit (compact_text (manifest_value (manifest_of (recorded_info head.now sizes)))) log.now (spell store.now.entries)) }
+    ensures text { IfOk result
+        (λ j. j.text.items
+        ≡ compact_text (manifest_value (manifest_of (recorded_info head.now sizes)))) }
+    ensures bytes { IfOk result
+        (λ j. j.bundle_bytes
+        ≡ length (bundle_of_contents j.text.items log.now (spell store.now.entries))) }
+    ensures fits { IfOk result
+        (λ j. length (bundle_of_contents j.text.items log.now (spell store.now.entries)) < 2 ^ 64) }
+    ensures judged { AnswersRefusal result
+        (contents_refusal limit
+        (compact_text (manifest_value (manifest_of (recorded_info head.now sizes)))) log.now
+        (spell store.now.entries)) }
 {
     let text = build_manifest(alloc, head, sizes)?;
     let Some(bundle_bytes) = recorded_bundle_length(&text, log, store) else {
@@ -62,7 +70,9 @@ fn judge_two(
     manifest: &[u8],
     log: &[u8],
 ) -> Result<(), RecordExportError>
-    ensures { AnswersRefusal result (option_or (entry_refusal limit (entry_named manifest_name manifest.now)) (entry_refusal limit (entry_named log_name log.now))) }
+    ensures { AnswersRefusal result
+        (option_or (entry_refusal limit (entry_named manifest_name manifest.now))
+        (entry_refusal limit (entry_named log_name log.now))) }
 {
     judge_size(alloc, limit, PORTABLE_MANIFEST_FILE_NAME, manifest)?;
     judge_size(alloc, limit, RUN_LOG_FILE_NAME, log)
@@ -74,7 +84,9 @@ fn build_manifest(
     head: &SessionHead,
     sizes: RecordedSizes,
 ) -> Result<Vec<u8>, AllocError>
-    ensures { IfOk result (λ b. b.items ≡ compact_text (manifest_value (manifest_of (recorded_info head.now sizes)))) }
+    ensures { IfOk result
+        (λ b. b.items
+        ≡ compact_text (manifest_value (manifest_of (recorded_info head.now sizes)))) }
 {
     let info = head.run_info(alloc, sizes)?;
     let text = write_manifest(alloc, &info);

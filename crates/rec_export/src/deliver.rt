@@ -20,9 +20,11 @@ pub fn deliver<B: Sink, T: Sink>(
     bundle: &mut B,
     trace: &mut T,
 ) -> Result<(), RecordExportError>
-    ensures ok { OnOk result (Appends (B.taken bundle.old) (B.taken bundle.new) (prepared_bundle prepared.now)
+    ensures ok { OnOk result
+        (Appends (B.taken bundle.old) (B.taken bundle.new) (prepared_bundle prepared.now)
         × Appends (T.taken trace.old) (T.taken trace.new) prepared.now.trace.items) }
-    ensures err { IfErr result (Undelivered B.taken B.faults T.taken T.faults bundle.old bundle.new trace.old trace.new
+    ensures err { IfErr result
+        (Undelivered B.taken B.faults T.taken T.faults bundle.old bundle.new trace.old trace.new
         (prepared_bundle prepared.now) prepared.now.trace.items) }
 {
     let log = prepared.log.bytes();

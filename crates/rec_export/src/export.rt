@@ -57,9 +57,11 @@ pub fn record_and_export<S: Source, N: OutputNamer, B: Sink, T: Sink>(
     trace: &mut T,
 ) -> Result<Exported, RecordExportError>
     // The session was read to its end, and the sinks took its bundle and its trace.
-    ensures ok { IfOk result (Exports S.left S.faults B.taken B.faults T.taken T.faults (N.number namer.now) settings.now
+    ensures ok { IfOk result
+        (Exports S.left S.faults B.taken B.faults T.taken T.faults (N.number namer.now) settings.now
         source.old source.new bundle.old bundle.new trace.old trace.new) }
-    ensures err { IfErr result (Fails S.left S.faults B.taken B.faults T.taken T.faults (N.number namer.now) settings.now
+    ensures err { IfErr result
+        (Fails S.left S.faults B.taken B.faults T.taken T.faults (N.number namer.now) settings.now
         source.old source.new bundle.old bundle.new trace.old trace.new) }
 
     // A valid session is exported, unless memory runs out or an object fails.
@@ -84,9 +86,11 @@ fn export<S: Source, N: OutputNamer, B: Sink, T: Sink>(
     bundle: &mut B,
     trace: &mut T,
 ) -> Result<Exported, RecordExportError>
-    ensures ok { IfOk result (Exports S.left S.faults B.taken B.faults T.taken T.faults (N.number namer.now) settings.now
+    ensures ok { IfOk result
+        (Exports S.left S.faults B.taken B.faults T.taken T.faults (N.number namer.now) settings.now
         source.old source.new bundle.old bundle.new trace.old trace.new) }
-    ensures err { IfErr result (Fails S.left S.faults B.taken B.faults T.taken T.faults (N.number namer.now) settings.now
+    ensures err { IfErr result
+        (Fails S.left S.faults B.taken B.faults T.taken T.faults (N.number namer.now) settings.now
         source.old source.new bundle.old bundle.new trace.old trace.new) }
 {
     let session = read_session(alloc, settings.session_limit, source)?;

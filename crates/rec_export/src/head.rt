@@ -29,7 +29,9 @@ pub fn take_head<'a>(lines: &mut Lines<'a>) -> Option<&'a str>
 pub fn read_head(alloc: Global, text: Option<&str>) -> Result<SessionHead, RecordExportError>
     ensures known { IfOk result IsHead }
     ensures head { IfOk result (λ head. head_in (option_map (λ t. t.now) text.entry) ≡ Some head) }
-    ensures err { IfErr result (λ e. (e ≡ OutOfMemory) ⊎ ((e ≡ ParseHead) × (head_in (option_map (λ t. t.now) text.entry) ≡ None))) }
+    ensures err { IfErr result
+        (λ e. (e ≡ OutOfMemory)
+        ⊎ ((e ≡ ParseHead) × (head_in (option_map (λ t. t.now) text.entry) ≡ None))) }
 {
     let Some(text) = text else {
         return Err(RecordExportError::ParseHead);

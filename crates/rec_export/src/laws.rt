@@ -12,8 +12,12 @@ ghost use Rattle.rec_export.specs.Session.{event_lines, lines_refusal, session_l
 /// session's and the numbers of outputs are u64s. It holds whatever a reader's limit is, and also where
 /// the session has no trace.
 pub fn bundles_of_sessions_read()
-    ensures { (number : List ℕ → ℕ) (settings : Settings) (session : List ℕ) (head : SessionHead) → ((bytes : List ℕ) → number bytes < 2 ^ 64)
-        → session_head session ≡ Some head → lines_refusal number settings.max_output [] (event_lines (session_lines session)) ≡ None
-        → count_refusal number settings head (session_events session) ≡ None → length session < 2 ^ 64
-        → IsReading (run_bundle number settings.max_output head (session_events session)) (recorded number settings.max_output head (session_events session)) }
+    ensures { (number : List ℕ → ℕ) (settings : Settings) (session : List ℕ) (head : SessionHead)
+        → ((bytes : List ℕ) → number bytes < 2 ^ 64)
+        → session_head session ≡ Some head
+        → lines_refusal number settings.max_output [] (event_lines (session_lines session)) ≡ None
+        → count_refusal number settings head (session_events session) ≡ None
+        → length session < 2 ^ 64
+        → IsReading (run_bundle number settings.max_output head (session_events session))
+        (recorded number settings.max_output head (session_events session)) }
 {}

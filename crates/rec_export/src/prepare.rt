@@ -61,7 +61,8 @@ pub fn prepare<N: OutputNamer>(
 ) -> Result<Prepared, RecordExportError>
     ensures texts { IfOk result (λ p.
         AreOf (N.number namer.now) settings.now session.now (prepared_bundle p) p.trace.items) }
-    ensures counts { IfOk result (λ p. CountsOf (N.number namer.now) settings.now.max_output session.now
+    ensures counts { IfOk result
+        (λ p. CountsOf (N.number namer.now) settings.now.max_output session.now
         (prepared_bundle p) p.trace.items p.exported) }
     ensures err { IfErr result (λ e. (e ≡ OutOfMemory)
         ⊎ (session_refusal (N.number namer.now) settings.now session.now ≡ Some e)) }
@@ -83,16 +84,20 @@ fn prepare_run<N: OutputNamer>(
     lines: Lines<'_>,
 ) -> Result<Prepared, RecordExportError>
     ensures bundle { IfOk result (λ p. prepared_bundle p
-        ≡ run_bundle (N.number namer.now) settings.now.max_output head.now (events_of lines.entry)) }
+        ≡ run_bundle (N.number namer.now) settings.now.max_output head.now
+        (events_of lines.entry)) }
     ensures reads { IsHead head.now → IfOk result (λ p. IsReading (prepared_bundle p)
         (recorded (N.number namer.now) settings.now.max_output head.now (events_of lines.entry))) }
     ensures trace { IfOk result (λ p. p.trace.items
         ≡ run_trace settings.now head.now (events_of lines.entry)) }
-    ensures accepted { OnOk result (events_refusal settings.now.group_by (map plain (events_of lines.entry)) ≡ None) }
-    ensures valid { OnOk result (refusal_after (N.number namer.now) settings.now (Some head.now) lines.entry ≡ None) }
+    ensures accepted { OnOk result
+        (events_refusal settings.now.group_by (map plain (events_of lines.entry)) ≡ None) }
+    ensures valid { OnOk result
+        (refusal_after (N.number namer.now) settings.now (Some head.now) lines.entry ≡ None) }
     ensures events { IfOk result (λ p. p.exported.events ≡ length (events_of lines.entry)) }
     ensures outputs { IfOk result (λ p. p.exported.outputs
-        ≡ length (outputs_stored (N.number namer.now) settings.now.max_output (events_of lines.entry))) }
+        ≡ length
+        (outputs_stored (N.number namer.now) settings.now.max_output (events_of lines.entry))) }
     ensures bundle_bytes { IfOk result (λ p. p.exported.bundle_bytes ≡ length (prepared_bundle p)) }
     ensures trace_bytes { IfOk result (λ p. p.exported.trace_bytes ≡ length p.trace.items) }
     ensures err { IfErr result (λ e. (e ≡ OutOfMemory)
@@ -142,11 +147,18 @@ fn judge_run(
     store: &ContainerWriter<DiscardingSink>,
     too_large: Option<RecordExportError>,
 ) -> Result<JudgedManifest, RecordExportError>
-    ensures text { IfOk result (λ j. j.text.items ≡ compact_text (manifest_value (manifest_of (recorded_info head.now sizes)))) }
-    ensures bytes { IfOk result (λ j. j.bundle_bytes ≡ length (bundle_of_contents j.text.items log.now (spell store.now.entries))) }
-    ensures fits { IfOk result (λ j. length (bundle_of_contents j.text.items log.now (spell store.now.entries)) < 2 ^ 64) }
+    ensures text { IfOk result
+        (λ j. j.text.items
+        ≡ compact_text (manifest_value (manifest_of (recorded_info head.now sizes)))) }
+    ensures bytes { IfOk result
+        (λ j. j.bundle_bytes
+        ≡ length (bundle_of_contents j.text.items log.now (spell store.now.entries))) }
+    ensures fits { IfOk result
+        (λ j. length (bundle_of_contents j.text.items log.now (spell store.now.entries)) < 2 ^ 64) }
     ensures judged { AnswersRefusal result (option_or
-        (contents_refusal limit (compact_text (manifest_value (manifest_of (recorded_info head.now sizes)))) log.now (spell store.now.entries)) too_large) }
+        (contents_refusal limit
+        (compact_text (manifest_value (manifest_of (recorded_info head.now sizes)))) log.now
+        (spell store.now.entries)) too_large) }
 {
     match judge_contents(alloc, limit, head, sizes, log, store) {
         Ok(manifest) => accept_entries(manifest, too_large),

@@ -18,7 +18,8 @@ pub fn read_session<S: Source>(
     limit: u64,
     source: &mut S,
 ) -> Result<Vec<u8>, RecordExportError>
-    ensures ok { IfOk result (λ session. Gave S.left S.faults limit source.old source.new session.items) }
+    ensures ok { IfOk result
+        (λ session. Gave S.left S.faults limit source.old source.new session.items) }
     ensures err { IfErr result (Unread S.left S.faults limit source.old source.new) }
 {
     match read_within(alloc, limit, source) {

@@ -65,11 +65,16 @@ pub fn record_run<N: OutputNamer>(
     head: &SessionHead,
     lines: Lines<'_>,
 ) -> Result<RecordedInMemory, RecordExportError>
-    ensures valid { OnOk result (lines_refusal (N.number namer.now) settings.now.max_output [] lines.entry ≡ None) }
-    ensures run { IfOk result (λ r. IsRunOf (N.number namer.now) settings.now.max_output head.now (events_of lines.entry) r.store.entries r.log.bytes r.sizes) }
+    ensures valid { OnOk result
+        (lines_refusal (N.number namer.now) settings.now.max_output [] lines.entry ≡ None) }
+    ensures run { IfOk result
+        (λ r. IsRunOf (N.number namer.now) settings.now.max_output head.now (events_of lines.entry)
+        r.store.entries r.log.bytes r.sizes) }
     ensures too_large { IfOk result (λ r. r.too_large
-        ≡ entries_refusal settings.now.read_limit (run_store (N.number namer.now) settings.now.max_output head.now (events_of lines.entry))) }
-    ensures traced { IfOk result (λ r. IsTraceOf settings.now.message_format settings.now.group_by head.now.nextest_version
+        ≡ entries_refusal settings.now.read_limit
+        (run_store (N.number namer.now) settings.now.max_output head.now (events_of lines.entry))) }
+    ensures traced { IfOk result
+        (λ r. IsTraceOf settings.now.message_format settings.now.group_by head.now.nextest_version
         (map plain (events_of lines.entry)) r.trace) }
     ensures err { IfErr result (λ e. (e ≡ OutOfMemory)
         ⊎ (lines_refusal (N.number namer.now) settings.now.max_output [] lines.entry ≡ Some e)) }
@@ -104,7 +109,8 @@ fn new_trace(
     settings: &Settings,
     head: &SessionHead,
 ) -> Result<SessionTrace, AllocError>
-    ensures { IfOk result (IsTraceOf settings.now.message_format settings.now.group_by head.now.nextest_version []) }
+    ensures { IfOk result
+        (IsTraceOf settings.now.message_format settings.now.group_by head.now.nextest_version []) }
 {
     let version = head.nextest_version.try_clone(alloc)?;
     Ok(SessionTrace::new(alloc, version, settings.group_by, settings.message_format))
@@ -119,10 +125,12 @@ fn end_run<N: OutputNamer>(
 ) -> Result<RecordedInMemory, RecordExportError>
     ensures run { (namer : N) (m : ℕ) (head : SessionHead) (events : List LiveEvent)
         → HasRecorded N.number namer m head events recorder.entry
-        → IfOk result (λ r. IsRunOf (N.number namer) m head events r.store.entries r.log.bytes r.sizes) }
+        → IfOk result
+        (λ r. IsRunOf (N.number namer) m head events r.store.entries r.log.bytes r.sizes) }
     ensures too_large { (namer : N) (m : ℕ) (head : SessionHead) (events : List LiveEvent)
         → HasRecorded N.number namer m head events recorder.entry
-        → IfOk result (λ r. r.too_large ≡ entries_refusal limit (run_store (N.number namer) m head events)) }
+        → IfOk result
+        (λ r. r.too_large ≡ entries_refusal limit (run_store (N.number namer) m head events)) }
     ensures traced { IfOk result (λ r. r.trace ≡ trace) }
     ensures err { IfErr result (λ e. e ≡ OutOfMemory) }
 {
@@ -156,9 +164,13 @@ fn record_lines<N: OutputNamer>(
     ensures sound { OnOk result (has_failed recorder.new ≡ false) }
     ensures recorded { (head : SessionHead) (events : List LiveEvent)
         → HasRecorded N.number recorder.old.namer recorder.old.max_output head events recorder.old
-        → RecordsLines N.number recorder.old.namer recorder.old.max_output head events lines.entry recorder.new result }
-    ensures traced { (format : ChromeTraceMessageFormat) (g : ChromeTraceGroupBy) (version : Parts) (before : List PlainEvent)
-        → IsTraceOf format g version before trace.old → OnOk result (IsTraceOf format g version (before ++ map plain (events_of lines.entry)) trace.new) }
+        → RecordsLines N.number recorder.old.namer recorder.old.max_output head events lines.entry
+        recorder.new result }
+    ensures traced { (format : ChromeTraceMessageFormat) (g : ChromeTraceGroupBy) (version : Parts)
+        (before : List PlainEvent)
+        → IsTraceOf format g version before trace.old
+        → OnOk result
+        (IsTraceOf format g version (before ++ map plain (events_of lines.entry)) trace.new) }
 {
     let mut scratch = Scratch::new(alloc);
     for line in lines {
@@ -179,9 +191,14 @@ fn record_line<N: OutputNamer>(
     ensures sound { OnOk result (has_failed recorder.new ≡ false) }
     ensures recorded { (head : SessionHead) (events : List LiveEvent)
         → HasRecorded N.number recorder.old.namer recorder.old.max_output head events recorder.old
-        → RecordsLine N.number recorder.old.namer recorder.old.max_output head events (line_view line.entry) recorder.new result }
-    ensures traced { (format : ChromeTraceMessageFormat) (g : ChromeTraceGroupBy) (version : Parts) (before : List PlainEvent)
-        → IsTraceOf format g version before trace.old → OnOk result (IsTraceOf format g version (before ++ map plain (option_to_list (event_at (line_view line.entry)))) trace.new) }
+        → RecordsLine N.number recorder.old.namer recorder.old.max_output head events
+        (line_view line.entry) recorder.new result }
+    ensures traced { (format : ChromeTraceMessageFormat) (g : ChromeTraceGroupBy) (version : Parts)
+        (before : List PlainEvent)
+        → IsTraceOf format g version before trace.old
+        → OnOk result
+        (IsTraceOf format g version
+        (before ++ map plain (option_to_list (event_at (line_view line.entry)))) trace.new) }
 {
     match read_line(alloc, line, scratch) {
         None => Ok(()),
@@ -201,9 +218,12 @@ fn record_event<N: OutputNamer>(
     ensures sound { OnOk result (has_failed recorder.new ≡ false) }
     ensures recorded { (head : SessionHead) (events : List LiveEvent)
         → HasRecorded N.number recorder.old.namer recorder.old.max_output head events recorder.old
-        → RecordsEvent N.number recorder.old.namer recorder.old.max_output head events event recorder.new result }
-    ensures traced { (format : ChromeTraceMessageFormat) (g : ChromeTraceGroupBy) (version : Parts) (before : List PlainEvent)
-        → IsTraceOf format g version before trace.old → OnOk result (IsTraceOf format g version (before ++ plain event ∷ []) trace.new) }
+        → RecordsEvent N.number recorder.old.namer recorder.old.max_output head events event
+        recorder.new result }
+    ensures traced { (format : ChromeTraceMessageFormat) (g : ChromeTraceGroupBy) (version : Parts)
+        (before : List PlainEvent)
+        → IsTraceOf format g version before trace.old
+        → OnOk result (IsTraceOf format g version (before ++ plain event ∷ []) trace.new) }
 {
     let Ok(()) = trace.add(alloc, &event) else {
         // By a call: in place, each kind of event would be a case of the proof.
@@ -223,7 +243,8 @@ fn record_traced<N: OutputNamer>(
     ensures sound { OnOk result (has_failed recorder.new ≡ false) }
     ensures recorded { (head : SessionHead) (events : List LiveEvent)
         → HasRecorded N.number recorder.old.namer recorder.old.max_output head events recorder.old
-        → RecordsEvent N.number recorder.old.namer recorder.old.max_output head events event recorder.new result }
+        → RecordsEvent N.number recorder.old.namer recorder.old.max_output head events event
+        recorder.new result }
 {
     match recorder.write_event(event) {
         Ok(()) => Ok(()),
@@ -257,7 +278,9 @@ fn record_head<N: OutputNamer>(
 ) -> Result<(), AllocError>
     requires sound { has_failed recorder.old ≡ false }
     requires empty { recorder.old.store.entries ≡ [] }
-    ensures ok { OnOk result (Stores (λ (s : DiscardingSink). None) (λ (s : DiscardingSink). 0) recorder.old recorder.new (store_entries head.now)) }
+    ensures ok { OnOk result
+        (Stores (λ (s : DiscardingSink). None) (λ (s : DiscardingSink). 0) recorder.old recorder.new
+        (store_entries head.now)) }
     ensures sound { OnOk result (has_failed recorder.new ≡ false) }
 {
     match write_head(recorder, head) {
@@ -288,7 +311,8 @@ fn write_head<S: Sink, L: Sink, N: OutputNamer>(
 ) -> Result<(), RunStoreError>
     requires sound { has_failed recorder.old ≡ false }
     requires empty { recorder.old.store.entries ≡ [] }
-    ensures ok { OnOk result (Stores S.taken S.faults recorder.old recorder.new (store_entries head.now)) }
+    ensures ok { OnOk result
+        (Stores S.taken S.faults recorder.old recorder.new (store_entries head.now)) }
     ensures err { IfErr result ComesOfHead }
 {
     write_metadata(

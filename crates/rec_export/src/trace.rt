@@ -47,7 +47,8 @@ impl SessionTrace {
         alloc: Global,
         event: &TestEventSummary<LiveSpec>,
     ) -> Result<(), AllocError>
-        ensures { (format : ChromeTraceMessageFormat) (g : ChromeTraceGroupBy) (version : Parts) (events : List PlainEvent)
+        ensures { (format : ChromeTraceMessageFormat) (g : ChromeTraceGroupBy) (version : Parts)
+            (events : List PlainEvent)
             → IsTraceOf format g version events self.old
             → OnOk result (IsTraceOf format g version (events ++ plain event.now ∷ []) self.new) }
     {
@@ -76,7 +77,8 @@ impl SessionTrace {
     ///
     /// Why there is no trace, or `OutOfMemory`.
     pub fn into_bytes(self, alloc: Global) -> Result<Vec<u8>, RecordExportError>
-        ensures { (format : ChromeTraceMessageFormat) (g : ChromeTraceGroupBy) (version : Parts) (events : List PlainEvent)
+        ensures { (format : ChromeTraceMessageFormat) (g : ChromeTraceGroupBy) (version : Parts)
+            (events : List PlainEvent)
             → IsTraceOf format g version events self
             → AnswersTrace g events (trace_text format g version events) result }
     {

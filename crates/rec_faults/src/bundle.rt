@@ -92,7 +92,9 @@ fn unsupported_bundle<G: Sink>(
     incompatibility: PortableRecordingVersionIncompatibility,
     diag: &mut G,
 ) -> Line
-    ensures { Writes G.taken G.faults (shown_text (bundle_shown (UnsupportedFormatVersion found supported incompatibility))) line.is_failed diag.old result.is_failed diag.new }
+    ensures { Writes G.taken G.faults
+        (shown_text (bundle_shown (UnsupportedFormatVersion found supported incompatibility)))
+        line.is_failed diag.old result.is_failed diag.new }
 {
     let found_minor = found.minor.number() as u64;
     let supported_minor = supported.minor.number() as u64;
@@ -121,7 +123,9 @@ fn unsupported_store<G: Sink>(
     incompatibility: StoreVersionIncompatibility,
     diag: &mut G,
 ) -> Line
-    ensures { Writes G.taken G.faults (shown_text (bundle_shown (UnsupportedStoreFormatVersion found supported incompatibility))) line.is_failed diag.old result.is_failed diag.new }
+    ensures { Writes G.taken G.faults
+        (shown_text (bundle_shown (UnsupportedStoreFormatVersion found supported incompatibility)))
+        line.is_failed diag.old result.is_failed diag.new }
 {
     let found_minor = found.minor.number() as u64;
     let supported_minor = supported.minor.number() as u64;

@@ -106,7 +106,8 @@ impl Refusal for RecordExportError {
 
 /// Writes that a number of an event is out of range, or a size or a number of entries.
 fn count_out_of_range<G: Sink>(line: Line, event: Option<u64>, diag: &mut G) -> Line
-    ensures { Writes G.taken G.faults (shown_text (export_shown (CountOutOfRange event))) line.is_failed diag.old result.is_failed diag.new }
+    ensures { Writes G.taken G.faults (shown_text (export_shown (CountOutOfRange event)))
+        line.is_failed diag.old result.is_failed diag.new }
 {
     match event {
         None => line.name("CountOutOfRange event=None", diag),

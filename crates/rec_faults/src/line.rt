@@ -26,7 +26,8 @@ impl Line {
 
     /// Writes a name, or what else stands in the line as it is.
     pub fn name<G: Sink>(self, name: &str, diag: &mut G) -> Line
-        ensures { Writes G.taken G.faults (λ rest. name.now ++ rest) self.is_failed diag.old result.is_failed diag.new }
+        ensures { Writes G.taken G.faults (λ rest. name.now ++ rest) self.is_failed diag.old
+            result.is_failed diag.new }
     {
         if self.is_failed {
             return self;
@@ -38,14 +39,16 @@ impl Line {
 
     /// Writes a field with a text.
     pub fn text<G: Sink>(self, label: &str, text: &str, diag: &mut G) -> Line
-        ensures { Writes G.taken G.faults (λ rest. label.now ++ (text.now ++ rest)) self.is_failed diag.old result.is_failed diag.new }
+        ensures { Writes G.taken G.faults (λ rest. label.now ++ (text.now ++ rest)) self.is_failed
+            diag.old result.is_failed diag.new }
     {
         self.name(label, diag).name(text, diag)
     }
 
     /// Writes a field with a number, in decimal.
     pub fn number<G: Sink>(self, label: &str, number: u64, diag: &mut G) -> Line
-        ensures { Writes G.taken G.faults (λ rest. label.now ++ (decimal number ++ rest)) self.is_failed diag.old result.is_failed diag.new }
+        ensures { Writes G.taken G.faults (λ rest. label.now ++ (decimal number ++ rest))
+            self.is_failed diag.old result.is_failed diag.new }
     {
         let mut digits = Buffer::new();
         self.name(label, diag).name(digits.format(number), diag)
@@ -53,14 +56,16 @@ impl Line {
 
     /// Writes a field with a version: two numbers with a dot between them.
     pub fn version<G: Sink>(self, label: &str, major: u64, minor: u64, diag: &mut G) -> Line
-        ensures { Writes G.taken G.faults (λ rest. label.now ++ (version_text major minor ++ rest)) self.is_failed diag.old result.is_failed diag.new }
+        ensures { Writes G.taken G.faults (λ rest. label.now ++ (version_text major minor ++ rest))
+            self.is_failed diag.old result.is_failed diag.new }
     {
         self.number(label, major, diag).number(".", minor, diag)
     }
 
     /// Writes a field with a release: three numbers with dots between them.
     pub fn release<G: Sink>(self, label: &str, release: Release, diag: &mut G) -> Line
-        ensures { Writes G.taken G.faults (λ rest. label.now ++ (release_text release ++ rest)) self.is_failed diag.old result.is_failed diag.new }
+        ensures { Writes G.taken G.faults (λ rest. label.now ++ (release_text release ++ rest))
+            self.is_failed diag.old result.is_failed diag.new }
     {
         self.number(label, release.major, diag)
             .number(".", release.minor, diag)

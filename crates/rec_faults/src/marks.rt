@@ -18,7 +18,9 @@ pub fn missing_test<G: Sink>(
     test_name: &TestCaseName,
     diag: &mut G,
 ) -> Line
-    ensures { Writes G.taken G.faults (shown_text (export_shown (MissingTestStart event binary_id.now test_name.now))) line.is_failed diag.old result.is_failed diag.new }
+    ensures { Writes G.taken G.faults
+        (shown_text (export_shown (MissingTestStart event binary_id.now test_name.now)))
+        line.is_failed diag.old result.is_failed diag.new }
 {
     line.number("MissingTestStart event=", event, diag)
         .text(" binary_id=", binary_id.as_str(), diag)
@@ -27,7 +29,9 @@ pub fn missing_test<G: Sink>(
 
 /// Writes the setup script that had not started at an event.
 pub fn missing_script<G: Sink>(line: Line, event: u64, script_id: &ScriptId, diag: &mut G) -> Line
-    ensures { Writes G.taken G.faults (shown_text (export_shown (MissingScriptStart event script_id.now))) line.is_failed diag.old result.is_failed diag.new }
+    ensures { Writes G.taken G.faults
+        (shown_text (export_shown (MissingScriptStart event script_id.now))) line.is_failed diag.old
+        result.is_failed diag.new }
 {
     line.number("MissingScriptStart event=", event, diag)
         .text(" script_id=", script_id.as_str(), diag)
@@ -35,7 +39,8 @@ pub fn missing_script<G: Sink>(line: Line, event: u64, script_id: &ScriptId, dia
 
 /// Writes the span that was open at an event.
 pub fn open_span<G: Sink>(line: Line, event: u64, span: &SpanKey, diag: &mut G) -> Line
-    ensures { Writes G.taken G.faults (shown_text (export_shown (SpanAlreadyOpen event span.now))) line.is_failed diag.old result.is_failed diag.new }
+    ensures { Writes G.taken G.faults (shown_text (export_shown (SpanAlreadyOpen event span.now)))
+        line.is_failed diag.old result.is_failed diag.new }
 {
     let line = line
         .number("SpanAlreadyOpen event=", event, diag)
@@ -45,7 +50,8 @@ pub fn open_span<G: Sink>(line: Line, event: u64, span: &SpanKey, diag: &mut G) 
 
 /// Writes a span.
 fn write_span<G: Sink>(line: Line, span: &SpanKey, diag: &mut G) -> Line
-    ensures { Writes G.taken G.faults (shown_text (span_shown span.now)) line.is_failed diag.old result.is_failed diag.new }
+    ensures { Writes G.taken G.faults (shown_text (span_shown span.now)) line.is_failed diag.old
+        result.is_failed diag.new }
 {
     match span {
         SpanKey::Run => line.name("Run", diag),
@@ -66,7 +72,9 @@ pub fn event_number<G: Sink>(
     number: u64,
     diag: &mut G,
 ) -> Line
-    ensures { Writes G.taken G.faults (λ rest. name.now ++ (decimal event ++ (label.now ++ (decimal number ++ rest)))) line.is_failed diag.old result.is_failed diag.new }
+    ensures { Writes G.taken G.faults
+        (λ rest. name.now ++ (decimal event ++ (label.now ++ (decimal number ++ rest))))
+        line.is_failed diag.old result.is_failed diag.new }
 {
     line.number(name, event, diag).number(label, number, diag)
 }
@@ -80,7 +88,9 @@ pub fn large_entry<G: Sink>(
     diag: &mut G,
 ) -> Line
     ensures { Writes G.taken G.faults
-        (λ rest. codes "FileTooLarge file_name=" ++ (file_name.now ++ (codes " size=" ++ (decimal size ++ (codes " limit=" ++ (decimal limit ++ rest))))))
+        (λ rest. codes "FileTooLarge file_name="
+        ++ (file_name.now
+        ++ (codes " size=" ++ (decimal size ++ (codes " limit=" ++ (decimal limit ++ rest))))))
         line.is_failed diag.old result.is_failed diag.new }
 {
     line.text("FileTooLarge file_name=", file_name, diag)

@@ -19,7 +19,8 @@ pub trait Refusal {
 
     /// Writes the line without its LF, alone or within the line of another refusal. It takes no memory.
     fn write<G: Sink>(&self, line: Line, diag: &mut G) -> Line
-        ensures { Writes G.taken G.faults (shown_text (shown self.now)) line.is_failed diag.old result.is_failed diag.new };
+        ensures { Writes G.taken G.faults (shown_text (shown self.now)) line.is_failed diag.old
+            result.is_failed diag.new };
 
     /// Returns the status.
     fn status(&self) -> u8

@@ -91,7 +91,8 @@ impl Refusal for RecordReadError {
 
 /// Writes what is wrong with the bytes of a container, and where.
 pub fn write_container_fault<G: Sink>(line: Line, fault: &ContainerError, diag: &mut G) -> Line
-    ensures { Writes G.taken G.faults (shown_text (container_shown fault.now)) line.is_failed diag.old result.is_failed diag.new }
+    ensures { Writes G.taken G.faults (shown_text (container_shown fault.now)) line.is_failed
+        diag.old result.is_failed diag.new }
 {
     match fault {
         ContainerError::BadMagic => line.name("BadMagic", diag),

@@ -17,7 +17,8 @@ pub fn write_bundle_version<G: Sink>(
     incompatibility: PortableRecordingVersionIncompatibility,
     diag: &mut G,
 ) -> Line
-    ensures { Writes G.taken G.faults (shown_text (bundle_version_shown incompatibility)) line.is_failed diag.old result.is_failed diag.new }
+    ensures { Writes G.taken G.faults (shown_text (bundle_version_shown incompatibility))
+        line.is_failed diag.old result.is_failed diag.new }
 {
     match incompatibility {
         PortableRecordingVersionIncompatibility::MajorMismatch {
@@ -50,7 +51,8 @@ pub fn write_store_version<G: Sink>(
     incompatibility: StoreVersionIncompatibility,
     diag: &mut G,
 ) -> Line
-    ensures { Writes G.taken G.faults (shown_text (store_version_shown incompatibility)) line.is_failed diag.old result.is_failed diag.new }
+    ensures { Writes G.taken G.faults (shown_text (store_version_shown incompatibility))
+        line.is_failed diag.old result.is_failed diag.new }
 {
     match incompatibility {
         StoreVersionIncompatibility::RecordingTooOld {
@@ -93,7 +95,8 @@ pub fn write_store_version<G: Sink>(
 
 /// Writes two majors that don't fit.
 fn write_majors<G: Sink>(line: Line, recording: u32, supported: u32, diag: &mut G) -> Line
-    ensures { Writes G.taken G.faults (fields_text (majors recording supported no_fields)) line.is_failed diag.old result.is_failed diag.new }
+    ensures { Writes G.taken G.faults (fields_text (majors recording supported no_fields))
+        line.is_failed diag.old result.is_failed diag.new }
 {
     line.number(" recording_major=", recording as u64, diag)
         .number(" supported_major=", supported as u64, diag)
@@ -102,7 +105,8 @@ fn write_majors<G: Sink>(line: Line, recording: u32, supported: u32, diag: &mut 
 /// Writes two minors that don't fit.
 fn write_minors<G: Sink>(line: Line, recording: u32, supported: u32, diag: &mut G) -> Line
     ensures { Writes G.taken G.faults
-        (λ rest. codes "MinorTooNew recording_minor=" ++ (decimal recording ++ (codes " supported_minor=" ++ (decimal supported ++ rest))))
+        (λ rest. codes "MinorTooNew recording_minor="
+        ++ (decimal recording ++ (codes " supported_minor=" ++ (decimal supported ++ rest))))
         line.is_failed diag.old result.is_failed diag.new }
 {
     line.number("MinorTooNew recording_minor=", recording as u64, diag)
@@ -111,7 +115,8 @@ fn write_minors<G: Sink>(line: Line, recording: u32, supported: u32, diag: &mut 
 
 /// Writes what to do with a recording that is too old.
 fn write_guidance<G: Sink>(line: Line, guidance: TooOldRecordingGuidance, diag: &mut G) -> Line
-    ensures { Writes G.taken G.faults (shown_text (guidance_shown guidance)) line.is_failed diag.old result.is_failed diag.new }
+    ensures { Writes G.taken G.faults (shown_text (guidance_shown guidance)) line.is_failed diag.old
+        result.is_failed diag.new }
 {
     match guidance {
         TooOldRecordingGuidance::UseOlderNextest {

@@ -35,8 +35,13 @@ pub fn versions_are_ordered_by_their_numbers()
 /// States that a store of each minor version up to that which is written is read, and that one of a newer minor
 /// version isn't.
 pub fn older_stores_are_read()
-    ensures read { (minor : ℕ) → minor ≤ 1 → store_readable (record { major = 3; minor = minor }) store_version ≡ Ok tt }
-    ensures newer { (minor : ℕ) → 1 < minor → store_readable (record { major = 3; minor = minor }) store_version ≡ Err (MinorTooNew minor 1) }
+    ensures read { (minor : ℕ)
+        → minor ≤ 1
+        → store_readable (record { major = 3; minor = minor }) store_version ≡ Ok tt }
+    ensures newer { (minor : ℕ)
+        → 1 < minor
+        → store_readable (record { major = 3; minor = minor }) store_version
+        ≡ Err (MinorTooNew minor 1) }
 {}
 
 /// States that there is guidance for each major version below that which is written. They are counted from 1.
@@ -66,5 +71,7 @@ pub fn texts_of_heads_read_back()
 /// the sizes are below 2^64.
 pub fn texts_of_manifests_read_back()
     ensures { (head : SessionHead) (sizes : RecordedSizes) → IsHead head → AreSizes sizes
-        → bytes_form manifest_form (compact_text (manifest_value (manifest_of (recorded_info head sizes)))) ≡ Some (manifest_of (recorded_info head sizes)) }
+        → bytes_form manifest_form
+        (compact_text (manifest_value (manifest_of (recorded_info head sizes))))
+        ≡ Some (manifest_of (recorded_info head sizes)) }
 {}

@@ -234,7 +234,8 @@ impl StoreFormatVersion {
     /// - `MinorTooNew` where the majors are equal, and this minor is above the supported one.
     pub fn check_readable_by(self, supported: Self) -> Result<(), StoreVersionIncompatibility>
         ensures answer { result ≡ store_readable self supported }
-        ensures readable { IsOk result ↔ ((self.major ≡ supported.major) × (self.minor ≤ supported.minor)) }
+        ensures readable { IsOk result
+            ↔ ((self.major ≡ supported.major) × (self.minor ≤ supported.minor)) }
     {
         let (recording_major, supported_major) = (self.major, supported.major);
         let (recording_minor, supported_minor) = (self.minor, supported.minor);
@@ -312,7 +313,8 @@ impl PortableRecordingFormatVersion {
         supported: Self,
     ) -> Result<(), PortableRecordingVersionIncompatibility>
         ensures answer { result ≡ portable_readable self supported }
-        ensures readable { IsOk result ↔ ((self.major ≡ supported.major) × (self.minor ≤ supported.minor)) }
+        ensures readable { IsOk result
+            ↔ ((self.major ≡ supported.major) × (self.minor ≤ supported.minor)) }
     {
         if self.major != supported.major {
             return Err(PortableRecordingVersionIncompatibility::MajorMismatch {

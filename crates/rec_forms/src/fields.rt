@@ -21,7 +21,8 @@ pub fn write_field<T: Form>(
     key: &str,
     item: &T,
 ) -> Result<(), AllocError>
-    ensures written { OnOk result (text.new ≡ with_field key.now (Some (T.value_of item.now)) text.old) }
+    ensures written { OnOk result
+        (text.new ≡ with_field key.now (Some (T.value_of item.now)) text.old) }
     ensures known { OnOk result (T.well_formed item.now) }
 {
     text.key(key)?;
@@ -39,7 +40,8 @@ pub fn write_optional<T: Form>(
     key: &str,
     item: &Option<T>,
 ) -> Result<(), AllocError>
-    ensures written { OnOk result (text.new ≡ with_field key.now (option_map T.value_of item.now) text.old) }
+    ensures written { OnOk result
+        (text.new ≡ with_field key.now (option_map T.value_of item.now) text.old) }
     ensures known { OnOk result (IfSome item.now T.well_formed) }
 {
     match item {
@@ -59,7 +61,8 @@ pub fn write_tagged<T: Form>(
     tag: &str,
     item: &T,
 ) -> Result<(), AllocError>
-    ensures written { OnOk result (text.new ≡ text.old ++ value_tokens (tagged tag.now (T.value_of item.now))) }
+    ensures written { OnOk result
+        (text.new ≡ text.old ++ value_tokens (tagged tag.now (T.value_of item.now))) }
     ensures known { OnOk result (T.well_formed item.now) }
 {
     text.begin_object()?;

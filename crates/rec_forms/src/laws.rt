@@ -11,13 +11,21 @@ use crate::Form;
 
 /// States that the text of a writable value is UTF-8, and is read as this value.
 pub fn writable_values_read_back()
-    ensures read { (n : ℕ) (d : Data) → IsWritable n d → n ≤ max_depth → read (compact_text d) ≡ Some d }
-    ensures utf8 { (n : ℕ) (d : Data) → IsWritable n d → n ≤ max_depth → IsTrue (is_utf8 (compact_text d)) }
+    ensures read { (n : ℕ) (d : Data)
+        → IsWritable n d
+        → n ≤ max_depth
+        → read (compact_text d) ≡ Some d }
+    ensures utf8 { (n : ℕ) (d : Data)
+        → IsWritable n d
+        → n ≤ max_depth
+        → IsTrue (is_utf8 (compact_text d)) }
 {}
 
 /// States that the text of a well-formed item is UTF-8, and is read as this item.
 pub fn well_formed_items_read_back<T: Form>()
-    ensures { (x : T) → T.well_formed x → bytes_form T.form_of (compact_text (T.value_of x)) ≡ Some x }
+    ensures { (x : T)
+        → T.well_formed x
+        → bytes_form T.form_of (compact_text (T.value_of x)) ≡ Some x }
 {}
 
 /// States that an item for which a value stands is well-formed, whatever the value.

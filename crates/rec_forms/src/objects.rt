@@ -55,7 +55,8 @@ impl ObjectWriter {
     /// Opens the object of a variant, as the only field of another one.
     pub fn begin_tagged(alloc: Global, text: &mut JsonText, tag: &str) -> ObjectWriter
         ensures { result ≡ false
-            → text.new ≡ ((text.old ++ begin_object ∷ []) ++ token.key tag.now ∷ []) ++ begin_object ∷ [] }
+            → text.new
+            ≡ ((text.old ++ begin_object ∷ []) ++ token.key tag.now ∷ []) ++ begin_object ∷ [] }
     {
         ObjectWriter {
             alloc,
@@ -185,7 +186,8 @@ impl ObjectWriter {
         ensures written { (before : List Token) (tag : List ℕ) (fs : List Field)
             → (self ≡ false
             → text.old ≡ with_fields
-            (((before ++ begin_object ∷ []) ++ token.key tag ∷ []) ++ begin_object ∷ []) (in_order fs))
+            (((before ++ begin_object ∷ []) ++ token.key tag ∷ []) ++ begin_object ∷ [])
+            (in_order fs))
             → OnOk result (text.new ≡ before ++ value_tokens (tagged tag (struct fs))) }
         ensures goes { OnOk result (self ≡ false) }
     {
@@ -213,7 +215,8 @@ impl ObjectWriter {
 /// Opens an object as the only field of another one.
 fn open_tagged(text: &mut JsonText, tag: &str) -> Result<(), AllocError>
     ensures { OnOk result
-        (text.new ≡ ((text.old ++ begin_object ∷ []) ++ token.key tag.now ∷ []) ++ begin_object ∷ []) }
+        (text.new
+        ≡ ((text.old ++ begin_object ∷ []) ++ token.key tag.now ∷ []) ++ begin_object ∷ []) }
 {
     text.begin_tagged(tag)?;
     text.begin_object()
@@ -241,7 +244,8 @@ fn open_object(text: &mut JsonText, key: &str) -> Result<(), AllocError>
 
 /// Writes a field that is a text.
 fn write_text(text: &mut JsonText, key: &str, value: &str) -> Result<(), AllocError>
-    ensures written { OnOk result (text.new ≡ with_field key.now (Some (string value.now)) text.old) }
+    ensures written { OnOk result
+        (text.new ≡ with_field key.now (Some (string value.now)) text.old) }
     ensures known { OnOk result (IsText value.now) }
 {
     text.key(key)?;

@@ -89,7 +89,9 @@ fn script_addition<D: ErrorDescriber>(
     ran: &SetupScriptExecuteStatus<LiveSpec>,
 ) -> Result<Option<Addition>, JunitError>
     requires unit { maker.now.unit.now ≡ script_unit }
-    ensures { Judges result (script_addition (D.text_of maker.now.describer.now) maker.now.storing key script.now program.now args.now ran.now) }
+    ensures { Judges result
+        (script_addition (D.text_of maker.now.describer.now) maker.now.storing key script.now
+        program.now args.now ran.now) }
 {
     match script_parts(maker, &key, script, program, args, ran) {
         Ok(parts) => {
@@ -117,7 +119,9 @@ fn script_parts<D: ErrorDescriber>(
     ran: &SetupScriptExecuteStatus<LiveSpec>,
 ) -> Result<(JunitCase, Items<JunitProperty>), JunitError>
     requires unit { maker.now.unit.now ≡ script_unit }
-    ensures { Judges result (script_parts (D.text_of maker.now.describer.now) maker.now.storing key.now script.now program.now args.now ran.now) }
+    ensures { Judges result
+        (script_parts (D.text_of maker.now.describer.now) maker.now.storing key.now script.now
+        program.now args.now ran.now) }
 {
     let properties = script_properties(maker.alloc, program, args, &ran.env_map)?;
     match case_in_suite(maker, key, script, ran) {
@@ -137,7 +141,9 @@ fn case_in_suite<D: ErrorDescriber>(
     ran: &SetupScriptExecuteStatus<LiveSpec>,
 ) -> Result<JunitCase, JunitError>
     requires unit { maker.now.unit.now ≡ script_unit }
-    ensures { Judges result (script_case (D.text_of maker.now.describer.now) maker.now.storing script.now (suite_name key.now) ran.now) }
+    ensures { Judges result
+        (script_case (D.text_of maker.now.describer.now) maker.now.storing script.now
+        (suite_name key.now) ran.now) }
 {
     let suite = key.suite_name(maker.alloc)?;
     maker.script_case(script, suite.as_str(), ran)
@@ -191,7 +197,9 @@ fn finished_addition<D: ErrorDescriber>(
     fail_status: JunitFlakyFailStatus,
     statuses: &ExecutionStatuses<LiveSpec>,
 ) -> Result<Option<Addition>, JunitError>
-    ensures { Judges result (finished_addition maker.now.unit.now (D.text_of maker.now.describer.now) maker.now.storing stress_index.now test.now fail_status statuses.now) }
+    ensures { Judges result
+        (finished_addition maker.now.unit.now (D.text_of maker.now.describer.now) maker.now.storing
+        stress_index.now test.now fail_status statuses.now) }
 {
     let attempts = statuses.describe();
     let case = maker.test_case(test, statuses.flaky_result(), fail_status, &attempts)?;
@@ -230,7 +238,8 @@ fn skipped_addition(
     test: &TestInstanceId<'_>,
     reason: MismatchReason,
 ) -> Result<Option<Addition>, JunitError>
-    ensures { Judges result (Ok (Some (test_addition stress_index.now test.now (skipped_case test.now reason)))) }
+    ensures { Judges result
+        (Ok (Some (test_addition stress_index.now test.now (skipped_case test.now reason)))) }
 {
     let case = skipped_case(alloc, test, reason)?;
     test_addition(alloc, stress_index, test, case)
@@ -263,7 +272,8 @@ fn script_properties(
     args: &[Text],
     env_map: &Option<TextMap<Text>>,
 ) -> Result<Items<JunitProperty>, AllocError>
-    ensures { IfOk result (λ properties. properties ≡ script_properties program.now args.now env_map.now) }
+    ensures { IfOk result
+        (λ properties. properties ≡ script_properties program.now args.now env_map.now) }
 {
     let mut properties = Vec::new(alloc);
     put_command(alloc, &mut properties, program, args, env_map)?;
@@ -278,7 +288,9 @@ fn put_command(
     args: &[Text],
     env_map: &Option<TextMap<Text>>,
 ) -> Result<(), AllocError>
-    ensures { OnOk result (properties.new.items ≡ properties.old.items ++ script_properties program.now args.now env_map.now) }
+    ensures { OnOk result
+        (properties.new.items
+        ≡ properties.old.items ++ script_properties program.now args.now env_map.now) }
 {
     let program = program.try_clone(alloc)?;
     put_property(alloc, properties, "command", program)?;
@@ -297,7 +309,8 @@ fn put_property(
     name: &str,
     value: Text,
 ) -> Result<(), AllocError>
-    ensures { OnOk result (properties.new.items ≡ properties.old.items ++ (property name.now value ∷ [])) }
+    ensures { OnOk result
+        (properties.new.items ≡ properties.old.items ++ (property name.now value ∷ [])) }
 {
     let name = Text::from_str(alloc, name)?;
     properties.push(JunitProperty { name, value })?;
@@ -310,7 +323,8 @@ fn put_variables(
     properties: &mut Vec<JunitProperty>,
     env_map: &TextMap<Text>,
 ) -> Result<(), AllocError>
-    ensures { OnOk result (properties.new.items ≡ properties.old.items ++ variables (Some env_map.now)) }
+    ensures { OnOk result
+        (properties.new.items ≡ properties.old.items ++ variables (Some env_map.now)) }
 {
     for (name, value) in env_map.as_map() {
         properties.push(variable(alloc, name.as_str(), value)?)?;

@@ -62,11 +62,19 @@ impl<'a, D: ErrorDescriber> JunitBuilder<'a, D> {
     ///
     /// Or `OutOfMemory`, if memory runs out. Each error leaves the builder as it was.
     pub fn write_event(&mut self, event: &TestEvent<'_>) -> Result<Option<JunitReport>, JunitError>
-        ensures stands { (history : List TestEvent) → StandsFor self.old.mode (D.text_of self.old.describer.now) self.old.suites history →
-            OnOk result (StandsFor self.old.mode (D.text_of self.old.describer.now) self.new.suites (history ++ (event.now ∷ []))) }
-        ensures reports { (history : List TestEvent) → StandsFor self.old.mode (D.text_of self.old.describer.now) self.old.suites history →
-            IfOk result (λ report. report ≡ report_after self.old.mode (D.text_of self.old.describer.now) self.old.name history event.now.kind) }
-        ensures judged { IsJudged result (refusal_of self.old.mode (D.text_of self.old.describer.now) event.now.kind) }
+        ensures stands { (history : List TestEvent)
+            → StandsFor self.old.mode (D.text_of self.old.describer.now) self.old.suites history
+            → OnOk result
+            (StandsFor self.old.mode (D.text_of self.old.describer.now) self.new.suites
+            (history ++ (event.now ∷ []))) }
+        ensures reports { (history : List TestEvent)
+            → StandsFor self.old.mode (D.text_of self.old.describer.now) self.old.suites history
+            → IfOk result
+            (λ report. report
+            ≡ report_after self.old.mode (D.text_of self.old.describer.now) self.old.name history
+            event.now.kind) }
+        ensures judged { IsJudged result
+            (refusal_of self.old.mode (D.text_of self.old.describer.now) event.now.kind) }
         ensures unchanged { OnErr result (self.new ≡ self.old) }
         ensures settings { self.new ≡ record self.old { suites = self.new.suites } }
     {
@@ -75,9 +83,14 @@ impl<'a, D: ErrorDescriber> JunitBuilder<'a, D> {
 
     /// Takes an event.
     fn take_event(&mut self, event: &TestEvent<'_>) -> Result<Option<JunitReport>, JunitError>
-        ensures suites { OnOk result (self.new.suites ≡ suites_by self.old.mode (D.text_of self.old.describer.now) self.old.suites event.now.kind) }
-        ensures reports { IfOk result (λ report. report ≡ report_with self.old.name self.old.suites event.now.kind) }
-        ensures judged { IsJudged result (refusal_of self.old.mode (D.text_of self.old.describer.now) event.now.kind) }
+        ensures suites { OnOk result
+            (self.new.suites
+            ≡ suites_by self.old.mode (D.text_of self.old.describer.now) self.old.suites
+            event.now.kind) }
+        ensures reports { IfOk result
+            (λ report. report ≡ report_with self.old.name self.old.suites event.now.kind) }
+        ensures judged { IsJudged result
+            (refusal_of self.old.mode (D.text_of self.old.describer.now) event.now.kind) }
         ensures unchanged { OnErr result (self.new ≡ self.old) }
         ensures settings { self.new ≡ record self.old { suites = self.new.suites } }
     {
@@ -91,7 +104,8 @@ impl<'a, D: ErrorDescriber> JunitBuilder<'a, D> {
     fn finish_run(&mut self, kind: &TestEventKind<'_>) -> Result<Option<JunitReport>, JunitError>
         requires kind { kind_name kind.now ≡ codes "run-finished" }
         ensures new { OnOk result (self.new.suites ≡ no_suites) }
-        ensures reports { IfOk result (λ report. report ≡ report_with self.old.name self.old.suites kind.now) }
+        ensures reports { IfOk result
+            (λ report. report ≡ report_with self.old.name self.old.suites kind.now) }
         ensures judged { IsJudged result None }
         ensures unchanged { OnErr result (self.new ≡ self.old) }
         ensures settings { self.new ≡ record self.old { suites = self.new.suites } }
@@ -118,9 +132,13 @@ impl<'a, D: ErrorDescriber> JunitBuilder<'a, D> {
 
     /// Adds what an event of the run gives.
     fn add_event(&mut self, kind: &TestEventKind<'_>) -> Result<Option<JunitReport>, JunitError>
-        ensures suites { OnOk result (self.new.suites ≡ suites_after self.old.mode (D.text_of self.old.describer.now) self.old.suites kind.now) }
+        ensures suites { OnOk result
+            (self.new.suites
+            ≡ suites_after self.old.mode (D.text_of self.old.describer.now) self.old.suites
+            kind.now) }
         ensures no_report { IfOk result (λ report. report ≡ None) }
-        ensures judged { IsJudged result (refusal_of self.old.mode (D.text_of self.old.describer.now) kind.now) }
+        ensures judged { IsJudged result
+            (refusal_of self.old.mode (D.text_of self.old.describer.now) kind.now) }
         ensures unchanged { OnErr result (self.new ≡ self.old) }
         ensures settings { self.new ≡ record self.old { suites = self.new.suites } }
     {

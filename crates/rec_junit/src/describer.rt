@@ -60,7 +60,8 @@ impl ErrorDescriber for PlainDescriber {
 
 /// Says the same shortly and at length.
 fn same_text(alloc: Global, message: &Text) -> Result<ErrorText, AllocError>
-    ensures { IfOk result (λ text. text ≡ record { message = message.now; description = message.now }) }
+    ensures { IfOk result
+        (λ text. text ≡ record { message = message.now; description = message.now }) }
 {
     let (message, description) = two_texts(alloc, message.as_str(), message.as_str())?;
     Ok(ErrorText {
@@ -86,7 +87,8 @@ fn describe_errors(alloc: Global, errors: &[Text]) -> Result<Option<ErrorText>, 
 
 /// Writes these texts, with a line feed between each two.
 fn lines(alloc: Global, first: &Text, others: &[Text]) -> Result<Text, AllocError>
-    ensures { IfOk result (λ text. text ≡ join_by (λ text. text) (codes "\n") (first.now ∷ others.now)) }
+    ensures { IfOk result
+        (λ text. text ≡ join_by (λ text. text) (codes "\n") (first.now ∷ others.now)) }
 {
     let mut lines = String::from_str(alloc, first.as_str())?;
     for other in others {

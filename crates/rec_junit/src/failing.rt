@@ -130,7 +130,8 @@ fn leaked_note(leaked: bool) -> &'static str
 
 /// Says how a process that could not be started is reported.
 fn start_failure(alloc: Global) -> Result<FailureKind, AllocError>
-    ensures { IfOk result (λ reported. reported ≡ record { kind = Error; type_text = codes "execution failure" }) }
+    ensures { IfOk result
+        (λ reported. reported ≡ record { kind = Error; type_text = codes "execution failure" }) }
 {
     Ok(FailureKind {
         kind: JunitKind::Error,

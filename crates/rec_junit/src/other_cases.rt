@@ -30,7 +30,9 @@ impl<D: ErrorDescriber> CaseMaker<'_, D> {
         ran: &SetupScriptExecuteStatus<LiveSpec>,
     ) -> Result<JunitCase, JunitError>
         requires unit { self.now.unit.now ≡ script_unit }
-        ensures { Judges result (script_case (D.text_of self.now.describer.now) self.now.storing script.now suite.now ran.now) }
+        ensures { Judges result
+            (script_case (D.text_of self.now.describer.now) self.now.storing script.now suite.now
+            ran.now) }
     {
         let judged = self.judged_script(ran.result.is_success(), ran)?;
         case_of(
@@ -50,7 +52,8 @@ impl<D: ErrorDescriber> CaseMaker<'_, D> {
         ran: &SetupScriptExecuteStatus<LiveSpec>,
     ) -> Result<(JunitStatus, StoredOutput), JunitError>
         requires unit { self.now.unit.now ≡ script_unit }
-        ensures { Judges result (judged_script has_passed (D.text_of self.now.describer.now) self.now.storing ran.now) }
+        ensures { Judges result
+            (judged_script has_passed (D.text_of self.now.describer.now) self.now.storing ran.now) }
     {
         let status = self.script_status(has_passed, ran)?;
         with_output(
@@ -68,7 +71,8 @@ impl<D: ErrorDescriber> CaseMaker<'_, D> {
         ran: &SetupScriptExecuteStatus<LiveSpec>,
     ) -> Result<JunitStatus, JunitError>
         requires unit { self.now.unit.now ≡ script_unit }
-        ensures { Judges result (script_status_by has_passed (D.text_of self.now.describer.now) ran.now) }
+        ensures { Judges result
+            (script_status_by has_passed (D.text_of self.now.describer.now) ran.now) }
     {
         if has_passed {
             return Ok(JunitStatus::Success {

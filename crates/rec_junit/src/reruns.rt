@@ -94,7 +94,9 @@ impl<D: ErrorDescriber> CaseMaker<'_, D> {
         ending: &ExecutionResultDescription,
         execution: &ChildExecutionOutputDescription<LiveSpec>,
     ) -> Result<Failure, JunitError>
-        ensures { Judges result (failure_of self.now.unit.now (D.text_of self.now.describer.now) ending.now execution.now) }
+        ensures { Judges result
+            (failure_of self.now.unit.now (D.text_of self.now.describer.now) ending.now
+            execution.now) }
     {
         let Some(kind) = failing(self.alloc, self.unit, ending)? else {
             return Err(JunitError::SuccessAsFailure);
@@ -116,7 +118,9 @@ impl<D: ErrorDescriber> CaseMaker<'_, D> {
     /// - `NotLoadedOutput` exactly where it did not, and its output is stored and was not loaded.
     /// - `OutOfMemory` if memory runs out.
     fn rerun_of(&self, status: &ExecuteStatus<LiveSpec>) -> Result<JunitRerun, JunitError>
-        ensures { Judges result (rerun_of self.now.unit.now (D.text_of self.now.describer.now) self.now.storing.failure status.now) }
+        ensures { Judges result
+            (rerun_of self.now.unit.now (D.text_of self.now.describer.now) self.now.storing.failure
+            status.now) }
     {
         let failure = self.failure_of(&status.result, &status.output)?;
         match stored_output(self.alloc, self.storing.failure, &status.output) {
@@ -137,7 +141,9 @@ impl<D: ErrorDescriber> CaseMaker<'_, D> {
         &self,
         statuses: &[ExecuteStatus<LiveSpec>],
     ) -> Result<Items<JunitRerun>, JunitError>
-        ensures { Judges result (reruns_of self.now.unit.now (D.text_of self.now.describer.now) self.now.storing.failure statuses.now) }
+        ensures { Judges result
+            (reruns_of self.now.unit.now (D.text_of self.now.describer.now) self.now.storing.failure
+            statuses.now) }
     {
         let mut reruns = Vec::new(self.alloc);
         for status in statuses {

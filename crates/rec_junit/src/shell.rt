@@ -92,7 +92,8 @@ fn put_quoted(line: &mut String, word: &str) -> Result<(), AllocError>
 
 /// Adds the characters of a word that stands between quotes.
 fn put_characters(line: &mut String, word: &str) -> Result<(), AllocError>
-    ensures { OnOk result (string_bytes line.new ≡ string_bytes line.old ++ flat_map within_quotes (chars word.now)) }
+    ensures { OnOk result
+        (string_bytes line.new ≡ string_bytes line.old ++ flat_map within_quotes (chars word.now)) }
 {
     for character in word.chars() {
         put_within_quotes(line, character)?;
@@ -102,7 +103,8 @@ fn put_characters(line: &mut String, word: &str) -> Result<(), AllocError>
 
 /// Adds a character of a word that stands between quotes.
 fn put_within_quotes(line: &mut String, character: char) -> Result<(), AllocError>
-    ensures { OnOk result (string_bytes line.new ≡ string_bytes line.old ++ within_quotes character) }
+    ensures { OnOk result
+        (string_bytes line.new ≡ string_bytes line.old ++ within_quotes character) }
 {
     if character == '\'' {
         line.push_str("'\\''")

@@ -82,7 +82,9 @@ fn add_suite(
 ) -> Result<(), AllocError>
     requires new { list_any (same_key addition.key) keys.old.keys ≡ false }
     ensures key { OnOk result (keys.new.keys ≡ keys.old.keys ++ (addition.key ∷ [])) }
-    ensures suite { OnOk result (suites.new.items ≡ suites.old.items ++ (new_suite addition.key addition.case addition.properties ∷ [])) }
+    ensures suite { OnOk result
+        (suites.new.items
+        ≡ suites.old.items ++ (new_suite addition.key addition.case addition.properties ∷ [])) }
     ensures no_key { OnErr result (keys.new.keys ≡ keys.old.keys) }
     ensures no_suite { OnErr result (suites.new.items ≡ suites.old.items) }
 {
@@ -165,7 +167,11 @@ fn add_more(
     addition: Addition,
 ) -> Result<(), AllocError>
     requires { place < length suites.old.items }
-    ensures added { (d : _) → OnOk result (suites.new.items ≡ slice_set suites.old.items place (with_more addition.case addition.properties (slice_index_or suites.old.items place d))) }
+    ensures added { (d : _)
+        → OnOk result
+        (suites.new.items
+        ≡ slice_set suites.old.items place
+        (with_more addition.case addition.properties (slice_index_or suites.old.items place d))) }
     ensures unchanged { OnErr result (suites.new.items ≡ suites.old.items) }
     ensures count { length suites.new.items ≡ length suites.old.items }
 {

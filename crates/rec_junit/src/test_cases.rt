@@ -52,7 +52,9 @@ impl<D: ErrorDescriber> CaseMaker<'_, D> {
         fail_status: JunitFlakyFailStatus,
         attempts: &ExecutionDescription<'_, LiveSpec>,
     ) -> Result<JunitCase, JunitError>
-        ensures { Judges result (test_case self.now.unit.now (D.text_of self.now.describer.now) self.now.storing test.now flaky_result fail_status (attempts_in attempts.now)) }
+        ensures { Judges result
+            (test_case self.now.unit.now (D.text_of self.now.describer.now) self.now.storing
+            test.now flaky_result fail_status (attempts_in attempts.now)) }
     {
         let main = main_of(attempts);
         let judged = self.judged_test(flaky_result, fail_status, attempts)?;
@@ -73,7 +75,9 @@ impl<D: ErrorDescriber> CaseMaker<'_, D> {
         fail_status: JunitFlakyFailStatus,
         attempts: &ExecutionDescription<'_, LiveSpec>,
     ) -> Result<(JunitStatus, StoredOutput), JunitError>
-        ensures { Judges result (judged_test self.now.unit.now (D.text_of self.now.describer.now) self.now.storing flaky_result fail_status (attempts_in attempts.now)) }
+        ensures { Judges result
+            (judged_test self.now.unit.now (D.text_of self.now.describer.now) self.now.storing
+            flaky_result fail_status (attempts_in attempts.now)) }
     {
         let status = self.test_status(flaky_result, fail_status, attempts)?;
         let is_stored = self.storing.holds(has_failed(attempts));
@@ -87,7 +91,9 @@ impl<D: ErrorDescriber> CaseMaker<'_, D> {
         fail_status: JunitFlakyFailStatus,
         attempts: &ExecutionDescription<'_, LiveSpec>,
     ) -> Result<JunitStatus, JunitError>
-        ensures { Judges result (test_status self.now.unit.now (D.text_of self.now.describer.now) self.now.storing.failure flaky_result fail_status (attempts_in attempts.now)) }
+        ensures { Judges result
+            (test_status self.now.unit.now (D.text_of self.now.describer.now)
+            self.now.storing.failure flaky_result fail_status (attempts_in attempts.now)) }
     {
         match attempts {
             ExecutionDescription::Success { .. } => Ok(JunitStatus::Success {
@@ -117,7 +123,10 @@ impl<D: ErrorDescriber> CaseMaker<'_, D> {
         last: &ExecuteStatus<LiveSpec>,
         reruns: Items<JunitRerun>,
     ) -> Result<JunitStatus, JunitError>
-        ensures { Judges result (Ok (flaky_status flaky_result fail_status last.now (D.text_of self.now.describer.now last.now.output) reruns)) }
+        ensures { Judges result
+            (Ok
+            (flaky_status flaky_result fail_status last.now
+            (D.text_of self.now.describer.now last.now.output) reruns)) }
     {
         if flaky_result == FlakyResult::Pass || fail_status == JunitFlakyFailStatus::Success {
             return Ok(JunitStatus::Success { reruns });
@@ -131,7 +140,10 @@ impl<D: ErrorDescriber> CaseMaker<'_, D> {
         last: &ExecuteStatus<LiveSpec>,
         reruns: Items<JunitRerun>,
     ) -> Result<JunitStatus, JunitError>
-        ensures { Judges result (Ok (flaky_status flaky.Fail reported.Failure last.now (D.text_of self.now.describer.now last.now.output) reruns)) }
+        ensures { Judges result
+            (Ok
+            (flaky_status flaky.Fail reported.Failure last.now
+            (D.text_of self.now.describer.now last.now.output) reruns)) }
     {
         let Ok(type_text) = Text::from_str(self.alloc, "flaky failure") else {
             drop(reruns);
@@ -157,7 +169,9 @@ impl<D: ErrorDescriber> CaseMaker<'_, D> {
         last: &ExecuteStatus<LiveSpec>,
     ) -> Result<(Option<Text>, Option<Text>), AllocError>
         ensures { IfOk result (λ words. words ≡ (
-          said_after (flaky_text flaky.Fail last.now.retry_data.attempt last.now.retry_data.total_attempts) (D.text_of self.now.describer.now last.now.output),
+          said_after
+              (flaky_text flaky.Fail last.now.retry_data.attempt last.now.retry_data.total_attempts)
+              (D.text_of self.now.describer.now last.now.output),
           description_of (D.text_of self.now.describer.now last.now.output),
         )) }
     {
@@ -172,7 +186,12 @@ impl<D: ErrorDescriber> CaseMaker<'_, D> {
         &self,
         last: &ExecuteStatus<LiveSpec>,
     ) -> Result<(Option<Text>, Option<Text>), AllocError>
-        ensures { IfOk result (λ words. words ≡ (flaky_text flaky.Fail last.now.retry_data.attempt last.now.retry_data.total_attempts, None)) }
+        ensures { IfOk result
+            (λ words. words
+            ≡ (
+              flaky_text flaky.Fail last.now.retry_data.attempt last.now.retry_data.total_attempts,
+              None,
+            )) }
     {
         let retry = last.retry_data;
         let message = FlakyResult::Fail.fail_message(
@@ -192,7 +211,9 @@ impl<D: ErrorDescriber> CaseMaker<'_, D> {
         first: &ExecuteStatus<LiveSpec>,
         retries: &[ExecuteStatus<LiveSpec>],
     ) -> Result<JunitStatus, JunitError>
-        ensures { Judges result (failed_test self.now.unit.now (D.text_of self.now.describer.now) self.now.storing.failure first.now retries.now) }
+        ensures { Judges result
+            (failed_test self.now.unit.now (D.text_of self.now.describer.now)
+            self.now.storing.failure first.now retries.now) }
     {
         let failure = self.failure_of(&first.result, &first.output)?;
         match self.reruns_of(retries) {
@@ -214,7 +235,8 @@ pub(crate) fn case_of(
     time_taken: &Duration,
     judged: (JunitStatus, StoredOutput),
 ) -> Result<JunitCase, JunitError>
-    ensures { Judges result (Ok (case_of name.now classname.now start_time.now time_taken.now judged)) }
+    ensures { Judges result
+        (Ok (case_of name.now classname.now start_time.now time_taken.now judged)) }
 {
     let Ok((name, classname)) = two_texts(alloc, name, classname) else {
         drop(judged);

@@ -232,7 +232,8 @@ struct Talkative;
 impl ErrorDescriber for Talkative {
     ghost use Rattle.std.specs.Prelude.{Some, codes};
 
-    ghost text_of = { λ _ _. Some (record { message = codes "message"; description = codes "description" }) };
+    ghost text_of = { λ _ _. Some
+        (record { message = codes "message"; description = codes "description" }) };
 
     fn describe(
         &self,

@@ -23,7 +23,8 @@ const SESSION_LIMIT: u64 = 1_000_000_000;
 ///
 /// Those of [`read_within`], with a limit of 1,000,000,000 bytes.
 pub fn read_session<S: Source>(alloc: Global, source: &mut S) -> Result<Vec<u8>, RecordingError>
-    ensures { IfOk result (λ bytes. Gave S.left S.faults 1000000000 source.old source.new bytes.items) }
+    ensures { IfOk result
+        (λ bytes. Gave S.left S.faults 1000000000 source.old source.new bytes.items) }
 {
     Ok(read_within(alloc, SESSION_LIMIT, source)?)
 }

@@ -28,7 +28,14 @@ impl<'a> Model for FailingSource<'a> {
 
     ghost Value = { FailingSourceState };
 
-    ghost view = { λ s. record { rest = s.rest.now; faults = s.faults; piece = s.piece; calls = s.calls; fail_at = s.fail_at.now } };
+    ghost view = { λ s.
+        record {
+          rest = s.rest.now;
+          faults = s.faults;
+          piece = s.piece;
+          calls = s.calls;
+          fail_at = s.fail_at.now;
+        } };
 }
 
 impl<'a> FailingSource<'a> {
@@ -70,7 +77,8 @@ impl Source for FailingSource<'_> {
 
         // The call's number, what it gives, and when it fails.
         ensures numbered { self.new.calls ≡ next_count self.old.calls }
-        ensures whole { IfOk result (λ n. n ≡ piece_len (min (length buf.old) (length self.old.rest)) self.old.piece) }
+        ensures whole { IfOk result
+            (λ n. n ≡ piece_len (min (length buf.old) (length self.old.rest)) self.old.piece) }
         ensures unlisted { OnOk result (Contains self.old.fail_at self.new.calls → ⊥) }
         ensures failed { OnErr result (Contains self.old.fail_at self.new.calls) }
         ensures counted { Counts self.old.faults self.new.faults result }
@@ -106,7 +114,16 @@ impl Model for FailingSink {
 
     ghost Value = { FailingSinkState };
 
-    ghost view = { λ s. record { bytes = s.bytes.items; faults = s.faults; room = vec_capacity s.bytes - vec_len s.bytes; piece = s.piece; calls = s.calls; fail_at = s.fail_at.items } };
+    ghost view = { λ s.
+        record {
+          bytes = s.bytes.items;
+          faults = s.faults;
+          room = vec_capacity s.bytes
+              - vec_len s.bytes;
+          piece = s.piece;
+          calls = s.calls;
+          fail_at = s.fail_at.items;
+        } };
 }
 
 impl FailingSink {
@@ -179,9 +196,12 @@ impl Sink for FailingSink {
         ensures whole { IfOk result (λ n. n ≡ piece_len (length piece.now) self.old.piece) }
         ensures unlisted { OnOk result (Contains self.old.fail_at self.new.calls → ⊥) }
         ensures within { OnOk result (piece_len (length piece.now) self.old.piece ≤ self.old.room) }
-        ensures failed { OnErr result (Contains self.old.fail_at self.new.calls ⊎ (self.old.room < piece_len (length piece.now) self.old.piece)) }
+        ensures failed { OnErr result
+            (Contains self.old.fail_at self.new.calls
+            ⊎ (self.old.room < piece_len (length piece.now) self.old.piece)) }
         ensures counted { Counts self.old.faults self.new.faults result }
-        ensures spent { OnOk result (self.old.room ≤ self.new.room + piece_len (length piece.now) self.old.piece) }
+        ensures spent { OnOk result
+            (self.old.room ≤ self.new.room + piece_len (length piece.now) self.old.piece) }
         ensures kept { OnErr result (self.new.room ≡ self.old.room) }
         ensures rules { (self.new.piece ≡ self.old.piece) × (self.new.fail_at ≡ self.old.fail_at) }
     {

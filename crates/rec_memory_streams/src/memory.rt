@@ -65,7 +65,13 @@ impl Model for MemorySink {
 
     ghost Value = { SinkState };
 
-    ghost view = { λ s. record { bytes = s.bytes.items; faults = s.faults; room = vec_capacity s.bytes - vec_len s.bytes } };
+    ghost view = { λ s.
+        record {
+          bytes = s.bytes.items;
+          faults = s.faults;
+          room = vec_capacity s.bytes
+              - vec_len s.bytes;
+        } };
 }
 
 impl MemorySink {

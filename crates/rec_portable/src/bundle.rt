@@ -23,7 +23,9 @@ pub fn bundle_text(
     log: &[u8],
     store: &[u8],
 ) -> Result<Vec<u8>, AllocError>
-    ensures { IfOk result (λ text. text.items ≡ spell (bundle_entries (compact_text (manifest_value manifest.now)) log.now store.now)) }
+    ensures { IfOk result
+        (λ text. text.items
+        ≡ spell (bundle_entries (compact_text (manifest_value manifest.now)) log.now store.now)) }
 {
     let manifest = write_text(alloc, manifest)?;
     // What is no u64 fits no memory.

@@ -29,7 +29,8 @@ pub(crate) fn extract(
 ) -> Result<ExtractOuterFileResult, PortableRecordingReadError>
     requires { (es : List Entry) × IsContainer bytes.now es }
     ensures answer { (es : List Entry) → IsContainer bytes.now es
-        → ExtractsOuter (taken out.old) (taken out.new) limit check_limit file_name.now (content_of es file_name.now) result }
+        → ExtractsOuter (taken out.old) (taken out.new) limit check_limit file_name.now
+        (content_of es file_name.now) result }
     ensures sink { OuterCause (faults out.old) (faults out.new) result }
 {
     let entries = entries_of(alloc, bytes)?;
@@ -57,7 +58,8 @@ fn write_entry(
     out: &mut dyn Sink,
     check_limit: bool,
 ) -> Result<ExtractOuterFileResult, PortableRecordingReadError>
-    ensures answer { ExtractsOuter (taken out.old) (taken out.new) limit check_limit name (option_map (λ b. b.now) found.entry) result }
+    ensures answer { ExtractsOuter (taken out.old) (taken out.new) limit check_limit name
+        (option_map (λ b. b.now) found.entry) result }
     ensures sink { OuterCause (faults out.old) (faults out.new) result }
 {
     let Some(content) = found else {

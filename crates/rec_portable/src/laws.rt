@@ -25,30 +25,51 @@ use rec_store::laws::{judged_parts_are_read, one_record, recordings_are_written,
 /// States that bytes are judged in one way: they are a container, and have one manifest or one first
 /// refusal; or they are none, and have one first fault.
 pub fn one_judgement()
-    ensures entries { (bytes : List ℕ) (limit : ℕ) (r s : Result PortableManifest PortableRecordingReadError) → IsJudged bytes limit r → IsJudged bytes limit s → r ≡ s }
-    ensures fault { (bytes : List ℕ) (e f : PortableRecordingReadError) → IsNoContainer bytes e → IsNoContainer bytes f → e ≡ f }
-    ensures either { (bytes : List ℕ) (limit : ℕ) (r : Result PortableManifest PortableRecordingReadError) (e : PortableRecordingReadError) → IsJudged bytes limit r → IsNoContainer bytes e → ⊥ }
+    ensures entries { (bytes : List ℕ) (limit : ℕ)
+        (r s : Result PortableManifest PortableRecordingReadError)
+        → IsJudged bytes limit r
+        → IsJudged bytes limit s
+        → r ≡ s }
+    ensures fault { (bytes : List ℕ) (e f : PortableRecordingReadError)
+        → IsNoContainer bytes e
+        → IsNoContainer bytes f
+        → e ≡ f }
+    ensures either { (bytes : List ℕ) (limit : ℕ)
+        (r : Result PortableManifest PortableRecordingReadError) (e : PortableRecordingReadError)
+        → IsJudged bytes limit r
+        → IsNoContainer bytes e
+        → ⊥ }
 {}
 
 /// States that the parts of a bundle with a reading are the components of this reading, where manifest,
 /// log and entries of the store are no longer than the limit: version, run information, events, metadata
 /// and outputs. Only a version that isn't read may still refuse the manifest.
 pub fn parts_are_components()
-    ensures { (bytes : List ℕ) (limit : ℕ) (r : RunRecord) (reads : IsReading bytes r) → length reads.manifest ≤ limit → length reads.log ≤ limit
+    ensures { (bytes : List ℕ) (limit : ℕ) (r : RunRecord) (reads : IsReading bytes r)
+        → length reads.manifest ≤ limit
+        → length reads.log ≤ limit
         → AreWithin reads.entries limit → AreComponents bytes limit r }
 {}
 
 /// States that a bundle with a reading is accepted, where its versions are read and nothing that is read
 /// or to be written is too long, and that nothing of it is refused.
 pub fn readable_bundles_are_upgraded()
-    ensures accepted { (bytes : List ℕ) (limit : ℕ) (run : RunRecord) (u : IsUpgradable bytes limit run) → IsAccepted bytes limit u.parts }
-    ensures refused { (bytes : List ℕ) (limit : ℕ) (run : RunRecord) (e : UpgradeError) → IsUpgradable bytes limit run → IsRefused bytes limit e → e ≡ OutOfMemory }
+    ensures accepted { (bytes : List ℕ) (limit : ℕ) (run : RunRecord)
+        (u : IsUpgradable bytes limit run)
+        → IsAccepted bytes limit u.parts }
+    ensures refused { (bytes : List ℕ) (limit : ℕ) (run : RunRecord) (e : UpgradeError)
+        → IsUpgradable bytes limit run
+        → IsRefused bytes limit e
+        → e ≡ OutOfMemory }
 {}
 
 /// States that what is accepted is read, and that what is written of it, where its length is a u64, is
 /// read as the same but for the versions and the sizes.
 pub fn accepted_bundles_are_read()
-    ensures { (bytes : List ℕ) (limit : ℕ) (p : RunParts) → IsAccepted bytes limit p → length (written p) < 2 ^ 64 → IsReadAndBack bytes p }
+    ensures { (bytes : List ℕ) (limit : ℕ) (p : RunParts)
+        → IsAccepted bytes limit p
+        → length (written p) < 2 ^ 64
+        → IsReadAndBack bytes p }
 {
     judged_parts_are_read();
     written_reads();
@@ -56,7 +77,11 @@ pub fn accepted_bundles_are_read()
 
 /// States that upgrading what was written of a bundle writes the same bytes again.
 pub fn upgraded_again()
-    ensures { (bytes : List ℕ) (p q : RunParts) → HasParts bytes p → length (written p) < 2 ^ 64 → HasParts (written p) q → written q ≡ written p }
+    ensures { (bytes : List ℕ) (p q : RunParts)
+        → HasParts bytes p
+        → length (written p) < 2 ^ 64
+        → HasParts (written p) q
+        → written q ≡ written p }
 {
     written_reads();
 }
@@ -65,9 +90,15 @@ pub fn upgraded_again()
 /// well-formed, each event is well-formed with loaded outputs, the lengths of outputs and their numbers are
 /// u64s, no two outputs of one path differ, and the bundle's length is a u64.
 pub fn recorded_stay()
-    ensures { (number : List ℕ → ℕ) (m : ℕ) (head : SessionHead) (events : List LiveEvent) → IsHead head → AllByRecursion IsRecordable events → ((bytes : List ℕ) → number bytes < 2 ^ 64)
-        → clash [] (run_outputs number m events) ≡ None → length (run_bundle number m head events) < 2 ^ 64
-        → (q : RunParts) → HasParts (run_bundle number m head events) q → written q ≡ run_bundle number m head events }
+    ensures { (number : List ℕ → ℕ) (m : ℕ) (head : SessionHead) (events : List LiveEvent)
+        → IsHead head
+        → AllByRecursion IsRecordable events
+        → ((bytes : List ℕ) → number bytes < 2 ^ 64)
+        → clash [] (run_outputs number m events) ≡ None
+        → length (run_bundle number m head events) < 2 ^ 64
+        → (q : RunParts)
+        → HasParts (run_bundle number m head events) q
+        → written q ≡ run_bundle number m head events }
 {
     one_record();
     recordings_are_written();

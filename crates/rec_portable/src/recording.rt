@@ -38,7 +38,8 @@ impl Model for PortableRecording {
 
     ghost Value = { Opening };
 
-    ghost view = { λ r. record { path = string_bytes r.path; bytes = r.bytes.items; limit = r.limit } };
+    ghost view = { λ r.
+        record { path = string_bytes r.path; bytes = r.bytes.items; limit = r.limit } };
 
     ghost invariant = { λ r. IsOpen r.bytes.items r.limit r.parts };
 }
@@ -86,8 +87,11 @@ impl PortableRecording {
         spool_limit: u64,
         read_limit: u64,
     ) -> Result<PortableRecording, PortableRecordingReadError>
-        ensures ok { IfOk result (Opens S.left S.faults (string_bytes path) spool_limit read_limit source.old source.new) }
-        ensures err { IfErr result (Unopened S.left S.faults spool_limit read_limit source.old source.new) }
+        ensures ok { IfOk result
+            (Opens S.left S.faults (string_bytes path) spool_limit read_limit source.old
+            source.new) }
+        ensures err { IfErr result
+            (Unopened S.left S.faults spool_limit read_limit source.old source.new) }
     {
         let bytes = read_within(alloc, spool_limit, source)?;
         let parts = BundleParts::read(alloc, &bytes, read_limit)?;
@@ -110,7 +114,9 @@ impl PortableRecording {
     pub fn manifest(&self) -> &PortableManifest
         ensures judged { IsJudged self.now.bytes self.now.limit (Ok result.now) }
         // No other manifest is read from these bytes.
-        ensures only { (manifest : PortableManifest) → IsJudged self.now.bytes self.now.limit (Ok manifest) → result.now ≡ manifest }
+        ensures only { (manifest : PortableManifest)
+            → IsJudged self.now.bytes self.now.limit (Ok manifest)
+            → result.now ≡ manifest }
     {
         &self.parts.manifest
     }
@@ -124,7 +130,9 @@ impl PortableRecording {
 
     /// Lends the entries of the bundle.
     pub(crate) fn outer_entries(&self, alloc: Global) -> Result<Container<'_>, AllocError>
-        ensures { (es : List Entry) → IsContainer self.now.bytes es → IfOk result (λ c. c.entries ≡ es) }
+        ensures { (es : List Entry)
+            → IsContainer self.now.bytes es
+            → IfOk result (λ c. c.entries ≡ es) }
     {
         entries_of(alloc, &self.bytes)
     }
@@ -135,7 +143,9 @@ impl PortableRecording {
     ///
     /// `AllocError` where memory is short.
     pub fn run_info(&self, alloc: Global) -> Result<RecordedRunInfo, AllocError>
-        ensures { (manifest : PortableManifest) → IsJudged self.now.bytes self.now.limit (Ok manifest) → IfOk result (λ info. info ≡ info_of manifest.run) }
+        ensures { (manifest : PortableManifest)
+            → IsJudged self.now.bytes self.now.limit (Ok manifest)
+            → IfOk result (λ info. info ≡ info_of manifest.run) }
     {
         self.parts.manifest.run_info(alloc)
     }
@@ -151,7 +161,9 @@ impl PortableRecording {
         &self,
         alloc: Global,
     ) -> Result<PortableRecordingRunLog<'_>, PortableRecordingReadError>
-        ensures { (es : List Entry) → IsContainer self.now.bytes es → Reads (log_part self.now.limit es) result }
+        ensures { (es : List Entry)
+            → IsContainer self.now.bytes es
+            → Reads (log_part self.now.limit es) result }
     {
         let found = part_of(&self.bytes, self.parts.log);
         PortableRecordingRunLog::within(alloc, self.limit, found)
@@ -160,7 +172,9 @@ impl PortableRecording {
     /// Lends the bytes of the log, whatever their length. It takes no memory. `None` comes exactly where
     /// the bundle has no entry `run.log.zst`.
     pub fn log_window(&self) -> Option<&[u8]>
-        ensures { (es : List Entry) → IsContainer self.now.bytes es → option_map (λ b. b.now) result ≡ content_of es log_name }
+        ensures { (es : List Entry)
+            → IsContainer self.now.bytes es
+            → option_map (λ b. b.now) result ≡ content_of es log_name }
     {
         part_of(&self.bytes, self.parts.log)
     }
@@ -168,7 +182,9 @@ impl PortableRecording {
     /// Lends the bytes of the store. It takes no memory. `None` comes exactly where the bundle has no
     /// entry `store.zip`.
     pub fn store_window(&self) -> Option<&[u8]>
-        ensures { (es : List Entry) → IsContainer self.now.bytes es → option_map (λ b. b.now) result ≡ content_of es store_name }
+        ensures { (es : List Entry)
+            → IsContainer self.now.bytes es
+            → option_map (λ b. b.now) result ≡ content_of es store_name }
     {
         part_of(&self.bytes, self.parts.store)
     }
@@ -185,7 +201,9 @@ impl PortableRecording {
         &self,
         alloc: Global,
     ) -> Result<PortableStoreReader<'_>, PortableRecordingReadError>
-        ensures { (es : List Entry) → IsContainer self.now.bytes es → OpensStore self.now.limit (content_of es store_name) result }
+        ensures { (es : List Entry)
+            → IsContainer self.now.bytes es
+            → OpensStore self.now.limit (content_of es store_name) result }
     {
         let found = part_of(&self.bytes, self.parts.store);
         PortableStoreReader::open(alloc, self.limit, found)
@@ -206,7 +224,8 @@ impl PortableRecording {
         check_limit: bool,
     ) -> Result<ExtractOuterFileResult, PortableRecordingReadError>
         ensures answer { (es : List Entry) → IsContainer self.now.bytes es
-            → ExtractsOuter (taken out.old) (taken out.new) self.now.limit check_limit file_name.now (content_of es file_name.now) result }
+            → ExtractsOuter (taken out.old) (taken out.new) self.now.limit check_limit file_name.now
+            (content_of es file_name.now) result }
         ensures sink { OuterCause (faults out.old) (faults out.new) result }
     {
         extract(alloc, &self.bytes, self.limit, file_name, out, check_limit)
@@ -221,13 +240,17 @@ impl PortableRecording {
 
 impl RunFilesExist for PortableRecording {
     fn store_zip_exists(&self) -> bool
-        ensures { (es : List Entry) → IsContainer self.now.bytes es → result ≡ is_some (content_of es store_name) }
+        ensures { (es : List Entry)
+            → IsContainer self.now.bytes es
+            → result ≡ is_some (content_of es store_name) }
     {
         self.parts.store.is_some()
     }
 
     fn run_log_exists(&self) -> bool
-        ensures { (es : List Entry) → IsContainer self.now.bytes es → result ≡ is_some (content_of es log_name) }
+        ensures { (es : List Entry)
+            → IsContainer self.now.bytes es
+            → result ≡ is_some (content_of es log_name) }
     {
         self.parts.log.is_some()
     }

@@ -71,8 +71,12 @@ pub fn upgrade<S: Source, B: Sink>(
     read_limit: u64,
     bundle: &mut B,
 ) -> Result<Upgraded, UpgradeError>
-    ensures ok { IfOk result (Upgrades S.left S.faults B.taken B.faults spool_limit read_limit source.old source.new bundle.old bundle.new) }
-    ensures err { IfErr result (NotUpgraded S.left S.faults B.taken B.faults spool_limit read_limit source.old source.new bundle.old bundle.new) }
+    ensures ok { IfOk result
+        (Upgrades S.left S.faults B.taken B.faults spool_limit read_limit source.old source.new
+        bundle.old bundle.new) }
+    ensures err { IfErr result
+        (NotUpgraded S.left S.faults B.taken B.faults spool_limit read_limit source.old source.new
+        bundle.old bundle.new) }
 
     // A bundle with a reading is upgraded, unless memory runs out or an object fails.
     ensures complete { (bytes : List ℕ) (run : RunRecord)
@@ -94,8 +98,12 @@ fn upgrade_from<S: Source, B: Sink>(
     read_limit: u64,
     bundle: &mut B,
 ) -> Result<Upgraded, UpgradeError>
-    ensures ok { IfOk result (Upgrades S.left S.faults B.taken B.faults spool_limit read_limit source.old source.new bundle.old bundle.new) }
-    ensures err { IfErr result (NotUpgraded S.left S.faults B.taken B.faults spool_limit read_limit source.old source.new bundle.old bundle.new) }
+    ensures ok { IfOk result
+        (Upgrades S.left S.faults B.taken B.faults spool_limit read_limit source.old source.new
+        bundle.old bundle.new) }
+    ensures err { IfErr result
+        (NotUpgraded S.left S.faults B.taken B.faults spool_limit read_limit source.old source.new
+        bundle.old bundle.new) }
 {
     // Where the bundle is from is said nowhere.
     let path = String::new(alloc);
@@ -115,10 +123,15 @@ fn upgrade_from<S: Source, B: Sink>(
 /// Writes a bundle that was written anew. It takes no memory, and copies nothing.
 fn deliver<B: Sink>(rewritten: &Rewritten, bundle: &mut B) -> Result<(), UpgradeError>
     ensures ok { OnOk result (Appends (B.taken bundle.old) (B.taken bundle.new)
-        (spell (bundle_entries rewritten.now.manifest.items rewritten.now.log.items rewritten.now.store.items))) }
-    ensures err { IfErr result (λ e. (e ≡ BundleFault) × Rose (B.faults bundle.old) (B.faults bundle.new)
+        (spell
+        (bundle_entries rewritten.now.manifest.items rewritten.now.log.items
+        rewritten.now.store.items))) }
+    ensures err { IfErr result
+        (λ e. (e ≡ BundleFault) × Rose (B.faults bundle.old) (B.faults bundle.new)
         × TookPart (B.taken bundle.old) (B.taken bundle.new)
-        (spell (bundle_entries rewritten.now.manifest.items rewritten.now.log.items rewritten.now.store.items))) }
+        (spell
+        (bundle_entries rewritten.now.manifest.items rewritten.now.log.items
+        rewritten.now.store.items))) }
 {
     let (manifest, log, store) = (&rewritten.manifest, &rewritten.log, &rewritten.store);
     if write_bundle(bundle, manifest, log, store).is_err() {

@@ -43,8 +43,11 @@ pub(crate) fn rewrite(
     alloc: Global,
     recording: &PortableRecording,
 ) -> Result<Rewritten, UpgradeError>
-    ensures ok { IfOk result (λ r. (p : RunParts) × IsAccepted recording.now.bytes recording.now.limit p × IsRewritten p r) }
-    ensures err { IfErr result (λ e. (e ≡ OutOfMemory) ⊎ IsRefused recording.now.bytes recording.now.limit e) }
+    ensures ok { IfOk result
+        (λ r. (p : RunParts) × IsAccepted recording.now.bytes recording.now.limit p
+        × IsRewritten p r) }
+    ensures err { IfErr result
+        (λ e. (e ≡ OutOfMemory) ⊎ IsRefused recording.now.bytes recording.now.limit e) }
 {
     let manifest = recording.manifest();
     let log = recording.read_run_log(alloc)?;
@@ -60,7 +63,9 @@ pub(crate) fn rewrite(
 
 /// Judges the names of the entries of a bundle that is open.
 fn judge_outer(alloc: Global, recording: &PortableRecording) -> Result<(), UpgradeError>
-    ensures { (es : List Entry) → IsContainer recording.now.bytes es → Judges (names_judged es) result }
+    ensures { (es : List Entry)
+        → IsContainer recording.now.bytes es
+        → Judges (names_judged es) result }
 {
     let outer = recording.outer_entries(alloc)?;
     let judged = judge_names(alloc, &outer);
@@ -77,8 +82,12 @@ fn rewrite_run(
     entries: &Container<'_>,
 ) -> Result<Rewritten, UpgradeError>
     requires { AreFrom [] entries.now.entries }
-    ensures ok { IfOk result (λ r. (p : RunParts) × (run_judged limit manifest.now log.now entries.now.entries ≡ Ok p) × IsRewritten p r) }
-    ensures err { IfErr result (λ e. (e ≡ OutOfMemory) ⊎ (run_judged limit manifest.now log.now entries.now.entries ≡ Err e)) }
+    ensures ok { IfOk result
+        (λ r. (p : RunParts) × (run_judged limit manifest.now log.now entries.now.entries ≡ Ok p)
+        × IsRewritten p r) }
+    ensures err { IfErr result
+        (λ e. (e ≡ OutOfMemory)
+        ⊎ (run_judged limit manifest.now log.now entries.now.entries ≡ Err e)) }
 {
     let run = rewrite_parts(alloc, limit, log, entries)?;
     if let Err(refusal) = judge_store_names(alloc, &run.paths, entries) {
@@ -127,7 +136,9 @@ fn write_anew(
     contents: &[NamedContent<'_>],
 ) -> Result<Rewritten, UpgradeError>
     requires names { AllByRecursion (λ c. length c.name.now < 65536) contents.now }
-    ensures ok { (p : RunParts) → IsMadeOf p manifest.now texts (map entry_of contents.now) → IfOk result (λ r. (written_refusal limit p ≡ None) × IsRewritten p r) }
+    ensures ok { (p : RunParts)
+        → IsMadeOf p manifest.now texts (map entry_of contents.now)
+        → IfOk result (λ r. (written_refusal limit p ≡ None) × IsRewritten p r) }
     ensures err { (p : RunParts) → IsMadeOf p manifest.now texts (map entry_of contents.now)
         → IfErr result (λ e. (e ≡ OutOfMemory) ⊎ (written_refusal limit p ≡ Some e)) }
 {

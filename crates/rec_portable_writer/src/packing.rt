@@ -35,7 +35,9 @@ pub(crate) fn write_bundle<D: Disk>(
     run_dir: &str,
     output_path: &str,
 ) -> Result<PortableRecordingResult, PortableRecordingError>
-    ensures packs { BothKnown (D.files disk.old) (D.files disk.new) (λ fs gs. PacksIn fs gs (D.faults disk.old) (D.faults disk.new) run_info.now run_dir.now output_path.now result) }
+    ensures packs { BothKnown (D.files disk.old) (D.files disk.new)
+        (λ fs gs. PacksIn fs gs (D.faults disk.old) (D.faults disk.new) run_info.now run_dir.now
+        output_path.now result) }
     ensures later { D.faults disk.old ≤ D.faults disk.new }
 {
     let bundle = make_bundle(alloc, disk, run_info, run_dir)?;
@@ -67,8 +69,10 @@ fn make_bundle<D: Disk>(
     run_info: &RecordedRunInfo,
     run_dir: &str,
 ) -> Result<Vec<u8>, PortableRecordingError>
-    ensures ok { IfOk result (λ bundle. Bundles (D.files disk.old) run_info.now run_dir.now bundle.items) }
-    ensures err { IfErr result (Unbundled (D.files disk.old) (D.faults disk.old) (D.faults disk.new) run_dir.now) }
+    ensures ok { IfOk result
+        (λ bundle. Bundles (D.files disk.old) run_info.now run_dir.now bundle.items) }
+    ensures err { IfErr result
+        (Unbundled (D.files disk.old) (D.faults disk.old) (D.faults disk.new) run_dir.now) }
     ensures same { D.files disk.new ≡ D.files disk.old }
     ensures later { D.faults disk.old ≤ D.faults disk.new }
 {

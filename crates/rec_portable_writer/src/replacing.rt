@@ -17,7 +17,8 @@ pub(crate) fn replace_file<D: Disk>(
     path: &str,
     bytes: &[u8],
 ) -> Result<(), DiskError>
-    ensures answer { Replaces (D.files disk.old) (D.files disk.new) temporary.now path.now bytes.now result }
+    ensures answer { Replaces (D.files disk.old) (D.files disk.new) temporary.now path.now bytes.now
+        result }
     ensures cause { HasDiskCause (D.faults disk.old) (D.faults disk.new) result }
 {
     write_file(disk, temporary, bytes)?;

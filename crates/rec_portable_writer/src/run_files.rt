@@ -104,8 +104,10 @@ pub(crate) fn read_run_file<D: Disk>(
     run_dir: &str,
     name: &str,
 ) -> Result<Vec<u8>, PortableRecordingError>
-    ensures ok { IfOk result (λ bytes. IsWhole (D.files disk.old) (joined run_dir.now name.now) bytes.items) }
-    ensures err { IfErr result (Unread (D.files disk.old) (D.faults disk.old) (D.faults disk.new) run_dir.now name.now) }
+    ensures ok { IfOk result
+        (λ bytes. IsWhole (D.files disk.old) (joined run_dir.now name.now) bytes.items) }
+    ensures err { IfErr result
+        (Unread (D.files disk.old) (D.faults disk.old) (D.faults disk.new) run_dir.now name.now) }
     ensures same { D.files disk.new ≡ D.files disk.old }
     ensures later { D.faults disk.old ≤ D.faults disk.new }
 {

@@ -29,7 +29,8 @@ impl<'a, D: Disk> Model for PortableRecordingWriter<'a, D> {
 
     ghost Value = { Packing D };
 
-    ghost view = { λ w. record { disk = w.disk; run_info = w.run_info.now; run_dir = string_bytes w.run_dir } };
+    ghost view = { λ w.
+        record { disk = w.disk; run_info = w.run_info.now; run_dir = string_bytes w.run_dir } };
 }
 
 impl<'a, D: Disk> PortableRecordingWriter<'a, D> {
@@ -47,8 +48,11 @@ impl<'a, D: Disk> PortableRecordingWriter<'a, D> {
         disk: &'a mut D,
         runs_dir: &str,
     ) -> Result<PortableRecordingWriter<'a, D>, PortableRecordingError>
-        ensures ok { IfOk result (Prepares D.files D.faults disk.entry run_info.now (run_path runs_dir.now run_info.now.run_id)) }
-        ensures err { IfErr result (Unprepared D.files D.faults disk.old (run_path runs_dir.now run_info.now.run_id)) }
+        ensures ok { IfOk result
+            (Prepares D.files D.faults disk.entry run_info.now
+            (run_path runs_dir.now run_info.now.run_id)) }
+        ensures err { IfErr result
+            (Unprepared D.files D.faults disk.old (run_path runs_dir.now run_info.now.run_id)) }
     {
         let run_dir = run_dir(alloc, runs_dir, run_info.run_id)?;
         check_run(alloc, disk, run_dir.as_str())?;
@@ -82,7 +86,8 @@ impl<'a, D: Disk> PortableRecordingWriter<'a, D> {
         alloc: Global,
         output_dir: &str,
     ) -> Result<PortableRecordingResult, PortableRecordingError>
-        ensures { PacksRun D.files D.faults self.old self.new (joined output_dir.now (bundle_name self.old.run_info.run_id)) result }
+        ensures { PacksRun D.files D.faults self.old self.new
+            (joined output_dir.now (bundle_name self.old.run_info.run_id)) result }
     {
         let name = self.default_filename(alloc)?;
         let path = join(alloc, output_dir, name.as_str())?;

@@ -81,7 +81,8 @@ pub fn run_program<S: Source, B: Sink, T: Sink, G: Sink>(
     out: &mut T,
     diag: &mut G,
 ) -> u8
-    ensures runs { Runs S.left S.faults B.taken B.faults T.taken T.faults G.taken G.faults sha256_number
+    ensures runs { Runs S.left S.faults B.taken B.faults T.taken T.faults G.taken G.faults
+        sha256_number
         (command (texts words.now)) result
         source.old source.new bundle.old bundle.new out.old out.new diag.old diag.new }
 
@@ -92,7 +93,8 @@ pub fn run_program<S: Source, B: Sink, T: Sink, G: Sink>(
     ensures recorded { (path : List ℕ) (settings : Settings)
         → command (texts words.now) ≡ Ok (recording path settings)
         → result ≡ 0
-        → (exported : Exported) × Exports S.left S.faults B.taken B.faults T.taken T.faults sha256_number settings
+        → (exported : Exported)
+        × Exports S.left S.faults B.taken B.faults T.taken T.faults sha256_number settings
         source.old source.new bundle.old bundle.new out.old out.new exported }
 
     // Status 2: the words are faulty.
@@ -131,10 +133,12 @@ pub fn run_program<S: Source, B: Sink, T: Sink, G: Sink>(
         × (log_part settings.read_limit es ≡ Ok log)
         × (log_refusal settings.group_by (log_lines log) ≡ None)
         × DrawsTimeline manifest.run.nextest_version settings.group_by (plain_log (log_lines log))
-        × Appends (T.taken out.old) (T.taken out.new) (bundle_trace settings.group_by settings.message_format manifest log) }
+        × Appends (T.taken out.old) (T.taken out.new)
+        (bundle_trace settings.group_by settings.message_format manifest log) }
 
     // Of a bundle that a recording wrote, `trace` prints the text that the recording printed, where both draw and write it alike.
-    ensures redrawn { (settings recorded : Settings) (number : List ℕ → ℕ) (session bytes trace : List ℕ)
+    ensures redrawn { (settings recorded : Settings) (number : List ℕ → ℕ)
+        (session bytes trace : List ℕ)
         → command (texts words.now) ≡ Ok (tracing settings)
         → AreOf number recorded session bytes trace
         → settings.group_by ≡ recorded.group_by
@@ -170,7 +174,8 @@ pub fn run_program<S: Source, B: Sink, T: Sink, G: Sink>(
     ensures slotted { (settings : Settings)
         → command (texts words.now) ≡ Ok (slotting settings)
         → result ≡ 0
-        → (bytes : List ℕ) × (es : List Entry) × (manifest : PortableManifest) × (log : List ℕ) × (report : SlotReport)
+        → (bytes : List ℕ) × (es : List Entry) × (manifest : PortableManifest) × (log : List ℕ)
+        × (report : SlotReport)
         × Gave S.left S.faults settings.session_limit source.old source.new bytes
         × IsContainer bytes es
         × (judged settings.read_limit es ≡ Ok manifest)
@@ -197,10 +202,12 @@ pub fn run_program<S: Source, B: Sink, T: Sink, G: Sink>(
         → command (texts words.now) ≡ Ok (sampling n path settings)
         → result ≡ 0
         → TakesSample B.taken sha256_number settings (sample_session n) bundle.old bundle.new
-        × Appends (T.taken out.old) (T.taken out.new) (session_counts sha256_number settings (sample_session n)) }
+        × Appends (T.taken out.old) (T.taken out.new)
+        (session_counts sha256_number settings (sample_session n)) }
 
     // The manifest of a bundle within the limits is printed, unless memory runs out or an object fails.
-    ensures informed_complete { (settings : Settings) (bytes : List ℕ) (es : List Entry) (manifest : PortableManifest)
+    ensures informed_complete { (settings : Settings) (bytes : List ℕ) (es : List Entry)
+        (manifest : PortableManifest)
         → command (texts words.now) ≡ Ok (informing settings)
         → S.left source.old ≡ Some bytes
         → length bytes ≤ settings.session_limit
@@ -211,7 +218,8 @@ pub fn run_program<S: Source, B: Sink, T: Sink, G: Sink>(
         → (result ≡ 0) ⊎ (result ≡ 70) }
 
     // So is the trace of a log within the limits that isn't refused.
-    ensures traced_complete { (settings : Settings) (bytes : List ℕ) (es : List Entry) (manifest : PortableManifest) (log : List ℕ)
+    ensures traced_complete { (settings : Settings) (bytes : List ℕ) (es : List Entry)
+        (manifest : PortableManifest) (log : List ℕ)
         → command (texts words.now) ≡ Ok (tracing settings)
         → S.left source.old ≡ Some bytes
         → length bytes ≤ settings.session_limit
@@ -224,7 +232,8 @@ pub fn run_program<S: Source, B: Sink, T: Sink, G: Sink>(
         → (result ≡ 0) ⊎ (result ≡ 70) }
 
     // So are the events, where none of them is refused, and so are the reports.
-    ensures replayed_complete { (output : LoadOutput) (settings : Settings) (bytes : List ℕ) (es : List Entry) (text : List ℕ)
+    ensures replayed_complete { (output : LoadOutput) (settings : Settings) (bytes : List ℕ)
+        (es : List Entry) (text : List ℕ)
         → command (texts words.now) ≡ Ok (replaying output settings)
         → S.left source.old ≡ Some bytes
         → length bytes ≤ settings.session_limit
@@ -233,7 +242,8 @@ pub fn run_program<S: Source, B: Sink, T: Sink, G: Sink>(
         → ¬ Rose (S.faults source.old) (S.faults source.new)
         → ¬ Rose (T.faults out.old) (T.faults out.new)
         → (result ≡ 0) ⊎ (result ≡ 70) }
-    ensures reported_complete { (settings : Settings) (bytes : List ℕ) (es : List Entry) (manifest : PortableManifest) (text : List ℕ)
+    ensures reported_complete { (settings : Settings) (bytes : List ℕ) (es : List Entry)
+        (manifest : PortableManifest) (text : List ℕ)
         → command (texts words.now) ≡ Ok (reporting settings)
         → S.left source.old ≡ Some bytes
         → length bytes ≤ settings.session_limit
@@ -245,7 +255,8 @@ pub fn run_program<S: Source, B: Sink, T: Sink, G: Sink>(
         → (result ≡ 0) ⊎ (result ≡ 70) }
 
     // So is the report of the slots, where each line of the log gives an event, and nothing keeps these events from a report.
-    ensures slotted_complete { (settings : Settings) (bytes : List ℕ) (es : List Entry) (manifest : PortableManifest) (log : List ℕ)
+    ensures slotted_complete { (settings : Settings) (bytes : List ℕ) (es : List Entry)
+        (manifest : PortableManifest) (log : List ℕ)
         → command (texts words.now) ≡ Ok (slotting settings)
         → S.left source.old ≡ Some bytes
         → length bytes ≤ settings.session_limit
@@ -259,7 +270,8 @@ pub fn run_program<S: Source, B: Sink, T: Sink, G: Sink>(
         → (result ≡ 0) ⊎ (result ≡ 70) }
 
     // So is the selection of the tests that are to run again, where each part of the run is read.
-    ensures rerun_complete { (settings : Settings) (bytes : List ℕ) (es : List Entry) (run : RerunParts)
+    ensures rerun_complete { (settings : Settings) (bytes : List ℕ) (es : List Entry)
+        (run : RerunParts)
         → command (texts words.now) ≡ Ok (rerunning settings)
         → S.left source.old ≡ Some bytes
         → length bytes ≤ settings.session_limit
@@ -274,7 +286,8 @@ pub fn run_program<S: Source, B: Sink, T: Sink, G: Sink>(
     ensures upgraded { (path : List ℕ) (settings : Settings)
         → command (texts words.now) ≡ Ok (upgrading path settings)
         → result ≡ 0
-        → (counts : Upgraded) × Upgrades S.left S.faults B.taken B.faults settings.session_limit settings.read_limit
+        → (counts : Upgraded)
+        × Upgrades S.left S.faults B.taken B.faults settings.session_limit settings.read_limit
         source.old source.new bundle.old bundle.new counts }
 
     // With another status the bundle's sink took nothing; or the status is 10, and it took a proper prefix of a run written anew.
@@ -282,8 +295,11 @@ pub fn run_program<S: Source, B: Sink, T: Sink, G: Sink>(
         → command (texts words.now) ≡ Ok (upgrading path settings)
         → ¬ (result ≡ 0)
         → (bundle.new ≡ bundle.old)
-        ⊎ ((result ≡ 10) × ((bytes : List ℕ) × (parts : RunParts) × Gave S.left S.faults settings.session_limit source.old source.new bytes
-        × IsAccepted bytes settings.read_limit parts × TookPart (B.taken bundle.old) (B.taken bundle.new) (written parts))) }
+        ⊎ ((result ≡ 10)
+        × ((bytes : List ℕ) × (parts : RunParts)
+        × Gave S.left S.faults settings.session_limit source.old source.new bytes
+        × IsAccepted bytes settings.read_limit parts
+        × TookPart (B.taken bundle.old) (B.taken bundle.new) (written parts))) }
 
     // Status 0 of `salvage`: the source was read to its end, its bytes are a bundle, and the bundle's sink took the bundle of what is left
     // of its run: its events are the salvaged ones, and `out` took the line that counts these and their outputs.
@@ -313,7 +329,8 @@ pub fn run_program<S: Source, B: Sink, T: Sink, G: Sink>(
         ⊎ ((result ≡ 10) × TookPart (B.taken bundle.old) (B.taken bundle.new) made.bundle.items))) }
 
     // A bundle with a reading is upgraded, where its versions are read and nothing is too long.
-    ensures upgraded_complete { (path : List ℕ) (settings : Settings) (bytes : List ℕ) (run : RunRecord)
+    ensures upgraded_complete { (path : List ℕ) (settings : Settings) (bytes : List ℕ)
+        (run : RunRecord)
         → command (texts words.now) ≡ Ok (upgrading path settings)
         → S.left source.old ≡ Some bytes
         → length bytes ≤ settings.session_limit
@@ -323,7 +340,8 @@ pub fn run_program<S: Source, B: Sink, T: Sink, G: Sink>(
         → (result ≡ 0) ⊎ (result ≡ 70) }
 
     // So is a run salvaged, where the metadata is read in the whole prefix of its store.
-    ensures salvaged_complete { (path : List ℕ) (settings : Settings) (bytes : List ℕ) (es prefix : List Entry) (stopped : StoppedRun)
+    ensures salvaged_complete { (path : List ℕ) (settings : Settings) (bytes : List ℕ)
+        (es prefix : List Entry) (stopped : StoppedRun)
         → command (texts words.now) ≡ Ok (salvaging path settings)
         → S.left source.old ≡ Some bytes
         → length bytes ≤ settings.session_limit
@@ -429,7 +447,8 @@ fn record<S: Source, B: Sink, T: Sink, G: Sink>(
     out: &mut T,
     diag: &mut G,
 ) -> u8
-    ensures { Records S.left S.faults B.taken B.faults T.taken T.faults G.taken G.faults sha256_number settings.now
+    ensures { Records S.left S.faults B.taken B.faults T.taken T.faults G.taken G.faults
+        sha256_number settings.now
         result source.old source.new bundle.old bundle.new out.old out.new diag.old diag.new }
 {
     match record_and_export(alloc, settings, &Sha256Namer, source, bundle, out) {
@@ -448,7 +467,8 @@ fn sample<B: Sink, T: Sink, G: Sink>(
     diag: &mut G,
 ) -> u8
     requires { tests ≤ 10000 }
-    ensures { RecordsSample B.taken B.faults T.taken T.faults G.taken G.faults sha256_number settings.now (sample_session tests)
+    ensures { RecordsSample B.taken B.faults T.taken T.faults G.taken G.faults sha256_number
+        settings.now (sample_session tests)
         result bundle.old bundle.new out.old out.new diag.old diag.new }
 {
     match record_sample(alloc, tests, settings, bundle) {
@@ -489,7 +509,8 @@ fn salvage<S: Source, B: Sink, T: Sink, G: Sink>(
     out: &mut T,
     diag: &mut G,
 ) -> u8
-    ensures { RunsSalvage S.left S.faults B.taken B.faults T.taken T.faults G.taken G.faults settings.now result
+    ensures { RunsSalvage S.left S.faults B.taken B.faults T.taken T.faults G.taken G.faults
+        settings.now result
         source.old source.new bundle.old bundle.new out.old out.new diag.old diag.new }
 {
     match salvage_bundle(alloc, settings, source) {
@@ -505,8 +526,10 @@ fn write_salvaged<B: Sink, T: Sink, G: Sink>(
     out: &mut T,
     diag: &mut G,
 ) -> u8
-    requires { string_bytes counted.now.line ≡ counts_line counted.now.salvaged.events counted.now.salvaged.outputs }
-    ensures { WritesSalvage B.taken B.faults T.taken T.faults G.taken G.faults counted.now.salvaged result
+    requires { string_bytes counted.now.line
+        ≡ counts_line counted.now.salvaged.events counted.now.salvaged.outputs }
+    ensures { WritesSalvage B.taken B.faults T.taken T.faults G.taken G.faults counted.now.salvaged
+        result
         bundle.old bundle.new out.old out.new diag.old diag.new }
 {
     match write_all(bundle, &counted.salvaged.bundle) {

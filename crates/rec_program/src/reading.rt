@@ -21,8 +21,12 @@ pub fn read_bundle<S: Source, P: BundleText>(
     source: &mut S,
     printer: &P,
 ) -> Result<Vec<u8>, ReadingError>
-    ensures ok { IfOk result (λ text. Shows bundle_error (P.prints printer.now) settings.now.read_limit S.left S.faults settings.now.session_limit source.old source.new text.items) }
-    ensures err { IfErr result (Withholds bundle_error (P.prints printer.now) settings.now.read_limit S.left S.faults settings.now.session_limit source.old source.new) }
+    ensures ok { IfOk result
+        (λ text. Shows bundle_error (P.prints printer.now) settings.now.read_limit S.left S.faults
+        settings.now.session_limit source.old source.new text.items) }
+    ensures err { IfErr result
+        (Withholds bundle_error (P.prints printer.now) settings.now.read_limit S.left S.faults
+        settings.now.session_limit source.old source.new) }
 {
     let bundle = open_bundle(alloc, settings, source)?;
     let result = printer.text(alloc, &bundle);
@@ -37,8 +41,12 @@ pub fn open_bundle<S: Source>(
     settings: &Settings,
     source: &mut S,
 ) -> Result<PortableRecording, PortableRecordingReadError>
-    ensures ok { IfOk result (Opens S.left S.faults [] settings.now.session_limit settings.now.read_limit source.old source.new) }
-    ensures err { IfErr result (Unopened S.left S.faults settings.now.session_limit settings.now.read_limit source.old source.new) }
+    ensures ok { IfOk result
+        (Opens S.left S.faults [] settings.now.session_limit settings.now.read_limit source.old
+        source.new) }
+    ensures err { IfErr result
+        (Unopened S.left S.faults settings.now.session_limit settings.now.read_limit source.old
+        source.new) }
 {
     let path = String::new(alloc);
     PortableRecording::open(

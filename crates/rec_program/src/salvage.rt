@@ -42,9 +42,14 @@ pub fn salvage_bundle<S: Source>(
     settings: &Settings,
     source: &mut S,
 ) -> Result<CountedSalvage, SalvageRefusal>
-    ensures ok { IfOk result (λ c. Shows bundle_refusal SalvagesRun settings.now.read_limit S.left S.faults settings.now.session_limit source.old source.new c.salvaged) }
-    ensures counts { IfOk result (λ c. string_bytes c.line ≡ counts_line c.salvaged.events c.salvaged.outputs) }
-    ensures err { IfErr result (Withholds bundle_refusal SalvagesRun settings.now.read_limit S.left S.faults settings.now.session_limit source.old source.new) }
+    ensures ok { IfOk result
+        (λ c. Shows bundle_refusal SalvagesRun settings.now.read_limit S.left S.faults
+        settings.now.session_limit source.old source.new c.salvaged) }
+    ensures counts { IfOk result
+        (λ c. string_bytes c.line ≡ counts_line c.salvaged.events c.salvaged.outputs) }
+    ensures err { IfErr result
+        (Withholds bundle_refusal SalvagesRun settings.now.read_limit S.left S.faults
+        settings.now.session_limit source.old source.new) }
 {
     let salvaged = salvage_source(alloc, settings, source)?;
     let line = counts_line(alloc, salvaged.events, salvaged.outputs)?;
@@ -57,8 +62,12 @@ fn salvage_source<S: Source>(
     settings: &Settings,
     source: &mut S,
 ) -> Result<Salvaged, SalvageRefusal>
-    ensures ok { IfOk result (Shows bundle_refusal SalvagesRun settings.now.read_limit S.left S.faults settings.now.session_limit source.old source.new) }
-    ensures err { IfErr result (Withholds bundle_refusal SalvagesRun settings.now.read_limit S.left S.faults settings.now.session_limit source.old source.new) }
+    ensures ok { IfOk result
+        (Shows bundle_refusal SalvagesRun settings.now.read_limit S.left S.faults
+        settings.now.session_limit source.old source.new) }
+    ensures err { IfErr result
+        (Withholds bundle_refusal SalvagesRun settings.now.read_limit S.left S.faults
+        settings.now.session_limit source.old source.new) }
 {
     let bundle = open_bundle(alloc, settings, source)?;
     let result = salvage_opened(alloc, &bundle);
@@ -69,7 +78,9 @@ fn salvage_source<S: Source>(
 
 /// Makes the bundle of what is left of the run in a bundle.
 fn salvage_opened(alloc: Global, bundle: &PortableRecording) -> Result<Salvaged, SalvageRefusal>
-    ensures { (es : List Entry) (manifest : PortableManifest) → IsContainer bundle.now.bytes es → judged bundle.now.limit es ≡ Ok manifest
+    ensures { (es : List Entry) (manifest : PortableManifest)
+        → IsContainer bundle.now.bytes es
+        → judged bundle.now.limit es ≡ Ok manifest
         → MakesSalvage (SalvagesRun bundle.now.limit es) result }
 {
     let log = find_log(alloc, bundle)?;
@@ -88,7 +99,8 @@ fn salvage_parts(
     store: &[u8],
 ) -> Result<Salvaged, SalvageRefusal>
     ensures ok { IfOk result (Salvages run.now log.now store.now) }
-    ensures err { IfErr result (λ e. (fault : SalvageError) × (e ≡ store_refusal fault) × RefusesStore store.now fault) }
+    ensures err { IfErr result
+        (λ e. (fault : SalvageError) × (e ≡ store_refusal fault) × RefusesStore store.now fault) }
 {
     Ok(salvage(alloc, run, log, store)?)
 }
@@ -98,7 +110,9 @@ fn find_log<'b>(
     alloc: Global,
     bundle: &'b PortableRecording,
 ) -> Result<&'b [u8], PortableRecordingReadError>
-    ensures { (es : List Entry) → IsContainer bundle.now.bytes es → LendsFound (log_part bundle.now.limit es) result }
+    ensures { (es : List Entry)
+        → IsContainer bundle.now.bytes es
+        → LendsFound (log_part bundle.now.limit es) result }
 {
     let _ = bundle.read_run_log(alloc)?;
     // It is there, as it was read.
@@ -110,7 +124,9 @@ fn find_store<'b>(
     alloc: Global,
     bundle: &'b PortableRecording,
 ) -> Result<&'b [u8], PortableRecordingReadError>
-    ensures { (es : List Entry) → IsContainer bundle.now.bytes es → LendsFound (store_found (content_of es store_name)) result }
+    ensures { (es : List Entry)
+        → IsContainer bundle.now.bytes es
+        → LendsFound (store_found (content_of es store_name)) result }
 {
     let Some(bytes) = bundle.store_window() else {
         let file_name = Text::from_str(alloc, STORE_ZIP_FILE_NAME)?;

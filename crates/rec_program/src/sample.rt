@@ -26,8 +26,12 @@ pub fn record_sample<B: Sink>(
     bundle: &mut B,
 ) -> Result<String, RecordExportError>
     requires { tests ≤ 10000 }
-    ensures ok { IfOk result (λ line. Samples B.taken sha256_number settings.now (sample_session tests) bundle.old bundle.new (string_bytes line)) }
-    ensures err { IfErr result (SampleFails B.taken B.faults sha256_number settings.now (sample_session tests) bundle.old bundle.new) }
+    ensures ok { IfOk result
+        (λ line. Samples B.taken sha256_number settings.now (sample_session tests) bundle.old
+        bundle.new (string_bytes line)) }
+    ensures err { IfErr result
+        (SampleFails B.taken B.faults sha256_number settings.now (sample_session tests) bundle.old
+        bundle.new) }
 {
     let session = sample_session(alloc, tests)?;
     let exported = export_made(alloc, settings, &session, bundle)?;
@@ -42,8 +46,11 @@ fn export_made<B: Sink>(
     session: &[u8],
     bundle: &mut B,
 ) -> Result<Exported, RecordExportError>
-    ensures ok { IfOk result (MakesSample B.taken sha256_number settings.now session.now bundle.old bundle.new) }
-    ensures err { IfErr result (SampleFails B.taken B.faults sha256_number settings.now session.now bundle.old bundle.new) }
+    ensures ok { IfOk result
+        (MakesSample B.taken sha256_number settings.now session.now bundle.old bundle.new) }
+    ensures err { IfErr result
+        (SampleFails B.taken B.faults sha256_number settings.now session.now bundle.old
+        bundle.new) }
 {
     let mut source = SliceSource::new(session);
     let mut trace = GrowingSink::new(alloc);

@@ -43,7 +43,9 @@ pub fn trace_text(
     group_by: ChromeTraceGroupBy,
     message_format: ChromeTraceMessageFormat,
 ) -> Result<Vec<u8>, ReadingError>
-    ensures { (es : List Entry) → IsContainer bundle.now.bytes es → Makes (PrintsTrace group_by message_format bundle.now.limit es) result }
+    ensures { (es : List Entry)
+        → IsContainer bundle.now.bytes es
+        → Makes (PrintsTrace group_by message_format bundle.now.limit es) result }
 {
     let manifest = bundle.manifest();
     let log = bundle.read_run_log(alloc)?;

@@ -28,7 +28,9 @@ pub trait BundleText {
     ///
     /// Why nothing is printed of the bundle. `OutOfMemory` may come at any time.
     fn text(&self, alloc: Global, bundle: &PortableRecording) -> Result<Vec<u8>, ReadingError>
-        ensures { (es : List Entry) → IsContainer bundle.now.bytes es → Makes (prints self.now bundle.now.limit es) result };
+        ensures { (es : List Entry)
+            → IsContainer bundle.now.bytes es
+            → Makes (prints self.now bundle.now.limit es) result };
 }
 
 /// Prints the manifest, as [`info_text`] makes it.

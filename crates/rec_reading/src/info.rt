@@ -14,7 +14,9 @@ use std::alloc::Global;
 ///
 /// `OutOfMemory`.
 pub fn info_text(alloc: Global, bundle: &PortableRecording) -> Result<Vec<u8>, ReadingError>
-    ensures { (es : List Entry) → IsContainer bundle.now.bytes es → Makes (PrintsInfo bundle.now.limit es) result }
+    ensures { (es : List Entry)
+        → IsContainer bundle.now.bytes es
+        → Makes (PrintsInfo bundle.now.limit es) result }
 {
     let mut text = write_text(alloc, bundle.manifest())?;
     text.push(b'\n')?;

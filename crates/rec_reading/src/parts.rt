@@ -25,7 +25,9 @@ impl<'a> OpenRun<'a> {
         alloc: Global,
         bundle: &'a PortableRecording,
     ) -> Result<OpenRun<'a>, ReadingError>
-        ensures { (es : List Entry) → IsContainer bundle.now.bytes es → OpensRun bundle.now.limit (parts_of bundle.now.limit es) result }
+        ensures { (es : List Entry)
+            → IsContainer bundle.now.bytes es
+            → OpensRun bundle.now.limit (parts_of bundle.now.limit es) result }
     {
         let log = bundle.read_run_log(alloc)?;
         let mut store = bundle.open_store(alloc)?;

@@ -26,8 +26,12 @@ pub(crate) trait EventPrinter {
         event: &TestEvent<'_>,
         text: &mut Vec<u8>,
     ) -> Result<(), ReadingError>
-        ensures adds { (past : List TestEvent) → stands self.old past → Adds (prints self.old past event.now) text.old.items text.new.items result }
-        ensures stands { (past : List TestEvent) → stands self.old past → OnOk result (stands self.new (past ++ event.now ∷ [])) }
+        ensures adds { (past : List TestEvent)
+            → stands self.old past
+            → Adds (prints self.old past event.now) text.old.items text.new.items result }
+        ensures stands { (past : List TestEvent)
+            → stands self.old past
+            → OnOk result (stands self.new (past ++ event.now ∷ [])) }
         ensures same { prints self.new ≡ prints self.old };
 
     /// States that it doesn't matter where the tests of a run stand in memory.

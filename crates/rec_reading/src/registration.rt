@@ -14,7 +14,10 @@ pub(crate) fn register_tests(
     context: &mut ReplayContext<'_>,
     tests: &TestListSummary,
 ) -> Result<(), AllocError>
-    ensures registered { OnOk result ((t : OwnedTestInstanceId) → is_registered context.new.tests t ≡ (is_listed tests.now t || is_registered context.old.tests t)) }
+    ensures registered { OnOk result
+        ((t : OwnedTestInstanceId)
+        → is_registered context.new.tests t
+        ≡ (is_listed tests.now t || is_registered context.old.tests t)) }
     ensures list { context.new.test_list ≡ context.old.test_list }
 {
     for (binary, names) in tests.suites.as_map() {
@@ -30,8 +33,8 @@ fn register_suite(
     binary: &str,
     names: &[TestCaseName],
 ) -> Result<(), AllocError>
-    ensures registered { OnOk result ((t : OwnedTestInstanceId) → is_registered context.new.tests t ≡
-        (is_named binary.now names.now t || is_registered context.old.tests t)) }
+    ensures registered { OnOk result ((t : OwnedTestInstanceId) → is_registered context.new.tests t
+        ≡ (is_named binary.now names.now t || is_registered context.old.tests t)) }
     ensures list { context.new.test_list ≡ context.old.test_list }
 {
     for name in names {
@@ -47,8 +50,8 @@ fn register_test(
     binary: &str,
     name: &TestCaseName,
 ) -> Result<(), AllocError>
-    ensures registered { OnOk result ((t : OwnedTestInstanceId) → is_registered context.new.tests t ≡
-        (test_eq (test_of binary.now name.now) t || is_registered context.old.tests t)) }
+    ensures registered { OnOk result ((t : OwnedTestInstanceId) → is_registered context.new.tests t
+        ≡ (test_eq (test_of binary.now name.now) t || is_registered context.old.tests t)) }
     ensures list { context.new.test_list ≡ context.old.test_list }
 {
     let test = OwnedTestInstanceId {

@@ -36,7 +36,9 @@ pub fn replay_text(
     bundle: &PortableRecording,
     load_output: LoadOutput,
 ) -> Result<Vec<u8>, ReadingError>
-    ensures { (es : List Entry) → IsContainer bundle.now.bytes es → Makes (PrintsReplay load_output bundle.now.limit es) result }
+    ensures { (es : List Entry)
+        → IsContainer bundle.now.bytes es
+        → Makes (PrintsReplay load_output bundle.now.limit es) result }
 {
     let mut text = header_text(alloc, bundle.manifest())?;
     let mut run = OpenRun::read(alloc, bundle)?;

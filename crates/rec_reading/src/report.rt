@@ -23,7 +23,9 @@ use std::alloc::Global;
 /// Those of [`replay_text`](crate::replay_text) with `Load`, and `Report` where a line's event is refused as
 /// it is reported. `OutOfMemory` may come at any time.
 pub fn report_text(alloc: Global, bundle: &PortableRecording) -> Result<Vec<u8>, ReadingError>
-    ensures { (es : List Entry) → IsContainer bundle.now.bytes es → Makes (PrintsReport bundle.now.limit es) result }
+    ensures { (es : List Entry)
+        → IsContainer bundle.now.bytes es
+        → Makes (PrintsReport bundle.now.limit es) result }
 {
     let mut run = OpenRun::read(alloc, bundle)?;
     let result = reports_of(alloc, &mut run);
@@ -34,7 +36,9 @@ pub fn report_text(alloc: Global, bundle: &PortableRecording) -> Result<Vec<u8>,
 
 /// Writes the reports of a run that is read.
 fn reports_of(alloc: Global, run: &mut OpenRun<'_>) -> Result<Vec<u8>, ReadingError>
-    ensures { Makes (λ r. printed (report_prints run.old.mode) Load run.old.store.limit (parts_in run.old) ≡ r) result }
+    ensures { Makes
+        (λ r. printed (report_prints run.old.mode) Load run.old.store.limit (parts_in run.old) ≡ r)
+        result }
 {
     let describer = PlainDescriber;
     let mut printer = ReportPrinter::new(alloc, run.mode, &describer)?;

@@ -30,7 +30,8 @@ impl<'d> ReportPrinter<'d> {
     ) -> Result<ReportPrinter<'d>, AllocError>
         ensures mode { IfOk result (λ printer. printer.builder.mode ≡ mode) }
         ensures name { IfOk result (λ printer. printer.builder.name ≡ report_name) }
-        ensures stands { IfOk result (λ printer. StandsFor mode plain_text printer.builder.suites []) }
+        ensures stands { IfOk result
+            (λ printer. StandsFor mode plain_text printer.builder.suites []) }
     {
         let name = String::from_str(alloc, "nextest-run")?;
         Ok(ReportPrinter {
@@ -42,7 +43,8 @@ impl<'d> ReportPrinter<'d> {
 impl<'d> EventPrinter for ReportPrinter<'d> {
     ghost prints = { λ printer. report_prints printer.builder.mode };
 
-    ghost stands = { λ printer past. (printer.builder.name ≡ report_name) × StandsFor printer.builder.mode plain_text printer.builder.suites past };
+    ghost stands = { λ printer past. (printer.builder.name ≡ report_name)
+        × StandsFor printer.builder.mode plain_text printer.builder.suites past };
 
     ghost blind = { λ printer. report_prints_blind printer.builder.mode };
 

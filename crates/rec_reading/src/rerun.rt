@@ -50,7 +50,9 @@ struct OpenRerun {
 ///
 /// `OutOfMemory` may come at any time.
 pub fn rerun_text(alloc: Global, bundle: &PortableRecording) -> Result<Vec<u8>, ReadingError>
-    ensures { (es : List Entry) → IsContainer bundle.now.bytes es → Makes (PrintsRerun bundle.now.limit es) result }
+    ensures { (es : List Entry)
+        → IsContainer bundle.now.bytes es
+        → Makes (PrintsRerun bundle.now.limit es) result }
 {
     let run = OpenRerun::read(alloc, bundle)?;
     let result = selection_text(alloc, &run);
@@ -62,7 +64,9 @@ pub fn rerun_text(alloc: Global, bundle: &PortableRecording) -> Result<Vec<u8>, 
 impl OpenRerun {
     /// Reads what a rerun is selected by.
     fn read(alloc: Global, bundle: &PortableRecording) -> Result<OpenRerun, ReadingError>
-        ensures { (es : List Entry) → IsContainer bundle.now.bytes es → OpensRerun (rerun_parts_of bundle.now.limit es) result }
+        ensures { (es : List Entry)
+            → IsContainer bundle.now.bytes es
+            → OpensRerun (rerun_parts_of bundle.now.limit es) result }
     {
         let run_id = bundle.manifest().run.run_id;
         let log = bundle.read_run_log(alloc)?;

@@ -34,7 +34,9 @@ pub(crate) fn print_run<P: EventPrinter>(
     text: &mut Vec<u8>,
 ) -> Result<(), ReadingError>
     requires begun { P.stands printer.now [] }
-    ensures { Adds (printed (P.prints printer.old) load_output run.old.store.limit (parts_in run.old)) text.old.items text.new.items result }
+    ensures { Adds
+        (printed (P.prints printer.old) load_output run.old.store.limit (parts_in run.old))
+        text.old.items text.new.items result }
 {
     let list = TestList::from_summary(run.mode, &run.tests);
     let mut context = ReplayContext::new(alloc, &list);
@@ -65,7 +67,9 @@ fn print_events<P: EventPrinter>(
     // The reader never fails.
     requires never { (x : _) → (⟦<dyn StoreReader as StoreReader>⟧ reader.now.0).failures x ≡ 0 }
     ensures { (es : List Entry) → holds reader.old es → Adds
-        (text_from (P.prints printer.old) (converted (is_registered context.now.tests) context.now.test_list load_output es (limit reader.old)) [] (log_items events.entry))
+        (text_from (P.prints printer.old)
+        (converted (is_registered context.now.tests) context.now.test_list load_output es
+        (limit reader.old)) [] (log_items events.entry))
         text.old.items text.new.items result }
 {
     for item in &mut events {
@@ -86,11 +90,17 @@ fn print_event<P: EventPrinter>(
     text: &mut Vec<u8>,
 ) -> Result<(), ReadingError>
     requires never { (x : _) → (⟦<dyn StoreReader as StoreReader>⟧ reader.now.0).failures x ≡ 0 }
-    ensures prints { (es : List Entry) (past : List TestEvent) → holds reader.old es → P.stands printer.old past → AddsEvent
-        (P.prints printer.old) (converted (is_registered context.now.tests) context.now.test_list load_output es (limit reader.old)) (P.stands printer.new)
+    ensures prints { (es : List Entry) (past : List TestEvent)
+        → holds reader.old es
+        → P.stands printer.old past
+        → AddsEvent
+        (P.prints printer.old)
+        (converted (is_registered context.now.tests) context.now.test_list load_output es
+        (limit reader.old)) (P.stands printer.new)
         past event text.old.items text.new.items result }
     ensures same_printer { P.prints printer.new ≡ P.prints printer.old }
-    ensures same { Keeps (limit reader.old) (limit reader.new) (holds reader.old) (holds reader.new) }
+    ensures same { Keeps (limit reader.old) (limit reader.new) (holds reader.old)
+        (holds reader.new) }
 {
     let live = convert(alloc, context, reader, load_output, event)?;
     let result = printer.print(alloc, &live, text);
@@ -109,8 +119,10 @@ fn convert<'cx>(
 ) -> Result<TestEvent<'cx>, ReadingError>
     requires never { (x : _) → (⟦<dyn StoreReader as StoreReader>⟧ reader.now.0).failures x ≡ 0 }
     ensures converted { (es : List Entry) → holds reader.old es → Answers
-        (converted (is_registered context.now.tests) context.now.test_list load_output es (limit reader.old) event) result }
-    ensures same { Keeps (limit reader.old) (limit reader.new) (holds reader.old) (holds reader.new) }
+        (converted (is_registered context.now.tests) context.now.test_list load_output es
+        (limit reader.old) event) result }
+    ensures same { Keeps (limit reader.old) (limit reader.new) (holds reader.old)
+        (holds reader.new) }
 {
     let result = context.convert_event(alloc, &event, reader, load_output);
     event.discard();

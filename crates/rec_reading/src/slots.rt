@@ -23,7 +23,9 @@ use std::alloc::{AllocError, Global};
 ///
 /// `OutOfMemory` may come at any time.
 pub fn slots_text(alloc: Global, bundle: &PortableRecording) -> Result<Vec<u8>, ReadingError>
-    ensures { (es : List Entry) → IsContainer bundle.now.bytes es → Makes (PrintsSlots bundle.now.limit es) result }
+    ensures { (es : List Entry)
+        → IsContainer bundle.now.bytes es
+        → Makes (PrintsSlots bundle.now.limit es) result }
 {
     let log = bundle.read_run_log(alloc)?;
     let events = read_events(alloc, log.events(alloc))?;

@@ -44,7 +44,10 @@ impl<'a> ReplayContext<'a> {
     ///
     /// `AllocError` where memory is short. The context is as it was.
     pub fn register_test(&mut self, test_instance: OwnedTestInstanceId) -> Result<(), AllocError>
-        ensures registered { OnOk result ((t : OwnedTestInstanceId) → is_registered self.new.tests t ≡ (test_eq test_instance t || is_registered self.old.tests t)) }
+        ensures registered { OnOk result
+            ((t : OwnedTestInstanceId)
+            → is_registered self.new.tests t
+            ≡ (test_eq test_instance t || is_registered self.old.tests t)) }
         ensures unchanged { OnErr result (self.new.tests.keys ≡ self.old.tests.keys) }
         ensures list { self.new.test_list ≡ self.old.test_list }
     {
@@ -57,7 +60,9 @@ impl<'a> ReplayContext<'a> {
         &self,
         test_instance: &OwnedTestInstanceId,
     ) -> Option<TestInstanceId<'_>>
-        ensures { result ≡ (if is_registered self.now.tests test_instance.now then Some test_instance.now else None) }
+        ensures { result
+            ≡ (if is_registered self.now.tests test_instance.now then Some test_instance.now
+            else None) }
     {
         match self.tests.get(test_instance) {
             Some(test) => Some(test.as_id()),

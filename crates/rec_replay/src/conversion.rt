@@ -44,17 +44,25 @@ impl<'a> ReplayContext<'a> {
         reader: &mut dyn StoreReader,
         load_output: LoadOutput,
     ) -> Result<TestEvent<'cx>, ReplayConversionError>
-        ensures judged { Judges (event_refusal (is_registered self.now.tests) summary.now) (event_names load_output summary.now) result }
-        ensures answer { (es : List Entry) → (0 < length (event_names load_output summary.now) → holds reader.old es)
-            → ConvertsAs (first_refusal es (limit reader.old) (event_names load_output summary.now)) (replayed load_output self.now.test_list es summary.now) result }
-        ensures same { Keeps (limit reader.old) (limit reader.new) (holds reader.old) (holds reader.new) }
+        ensures judged { Judges (event_refusal (is_registered self.now.tests) summary.now)
+            (event_names load_output summary.now) result }
+        ensures answer { (es : List Entry)
+            → (0 < length (event_names load_output summary.now) → holds reader.old es)
+            → ConvertsAs (first_refusal es (limit reader.old) (event_names load_output summary.now))
+            (replayed load_output self.now.test_list es summary.now) result }
+        ensures same { Keeps (limit reader.old) (limit reader.new) (holds reader.old)
+            (holds reader.new) }
         // The object behind it is of the same kind.
         ensures same_reader { reader.new.0 ≡ reader.old.0 }
         ensures cause { ConversionCause (failures reader.old) (failures reader.new) result }
-        ensures refused { (e : ReplayConversionError) → event_refusal (is_registered self.now.tests) summary.now ≡ Some e → reader.new ≡ reader.old }
+        ensures refused { (e : ReplayConversionError)
+            → event_refusal (is_registered self.now.tests) summary.now ≡ Some e
+            → reader.new ≡ reader.old }
         ensures skipped { load_output ≡ Skip → (reader.new ≡ reader.old)
-            × Converts (event_refusal (is_registered self.now.tests) summary.now) (replayed Skip self.now.test_list [] summary.now) result }
-        ensures apart { IfOk result (λ event. event_unloaded event ≡ replayed Skip self.now.test_list [] summary.now) }
+            × Converts (event_refusal (is_registered self.now.tests) summary.now)
+            (replayed Skip self.now.test_list [] summary.now) result }
+        ensures apart { IfOk result
+            (λ event. event_unloaded event ≡ replayed Skip self.now.test_list [] summary.now) }
     {
         self.replay(alloc, summary, reader, load_output)
     }
@@ -67,12 +75,18 @@ impl<'a> ReplayContext<'a> {
         reader: &mut dyn StoreReader,
         load: LoadOutput,
     ) -> Result<TestEvent<'cx>, ReplayConversionError>
-        ensures replays { Replays (limit reader.old) (limit reader.new) (failures reader.old) (failures reader.new) (holds reader.old) (holds reader.new)
-            (event_refusal (is_registered self.now.tests) summary.now) (event_names load summary.now) (λ es. replayed load self.now.test_list es summary.now) result }
+        ensures replays { Replays (limit reader.old) (limit reader.new) (failures reader.old)
+            (failures reader.new) (holds reader.old) (holds reader.new)
+            (event_refusal (is_registered self.now.tests) summary.now)
+            (event_names load summary.now) (λ es. replayed load self.now.test_list es summary.now)
+            result }
         ensures same_reader { reader.new.0 ≡ reader.old.0 }
         ensures skipped { load ≡ Skip → reader.new ≡ reader.old }
-        ensures apart { IfOk result (λ event. event_unloaded event ≡ replayed Skip self.now.test_list [] summary.now) }
-        ensures refused { (e : ReplayConversionError) → event_refusal (is_registered self.now.tests) summary.now ≡ Some e → reader.new ≡ reader.old }
+        ensures apart { IfOk result
+            (λ event. event_unloaded event ≡ replayed Skip self.now.test_list [] summary.now) }
+        ensures refused { (e : ReplayConversionError)
+            → event_refusal (is_registered self.now.tests) summary.now ≡ Some e
+            → reader.new ≡ reader.old }
     {
         let kind = self.convert_kind(alloc, &summary.kind, reader, load)?;
         Ok(TestEvent {
@@ -90,12 +104,18 @@ impl<'a> ReplayContext<'a> {
         reader: &mut dyn StoreReader,
         load: LoadOutput,
     ) -> Result<TestEventKind<'cx>, ReplayConversionError>
-        ensures replays { Replays (limit reader.old) (limit reader.new) (failures reader.old) (failures reader.new) (holds reader.old) (holds reader.new)
-            (kind_refusal (is_registered self.now.tests) kind.now) (of_kind (description_names load) kind.now) (λ es. kind_replayed (description_loaded load es) self.now.test_list kind.now) result }
+        ensures replays { Replays (limit reader.old) (limit reader.new) (failures reader.old)
+            (failures reader.new) (holds reader.old) (holds reader.new)
+            (kind_refusal (is_registered self.now.tests) kind.now)
+            (of_kind (description_names load) kind.now)
+            (λ es. kind_replayed (description_loaded load es) self.now.test_list kind.now) result }
         ensures same_reader { reader.new.0 ≡ reader.old.0 }
         ensures skipped { load ≡ Skip → reader.new ≡ reader.old }
-        ensures apart { IfOk result (λ k. kind_unloaded k ≡ kind_replayed left_out self.now.test_list kind.now) }
-        ensures refused { (e : ReplayConversionError) → kind_refusal (is_registered self.now.tests) kind.now ≡ Some e → reader.new ≡ reader.old }
+        ensures apart { IfOk result
+            (λ k. kind_unloaded k ≡ kind_replayed left_out self.now.test_list kind.now) }
+        ensures refused { (e : ReplayConversionError)
+            → kind_refusal (is_registered self.now.tests) kind.now ≡ Some e
+            → reader.new ≡ reader.old }
     {
         match kind {
             TestEventKindSummary::Core(kind) => self.convert_core(alloc, kind),
@@ -111,12 +131,17 @@ impl<'a> ReplayContext<'a> {
         reader: &mut dyn StoreReader,
         load: LoadOutput,
     ) -> Result<TestEventKind<'cx>, ReplayConversionError>
-        ensures replays { Replays (limit reader.old) (limit reader.new) (failures reader.old) (failures reader.new) (holds reader.old) (holds reader.new)
-            (output_refusal (is_registered self.now.tests) kind.now) (of_output_kind (description_names load) kind.now) (λ es. output_replayed (description_loaded load es) kind.now) result }
+        ensures replays { Replays (limit reader.old) (limit reader.new) (failures reader.old)
+            (failures reader.new) (holds reader.old) (holds reader.new)
+            (output_refusal (is_registered self.now.tests) kind.now)
+            (of_output_kind (description_names load) kind.now)
+            (λ es. output_replayed (description_loaded load es) kind.now) result }
         ensures same_reader { reader.new.0 ≡ reader.old.0 }
         ensures skipped { load ≡ Skip → reader.new ≡ reader.old }
         ensures apart { IfOk result (λ k. kind_unloaded k ≡ output_replayed left_out kind.now) }
-        ensures refused { (e : ReplayConversionError) → output_refusal (is_registered self.now.tests) kind.now ≡ Some e → reader.new ≡ reader.old }
+        ensures refused { (e : ReplayConversionError)
+            → output_refusal (is_registered self.now.tests) kind.now ≡ Some e
+            → reader.new ≡ reader.old }
     {
         match kind {
             OutputEventKind::SetupScriptFinished { .. } => {
@@ -138,12 +163,17 @@ impl<'a> ReplayContext<'a> {
         load: LoadOutput,
     ) -> Result<TestEventKind<'cx>, ReplayConversionError>
         requires kind { is_failed_attempt kind.now ≡ true }
-        ensures replays { Replays (limit reader.old) (limit reader.new) (failures reader.old) (failures reader.new) (holds reader.old) (holds reader.new)
-            (output_refusal (is_registered self.now.tests) kind.now) (of_output_kind (description_names load) kind.now) (λ es. output_replayed (description_loaded load es) kind.now) result }
+        ensures replays { Replays (limit reader.old) (limit reader.new) (failures reader.old)
+            (failures reader.new) (holds reader.old) (holds reader.new)
+            (output_refusal (is_registered self.now.tests) kind.now)
+            (of_output_kind (description_names load) kind.now)
+            (λ es. output_replayed (description_loaded load es) kind.now) result }
         ensures same_reader { reader.new.0 ≡ reader.old.0 }
         ensures skipped { load ≡ Skip → reader.new ≡ reader.old }
         ensures apart { IfOk result (λ k. kind_unloaded k ≡ output_replayed left_out kind.now) }
-        ensures refused { (e : ReplayConversionError) → output_refusal (is_registered self.now.tests) kind.now ≡ Some e → reader.new ≡ reader.old }
+        ensures refused { (e : ReplayConversionError)
+            → output_refusal (is_registered self.now.tests) kind.now ≡ Some e
+            → reader.new ≡ reader.old }
     {
         let OutputEventKind::TestAttemptFailedWillRetry {
             stress_index,
@@ -177,12 +207,17 @@ impl<'a> ReplayContext<'a> {
         load: LoadOutput,
     ) -> Result<TestEventKind<'cx>, ReplayConversionError>
         requires kind { is_finished kind.now ≡ true }
-        ensures replays { Replays (limit reader.old) (limit reader.new) (failures reader.old) (failures reader.new) (holds reader.old) (holds reader.new)
-            (output_refusal (is_registered self.now.tests) kind.now) (of_output_kind (description_names load) kind.now) (λ es. output_replayed (description_loaded load es) kind.now) result }
+        ensures replays { Replays (limit reader.old) (limit reader.new) (failures reader.old)
+            (failures reader.new) (holds reader.old) (holds reader.new)
+            (output_refusal (is_registered self.now.tests) kind.now)
+            (of_output_kind (description_names load) kind.now)
+            (λ es. output_replayed (description_loaded load es) kind.now) result }
         ensures same_reader { reader.new.0 ≡ reader.old.0 }
         ensures skipped { load ≡ Skip → reader.new ≡ reader.old }
         ensures apart { IfOk result (λ k. kind_unloaded k ≡ output_replayed left_out kind.now) }
-        ensures refused { (e : ReplayConversionError) → output_refusal (is_registered self.now.tests) kind.now ≡ Some e → reader.new ≡ reader.old }
+        ensures refused { (e : ReplayConversionError)
+            → output_refusal (is_registered self.now.tests) kind.now ≡ Some e
+            → reader.new ≡ reader.old }
     {
         let OutputEventKind::TestFinished {
             stress_index,
@@ -224,8 +259,10 @@ fn script_finished<'cx>(
     load: LoadOutput,
 ) -> Result<TestEventKind<'cx>, ReplayConversionError>
     requires kind { is_script_finished kind.now ≡ true }
-    ensures replays { Replays (limit reader.old) (limit reader.new) (failures reader.old) (failures reader.new) (holds reader.old) (holds reader.new)
-        None (of_output_kind (description_names load) kind.now) (λ es. output_replayed (description_loaded load es) kind.now) result }
+    ensures replays { Replays (limit reader.old) (limit reader.new) (failures reader.old)
+        (failures reader.new) (holds reader.old) (holds reader.new)
+        None (of_output_kind (description_names load) kind.now)
+        (λ es. output_replayed (description_loaded load es) kind.now) result }
     ensures same_reader { reader.new.0 ≡ reader.old.0 }
     ensures skipped { load ≡ Skip → reader.new ≡ reader.old }
     ensures apart { IfOk result (λ k. kind_unloaded k ≡ output_replayed left_out kind.now) }

@@ -22,8 +22,10 @@ impl<'a> ReplayContext<'a> {
         alloc: Global,
         kind: &CoreEventKind,
     ) -> Result<TestEventKind<'cx>, ReplayConversionError>
-        requires kind { kind_name (core_replayed self.now.test_list kind.now) ≡ codes "run-started" }
-        ensures { Converts (core_refusal (is_registered self.now.tests) kind.now) (core_replayed self.now.test_list kind.now) result }
+        requires kind { kind_name (core_replayed self.now.test_list kind.now)
+            ≡ codes "run-started" }
+        ensures { Converts (core_refusal (is_registered self.now.tests) kind.now)
+            (core_replayed self.now.test_list kind.now) result }
     {
         let CoreEventKind::RunStarted {
             run_id,
@@ -51,8 +53,10 @@ impl<'a> ReplayContext<'a> {
         alloc: Global,
         kind: &CoreEventKind,
     ) -> Result<TestEventKind<'cx>, ReplayConversionError>
-        requires kind { kind_name (core_replayed self.now.test_list kind.now) ≡ codes "test-started" }
-        ensures { Converts (core_refusal (is_registered self.now.tests) kind.now) (core_replayed self.now.test_list kind.now) result }
+        requires kind { kind_name (core_replayed self.now.test_list kind.now)
+            ≡ codes "test-started" }
+        ensures { Converts (core_refusal (is_registered self.now.tests) kind.now)
+            (core_replayed self.now.test_list kind.now) result }
     {
         let CoreEventKind::TestStarted {
             stress_index,
@@ -84,7 +88,8 @@ impl<'a> ReplayContext<'a> {
         kind: &CoreEventKind,
     ) -> Result<TestEventKind<'cx>, ReplayConversionError>
         requires kind { kind_name (core_replayed self.now.test_list kind.now) ≡ codes "test-slow" }
-        ensures { Converts (core_refusal (is_registered self.now.tests) kind.now) (core_replayed self.now.test_list kind.now) result }
+        ensures { Converts (core_refusal (is_registered self.now.tests) kind.now)
+            (core_replayed self.now.test_list kind.now) result }
     {
         let CoreEventKind::TestSlow {
             stress_index,
@@ -112,8 +117,10 @@ impl<'a> ReplayContext<'a> {
         alloc: Global,
         kind: &CoreEventKind,
     ) -> Result<TestEventKind<'cx>, ReplayConversionError>
-        requires kind { kind_name (core_replayed self.now.test_list kind.now) ≡ codes "test-retry-started" }
-        ensures { Converts (core_refusal (is_registered self.now.tests) kind.now) (core_replayed self.now.test_list kind.now) result }
+        requires kind { kind_name (core_replayed self.now.test_list kind.now)
+            ≡ codes "test-retry-started" }
+        ensures { Converts (core_refusal (is_registered self.now.tests) kind.now)
+            (core_replayed self.now.test_list kind.now) result }
     {
         let CoreEventKind::TestRetryStarted {
             stress_index,
@@ -144,8 +151,10 @@ impl<'a> ReplayContext<'a> {
         alloc: Global,
         kind: &CoreEventKind,
     ) -> Result<TestEventKind<'cx>, ReplayConversionError>
-        requires kind { kind_name (core_replayed self.now.test_list kind.now) ≡ codes "test-skipped" }
-        ensures { Converts (core_refusal (is_registered self.now.tests) kind.now) (core_replayed self.now.test_list kind.now) result }
+        requires kind { kind_name (core_replayed self.now.test_list kind.now)
+            ≡ codes "test-skipped" }
+        ensures { Converts (core_refusal (is_registered self.now.tests) kind.now)
+            (core_replayed self.now.test_list kind.now) result }
     {
         let CoreEventKind::TestSkipped {
             stress_index,
@@ -171,8 +180,10 @@ impl<'a> ReplayContext<'a> {
         alloc: Global,
         kind: &CoreEventKind,
     ) -> Result<TestEventKind<'cx>, ReplayConversionError>
-        requires kind { kind_name (core_replayed self.now.test_list kind.now) ≡ codes "setup-script-started" }
-        ensures { Converts (core_refusal (is_registered self.now.tests) kind.now) (core_replayed self.now.test_list kind.now) result }
+        requires kind { kind_name (core_replayed self.now.test_list kind.now)
+            ≡ codes "setup-script-started" }
+        ensures { Converts (core_refusal (is_registered self.now.tests) kind.now)
+            (core_replayed self.now.test_list kind.now) result }
     {
         let CoreEventKind::SetupScriptStarted {
             stress_index,
@@ -204,8 +215,10 @@ impl<'a> ReplayContext<'a> {
         alloc: Global,
         kind: &CoreEventKind,
     ) -> Result<TestEventKind<'cx>, ReplayConversionError>
-        requires kind { kind_name (core_replayed self.now.test_list kind.now) ≡ codes "setup-script-slow" }
-        ensures { Converts (core_refusal (is_registered self.now.tests) kind.now) (core_replayed self.now.test_list kind.now) result }
+        requires kind { kind_name (core_replayed self.now.test_list kind.now)
+            ≡ codes "setup-script-slow" }
+        ensures { Converts (core_refusal (is_registered self.now.tests) kind.now)
+            (core_replayed self.now.test_list kind.now) result }
     {
         let CoreEventKind::SetupScriptSlow {
             stress_index,
@@ -235,8 +248,10 @@ impl<'a> ReplayContext<'a> {
         alloc: Global,
         kind: &CoreEventKind,
     ) -> Result<TestEventKind<'cx>, ReplayConversionError>
-        requires kind { kind_name (core_replayed self.now.test_list kind.now) ≡ codes "run-finished" }
-        ensures { Converts (core_refusal (is_registered self.now.tests) kind.now) (core_replayed self.now.test_list kind.now) result }
+        requires kind { kind_name (core_replayed self.now.test_list kind.now)
+            ≡ codes "run-finished" }
+        ensures { Converts (core_refusal (is_registered self.now.tests) kind.now)
+            (core_replayed self.now.test_list kind.now) result }
     {
         let CoreEventKind::RunFinished {
             run_id,
@@ -263,7 +278,8 @@ impl<'a> ReplayContext<'a> {
         alloc: Global,
         kind: &CoreEventKind,
     ) -> Result<TestEventKind<'cx>, ReplayConversionError>
-        ensures { Converts (core_refusal (is_registered self.now.tests) kind.now) (core_replayed self.now.test_list kind.now) result }
+        ensures { Converts (core_refusal (is_registered self.now.tests) kind.now)
+            (core_replayed self.now.test_list kind.now) result }
     {
         match kind {
             CoreEventKind::RunStarted { .. } => self.run_started(alloc, kind),
@@ -358,7 +374,8 @@ pub(crate) fn replay_index(index: &Option<StressIndexSummary>) -> Option<StressI
 fn replay_condition(
     condition: &Option<StressConditionSummary>,
 ) -> Result<Option<StressCondition>, ReplayConversionError>
-    ensures { Converts (condition_refusal condition.now) (option_map condition_replayed condition.now) result }
+    ensures { Converts (condition_refusal condition.now)
+        (option_map condition_replayed condition.now) result }
 {
     match condition {
         None => Ok(None),

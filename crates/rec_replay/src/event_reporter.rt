@@ -75,7 +75,8 @@ pub trait EventReporter: Drop {
 
     /// Takes how a run is to be shown, what it does with its tests, and how many of them it runs.
     fn configure(&mut self, settings: &DisplaySettings, mode: NextestRunMode, run_count: usize)
-        ensures own { configures self.old (record { settings = settings.now; mode = mode; run_count = run_count }) self.new }
+        ensures own { configures self.old
+            (record { settings = settings.now; mode = mode; run_count = run_count }) self.new }
         ensures configured { Becomes (configured self.old) (configured self.new)
             (Some (record { settings = settings.now; mode = mode; run_count = run_count })) }
         ensures wants { wants self.new ≡ wants self.old }
@@ -96,7 +97,8 @@ pub trait EventReporter: Drop {
     /// - `OutOfMemory` if memory runs out. Nothing was written.
     fn write_header(&mut self, header: &ReplayHeader) -> Result<(), WriteEventError>
         ensures own { writes_header self.old header.now result self.new }
-        ensures shown { Shows (written self.old) (written self.new) (faults self.old) (faults self.new)
+        ensures shown { Shows (written self.old) (written self.new) (faults self.old)
+            (faults self.new)
             (header_text (known (configured self.old)) header.now) result }
         ensures wants { wants self.new ≡ wants self.old }
         ensures later { faults self.old ≤ faults self.new }
@@ -112,7 +114,8 @@ pub trait EventReporter: Drop {
     /// - `OutOfMemory` if memory runs out. Nothing was written.
     fn write_event(&mut self, event: &TestEvent<'_>) -> Result<(), WriteEventError>
         ensures own { writes_event self.old event.now result self.new }
-        ensures shown { Shows (written self.old) (written self.new) (faults self.old) (faults self.new)
+        ensures shown { Shows (written self.old) (written self.new) (faults self.old)
+            (faults self.new)
             (event_text (known (configured self.old)) event.now) result }
         ensures wants { wants self.new ≡ wants self.old }
         ensures later { faults self.old ≤ faults self.new }
@@ -138,10 +141,14 @@ pub fn write_event_dyn(
     reporter: &mut dyn EventReporter,
     event: &TestEvent<'_>,
 ) -> Result<(), WriteEventError>
-    ensures own { (after : _) × ((⟦<dyn EventReporter as EventReporter>⟧ reporter.old.0).writes_event reporter.old.1 event.now result after)
+    ensures own { (after : _)
+        × ((⟦<dyn EventReporter as EventReporter>⟧ reporter.old.0).writes_event reporter.old.1
+        event.now result after)
         × (reporter.new ≡ (reporter.old.0, after)) }
-    ensures shown { Shows (written reporter.old) (written reporter.new) (faults reporter.old) (faults reporter.new)
-        ((⟦<dyn EventReporter as EventReporter>⟧ reporter.old.0).event_text (known (configured reporter.old)) event.now) result }
+    ensures shown { Shows (written reporter.old) (written reporter.new) (faults reporter.old)
+        (faults reporter.new)
+        ((⟦<dyn EventReporter as EventReporter>⟧ reporter.old.0).event_text
+        (known (configured reporter.old)) event.now) result }
     ensures wants { wants reporter.new ≡ wants reporter.old }
     ensures later { faults reporter.old ≤ faults reporter.new }
 {

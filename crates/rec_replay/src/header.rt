@@ -30,7 +30,8 @@ impl ReplayHeader {
         run_info: &RecordedRunInfo,
         run_id_index: Option<&RunIdIndex>,
     ) -> Result<ReplayHeader, AllocError>
-        ensures { IfOk result (IsHeaderOf run_id run_info.now (option_map (λ index. index.now) run_id_index.entry)) }
+        ensures { IfOk result
+            (IsHeaderOf run_id run_info.now (option_map (λ index. index.now) run_id_index.entry)) }
     {
         let unique_prefix = match run_id_index {
             Some(index) => index.shortest_unique_prefix(alloc, run_id)?,

@@ -27,11 +27,15 @@ use rec_store::OutputNamer;
 /// line was read as `read`. `ReplayContext::convert_event` then answered `replay`, with `Load` and over
 /// the entries that the recorder's store had after the event, and `more` after them.
 pub fn recorded_events_are_replayed<S: Sink, L: Sink, N: OutputNamer>()
-    ensures { (live : TestEvent) (event : LiveEvent) (old new : Recording S L N) (read : RecordedEvent) (more : List Entry) (limit : ℕ) (tests : Bor Tests) (replay : TestEvent)
+    ensures { (live : TestEvent) (event : LiveEvent) (old new : Recording S L N)
+        (read : RecordedEvent) (more : List Entry) (limit : ℕ) (tests : Bor Tests)
+        (replay : TestEvent)
         → event_summary live ≡ Some event
         → Logs S.taken S.faults L.taken L.faults N.number old new event
         → IsLogged (event_recorded (N.number old.namer) old.max_output event)
-        → recorded_event_of (event_text (event_recorded (N.number old.namer) old.max_output event)) ≡ Some read
-        → ConvertsAs (first_refusal (new.store.entries ++ more) limit (event_names Load read)) (replayed Load tests (new.store.entries ++ more) read) (Ok replay)
+        → recorded_event_of (event_text (event_recorded (N.number old.namer) old.max_output event))
+        ≡ Some read
+        → ConvertsAs (first_refusal (new.store.entries ++ more) limit (event_names Load read))
+        (replayed Load tests (new.store.entries ++ more) read) (Ok replay)
         → replay ≡ live_event_kept old.max_output tests live }
 {}

@@ -44,7 +44,8 @@ impl<'k, K: Sink> LineReporter<'k, K> {
 
 /// Writes a text to the sink.
 fn show<K: Sink>(sink: &mut K, text: &[u8]) -> Result<(), WriteEventError>
-    ensures shown { Shows (K.taken sink.old) (K.taken sink.new) (K.faults sink.old) (K.faults sink.new) text.now result }
+    ensures shown { Shows (K.taken sink.old) (K.taken sink.new) (K.faults sink.old)
+        (K.faults sink.new) text.now result }
     ensures later { K.faults sink.old ≤ K.faults sink.new }
 {
     match write_all(sink, text) {
@@ -70,11 +71,15 @@ impl<'k, K: Sink> EventReporter for LineReporter<'k, K> {
 
     ghost configures = { λ old c new. (new ≡ record old { configuration = Some c }) };
 
-    ghost writes_header = { λ old header result new. (new ≡ record old { sink = record old.sink { now = new.sink.now } })
-        × Shows (K.taken old.sink.now) (K.taken new.sink.now) (K.faults old.sink.now) (K.faults new.sink.now) (spec.header_line header) result };
+    ghost writes_header = { λ old header result new.
+        (new ≡ record old { sink = record old.sink { now = new.sink.now } })
+        × Shows (K.taken old.sink.now) (K.taken new.sink.now) (K.faults old.sink.now)
+        (K.faults new.sink.now) (spec.header_line header) result };
 
-    ghost writes_event = { λ old event result new. (new ≡ record old { sink = record old.sink { now = new.sink.now } })
-        × Shows (K.taken old.sink.now) (K.taken new.sink.now) (K.faults old.sink.now) (K.faults new.sink.now) (spec.line_text event) result };
+    ghost writes_event = { λ old event result new.
+        (new ≡ record old { sink = record old.sink { now = new.sink.now } })
+        × Shows (K.taken old.sink.now) (K.taken new.sink.now) (K.faults old.sink.now)
+        (K.faults new.sink.now) (spec.line_text event) result };
 
     ghost finishes = { λ old new. new ≡ record old { finished = true } };
 

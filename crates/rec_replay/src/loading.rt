@@ -24,7 +24,8 @@ fn load_named(
     reader: &mut dyn StoreReader,
     name: OutputFileName,
 ) -> Result<ChildSingleOutput, RecordReadError>
-    ensures loads { Loads (limit reader.old) (limit reader.new) (failures reader.old) (failures reader.new) (holds reader.old) (holds reader.new)
+    ensures loads { Loads (limit reader.old) (limit reader.new) (failures reader.old)
+        (failures reader.new) (holds reader.old) (holds reader.new)
         (name ∷ []) (λ es. bytes_under es name) result }
     ensures same_reader { reader.new.0 ≡ reader.old.0 }
 {
@@ -39,7 +40,8 @@ fn load_output(
     reader: &mut dyn StoreReader,
     output: ZipStoreOutput,
 ) -> Result<ChildSingleOutput, RecordReadError>
-    ensures loads { Loads (limit reader.old) (limit reader.new) (failures reader.old) (failures reader.new) (holds reader.old) (holds reader.new)
+    ensures loads { Loads (limit reader.old) (limit reader.new) (failures reader.old)
+        (failures reader.new) (holds reader.old) (holds reader.new)
         (output_names output) (λ es. output_loaded es output) result }
     ensures same_reader { reader.new.0 ≡ reader.old.0 }
 {
@@ -56,7 +58,8 @@ fn load_captured(
     reader: &mut dyn StoreReader,
     output: Option<ZipStoreOutput>,
 ) -> Result<Option<ChildSingleOutput>, RecordReadError>
-    ensures loads { Loads (limit reader.old) (limit reader.new) (failures reader.old) (failures reader.new) (holds reader.old) (holds reader.new)
+    ensures loads { Loads (limit reader.old) (limit reader.new) (failures reader.old)
+        (failures reader.new) (holds reader.old) (holds reader.new)
         (captured_names output) (λ es. option_map (output_loaded es) output) result }
     ensures same_reader { reader.new.0 ≡ reader.old.0 }
 {
@@ -73,7 +76,8 @@ fn load_description(
     load: LoadOutput,
     output: &ZipStoreOutputDescription,
 ) -> Result<ChildOutputDescription, RecordReadError>
-    ensures loads { Loads (limit reader.old) (limit reader.new) (failures reader.old) (failures reader.new) (holds reader.old) (holds reader.new)
+    ensures loads { Loads (limit reader.old) (limit reader.new) (failures reader.old)
+        (failures reader.new) (holds reader.old) (holds reader.new)
         (description_names load output.now) (λ es. description_loaded load es output.now) result }
     ensures same_reader { reader.new.0 ≡ reader.old.0 }
     ensures skipped { load ≡ Skip → reader.new ≡ reader.old }
@@ -90,7 +94,8 @@ fn load_described(
     reader: &mut dyn StoreReader,
     output: &ZipStoreOutputDescription,
 ) -> Result<ChildOutputDescription, RecordReadError>
-    ensures loads { Loads (limit reader.old) (limit reader.new) (failures reader.old) (failures reader.new) (holds reader.old) (holds reader.new)
+    ensures loads { Loads (limit reader.old) (limit reader.new) (failures reader.old)
+        (failures reader.new) (holds reader.old) (holds reader.new)
         (description_names Load output.now) (λ es. description_loaded Load es output.now) result }
     ensures same_reader { reader.new.0 ≡ reader.old.0 }
 {
@@ -114,11 +119,14 @@ fn load_execution(
     load: LoadOutput,
     output: &ChildExecutionOutputDescription<RecordingSpec>,
 ) -> Result<ChildExecutionOutputDescription<LiveSpec>, RecordReadError>
-    ensures loads { Loads (limit reader.old) (limit reader.new) (failures reader.old) (failures reader.new) (holds reader.old) (holds reader.new)
-        (of_execution (description_names load) output.now) (λ es. execution_with (description_loaded load es) output.now) result }
+    ensures loads { Loads (limit reader.old) (limit reader.new) (failures reader.old)
+        (failures reader.new) (holds reader.old) (holds reader.new)
+        (of_execution (description_names load) output.now)
+        (λ es. execution_with (description_loaded load es) output.now) result }
     ensures same_reader { reader.new.0 ≡ reader.old.0 }
     ensures skipped { load ≡ Skip → reader.new ≡ reader.old }
-    ensures apart { IfOk result (λ y. execution_with {T = LiveSpec} unloaded y ≡ execution_with left_out output.now) }
+    ensures apart { IfOk result
+        (λ y. execution_with {T = LiveSpec} unloaded y ≡ execution_with left_out output.now) }
 {
     match output {
         ChildExecutionOutputDescription::Output {
@@ -156,11 +164,14 @@ pub(crate) fn load_status(
     load: LoadOutput,
     status: &ExecuteStatus<RecordingSpec>,
 ) -> Result<ExecuteStatus<LiveSpec>, RecordReadError>
-    ensures loads { Loads (limit reader.old) (limit reader.new) (failures reader.old) (failures reader.new) (holds reader.old) (holds reader.new)
-        (of_status (description_names load) status.now) (λ es. status_with (description_loaded load es) status.now) result }
+    ensures loads { Loads (limit reader.old) (limit reader.new) (failures reader.old)
+        (failures reader.new) (holds reader.old) (holds reader.new)
+        (of_status (description_names load) status.now)
+        (λ es. status_with (description_loaded load es) status.now) result }
     ensures same_reader { reader.new.0 ≡ reader.old.0 }
     ensures skipped { load ≡ Skip → reader.new ≡ reader.old }
-    ensures apart { IfOk result (λ y. status_with {T = LiveSpec} unloaded y ≡ status_with left_out status.now) }
+    ensures apart { IfOk result
+        (λ y. status_with {T = LiveSpec} unloaded y ≡ status_with left_out status.now) }
 {
     let copied = copy_result(alloc, status)?;
     let output = match load_execution(alloc, reader, load, &status.output) {
@@ -197,7 +208,8 @@ fn copy_result(
     ),
     AllocError,
 >
-    ensures { IfOk result (λ c. c ≡ (status.now.error_summary, status.now.output_error_slice, status.now.result)) }
+    ensures { IfOk result
+        (λ c. c ≡ (status.now.error_summary, status.now.output_error_slice, status.now.result)) }
 {
     let result = status.result.try_clone(alloc)?;
     let Ok(errors) = clone_both(alloc, &status.error_summary, &status.output_error_slice) else {
@@ -215,11 +227,15 @@ pub(crate) fn load_script_status(
     load: LoadOutput,
     status: &SetupScriptExecuteStatus<RecordingSpec>,
 ) -> Result<SetupScriptExecuteStatus<LiveSpec>, RecordReadError>
-    ensures loads { Loads (limit reader.old) (limit reader.new) (failures reader.old) (failures reader.new) (holds reader.old) (holds reader.new)
-        (of_execution (description_names load) status.now.output) (λ es. script_status_with (description_loaded load es) status.now) result }
+    ensures loads { Loads (limit reader.old) (limit reader.new) (failures reader.old)
+        (failures reader.new) (holds reader.old) (holds reader.new)
+        (of_execution (description_names load) status.now.output)
+        (λ es. script_status_with (description_loaded load es) status.now) result }
     ensures same_reader { reader.new.0 ≡ reader.old.0 }
     ensures skipped { load ≡ Skip → reader.new ≡ reader.old }
-    ensures apart { IfOk result (λ y. script_status_with {T = LiveSpec} unloaded y ≡ script_status_with left_out status.now) }
+    ensures apart { IfOk result
+        (λ y. script_status_with {T = LiveSpec} unloaded y
+        ≡ script_status_with left_out status.now) }
 {
     let copied = copy_script_result(alloc, status)?;
     let output = match load_execution(alloc, reader, load, &status.output) {
@@ -253,7 +269,8 @@ fn copy_script_result(
     ),
     AllocError,
 >
-    ensures { IfOk result (λ c. c ≡ (status.now.env_map, status.now.error_summary, status.now.result)) }
+    ensures { IfOk result
+        (λ c. c ≡ (status.now.env_map, status.now.error_summary, status.now.result)) }
 {
     let result = status.result.try_clone(alloc)?;
     let Ok(said) = clone_both(alloc, &status.env_map, &status.error_summary) else {
@@ -271,11 +288,14 @@ pub(crate) fn load_statuses(
     load: LoadOutput,
     statuses: &ExecutionStatuses<RecordingSpec>,
 ) -> Result<ExecutionStatuses<LiveSpec>, RecordReadError>
-    ensures loads { Loads (limit reader.old) (limit reader.new) (failures reader.old) (failures reader.new) (holds reader.old) (holds reader.new)
-        (flat_map (of_status (description_names load)) statuses.now.statuses) (λ es. statuses_with (description_loaded load es) statuses.now) result }
+    ensures loads { Loads (limit reader.old) (limit reader.new) (failures reader.old)
+        (failures reader.new) (holds reader.old) (holds reader.new)
+        (flat_map (of_status (description_names load)) statuses.now.statuses)
+        (λ es. statuses_with (description_loaded load es) statuses.now) result }
     ensures same_reader { reader.new.0 ≡ reader.old.0 }
     ensures skipped { load ≡ Skip → reader.new ≡ reader.old }
-    ensures apart { IfOk result (λ y. statuses_with {T = LiveSpec} unloaded y ≡ statuses_with left_out statuses.now) }
+    ensures apart { IfOk result
+        (λ y. statuses_with {T = LiveSpec} unloaded y ≡ statuses_with left_out statuses.now) }
 {
     let loaded = load_each(alloc, reader, load, statuses.statuses.as_slice())?;
     Ok(ExecutionStatuses::new(loaded.into_vec(), statuses.flaky_result))
@@ -288,11 +308,15 @@ fn load_each(
     load: LoadOutput,
     statuses: &[ExecuteStatus<RecordingSpec>],
 ) -> Result<Items<ExecuteStatus<LiveSpec>>, RecordReadError>
-    ensures loads { Loads (limit reader.old) (limit reader.new) (failures reader.old) (failures reader.new) (holds reader.old) (holds reader.new)
-        (flat_map (of_status (description_names load)) statuses.now) (λ es. map (status_with (description_loaded load es)) statuses.now) result }
+    ensures loads { Loads (limit reader.old) (limit reader.new) (failures reader.old)
+        (failures reader.new) (holds reader.old) (holds reader.new)
+        (flat_map (of_status (description_names load)) statuses.now)
+        (λ es. map (status_with (description_loaded load es)) statuses.now) result }
     ensures same_reader { reader.new.0 ≡ reader.old.0 }
     ensures skipped { load ≡ Skip → reader.new ≡ reader.old }
-    ensures apart { IfOk result (λ y. map (status_with {T = LiveSpec} unloaded) y ≡ map (status_with left_out) statuses.now) }
+    ensures apart { IfOk result
+        (λ y. map (status_with {T = LiveSpec} unloaded) y
+        ≡ map (status_with left_out) statuses.now) }
     ensures as_many { IfOk result (λ loaded. length loaded ≡ length statuses.now) }
 {
     let mut loaded = Vec::new(alloc);

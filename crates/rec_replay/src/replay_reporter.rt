@@ -43,7 +43,9 @@ impl ReplayReporterBuilder {
     /// Sets which tests are shown as they end.
     pub fn set_status_level(&mut self, status_level: StatusLevel) -> &mut Self
         ensures same { result.ghost_name ≡ self.entry.ghost_name }
-        ensures set { result.now ≡ record self.old { settings = record self.old.settings { status_level = status_level } } }
+        ensures set { result.now
+            ≡ record self.old
+            { settings = record self.old.settings { status_level = status_level } } }
     {
         self.settings.status_level = status_level;
         self
@@ -52,7 +54,9 @@ impl ReplayReporterBuilder {
     /// Sets which tests are shown at the end of the run.
     pub fn set_final_status_level(&mut self, final_status_level: FinalStatusLevel) -> &mut Self
         ensures same { result.ghost_name ≡ self.entry.ghost_name }
-        ensures set { result.now ≡ record self.old { settings = record self.old.settings { final_status_level = final_status_level } } }
+        ensures set { result.now
+            ≡ record self.old
+            { settings = record self.old.settings { final_status_level = final_status_level } } }
     {
         self.settings.final_status_level = final_status_level;
         self
@@ -61,7 +65,9 @@ impl ReplayReporterBuilder {
     /// Sets when the output of a test that passed is shown.
     pub fn set_success_output(&mut self, success_output: TestOutputDisplay) -> &mut Self
         ensures same { result.ghost_name ≡ self.entry.ghost_name }
-        ensures set { result.now ≡ record self.old { settings = record self.old.settings { success_output = (Some success_output) } } }
+        ensures set { result.now
+            ≡ record self.old
+            { settings = record self.old.settings { success_output = (Some success_output) } } }
     {
         self.settings.success_output = Some(success_output);
         self
@@ -70,7 +76,9 @@ impl ReplayReporterBuilder {
     /// Sets when the output of a test that failed is shown.
     pub fn set_failure_output(&mut self, failure_output: TestOutputDisplay) -> &mut Self
         ensures same { result.ghost_name ≡ self.entry.ghost_name }
-        ensures set { result.now ≡ record self.old { settings = record self.old.settings { failure_output = (Some failure_output) } } }
+        ensures set { result.now
+            ≡ record self.old
+            { settings = record self.old.settings { failure_output = (Some failure_output) } } }
     {
         self.settings.failure_output = Some(failure_output);
         self
@@ -79,7 +87,9 @@ impl ReplayReporterBuilder {
     /// Sets whether colours are used.
     pub fn set_colorize(&mut self, colorize: bool) -> &mut Self
         ensures same { result.ghost_name ≡ self.entry.ghost_name }
-        ensures set { result.now ≡ record self.old { settings = record self.old.settings { should_colorize = colorize } } }
+        ensures set { result.now
+            ≡ record self.old
+            { settings = record self.old.settings { should_colorize = colorize } } }
     {
         self.settings.should_colorize = colorize;
         self
@@ -88,7 +98,8 @@ impl ReplayReporterBuilder {
     /// Sets whether more is shown than usual.
     pub fn set_verbose(&mut self, verbose: bool) -> &mut Self
         ensures same { result.ghost_name ≡ self.entry.ghost_name }
-        ensures set { result.now ≡ record self.old { settings = record self.old.settings { verbose = verbose } } }
+        ensures set { result.now
+            ≡ record self.old { settings = record self.old.settings { verbose = verbose } } }
     {
         self.settings.verbose = verbose;
         self
@@ -97,7 +108,9 @@ impl ReplayReporterBuilder {
     /// Sets how the progress is shown.
     pub fn set_show_progress(&mut self, show_progress: ShowProgress) -> &mut Self
         ensures same { result.ghost_name ≡ self.entry.ghost_name }
-        ensures set { result.now ≡ record self.old { settings = record self.old.settings { show_progress = show_progress } } }
+        ensures set { result.now
+            ≡ record self.old
+            { settings = record self.old.settings { show_progress = show_progress } } }
     {
         self.settings.show_progress = show_progress;
         self
@@ -109,7 +122,11 @@ impl ReplayReporterBuilder {
         max_progress_running: MaxProgressRunning,
     ) -> &mut Self
         ensures same { result.ghost_name ≡ self.entry.ghost_name }
-        ensures set { result.now ≡ record self.old { settings = record self.old.settings { max_progress_running = max_progress_running } } }
+        ensures set { result.now
+            ≡ record self.old {
+              settings = record self.old.settings
+                  { max_progress_running = max_progress_running };
+            } }
     {
         self.settings.max_progress_running = max_progress_running;
         self
@@ -118,7 +135,9 @@ impl ReplayReporterBuilder {
     /// Sets whether outputs stand without an indent.
     pub fn set_no_output_indent(&mut self, no_output_indent: bool) -> &mut Self
         ensures same { result.ghost_name ≡ self.entry.ghost_name }
-        ensures set { result.now ≡ record self.old { settings = record self.old.settings { no_output_indent = no_output_indent } } }
+        ensures set { result.now
+            ≡ record self.old
+            { settings = record self.old.settings { no_output_indent = no_output_indent } } }
     {
         self.settings.no_output_indent = no_output_indent;
         self
@@ -127,7 +146,8 @@ impl ReplayReporterBuilder {
     /// Sets whether what differs between runs is hidden.
     pub fn set_redactor(&mut self, redactor: Redactor) -> &mut Self
         ensures same { result.ghost_name ≡ self.entry.ghost_name }
-        ensures set { result.now ≡ record self.old { settings = record self.old.settings { redactor = redactor } } }
+        ensures set { result.now
+            ≡ record self.old { settings = record self.old.settings { redactor = redactor } } }
     {
         self.settings.redactor = redactor;
         self
@@ -142,7 +162,9 @@ impl ReplayReporterBuilder {
         reporter: &'a mut R,
     ) -> ReplayReporter<'a, R>
         ensures same { result.reporter.ghost_name ≡ reporter.entry.ghost_name }
-        ensures own { R.configures reporter.old (record { settings = self.settings; mode = mode; run_count = run_count }) result.reporter.now }
+        ensures own { R.configures reporter.old
+            (record { settings = self.settings; mode = mode; run_count = run_count })
+            result.reporter.now }
         ensures configured { Becomes (R.configured reporter.old) (R.configured result.reporter.now)
             (Some (record { settings = self.settings; mode = mode; run_count = run_count })) }
         ensures wants { R.wants result.reporter.now ≡ R.wants reporter.old }
@@ -177,13 +199,15 @@ impl<'a, R: EventReporter> ReplayReporter<'a, R> {
     /// Those of the reporter's own call.
     pub fn write_header(&mut self, header: &ReplayHeader) -> Result<(), WriteEventError>
         ensures same { self.new.reporter.ghost_name ≡ self.old.reporter.ghost_name }
-        ensures own { R.writes_header self.old.reporter.now header.now result self.new.reporter.now }
+        ensures own { R.writes_header self.old.reporter.now header.now result
+            self.new.reporter.now }
         ensures shown { Shows (R.written self.old.reporter.now) (R.written self.new.reporter.now)
             (R.faults self.old.reporter.now) (R.faults self.new.reporter.now)
             (R.header_text (known (R.configured self.old.reporter.now)) header.now) result }
         ensures wants { R.wants self.new.reporter.now ≡ R.wants self.old.reporter.now }
         ensures later { R.faults self.old.reporter.now ≤ R.faults self.new.reporter.now }
-        ensures configured { R.configured self.new.reporter.now ≡ R.configured self.old.reporter.now }
+        ensures configured { R.configured self.new.reporter.now
+            ≡ R.configured self.old.reporter.now }
         ensures finished { R.finished self.new.reporter.now ≡ R.finished self.old.reporter.now }
     {
         self.reporter.write_header(header)
@@ -202,7 +226,8 @@ impl<'a, R: EventReporter> ReplayReporter<'a, R> {
             (R.event_text (known (R.configured self.old.reporter.now)) event.now) result }
         ensures wants { R.wants self.new.reporter.now ≡ R.wants self.old.reporter.now }
         ensures later { R.faults self.old.reporter.now ≤ R.faults self.new.reporter.now }
-        ensures configured { R.configured self.new.reporter.now ≡ R.configured self.old.reporter.now }
+        ensures configured { R.configured self.new.reporter.now
+            ≡ R.configured self.old.reporter.now }
         ensures finished { R.finished self.new.reporter.now ≡ R.finished self.old.reporter.now }
     {
         self.reporter.write_event(event)
@@ -211,7 +236,8 @@ impl<'a, R: EventReporter> ReplayReporter<'a, R> {
     /// Ends the showing.
     pub fn finish(self)
         ensures own { R.finishes self.entry.reporter.now self.exit.0.now }
-        ensures finished { Becomes (R.finished self.entry.reporter.now) (R.finished self.exit.0.now) true }
+        ensures finished { Becomes (R.finished self.entry.reporter.now) (R.finished self.exit.0.now)
+            true }
         ensures wants { R.wants self.exit.0.now ≡ R.wants self.entry.reporter.now }
         ensures later { R.faults self.entry.reporter.now ≤ R.faults self.exit.0.now }
         ensures written { R.written self.exit.0.now ≡ R.written self.entry.reporter.now }

@@ -73,7 +73,8 @@ impl Planned {
         info: &RerunInfo,
         test: OwnedTestInstanceId,
     ) -> Result<(), AllocError>
-        ensures ok { OnOk result ((tests : List OwnedTestInstanceId) → HasPlanned info.now tests self.old
+        ensures ok { OnOk result
+            ((tests : List OwnedTestInstanceId) → HasPlanned info.now tests self.old
             → HasPlanned info.now (tests ++ test ∷ []) self.new) }
     {
         let is_first = self.seen.insert(test.try_clone(alloc)?)?;
@@ -96,7 +97,8 @@ impl Planned {
         binary: &str,
         names: &[TestCaseName],
     ) -> Result<(), AllocError>
-        ensures ok { OnOk result ((tests : List OwnedTestInstanceId) → HasPlanned info.now tests self.old
+        ensures ok { OnOk result
+            ((tests : List OwnedTestInstanceId) → HasPlanned info.now tests self.old
             → HasPlanned info.now (tests ++ map (test_of binary.now) names.now) self.new) }
     {
         for name in names {
@@ -123,7 +125,8 @@ fn add_unseen(
     seen: &BTreeSet<OwnedTestInstanceId>,
     test: OwnedTestInstanceId,
 ) -> Result<(), AllocError>
-    ensures ok { OnOk result (gone.new.items ≡ gone.old.items ++ (if is_seen seen.now test then [] else test ∷ [])) }
+    ensures ok { OnOk result
+        (gone.new.items ≡ gone.old.items ++ (if is_seen seen.now test then [] else test ∷ [])) }
 {
     if seen.contains(&test) {
         return Ok(());
@@ -140,7 +143,8 @@ fn add_gone(
     suite: &RerunTestSuiteInfo,
 ) -> Result<(), AllocError>
     ensures ok { OnOk result (gone.new.items ≡ gone.old.items
-        ++ filter (λ t. not (is_seen seen.now t)) (map (test_of suite.now.binary_id) suite.now.outstanding)) }
+        ++ filter (λ t. not (is_seen seen.now t))
+        (map (test_of suite.now.binary_id) suite.now.outstanding)) }
 {
     for name in suite.outstanding.as_set() {
         let test = test_named(alloc, suite.binary_id.as_str(), name.as_str())?;
@@ -155,7 +159,9 @@ fn gone_of(
     info: &RerunInfo,
     seen: &BTreeSet<OwnedTestInstanceId>,
 ) -> Result<Vec<OwnedTestInstanceId>, AllocError>
-    ensures { IfOk result (λ gone. gone.items ≡ filter (λ t. not (is_seen seen.now t)) (outstanding_in info.now.test_suites)) }
+    ensures { IfOk result
+        (λ gone. gone.items
+        ≡ filter (λ t. not (is_seen seen.now t)) (outstanding_in info.now.test_suites)) }
 {
     let mut gone = Vec::new(alloc);
     for suite in info.test_suites.as_map().values() {
@@ -203,9 +209,11 @@ pub fn plan_rerun(
     ensures gone { IfOk result (λ plan. plan.gone ≡ gone_of info.now list.now) }
     ensures parted { IfOk result (λ plan. (t : OwnedTestInstanceId) →
         (is_in plan.run t || is_in plan.skip t) ≡ is_listed list.now t) }
-    ensures apart { IfOk result (λ plan. (t : OwnedTestInstanceId) → (is_in plan.run t && is_in plan.skip t) ≡ false) }
+    ensures apart { IfOk result
+        (λ plan. (t : OwnedTestInstanceId) → (is_in plan.run t && is_in plan.skip t) ≡ false) }
     ensures kept { IfOk result (λ plan. AreApart info.now.test_suites → (t : OwnedTestInstanceId) →
-        has_outstanding info.now.test_suites t ≡ true → (is_in plan.run t || is_in plan.gone t) ≡ true) }
+        has_outstanding info.now.test_suites t ≡ true
+        → (is_in plan.run t || is_in plan.gone t) ≡ true) }
 {
     make_plan(alloc, info, list)
 }

@@ -27,7 +27,8 @@ fn root_of(
     build_scope: &RecordedBuildScope,
     parent: Option<&RerunInfo>,
 ) -> Result<RerunRootInfo, AllocError>
-    ensures { IfOk result (λ root. root ≡ root_of run_id build_scope.now (option_copied parent.entry)) }
+    ensures { IfOk result
+        (λ root. root ≡ root_of run_id build_scope.now (option_copied parent.entry)) }
 {
     match parent {
         Some(info) => Ok(RerunRootInfo::new(
@@ -100,12 +101,15 @@ pub fn select_rerun(
     parent: Option<&RerunInfo>,
 ) -> Result<RerunInfo, AllocError>
     ensures parent_run { IfOk result (λ info. info.parent_run_id ≡ run_id) }
-    ensures root { IfOk result (λ info. info.root_info ≡ root_of run_id build_scope.now (option_copied parent.entry)) }
-    ensures selected { IfOk result (λ info. IsSelection events.now (option_copied parent.entry) info.test_suites) }
+    ensures root { IfOk result
+        (λ info. info.root_info ≡ root_of run_id build_scope.now (option_copied parent.entry)) }
+    ensures selected { IfOk result
+        (λ info. IsSelection events.now (option_copied parent.entry) info.test_suites) }
     ensures apart { IfOk result (λ info. (t : OwnedTestInstanceId) →
         (has_passing info.test_suites t && has_outstanding info.test_suites t) ≡ false) }
     ensures recorded { IfOk result (λ info. (t : OwnedTestInstanceId) →
-        (has_passing info.test_suites t || has_outstanding info.test_suites t) ≡ is_recorded events.now (option_copied parent.entry) t) }
+        (has_passing info.test_suites t || has_outstanding info.test_suites t)
+        ≡ is_recorded events.now (option_copied parent.entry) t) }
 {
     let root_info = root_of(alloc, run_id, build_scope, parent)?;
     let Ok(test_suites) = select_suites(alloc, events, parent) else {

@@ -44,7 +44,8 @@ impl Standings {
 
     /// Takes down how a test stands.
     fn put(&mut self, binary: &str, name: &str, standing: Standing) -> Result<(), AllocError>
-        ensures ok { OnOk result (Puts self.old.tests (test_of binary.now name.now) standing self.new.tests) }
+        ensures ok { OnOk result
+            (Puts self.old.tests (test_of binary.now name.now) standing self.new.tests) }
     {
         let Some(tests) = self.tests.get_mut(binary) else {
             return self.put_first(binary, name, standing);
@@ -56,7 +57,8 @@ impl Standings {
     /// Takes down how the first test of a binary stands.
     fn put_first(&mut self, binary: &str, name: &str, standing: Standing) -> Result<(), AllocError>
         requires { get_by_text self.old.tests binary.now ≡ None }
-        ensures ok { OnOk result (Puts self.old.tests (test_of binary.now name.now) standing self.new.tests) }
+        ensures ok { OnOk result
+            (Puts self.old.tests (test_of binary.now name.now) standing self.new.tests) }
     {
         let mut tests = BTreeMap::new(self.alloc);
         tests.insert(String::from_str(self.alloc, name)?, standing)?;
@@ -78,7 +80,9 @@ impl Standings {
     /// Takes down that a test ended, if the log started it.
     fn end(&mut self, test: &OwnedTestInstanceId, passed: bool) -> Result<(), AllocError>
         ensures ok { OnOk result ((t : OwnedTestInstanceId) →
-            at self.new.tests t ≡ (if test_eq test.now t then ended passed (at self.old.tests t) else at self.old.tests t)) }
+            at self.new.tests t
+            ≡ (if test_eq test.now t then ended passed (at self.old.tests t) else at self.old.tests
+            t)) }
     {
         let Some(Standing::Started(_)) = self.standing(test) else {
             return Ok(());
@@ -111,7 +115,9 @@ impl Standings {
         &mut self,
         events: &[TestEventSummary<RecordingSpec>],
     ) -> Result<(), AllocError>
-        ensures ok { OnOk result ((t : OwnedTestInstanceId) (known : Option Bool) → at self.old.tests t ≡ option_map Known known
+        ensures ok { OnOk result
+            ((t : OwnedTestInstanceId) (known : Option Bool)
+            → at self.old.tests t ≡ option_map Known known
             → at self.new.tests t ≡ standing_of (acts_of events.now) known t) }
     {
         for event in events {
@@ -123,7 +129,8 @@ impl Standings {
     /// Takes down the passing tests of all suites, or the outstanding ones.
     pub(crate) fn note(&mut self, suites: &RerunSuites, passed: bool) -> Result<(), AllocError>
         ensures ok { OnOk result ((t : OwnedTestInstanceId) →
-            at self.new.tests t ≡ (if holds passed suites.now t then Some (Known passed) else at self.old.tests t)) }
+            at self.new.tests t
+            ≡ (if holds passed suites.now t then Some (Known passed) else at self.old.tests t)) }
     {
         for suite in suites.as_map().values() {
             self.note_names(suite.binary_id.as_str(), names_of(suite, passed), passed)?;
@@ -139,7 +146,9 @@ impl Standings {
         passed: bool,
     ) -> Result<(), AllocError>
         ensures ok { OnOk result ((t : OwnedTestInstanceId) →
-            at self.new.tests t ≡ (if is_named binary.now names.now t then Some (Known passed) else at self.old.tests t)) }
+            at self.new.tests t
+            ≡ (if is_named binary.now names.now t then Some (Known passed) else at self.old.tests
+            t)) }
     {
         for name in names.as_set() {
             self.put(binary, name.as_str(), Standing::Known(passed))?;

@@ -39,7 +39,9 @@ fn add_name(
     passed: bool,
     standing: Standing,
 ) -> Result<(), AllocError>
-    ensures ok { OnOk result (names.new ≡ (if stands passed (Some standing) then with_name names.old name.now else names.old)) }
+    ensures ok { OnOk result
+        (names.new
+        ≡ (if stands passed (Some standing) then with_name names.old name.now else names.old)) }
 {
     if !stands(passed, standing) {
         return Ok(());
@@ -53,7 +55,8 @@ fn names_that_stand(
     tests: &BTreeMap<String, Standing>,
     passed: bool,
 ) -> Result<TestNames, AllocError>
-    ensures names { IfOk result (λ names. (name : List ℕ) → has names name ≡ stands passed (get_by_text tests.now name)) }
+    ensures names { IfOk result
+        (λ names. (name : List ℕ) → has names name ≡ stands passed (get_by_text tests.now name)) }
     ensures rise { IfOk result (λ names. Rise names) }
 {
     let mut names = TestNames::empty(alloc);

@@ -71,7 +71,8 @@ impl Gathered {
     /// they are.
     fn add_event(&mut self, prefix: &Container<'_>, paths: Vec<String>) -> Result<bool, AllocError>
         requires { self.old.events + 1 < 2 ^ 64 }
-        ensures { IfOk result (AddsEvent prefix.now.entries (map string_bytes paths.items) self.old self.new) }
+        ensures { IfOk result
+            (AddsEvent prefix.now.entries (map string_bytes paths.items) self.old self.new) }
     {
         if !has_all(prefix, &paths) {
             return Ok(false);
@@ -84,7 +85,8 @@ impl Gathered {
 
 /// Returns whether all paths are those of entries.
 fn has_all(prefix: &Container<'_>, paths: &[String]) -> bool
-    ensures { result ≡ list_all (λ path. is_some (content_of prefix.now.entries (string_bytes path))) paths.now }
+    ensures { result
+        ≡ list_all (λ path. is_some (content_of prefix.now.entries (string_bytes path))) paths.now }
 {
     paths.iter().all(|path| prefix.get(path.as_str()).is_some())
 }

@@ -25,7 +25,8 @@ pub(crate) enum LogLine {
 
 /// Returns the first line that ends in LF, without it, and what stands after it.
 pub(crate) fn split_whole_line(bytes: &[u8]) -> Option<(&[u8], &[u8])>
-    ensures { MatchOption result (whole_lines bytes.now ≡ []) (λ x. Splits bytes.now x.0.now x.1.now) }
+    ensures { MatchOption result (whole_lines bytes.now ≡ [])
+        (λ x. Splits bytes.now x.0.now x.1.now) }
 {
     match line_end(bytes) {
         Some(end) => Some((&bytes[..end], &bytes[end + 1..])),
@@ -89,7 +90,8 @@ fn line_of_fault(error: LineError) -> Result<LogLine, AllocError>
 
 /// Returns the paths of the outputs of these names.
 fn paths_of(alloc: Global, names: &[OutputFileName]) -> Result<Vec<String>, AllocError>
-    ensures { IfOk result (λ paths. map string_bytes paths.items ≡ map stores.output_path names.now) }
+    ensures { IfOk result
+        (λ paths. map string_bytes paths.items ≡ map stores.output_path names.now) }
 {
     let mut paths = Vec::new(alloc);
     for name in names {

@@ -40,7 +40,9 @@ fn check_part<T: Form + Drop>(
     prefix: &Container<'_>,
     path: &str,
 ) -> Result<(), SalvageError>
-    ensures { Judges (part_refusal path.now (stands_for T.form_of) (content_of prefix.now.entries path.now)) result }
+    ensures { Judges
+        (part_refusal path.now (stands_for T.form_of) (content_of prefix.now.entries path.now))
+        result }
 {
     match prefix.get(path) {
         Some(content) => check_form::<T>(alloc, path, content),
@@ -50,7 +52,9 @@ fn check_part<T: Form + Drop>(
 
 /// Judges the rerun information, which may be missing.
 fn check_rerun_info(alloc: Global, prefix: &Container<'_>) -> Result<(), SalvageError>
-    ensures { Judges (maybe_refusal rerun_info_path (stands_for rerun_info_form) (content_of prefix.now.entries rerun_info_path)) result }
+    ensures { Judges
+        (maybe_refusal rerun_info_path (stands_for rerun_info_form)
+        (content_of prefix.now.entries rerun_info_path)) result }
 {
     match prefix.get(RERUN_INFO_JSON_PATH) {
         Some(content) => check_form::<RerunInfo>(alloc, RERUN_INFO_JSON_PATH, content),
@@ -60,7 +64,8 @@ fn check_rerun_info(alloc: Global, prefix: &Container<'_>) -> Result<(), Salvage
 
 /// Judges a part that is a text.
 fn check_text(alloc: Global, prefix: &Container<'_>, path: &str) -> Result<(), SalvageError>
-    ensures { Judges (part_refusal path.now is_utf8 (content_of prefix.now.entries path.now)) result }
+    ensures { Judges (part_refusal path.now is_utf8 (content_of prefix.now.entries path.now))
+        result }
 {
     match prefix.get(path) {
         Some(content) => check_utf8(alloc, path, content),

@@ -56,9 +56,12 @@ pub fn salvage(
     ensures ok { IfOk result (Salvages run.now log.now store.now) }
     ensures err { IfErr result (IsRefused store.now) }
     ensures magic { has_magic store.now ≡ false → result ≡ Err BadMagic }
-    ensures only { (es : List Entry) → IsWholePrefix store.now es → IfErr result (IsRefusal (prefix_refusal es)) }
+    ensures only { (es : List Entry)
+        → IsWholePrefix store.now es
+        → IfErr result (IsRefusal (prefix_refusal es)) }
     // Nothing that a recorder accepted is lost, whenever it was stopped.
-    ensures stopped { (number : List ℕ → ℕ) (m : ℕ) (events : List LiveEvent) → IsStopped number m events log.now store.now
+    ensures stopped { (number : List ℕ → ℕ) (m : ℕ) (events : List LiveEvent)
+        → IsStopped number m events log.now store.now
         → MatchResult result (Restores m events) (λ e. e ≡ OutOfMemory) }
 {
     salvage_store(alloc, run, log, store)
@@ -161,7 +164,8 @@ fn manifest_with(
     run: &RecordedRunInfo,
     sizes: RecordedSizes,
 ) -> Result<PortableManifest, AllocError>
-    ensures is { IfOk result (λ manifest. manifest ≡ manifest_of (record run.now { sizes = sizes })) }
+    ensures is { IfOk result
+        (λ manifest. manifest ≡ manifest_of (record run.now { sizes = sizes })) }
     ensures well { IfOk result IsManifest }
 {
     let mut manifest = PortableManifest::new(alloc, run)?;

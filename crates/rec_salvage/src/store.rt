@@ -35,7 +35,8 @@ pub(crate) fn keep_store(
 ) -> Result<KeptStore, AllocError>
     requires { AreFrom [] prefix.now.entries }
     ensures { IfOk result (λ store. (events : List RecordedEvent) → HasGathered events gathered.now
-        → IsStore (kept_entries prefix.now.entries events) (length (named_entries prefix.now.entries events)) store) }
+        → IsStore (kept_entries prefix.now.entries events)
+        (length (named_entries prefix.now.entries events)) store) }
 {
     let mut contents = Vec::new(alloc);
     add_metadata(&mut contents, prefix)?;
@@ -52,7 +53,8 @@ fn add_metadata<'a>(
     contents: &mut Vec<NamedContent<'a>>,
     prefix: &Container<'a>,
 ) -> Result<(), AllocError>
-    ensures { OnOk result (AddsEntries contents.old.items contents.new.items (prefix_metadata prefix.now.entries)) }
+    ensures { OnOk result
+        (AddsEntries contents.old.items contents.new.items (prefix_metadata prefix.now.entries)) }
 {
     add_part(contents, prefix, BUILD_SCOPE_JSON_PATH)?;
     add_part(contents, prefix, RERUN_INFO_JSON_PATH)?;
@@ -67,7 +69,9 @@ fn add_part<'a>(
     prefix: &Container<'a>,
     name: &'a str,
 ) -> Result<(), AllocError>
-    ensures { OnOk result (AddsEntries contents.old.items contents.new.items (listed name.now (content_of prefix.now.entries name.now))) }
+    ensures { OnOk result
+        (AddsEntries contents.old.items contents.new.items
+        (listed name.now (content_of prefix.now.entries name.now))) }
 {
     if let Some(content) = prefix.get(name) {
         contents.push(NamedContent { name, content })?;
@@ -81,7 +85,9 @@ fn add_named<'a>(
     prefix: &Container<'a>,
     paths: &BTreeSet<String>,
 ) -> Result<(), AllocError>
-    ensures { OnOk result (AddsEntries contents.old.items contents.new.items (entries_in paths.now prefix.now.entries)) }
+    ensures { OnOk result
+        (AddsEntries contents.old.items contents.new.items
+        (entries_in paths.now prefix.now.entries)) }
 {
     for i in 0..prefix.len() {
         let name = prefix.name(i);

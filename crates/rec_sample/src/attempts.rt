@@ -70,7 +70,8 @@ fn attempt(alloc: Global, i: u64) -> Result<ExecuteStatus<LiveSpec>, AllocError>
 /// Makes the list of the attempts of a test, which is one.
 pub(crate) fn attempts(alloc: Global, i: u64) -> Result<ExecutionStatuses<LiveSpec>, AllocError>
     requires { i ≤ 10000 }
-    ensures { IfOk result (λ a. a ≡ record { statuses = attempt i ∷ []; flaky_result = flaky.Pass }) }
+    ensures { IfOk result
+        (λ a. a ≡ record { statuses = attempt i ∷ []; flaky_result = flaky.Pass }) }
 {
     let mut statuses = Vec::new(alloc);
     statuses.push(attempt(alloc, i)?)?;

@@ -64,7 +64,8 @@ fn append_batch(
 ) -> Result<(), AllocError>
     requires bound { tests ≤ 10000 }
     requires within { 8 * batch < tests }
-    ensures { OnOk result (session.new.items ≡ session.old.items ++ event_lines (batch_events tests batch)) }
+    ensures { OnOk result
+        (session.new.items ≡ session.old.items ++ event_lines (batch_events tests batch)) }
 {
     append_starts(alloc, session, tests, batch)?;
     append_pause(alloc, session, tests, batch)?;
@@ -80,7 +81,8 @@ fn append_starts(
 ) -> Result<(), AllocError>
     requires bound { tests ≤ 10000 }
     requires within { 8 * batch < tests }
-    ensures { OnOk result (session.new.items ≡ session.old.items ++ event_lines (test_starts tests batch)) }
+    ensures { OnOk result
+        (session.new.items ≡ session.old.items ++ event_lines (test_starts tests batch)) }
 {
     for slot in 0..batch_size(tests, batch) {
         let event = test_started(alloc, tests, SLOTS * batch + slot)?;
@@ -98,7 +100,8 @@ fn append_pause(
 ) -> Result<(), AllocError>
     requires bound { tests ≤ 10000 }
     requires within { 8 * batch < tests }
-    ensures { OnOk result (session.new.items ≡ session.old.items ++ event_lines (pause tests batch)) }
+    ensures { OnOk result
+        (session.new.items ≡ session.old.items ++ event_lines (pause tests batch)) }
 {
     if !has_pause(batch) {
         return Ok(());
@@ -116,7 +119,8 @@ fn append_ends(
 ) -> Result<(), AllocError>
     requires bound { tests ≤ 10000 }
     requires within { 8 * batch < tests }
-    ensures { OnOk result (session.new.items ≡ session.old.items ++ event_lines (test_ends tests batch)) }
+    ensures { OnOk result
+        (session.new.items ≡ session.old.items ++ event_lines (test_ends tests batch)) }
 {
     for slot in 0..batch_size(tests, batch) {
         let event = test_finished(alloc, tests, SLOTS * batch + slot)?;

@@ -70,7 +70,8 @@ pub(crate) fn planned<'n, S, L, N>(
 impl<'n, S: Sink, L: Sink, N: OutputNamer> RecorderPlan<'n, S, L, N> {
     /// Hands the sinks back beside this error.
     pub(crate) fn refuse(self, error: RecordSetupError) -> RecordSetupFailed<S, L>
-        ensures { result ≡ record { error = error; store = self.entry.store; log = self.entry.log } }
+        ensures { result
+            ≡ record { error = error; store = self.entry.store; log = self.entry.log } }
     {
         let RecorderPlan {
             store,
@@ -96,12 +97,15 @@ impl<'n, S: Sink, L: Sink, N: OutputNamer> RecorderPlan<'n, S, L, N> {
         alloc: Global,
     ) -> Result<RunRecorder<'n, S, L, N>, RecordSetupFailed<S, L>>
         ensures ok { IfOk result (λ r. Stores S.taken S.faults
-            (new_recorder self.entry.store self.entry.log self.entry.namer.now self.entry.max_output_size) r
+            (new_recorder self.entry.store self.entry.log self.entry.namer.now
+            self.entry.max_output_size) r
             (first_entries self.entry.build_scope self.entry.rerun_info)) }
         ensures err { IfErr result (λ f. EndsRefused S.taken S.faults
-            (new_recorder self.entry.store self.entry.log self.entry.namer.now self.entry.max_output_size)
+            (new_recorder self.entry.store self.entry.log self.entry.namer.now
+            self.entry.max_output_size)
             (first_entries self.entry.build_scope self.entry.rerun_info) f.error f.store) }
-        ensures cause { IfErr result (λ f. IsStartCause (first_entries self.entry.build_scope self.entry.rerun_info)
+        ensures cause { IfErr result
+            (λ f. IsStartCause (first_entries self.entry.build_scope self.entry.rerun_info)
             (S.faults self.entry.store) (S.faults f.store) f.error) }
         ensures log { IfErr result (λ f. f.log ≡ self.entry.log) }
     {
@@ -129,8 +133,11 @@ fn write_first<S: Sink, L: Sink, N: OutputNamer>(
     rerun_info: Option<RerunInfo>,
 ) -> Result<(), RunStoreError>
     requires fresh { recorder.old.store.entries ≡ [] }
-    ensures ok { OnOk result (Stores S.taken S.faults recorder.old recorder.new (first_entries build_scope rerun_info)) }
-    ensures err { IfErr result (Unstored S.taken S.faults recorder.old recorder.new (first_entries build_scope rerun_info)) }
+    ensures ok { OnOk result
+        (Stores S.taken S.faults recorder.old recorder.new (first_entries build_scope rerun_info)) }
+    ensures err { IfErr result
+        (Unstored S.taken S.faults recorder.old recorder.new
+        (first_entries build_scope rerun_info)) }
     ensures log { recorder.new.log ≡ recorder.old.log }
     ensures later { S.faults recorder.old.store.sink ≤ S.faults recorder.new.store.sink }
 {
@@ -149,8 +156,10 @@ fn write_scope<S: Sink, L: Sink, N: OutputNamer>(
     recorder: &mut RunRecorder<'_, S, L, N>,
     build_scope: RecordedBuildScope,
 ) -> Result<(), RunStoreError>
-    ensures ok { OnOk result (Stores S.taken S.faults recorder.old recorder.new (build_scope_entry build_scope ∷ [])) }
-    ensures err { IfErr result (Unstored S.taken S.faults recorder.old recorder.new (build_scope_entry build_scope ∷ [])) }
+    ensures ok { OnOk result
+        (Stores S.taken S.faults recorder.old recorder.new (build_scope_entry build_scope ∷ [])) }
+    ensures err { IfErr result
+        (Unstored S.taken S.faults recorder.old recorder.new (build_scope_entry build_scope ∷ [])) }
     ensures later { KeepsCounts S.faults L.faults recorder.old recorder.new }
 {
     recorder.write_build_scope(&build_scope)

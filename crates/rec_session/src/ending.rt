@@ -60,7 +60,8 @@ fn status_of(stats: &RunFinishedStats, exit_code: i32) -> RecordedRunStatus
 
 /// Returns the status of a run of each test.
 fn single_status(stats: &RunStats, exit_code: i32) -> RecordedRunStatus
-    ensures { result ≡ endings.single_status (summary stats.now) (completed_stats stats.now exit_code) }
+    ensures { result
+        ≡ endings.single_status (summary stats.now) (completed_stats stats.now exit_code) }
 {
     let completed = CompletedRunStats {
         initial_run_count: stats.initial_run_count,
@@ -78,7 +79,8 @@ fn single_status(stats: &RunStats, exit_code: i32) -> RecordedRunStatus
 
 /// Returns the status of a stress run.
 fn stress_status(stats: &StressRunStats, exit_code: i32) -> RecordedRunStatus
-    ensures { result ≡ endings.stress_status (stress_summary stats.now) (stress_stats stats.now exit_code) }
+    ensures { result
+        ≡ endings.stress_status (stress_summary stats.now) (stress_stats stats.now exit_code) }
 {
     let completed = StressCompletedRunStats {
         initial_iteration_count: stats.completed.total,

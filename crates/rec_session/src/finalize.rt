@@ -88,8 +88,10 @@ pub(crate) fn finalize_run<K: RunKeeper>(
     ending: &RunEnding,
     policy: &RecordRetentionPolicy,
 ) -> Result<RecordFinalizeResult, AllocError>
-    ensures told { Told (K.known keeper.old) (K.known keeper.new) (λ k j. Finalizes ending.now (K.pruned policy.now) k j result) }
-    ensures cause { IfOk result (λ r. AreCaused (K.faults keeper.old) (K.faults keeper.new) r.warnings) }
+    ensures told { Told (K.known keeper.old) (K.known keeper.new)
+        (λ k j. Finalizes ending.now (K.pruned policy.now) k j result) }
+    ensures cause { IfOk result
+        (λ r. AreCaused (K.faults keeper.old) (K.faults keeper.new) r.warnings) }
     ensures later { K.faults keeper.old ≤ K.faults keeper.new }
 {
     if let Some(warning) = lock_store(keeper, state_dir)? {
@@ -106,7 +108,8 @@ fn lock_store<K: RunKeeper>(
     state_dir: &str,
 ) -> Result<Option<RecordFinalizeWarning>, AllocError>
     ensures told { Told (K.known keeper.old) (K.known keeper.new) (λ k j. LocksStore k j result) }
-    ensures cause { IfOk result (λ w. IfSome w (IsWarningCause (K.faults keeper.old) (K.faults keeper.new))) }
+    ensures cause { IfOk result
+        (λ w. IfSome w (IsWarningCause (K.faults keeper.old) (K.faults keeper.new))) }
     ensures later { K.faults keeper.old ≤ K.faults keeper.new }
 {
     if has_failed(keeper.open_store(state_dir))? {
@@ -163,8 +166,10 @@ fn complete_and_prune<K: RunKeeper>(
     ending: &RunEnding,
     policy: &RecordRetentionPolicy,
 ) -> Result<RecordFinalizeResult, AllocError>
-    ensures told { Told (K.known keeper.old) (K.known keeper.new) (λ k j. CompletesAndPrunes ending.now (K.pruned policy.now) k j result) }
-    ensures cause { IfOk result (λ r. AreCaused (K.faults keeper.old) (K.faults keeper.new) r.warnings) }
+    ensures told { Told (K.known keeper.old) (K.known keeper.new)
+        (λ k j. CompletesAndPrunes ending.now (K.pruned policy.now) k j result) }
+    ensures cause { IfOk result
+        (λ r. AreCaused (K.faults keeper.old) (K.faults keeper.new) r.warnings) }
     ensures later { K.faults keeper.old ≤ K.faults keeper.new }
 {
     let warning = complete(keeper, ending)?;
@@ -181,8 +186,10 @@ fn complete<K: RunKeeper>(
     keeper: &mut K,
     ending: &RunEnding,
 ) -> Result<Option<RecordFinalizeWarning>, AllocError>
-    ensures told { Told (K.known keeper.old) (K.known keeper.new) (λ k j. Completes ending.now k j result) }
-    ensures cause { IfOk result (λ w. IfSome w (IsWarningCause (K.faults keeper.old) (K.faults keeper.new))) }
+    ensures told { Told (K.known keeper.old) (K.known keeper.new)
+        (λ k j. Completes ending.now k j result) }
+    ensures cause { IfOk result
+        (λ w. IfSome w (IsWarningCause (K.faults keeper.old) (K.faults keeper.new))) }
     ensures later { K.faults keeper.old ≤ K.faults keeper.new }
 {
     let completed = keeper.complete_run(
@@ -234,7 +241,8 @@ fn without_errors(
     answer: PruneResult,
     warnings: &mut Vec<RecordFinalizeWarning>,
 ) -> Result<PruneResult, AllocError>
-    ensures warnings { IfOk result (λ _. warnings.new.items ≡ warnings.old.items ++ map PruneError answer.errors) }
+    ensures warnings { IfOk result
+        (λ _. warnings.new.items ≡ warnings.old.items ++ map PruneError answer.errors) }
     ensures rest { IfOk result (λ r. r ≡ record answer { errors = [] }) }
 {
     for error in answer.errors.into_vec() {

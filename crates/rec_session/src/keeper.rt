@@ -93,7 +93,8 @@ pub trait RunKeeper {
     ///
     /// `Failed` means that the keeper failed and counted it, and `OutOfMemory` that memory ran out.
     fn state_dir(&mut self, workspace_root: &str) -> Result<String, KeeperError>
-        ensures told { Told (known self.old) (known self.new) (λ k j. GivesDirectory (directory workspace_root.now) k j result) }
+        ensures told { Told (known self.old) (known self.new)
+            (λ k j. GivesDirectory (directory workspace_root.now) k j result) }
         ensures named { IfOk result (λ dir. string_bytes dir ≡ directory workspace_root.now) }
         ensures cause { HasKeeperCause (faults self.old) (faults self.new) result };
 
@@ -126,7 +127,8 @@ pub trait RunKeeper {
     ///
     /// `Failed` means that the keeper failed and counted it, and `OutOfMemory` that memory ran out.
     fn create_run(&mut self, run: &RecordedRunInfo) -> Result<ShortestRunIdPrefix, KeeperError>
-        ensures told { Told (known self.old) (known self.new) (λ k j. CreatesRun run.now k j result) }
+        ensures told { Told (known self.old) (known self.new)
+            (λ k j. CreatesRun run.now k j result) }
         ensures cause { HasKeeperCause (faults self.old) (faults self.new) result };
 
     /// Gives the first run with this id its sizes, its status and its duration, and answers whether
@@ -143,7 +145,9 @@ pub trait RunKeeper {
         duration: Option<Duration>,
     ) -> Result<bool, KeeperError>
         ensures told { Told (known self.old) (known self.new) (λ k j.
-            CompletesRun (record { run_id = run_id; sizes = sizes; status = status.now; duration = duration }) k j result) }
+            CompletesRun
+            (record { run_id = run_id; sizes = sizes; status = status.now; duration = duration }) k
+            j result) }
         ensures cause { HasKeeperCause (faults self.old) (faults self.new) result };
 
     /// Removes runs that a policy doesn't keep, and answers which, if it came to that.
@@ -152,6 +156,7 @@ pub trait RunKeeper {
     ///
     /// `Failed` means that the keeper failed and counted it, and `OutOfMemory` that memory ran out.
     fn prune(&mut self, policy: &RecordRetentionPolicy) -> Result<Option<PruneResult>, KeeperError>
-        ensures told { Told (known self.old) (known self.new) (λ k j. Prunes (pruned policy.now) k j result) }
+        ensures told { Told (known self.old) (known self.new)
+            (λ k j. Prunes (pruned policy.now) k j result) }
         ensures cause { HasKeeperCause (faults self.old) (faults self.new) result };
 }

@@ -35,14 +35,32 @@ impl Model for MemoryKeeper {
 
     ghost Value = { MemoryKeeping };
 
-    ghost view = { λ k. record { kept = record { runs = k.runs.items; locked = k.locked; calls = k.calls; fail_at = k.fail_at.items }; faults = k.faults } };
+    ghost view = { λ k.
+        record {
+          kept = record {
+            runs = k.runs.items;
+            locked = k.locked;
+            calls = k.calls;
+            fail_at = k.fail_at.items;
+          };
+          faults = k.faults;
+        } };
 }
 
 impl MemoryKeeper {
     /// Makes a keeper without runs, calls and faults, which isn't locked, and whose calls numbered in
     /// `fail_at` fail.
     pub fn new(alloc: Global, fail_at: Vec<u64>) -> MemoryKeeper
-        ensures { result ≡ record { kept = record { runs = []; locked = false; calls = 0; fail_at = fail_at.items }; faults = 0 } }
+        ensures { result
+            ≡ record {
+              kept = record {
+                runs = [];
+                locked = false;
+                calls = 0;
+                fail_at = fail_at.items;
+              };
+              faults = 0;
+            } }
     {
         MemoryKeeper {
             alloc,
@@ -141,7 +159,9 @@ impl RunKeeper for MemoryKeeper {
         status: &RecordedRunStatus,
         duration: Option<Duration>,
     ) -> Result<bool, KeeperError>
-        ensures told { CompletesRun (record { run_id = run_id; sizes = sizes; status = status.now; duration = duration }) self.old.kept self.new.kept result }
+        ensures told { CompletesRun
+            (record { run_id = run_id; sizes = sizes; status = status.now; duration = duration })
+            self.old.kept self.new.kept result }
         ensures cause { HasKeeperCause self.old.faults self.new.faults result }
         ensures counted { CountsCall self.old self.new result }
     {

@@ -56,7 +56,8 @@ impl<'n, S: Sink, L: Sink, N: OutputNamer> RecordReporter<'n, S, L, N> {
         test_list: &TestListSummary,
         opts: &RecordOpts,
     )
-        ensures { ReportsMeta S.taken S.faults L.faults self.old cargo_metadata_json.now test_list.now opts.now self.new }
+        ensures { ReportsMeta S.taken S.faults L.faults self.old cargo_metadata_json.now
+            test_list.now opts.now self.new }
     {
         if self.error.is_some() {
             return;
@@ -70,7 +71,8 @@ impl<'n, S: Sink, L: Sink, N: OutputNamer> RecordReporter<'n, S, L, N> {
     /// Records an event by [`RunRecorder::write_event`], and keeps its error or want of memory. An
     /// event that only informs is skipped. Nothing is done where an error is kept already.
     pub fn write_event(&mut self, alloc: Global, event: &TestEvent<'_>)
-        ensures { ReportsEvent S.taken S.faults L.taken L.faults N.number self.old event.now self.new }
+        ensures { ReportsEvent S.taken S.faults L.taken L.faults N.number self.old event.now
+            self.new }
     {
         if self.error.is_none() {
             let recorded = record(alloc, &mut self.recorder, event);
@@ -121,7 +123,8 @@ fn record<S: Sink, L: Sink, N: OutputNamer>(
     recorder: &mut RunRecorder<'_, S, L, N>,
     event: &TestEvent<'_>,
 ) -> Result<(), RunStoreError>
-    ensures { Records S.taken S.faults L.taken L.faults N.number recorder.old event.now result recorder.new }
+    ensures { Records S.taken S.faults L.taken L.faults N.number recorder.old event.now result
+        recorder.new }
 {
     match from_test_event(alloc, event)? {
         Some(summary) => recorder.write_event(summary),

@@ -35,7 +35,8 @@ impl Model for RecordSession {
 
     ghost Value = { Session };
 
-    ghost view = { λ s. record { run_id = s.run_id; prefix = s.prefix; state_dir = string_bytes s.state_dir } };
+    ghost view = { λ s.
+        record { run_id = s.run_id; prefix = s.prefix; state_dir = string_bytes s.state_dir } };
 }
 
 impl RecordSession {
@@ -65,19 +66,27 @@ impl RecordSession {
     ) -> Result<RecordSessionSetup<'n, S, L, N>, RecordSetupFailed<S, L>>
         // Over a keeper that is known.
         ensures told { Told (K.known keeper.old) (K.known keeper.new) (λ k j.
-            SetsUpOr (K.directory config.entry.workspace_root.now) (begun_run config.entry) k j result) }
+            SetsUpOr (K.directory config.entry.workspace_root.now) (begun_run config.entry) k j
+            result) }
 
         // Over any keeper.
         ensures run { IfOk result (λ s. s.session.run_id ≡ config.entry.run_id) }
-        ensures directory { IfOk result (λ s. s.session.state_dir ≡ K.directory config.entry.workspace_root.now) }
-        ensures cause { IfErr result (λ f. IsSetUpCause (first_entries config.entry.build_scope config.entry.rerun_info)
-            (K.faults keeper.old) (K.faults keeper.new) (S.faults store) (S.faults f.store) f.error) }
+        ensures directory { IfOk result
+            (λ s. s.session.state_dir ≡ K.directory config.entry.workspace_root.now) }
+        ensures cause { IfErr result
+            (λ f. IsSetUpCause (first_entries config.entry.build_scope config.entry.rerun_info)
+            (K.faults keeper.old) (K.faults keeper.new) (S.faults store) (S.faults f.store)
+            f.error) }
         ensures later { K.faults keeper.old ≤ K.faults keeper.new }
 
         // The recorder, and the sinks.
-        ensures recorder { IfOk result (λ s. Stores S.taken S.faults (new_recorder store log namer.now config.entry.max_output_size)
+        ensures recorder { IfOk result
+            (λ s. Stores S.taken S.faults
+            (new_recorder store log namer.now config.entry.max_output_size)
             s.recorder (first_entries config.entry.build_scope config.entry.rerun_info)) }
-        ensures store { IfErr result (λ f. LeavesStore S.taken S.faults (new_recorder store log namer.now config.entry.max_output_size)
+        ensures store { IfErr result
+            (λ f. LeavesStore S.taken S.faults
+            (new_recorder store log namer.now config.entry.max_output_size)
             (first_entries config.entry.build_scope config.entry.rerun_info) f.error f.store) }
         ensures log { IfErr result (λ f. f.log ≡ log) }
     {
@@ -134,12 +143,16 @@ impl RecordSession {
         policy: &RecordRetentionPolicy,
     ) -> Result<RecordFinalizeResult, AllocError>
         // Over a keeper that is known.
-        ensures told { IfSome recording_sizes (λ sizes. Told (K.known keeper.old) (K.known keeper.new) (λ k j.
-            Finalizes (ending_of self.run_id sizes run_finished exit_code) (K.pruned policy.now) k j result)) }
+        ensures told { IfSome recording_sizes
+            (λ sizes. Told (K.known keeper.old) (K.known keeper.new) (λ k j.
+            Finalizes (ending_of self.run_id sizes run_finished exit_code) (K.pruned policy.now) k j
+            result)) }
 
         // Over any keeper.
-        ensures none { IfNone recording_sizes ((result ≡ Ok (warned [])) × (keeper.new ≡ keeper.old)) }
-        ensures cause { IfOk result (λ r. AreCaused (K.faults keeper.old) (K.faults keeper.new) r.warnings) }
+        ensures none { IfNone recording_sizes
+            ((result ≡ Ok (warned [])) × (keeper.new ≡ keeper.old)) }
+        ensures cause { IfOk result
+            (λ r. AreCaused (K.faults keeper.old) (K.faults keeper.new) r.warnings) }
         ensures later { K.faults keeper.old ≤ K.faults keeper.new }
     {
         let Some(sizes) = recording_sizes else {
@@ -161,16 +174,22 @@ fn set_up_locked<'n, K: RunKeeper, S: Sink, L: Sink, N: OutputNamer>(
     plan: RecorderPlan<'n, S, L, N>,
     state_dir: String,
 ) -> Result<RecordSessionSetup<'n, S, L, N>, RecordSetupFailed<S, L>>
-    ensures told { Told (K.known keeper.old) (K.known keeper.new) (λ k j. SetsUpLocked run k j result) }
-    ensures session { IfOk result (λ s. (s.session.run_id ≡ run.run_id) × (s.session.state_dir ≡ string_bytes state_dir)) }
-    ensures cause { IfErr result (λ f. IsSetUpCause (first_entries plan.entry.build_scope plan.entry.rerun_info)
-        (K.faults keeper.old) (K.faults keeper.new) (S.faults plan.entry.store) (S.faults f.store) f.error) }
+    ensures told { Told (K.known keeper.old) (K.known keeper.new)
+        (λ k j. SetsUpLocked run k j result) }
+    ensures session { IfOk result
+        (λ s. (s.session.run_id ≡ run.run_id) × (s.session.state_dir ≡ string_bytes state_dir)) }
+    ensures cause { IfErr result
+        (λ f. IsSetUpCause (first_entries plan.entry.build_scope plan.entry.rerun_info)
+        (K.faults keeper.old) (K.faults keeper.new) (S.faults plan.entry.store) (S.faults f.store)
+        f.error) }
     ensures later { K.faults keeper.old ≤ K.faults keeper.new }
     ensures recorder { IfOk result (λ s. Stores S.taken S.faults
-        (new_recorder plan.entry.store plan.entry.log plan.entry.namer.now plan.entry.max_output_size)
+        (new_recorder plan.entry.store plan.entry.log plan.entry.namer.now
+        plan.entry.max_output_size)
         s.recorder (first_entries plan.entry.build_scope plan.entry.rerun_info)) }
     ensures store { IfErr result (λ f. LeavesStore S.taken S.faults
-        (new_recorder plan.entry.store plan.entry.log plan.entry.namer.now plan.entry.max_output_size)
+        (new_recorder plan.entry.store plan.entry.log plan.entry.namer.now
+        plan.entry.max_output_size)
         (first_entries plan.entry.build_scope plan.entry.rerun_info) f.error f.store) }
     ensures log { IfErr result (λ f. f.log ≡ plan.entry.log) }
 {

@@ -107,7 +107,8 @@ pub(crate) fn lock_state<K: RunKeeper>(
     keeper: &mut K,
     workspace_root: &str,
 ) -> Result<String, RecordSetupError>
-    ensures told { Told (K.known keeper.old) (K.known keeper.new) (λ k j. LocksState (K.directory workspace_root.now) k j result) }
+    ensures told { Told (K.known keeper.old) (K.known keeper.new)
+        (λ k j. LocksState (K.directory workspace_root.now) k j result) }
     ensures named { IfOk result (λ dir. string_bytes dir ≡ K.directory workspace_root.now) }
     ensures cause { IfErr result (IsRefusalCause (K.faults keeper.old) (K.faults keeper.new)) }
     ensures later { K.faults keeper.old ≤ K.faults keeper.new }
@@ -133,7 +134,8 @@ pub(crate) fn create_run<K: RunKeeper>(
     keeper: &mut K,
     run: RecordedRunInfo,
 ) -> Result<ShortestRunIdPrefix, RecordSetupError>
-    ensures told { Told (K.known keeper.old) (K.known keeper.new) (λ k j. CreatesLocked run k j result) }
+    ensures told { Told (K.known keeper.old) (K.known keeper.new)
+        (λ k j. CreatesLocked run k j result) }
     ensures cause { IfErr result (IsRefusalCause (K.faults keeper.old) (K.faults keeper.new)) }
     ensures later { K.faults keeper.old ≤ K.faults keeper.new }
 {

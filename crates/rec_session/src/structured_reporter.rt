@@ -81,7 +81,9 @@ impl<'n, S: Sink, L: Sink, N: OutputNamer> StructuredReporter<'n, S, L, N> {
         opts: &RecordOpts,
     )
         ensures libtest { self.new.libtest ≡ self.old.libtest }
-        ensures recording { LeavesSet (λ old. ReportsMeta S.taken S.faults L.faults old cargo_metadata_json.now test_list.now opts.now)
+        ensures recording { LeavesSet
+            (λ old. ReportsMeta S.taken S.faults L.faults old cargo_metadata_json.now test_list.now
+            opts.now)
             self.old.recording self.new.recording }
     {
         if let Some(recording) = &mut self.recording {
@@ -104,17 +106,26 @@ impl<'n, S: Sink, L: Sink, N: OutputNamer> StructuredReporter<'n, S, L, N> {
         alloc: Global,
         event: &TestEvent<'_>,
     ) -> Result<(), WriteEventError>
-        ensures own { MatchOption self.old.libtest ((result ≡ Ok tt) × (self.new.libtest ≡ None)) (λ old.
-            (after : _) × ((⟦<dyn EventReporter as EventReporter>⟧ old.vtable).writes_event old.value event.now result after)
+        ensures own { MatchOption self.old.libtest ((result ≡ Ok tt) × (self.new.libtest ≡ None))
+            (λ old.
+            (after : _)
+            × ((⟦<dyn EventReporter as EventReporter>⟧ old.vtable).writes_event old.value event.now
+            result after)
             × (self.new.libtest ≡ Some (record old { value = after }))) }
-        ensures shown { MatchOption self.old.libtest (result ≡ Ok tt) (λ old. IsSomeAnd self.new.libtest (λ new.
+        ensures shown { MatchOption self.old.libtest (result ≡ Ok tt)
+            (λ old. IsSomeAnd self.new.libtest (λ new.
             let before = ⟦<dyn EventReporter as EventReporter>⟧ old.vtable in
             let now = ⟦<dyn EventReporter as EventReporter>⟧ new.vtable in
-            Shows (before.written old.value) (now.written new.value) (before.faults old.value) (now.faults new.value)
+            Shows (before.written old.value) (now.written new.value) (before.faults old.value)
+            (now.faults new.value)
             (before.event_text (known (before.configured old.value)) event.now) result)) }
-        ensures later { LeavesSet (λ old new. (⟦<dyn EventReporter as EventReporter>⟧ old.vtable).faults old.value
-            ≤ (⟦<dyn EventReporter as EventReporter>⟧ new.vtable).faults new.value) self.old.libtest self.new.libtest }
-        ensures recorded { OnOk result (LeavesSet (λ old. ReportsEvent S.taken S.faults L.taken L.faults N.number old event.now)
+        ensures later { LeavesSet
+            (λ old new. (⟦<dyn EventReporter as EventReporter>⟧ old.vtable).faults old.value
+            ≤ (⟦<dyn EventReporter as EventReporter>⟧ new.vtable).faults new.value) self.old.libtest
+            self.new.libtest }
+        ensures recorded { OnOk result
+            (LeavesSet
+            (λ old. ReportsEvent S.taken S.faults L.taken L.faults N.number old event.now)
             self.old.recording self.new.recording) }
         ensures unrecorded { OnErr result (self.new.recording ≡ self.old.recording) }
     {
@@ -181,11 +192,14 @@ fn show(
     event: &TestEvent<'_>,
 ) -> Result<(), WriteEventError>
     ensures own { MatchOption libtest.old ((result ≡ Ok tt) × (libtest.new ≡ None)) (λ old.
-        (after : _) × ((⟦<dyn EventReporter as EventReporter>⟧ old.vtable).writes_event old.value event.now result after)
+        (after : _)
+        × ((⟦<dyn EventReporter as EventReporter>⟧ old.vtable).writes_event old.value event.now
+        result after)
         × (libtest.new ≡ Some (record old { value = after }))) }
     ensures shown { MatchOption libtest.old (result ≡ Ok tt) (λ old. IsSomeAnd libtest.new (λ new.
         Shows (written old) (written new) (faults old) (faults new)
-        ((⟦<dyn EventReporter as EventReporter>⟧ old.vtable).event_text (known (configured old)) event.now) result)) }
+        ((⟦<dyn EventReporter as EventReporter>⟧ old.vtable).event_text (known (configured old))
+        event.now) result)) }
     ensures later { LeavesSet (λ old new. faults old ≤ faults new) libtest.old libtest.new }
 {
     match libtest {
@@ -200,10 +214,14 @@ fn show_boxed(
     libtest: &mut Box<dyn EventReporter>,
     event: &TestEvent<'_>,
 ) -> Result<(), WriteEventError>
-    ensures own { (after : _) × ((⟦<dyn EventReporter as EventReporter>⟧ libtest.old.vtable).writes_event libtest.old.value event.now result after)
+    ensures own { (after : _)
+        × ((⟦<dyn EventReporter as EventReporter>⟧ libtest.old.vtable).writes_event
+        libtest.old.value event.now result after)
         × (libtest.new ≡ record libtest.old { value = after }) }
-    ensures shown { Shows (written libtest.old) (written libtest.new) (faults libtest.old) (faults libtest.new)
-        ((⟦<dyn EventReporter as EventReporter>⟧ libtest.old.vtable).event_text (known (configured libtest.old)) event.now) result }
+    ensures shown { Shows (written libtest.old) (written libtest.new) (faults libtest.old)
+        (faults libtest.new)
+        ((⟦<dyn EventReporter as EventReporter>⟧ libtest.old.vtable).event_text
+        (known (configured libtest.old)) event.now) result }
     ensures later { faults libtest.old ≤ faults libtest.new }
 {
     write_event_dyn(&mut **libtest, event)
@@ -215,7 +233,9 @@ fn record<S: Sink, L: Sink, N: OutputNamer>(
     alloc: Global,
     event: &TestEvent<'_>,
 )
-    ensures { LeavesSet (λ old. ReportsEvent S.taken S.faults L.taken L.faults N.number old event.now) recording.old recording.new }
+    ensures { LeavesSet
+        (λ old. ReportsEvent S.taken S.faults L.taken L.faults N.number old event.now) recording.old
+        recording.new }
 {
     if let Some(recording) = recording {
         recording.write_event(alloc, event);

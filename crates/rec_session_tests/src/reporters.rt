@@ -294,7 +294,8 @@ impl EventReporter for Dots {
 
     ghost writes_header = { λ old _ result new. (result ≡ Ok tt) × (new ≡ old) };
 
-    ghost writes_event = { λ old _ result new. Shows (Some old.sink.bytes) (Some new.sink.bytes) old.sink.faults new.sink.faults (codes ".") result };
+    ghost writes_event = { λ old _ result new. Shows (Some old.sink.bytes) (Some new.sink.bytes)
+        old.sink.faults new.sink.faults (codes ".") result };
 
     ghost finishes = { λ old new. new ≡ old };
 

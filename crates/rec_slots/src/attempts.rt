@@ -31,14 +31,18 @@ impl Attempts {
 
     /// Returns the number of the first event that starts one, where there is one.
     pub(crate) fn first(&self) -> Option<u64>
-        ensures { (events : List PlainEvent) (n : ℕ) → HasNoted events n self.now → FindsFirst events n result }
+        ensures { (events : List PlainEvent) (n : ℕ)
+            → HasNoted events n self.now
+            → FindsFirst events n result }
     {
         self.starts.first().copied()
     }
 
     /// Takes what the next event changes, by whether the run goes on before it.
     pub(crate) fn take(&mut self, beat: Beat, goes_on: bool) -> Result<(), AllocError>
-        ensures ok { OnOk result ((events : List PlainEvent) (n : ℕ) → IsBeat events n beat → goes_on ≡ is_running events n
+        ensures ok { OnOk result
+            ((events : List PlainEvent) (n : ℕ) → IsBeat events n beat
+            → goes_on ≡ is_running events n
             → HasNoted events n self.old → HasNoted events (suc n) self.new) }
     {
         match beat.change {

@@ -78,7 +78,9 @@ pub(crate) fn next_beat(
     tracker: &mut SpanTracker,
     event: &TestEventSummary<RecordingSpec>,
 ) -> Result<Beat, ChromeTraceError>
-    ensures { (events : List PlainEvent) (n : ℕ) → slice_get events n ≡ Some (plain event.now) → HasTracked events n tracker.old
+    ensures { (events : List PlainEvent) (n : ℕ)
+        → slice_get events n ≡ Some (plain event.now)
+        → HasTracked events n tracker.old
         → Tracks events n tracker.new result }
 {
     let judged = tracker.judge_event(alloc, ChromeTraceGroupBy::Slot, event)?;

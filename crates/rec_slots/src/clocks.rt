@@ -63,7 +63,9 @@ impl Clocks {
         ensures clocks { AreClocks self.new }
         ensures paused { self.new.paused ≡ self.old.paused + (if in_pause then gap else 0) }
         ensures active { self.new.active ≡ self.old.active + (if in_pause then 0 else gap) }
-        ensures times { (slot : ℕ) → slot_time self.new slot ≡ slot_time self.old slot + (if not in_pause && is_open self.old slot then gap else 0) }
+        ensures times { (slot : ℕ)
+            → slot_time self.new slot
+            ≡ slot_time self.old slot + (if not in_pause && is_open self.old slot then gap else 0) }
         ensures same { self.new.slots ≡ self.old.slots }
     {
         if in_pause {
@@ -79,8 +81,10 @@ impl Clocks {
         requires free { is_open self.old slot ≡ false }
         ensures clocks { AreClocks self.new }
         ensures times { (s : ℕ) → slot_time self.new s ≡ slot_time self.old s }
-        ensures open { OnOk result ((s : ℕ) → is_open self.new s ≡ (s == slot || is_open self.old s)) }
-        ensures known { OnOk result ((s : ℕ) → has_clock self.new s ≡ (s == slot || has_clock self.old s)) }
+        ensures open { OnOk result
+            ((s : ℕ) → is_open self.new s ≡ (s == slot || is_open self.old s)) }
+        ensures known { OnOk result
+            ((s : ℕ) → has_clock self.new s ≡ (s == slot || has_clock self.old s)) }
         ensures totals { (self.new.active ≡ self.old.active) × (self.new.paused ≡ self.old.paused) }
     {
         let busy = match self.slots.get(&slot) {
@@ -117,7 +121,8 @@ impl Clocks {
         ensures slot { result.slot ≡ slot }
         ensures busy { result.busy ≡ worked self.now.active clock.now }
         ensures paused { result.paused ≡ self.now.paused }
-        ensures sum { result.busy + result.paused + result.idle ≡ self.now.paused + self.now.active }
+        ensures sum { result.busy + result.paused + result.idle
+            ≡ self.now.paused + self.now.active }
     {
         let busy = clock.worked(self.active);
         let length = self.paused + self.active;
@@ -135,8 +140,10 @@ impl Clocks {
         requires room { self.now.paused + self.now.active < 2 ^ 128 }
         ensures length { IfOk result (λ r. r.run_length ≡ self.now.paused + self.now.active) }
         ensures used { IfOk result (λ r. AllByRecursion (IsTimed self.now) r.slots) }
-        ensures slots { IfOk result (λ r. map (λ (u : SlotUsage). u.slot) r.slots ≡ keys_of self.now.slots.entries) }
-        ensures rise { IfOk result (λ r. IsStrictlySortedBy nat_cmp (map (λ (u : SlotUsage). u.slot) r.slots)) }
+        ensures slots { IfOk result
+            (λ r. map (λ (u : SlotUsage). u.slot) r.slots ≡ keys_of self.now.slots.entries) }
+        ensures rise { IfOk result
+            (λ r. IsStrictlySortedBy nat_cmp (map (λ (u : SlotUsage). u.slot) r.slots)) }
     {
         // that the slots rise rests on the order of the map
         let _ordered = self.slots.len();

@@ -38,7 +38,9 @@ impl RunPhase {
 
     /// Returns how far the run is after an event.
     pub(crate) fn after(self, change: Change) -> RunPhase
-        ensures { (marks : List RunMark) → self ≡ phase_of marks → result ≡ phase_of (marks ++ changed_run change) }
+        ensures { (marks : List RunMark)
+            → self ≡ phase_of marks
+            → result ≡ phase_of (marks ++ changed_run change) }
     {
         match (self, change) {
             (RunPhase::Before, Change::RunStarts) => RunPhase::Running,

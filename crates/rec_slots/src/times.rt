@@ -34,7 +34,9 @@ impl Times {
     /// Takes the next event, by whether the run goes on before it.
     pub(crate) fn take(&mut self, beat: Beat, goes_on: bool) -> Result<(), AllocError>
         requires { CanTake beat goes_on self.old }
-        ensures ok { OnOk result ((events : List PlainEvent) (n : ℕ) → IsBeat events n beat → goes_on ≡ is_running events n
+        ensures ok { OnOk result
+            ((events : List PlainEvent) (n : ℕ) → IsBeat events n beat
+            → goes_on ≡ is_running events n
             → HasTimed events n self.old → HasTimed events (suc n) self.new) }
     {
         self.pass(beat, goes_on);
@@ -52,7 +54,9 @@ impl Times {
     /// Takes the time since the last event, if the run goes on.
     fn pass(&mut self, beat: Beat, goes_on: bool)
         requires { CanTake beat goes_on self.old }
-        ensures { (events : List PlainEvent) (n : ℕ) → IsBeat events n beat → goes_on ≡ is_running events n
+        ensures { (events : List PlainEvent) (n : ℕ)
+            → IsBeat events n beat
+            → goes_on ≡ is_running events n
             → HasTimed events n self.old → HasPassed events n self.new }
     {
         if !goes_on {

@@ -46,7 +46,9 @@ impl Walk {
         event: &TestEventSummary<RecordingSpec>,
     ) -> Result<(), SlotError>
         requires { IsWalked (plain event.now) self.old }
-        ensures { (events : List PlainEvent) (n : ℕ) → slice_get events n ≡ Some (plain event.now) → HasWalked events n self.old
+        ensures { (events : List PlainEvent) (n : ℕ)
+            → slice_get events n ≡ Some (plain event.now)
+            → HasWalked events n self.old
             → Walks events n self.new result }
     {
         let beat = next_beat(alloc, &mut self.tracker, event)?;
@@ -60,7 +62,9 @@ impl Walk {
     /// Reports how the slots were used, after the last event.
     pub(crate) fn report(&self, alloc: Global) -> Result<SlotReport, SlotError>
         requires { (events : List PlainEvent) × HasWalked events (length events) self.now }
-        ensures { (events : List PlainEvent) → HasWalked events (length events) self.now → Reports events result }
+        ensures { (events : List PlainEvent)
+            → HasWalked events (length events) self.now
+            → Reports events result }
     {
         if !self.run.is_over() {
             return Err(SlotError::NotOneRun);

@@ -35,8 +35,10 @@ impl SpanTracker {
         number: u64,
         act: Act<'_>,
     ) -> Result<Option<Span>, AllocError>
-        requires { act_refusal number self.now (seen act) (change_of group_by self.now.binaries (seen act)) ≡ None }
-        ensures { IfOk result (λ span. span ≡ started (change_of group_by self.now.binaries (seen act.entry))) }
+        requires { act_refusal number self.now (seen act)
+            (change_of group_by self.now.binaries (seen act)) ≡ None }
+        ensures { IfOk result
+            (λ span. span ≡ started (change_of group_by self.now.binaries (seen act.entry))) }
     {
         match act {
             Act::RunStarts => run_span(alloc).map(Some),
@@ -61,8 +63,11 @@ impl SpanTracker {
         event: &TestEventSummary<S>,
         judged: JudgedEvent,
     ) -> Result<(), AllocError>
-        requires { IsJudged self.old (trace_input group_by self.old.binaries (plain event.now)) judged }
-        ensures ok { OnOk result (self.new ≡ next_state (trace_input group_by self.old.binaries (plain event.now)) self.old) }
+        requires { IsJudged self.old (trace_input group_by self.old.binaries (plain event.now))
+            judged }
+        ensures ok { OnOk result
+            (self.new
+            ≡ next_state (trace_input group_by self.old.binaries (plain event.now)) self.old) }
         ensures err { OnErr result (self.new ≡ self.old) }
     {
         let opened = self.open_started(alloc, group_by, event, judged)?;
@@ -84,9 +89,13 @@ impl SpanTracker {
         event: &TestEventSummary<S>,
         judged: JudgedEvent,
     ) -> Result<OpenedEvent, AllocError>
-        requires { IsJudged self.old (trace_input group_by self.old.binaries (plain event.now)) judged }
-        ensures ok { OnOk result (self.new ≡ state_opened (trace_input group_by self.old.binaries (plain event.now)) self.old) }
-        ensures opened { IfOk result (IsOpened self.old (trace_input group_by self.old.binaries (plain event.now))) }
+        requires { IsJudged self.old (trace_input group_by self.old.binaries (plain event.now))
+            judged }
+        ensures ok { OnOk result
+            (self.new
+            ≡ state_opened (trace_input group_by self.old.binaries (plain event.now)) self.old) }
+        ensures opened { IfOk result
+            (IsOpened self.old (trace_input group_by self.old.binaries (plain event.now))) }
         ensures err { OnErr result (self.new ≡ self.old) }
     {
         let act = act_of(&event.kind);
@@ -107,10 +116,17 @@ impl SpanTracker {
         act: Act<'_>,
         span: Option<Span>,
     ) -> Result<bool, AllocError>
-        requires judged { act_refusal number self.old (seen act) (change_of group_by self.old.binaries (seen act)) ≡ None }
+        requires judged { act_refusal number self.old (seen act)
+            (change_of group_by self.old.binaries (seen act)) ≡ None }
         requires span { span ≡ started (change_of group_by self.old.binaries (seen act)) }
-        ensures ok { (t : ℤ) → OnOk result (self.new ≡ state_opened (act_input group_by self.old.binaries t (seen act.entry)) self.old) }
-        ensures added { IfOk result (λ added. added ≡ adds_binary (change_of group_by self.old.binaries (seen act.entry)) self.old.binaries) }
+        ensures ok { (t : ℤ)
+            → OnOk result
+            (self.new
+            ≡ state_opened (act_input group_by self.old.binaries t (seen act.entry)) self.old) }
+        ensures added { IfOk result
+            (λ added. added
+            ≡ adds_binary (change_of group_by self.old.binaries (seen act.entry))
+            self.old.binaries) }
         ensures err { OnErr result (self.new ≡ self.old) }
     {
         open_span(
@@ -127,7 +143,8 @@ impl SpanTracker {
     /// memory.
     pub fn advance<S: OutputSpec>(&mut self, event: &TestEventSummary<S>, opened: OpenedEvent)
         requires { opened.number ≡ suc self.old.number }
-        ensures { (g : ChromeTraceGroupBy) (state : TraceState) → IsOpened state (trace_input g state.binaries (plain event.now)) opened
+        ensures { (g : ChromeTraceGroupBy) (state : TraceState)
+            → IsOpened state (trace_input g state.binaries (plain event.now)) opened
             → self.old ≡ state_opened (trace_input g state.binaries (plain event.now)) state
             → self.new ≡ next_state (trace_input g state.binaries (plain event.now)) state }
     {
@@ -137,7 +154,10 @@ impl SpanTracker {
     /// Takes the rest of an act, with which so many setup scripts run.
     fn pass(&mut self, act: Act<'_>, number: u64, scripts: usize)
         requires { number ≡ suc self.old.number }
-        ensures { (g : ChromeTraceGroupBy) (known : List (List ℕ × ℕ)) → self.new ≡ state_passed (seen act.entry) (change_of g known (seen act.entry)) number scripts self.old }
+        ensures { (g : ChromeTraceGroupBy) (known : List (List ℕ × ℕ))
+            → self.new
+            ≡ state_passed (seen act.entry) (change_of g known (seen act.entry)) number scripts
+            self.old }
     {
         close_stopped(act, &mut self.open_spans);
         self.number = number;
@@ -149,8 +169,10 @@ impl SpanTracker {
     /// Takes an event back that was opened, and nothing since: the tracker is as it was before. This takes no
     /// memory.
     pub fn take_back<S: OutputSpec>(&mut self, event: &TestEventSummary<S>, opened: OpenedEvent)
-        ensures { (g : ChromeTraceGroupBy) (state : TraceState) → IsOpened state (trace_input g state.binaries (plain event.now)) opened
-            → self.old ≡ state_opened (trace_input g state.binaries (plain event.now)) state → self.new ≡ state }
+        ensures { (g : ChromeTraceGroupBy) (state : TraceState)
+            → IsOpened state (trace_input g state.binaries (plain event.now)) opened
+            → self.old ≡ state_opened (trace_input g state.binaries (plain event.now)) state
+            → self.new ≡ state }
     {
         let act = act_of(&event.kind);
         close_started(act, &mut self.open_spans);
@@ -170,12 +192,20 @@ fn open_span(
     open_spans: &mut OpenSpans,
     binaries: &mut Binaries,
 ) -> Result<bool, AllocError>
-    requires open { open_refusal 0 open_spans.old (change_of group_by binaries.old (seen act)) ≡ None }
-    requires slot { slot_refusal 0 open_spans.old (change_of group_by binaries.old (seen act)) ≡ None }
+    requires open { open_refusal 0 open_spans.old (change_of group_by binaries.old (seen act))
+        ≡ None }
+    requires slot { slot_refusal 0 open_spans.old (change_of group_by binaries.old (seen act))
+        ≡ None }
     requires span { span ≡ started (change_of group_by binaries.old (seen act)) }
-    ensures spans { OnOk result (open_spans.new ≡ spans_opened (change_of group_by binaries.old (seen act.entry)) open_spans.old) }
-    ensures binaries { OnOk result (binaries.new ≡ binaries_after (change_of group_by binaries.old (seen act.entry)) binaries.old) }
-    ensures added { IfOk result (λ added. added ≡ adds_binary (change_of group_by binaries.old (seen act.entry)) binaries.old) }
+    ensures spans { OnOk result
+        (open_spans.new
+        ≡ spans_opened (change_of group_by binaries.old (seen act.entry)) open_spans.old) }
+    ensures binaries { OnOk result
+        (binaries.new
+        ≡ binaries_after (change_of group_by binaries.old (seen act.entry)) binaries.old) }
+    ensures added { IfOk result
+        (λ added. added
+        ≡ adds_binary (change_of group_by binaries.old (seen act.entry)) binaries.old) }
     ensures err_spans { OnErr result (open_spans.new ≡ open_spans.old) }
     ensures err_binaries { OnErr result (binaries.new ≡ binaries.old) }
 {
@@ -194,12 +224,20 @@ fn open_started(
     open_spans: &mut OpenSpans,
     binaries: &mut Binaries,
 ) -> Result<bool, AllocError>
-    requires open { open_refusal 0 open_spans.old (change_of group_by binaries.old (seen act)) ≡ None }
-    requires slot { slot_refusal 0 open_spans.old (change_of group_by binaries.old (seen act)) ≡ None }
+    requires open { open_refusal 0 open_spans.old (change_of group_by binaries.old (seen act))
+        ≡ None }
+    requires slot { slot_refusal 0 open_spans.old (change_of group_by binaries.old (seen act))
+        ≡ None }
     requires span { Some span ≡ started (change_of group_by binaries.old (seen act)) }
-    ensures spans { OnOk result (open_spans.new ≡ spans_opened (change_of group_by binaries.old (seen act.entry)) open_spans.old) }
-    ensures binaries { OnOk result (binaries.new ≡ binaries_after (change_of group_by binaries.old (seen act.entry)) binaries.old) }
-    ensures added { IfOk result (λ added. added ≡ adds_binary (change_of group_by binaries.old (seen act.entry)) binaries.old) }
+    ensures spans { OnOk result
+        (open_spans.new
+        ≡ spans_opened (change_of group_by binaries.old (seen act.entry)) open_spans.old) }
+    ensures binaries { OnOk result
+        (binaries.new
+        ≡ binaries_after (change_of group_by binaries.old (seen act.entry)) binaries.old) }
+    ensures added { IfOk result
+        (λ added. added
+        ≡ adds_binary (change_of group_by binaries.old (seen act.entry)) binaries.old) }
     ensures err_spans { OnErr result (open_spans.new ≡ open_spans.old) }
     ensures err_binaries { OnErr result (binaries.new ≡ binaries.old) }
 {
@@ -228,7 +266,8 @@ fn open_other(opened: Result<(), AllocError>) -> Result<bool, AllocError>
 
 /// Closes the span that the event ends, if it ends one that is open.
 fn close_stopped(act: Act<'_>, open_spans: &mut OpenSpans)
-    ensures { (g : ChromeTraceGroupBy) (known : List (List ℕ × ℕ)) → open_spans.new ≡ spans_closed (change_of g known (seen act.entry)) open_spans.old }
+    ensures { (g : ChromeTraceGroupBy) (known : List (List ℕ × ℕ))
+        → open_spans.new ≡ spans_closed (change_of g known (seen act.entry)) open_spans.old }
 {
     match act {
         Act::RunEnds => open_spans.close_run(),
@@ -241,7 +280,8 @@ fn close_stopped(act: Act<'_>, open_spans: &mut OpenSpans)
 
 /// Closes the span again that the event started, if it started one.
 fn close_started(act: Act<'_>, open_spans: &mut OpenSpans)
-    ensures { (g : ChromeTraceGroupBy) (known : List (List ℕ × ℕ)) → open_spans.new ≡ spans_taken_back (change_of g known (seen act.entry)) open_spans.old }
+    ensures { (g : ChromeTraceGroupBy) (known : List (List ℕ × ℕ))
+        → open_spans.new ≡ spans_taken_back (change_of g known (seen act.entry)) open_spans.old }
 {
     match act {
         Act::RunStarts => open_spans.close_run(),
@@ -254,7 +294,8 @@ fn close_started(act: Act<'_>, open_spans: &mut OpenSpans)
 
 /// Removes the binary again of the attempt that the event started, if it started one.
 fn remove_binary(act: Act<'_>, binaries: &mut Binaries)
-    ensures { (g : ChromeTraceGroupBy) (known : List (List ℕ × ℕ)) → binaries.new ≡ binaries_taken_back (change_of g known (seen act.entry)) binaries.old }
+    ensures { (g : ChromeTraceGroupBy) (known : List (List ℕ × ℕ))
+        → binaries.new ≡ binaries_taken_back (change_of g known (seen act.entry)) binaries.old }
 {
     if let Act::AttemptStarts { test, .. } = act {
         binaries.remove(&test.binary_id);
@@ -292,7 +333,8 @@ fn open_attempt(
 
 /// Returns whether the run is in a pause after the event, by whether it was before.
 fn pause_after(act: Act<'_>, before: bool) -> bool
-    ensures { (g : ChromeTraceGroupBy) (known : List (List ℕ × ℕ)) → result ≡ pause_after (change_of g known (seen act.entry)) before }
+    ensures { (g : ChromeTraceGroupBy) (known : List (List ℕ × ℕ))
+        → result ≡ pause_after (change_of g known (seen act.entry)) before }
 {
     match act {
         Act::Pauses { .. } => true,

@@ -25,7 +25,9 @@ impl SpanTracker {
         number: u64,
         act: Act<'_>,
     ) -> Result<(), ChromeTraceError>
-        ensures { Judges result (act_refusal number self.now (seen act.entry) (change_of group_by self.now.binaries (seen act.entry))) }
+        ensures { Judges result
+            (act_refusal number self.now (seen act.entry)
+            (change_of group_by self.now.binaries (seen act.entry))) }
     {
         self.judge_missing(alloc, number, act)?;
         self.judge_open(alloc, number, act)?;
@@ -88,7 +90,8 @@ impl SpanTracker {
         index: usize,
         id: &ScriptId,
     ) -> Result<(), ChromeTraceError>
-        ensures { Judges result (script_missing number (of_key (keys.Script index) self.now.spans) id.now) }
+        ensures { Judges result
+            (script_missing number (of_key (keys.Script index) self.now.spans) id.now) }
     {
         if !self.open_spans.is_script_under(index, id) {
             return Err(ChromeTraceError::MissingScriptStart {
@@ -118,7 +121,9 @@ impl SpanTracker {
 
     /// Judges whether the event starts what is open.
     fn judge_open(&self, alloc: Global, number: u64, act: Act<'_>) -> Result<(), ChromeTraceError>
-        ensures { (g : ChromeTraceGroupBy) → Judges result (open_refusal number self.now.spans (change_of g self.now.binaries (seen act.entry))) }
+        ensures { (g : ChromeTraceGroupBy)
+            → Judges result
+            (open_refusal number self.now.spans (change_of g self.now.binaries (seen act.entry))) }
     {
         match act {
             Act::RunStarts => {
@@ -163,7 +168,9 @@ impl SpanTracker {
 
     /// Judges whether the event starts a test on a slot that is held.
     fn judge_slot(&self, number: u64, act: Act<'_>) -> Result<(), ChromeTraceError>
-        ensures { (g : ChromeTraceGroupBy) → Judges result (slot_refusal number self.now.spans (change_of g self.now.binaries (seen act.entry))) }
+        ensures { (g : ChromeTraceGroupBy)
+            → Judges result
+            (slot_refusal number self.now.spans (change_of g self.now.binaries (seen act.entry))) }
     {
         match act {
             Act::AttemptStarts { slot, .. } => {
@@ -186,7 +193,8 @@ impl SpanTracker {
         number: u64,
         act: Act<'_>,
     ) -> Result<(), ChromeTraceError>
-        ensures { Judges result (row_refusal number (change_of group_by self.now.binaries (seen act.entry))) }
+        ensures { Judges result
+            (row_refusal number (change_of group_by self.now.binaries (seen act.entry))) }
     {
         match act {
             Act::ScriptStarts { index, .. } => {
@@ -221,7 +229,8 @@ impl SpanTracker {
     /// than a usize.
     fn judge_counts(&self, number: u64, act: Act<'_>) -> Result<(), ChromeTraceError>
         ensures { Judges result (option_or (flow_refusal number (seen act.entry) self.now.next_flow)
-            (option_or (scripts_refusal number (seen act.entry) self.now.scripts) (failures_refusal number (seen act.entry)))) }
+            (option_or (scripts_refusal number (seen act.entry) self.now.scripts)
+            (failures_refusal number (seen act.entry)))) }
     {
         match act {
             Act::ScriptStarts { .. } => {

@@ -36,7 +36,8 @@ impl Model for OpenSpans {
 
     ghost view = { λ o. values_of o.spans.entries };
 
-    ghost invariant = { λ o. AreTied o.slots.entries o.spans.entries × AreNoted o.scripts.notes o.spans.entries × NoneIsEmpty o.scripts.notes };
+    ghost invariant = { λ o. AreTied o.slots.entries o.spans.entries
+        × AreNoted o.scripts.notes o.spans.entries × NoneIsEmpty o.scripts.notes };
 }
 
 impl OpenSpans {

@@ -110,8 +110,10 @@ impl SpanTracker {
         group_by: ChromeTraceGroupBy,
         event: &TestEventSummary<S>,
     ) -> Result<JudgedEvent, ChromeTraceError>
-        ensures judged { Judges result (next_refusal self.now (trace_input group_by self.now.binaries (plain event.now))) }
-        ensures known { IfOk result (IsJudged self.now (trace_input group_by self.now.binaries (plain event.now))) }
+        ensures judged { Judges result
+            (next_refusal self.now (trace_input group_by self.now.binaries (plain event.now))) }
+        ensures known { IfOk result
+            (IsJudged self.now (trace_input group_by self.now.binaries (plain event.now))) }
     {
         let number = self.next_number()?;
         let at = instant(number, &event.timestamp)?;
@@ -139,7 +141,9 @@ impl SpanTracker {
         act: Act<'_>,
     ) -> Result<JudgedEvent, ChromeTraceError>
         requires { number ≡ suc self.now.number }
-        ensures judged { Judges result (act_refusal number self.now (seen act.entry) (change_of group_by self.now.binaries (seen act.entry))) }
+        ensures judged { Judges result
+            (act_refusal number self.now (seen act.entry)
+            (change_of group_by self.now.binaries (seen act.entry))) }
         ensures known { IfOk result (λ judged. (judged.number ≡ number) × (judged.at ≡ at)
             × (judged.started ≡ started (change_of group_by self.now.binaries (seen act.entry)))
             × (judged.running_scripts ≡ scripts_after (seen act.entry) self.now.scripts)) }

@@ -40,7 +40,8 @@ pub fn sub_run_span(alloc: Global) -> Result<Span, AllocError>
 
 /// Returns the thread of a slot of tests, or of an index of setup scripts, where its number is a u64.
 pub fn thread(number: u64) -> Option<u64>
-    ensures { MatchOption result (nat_lt (number + 10000) (2 ^ 64) ≡ false) (λ tid. (tid ≡ number + 10000) × (nat_lt (number + 10000) (2 ^ 64) ≡ true)) }
+    ensures { MatchOption result (nat_lt (number + 10000) (2 ^ 64) ≡ false)
+        (λ tid. (tid ≡ number + 10000) × (nat_lt (number + 10000) (2 ^ 64) ≡ true)) }
 {
     number.checked_add(FIRST_THREAD)
 }
@@ -48,7 +49,8 @@ pub fn thread(number: u64) -> Option<u64>
 /// Returns the process of a binary, where its number is a u64.
 pub fn process(group_by: ChromeTraceGroupBy, binaries: &Binaries, id: &RustBinaryId) -> Option<u64>
     ensures { MatchOption result (nat_lt (pid_of group_by binaries.now id.now) (2 ^ 64) ≡ false)
-        (λ pid. (pid ≡ pid_of group_by binaries.now id.now) × (nat_lt (pid_of group_by binaries.now id.now) (2 ^ 64) ≡ true)) }
+        (λ pid. (pid ≡ pid_of group_by binaries.now id.now)
+        × (nat_lt (pid_of group_by binaries.now id.now) (2 ^ 64) ≡ true)) }
 {
     match group_by {
         ChromeTraceGroupBy::Slot => Some(2),

@@ -29,8 +29,12 @@ pub fn write_bundle<K: Sink>(
     log: &[u8],
     store: &[u8],
 ) -> Result<(), SinkFailed>
-    ensures ok { OnOk result (Appends (K.taken sink.old) (K.taken sink.new) (spell (bundle_entries manifest.now log.now store.now))) }
-    ensures fault { OnErr result (TookPart (K.taken sink.old) (K.taken sink.new) (spell (bundle_entries manifest.now log.now store.now))) }
+    ensures ok { OnOk result
+        (Appends (K.taken sink.old) (K.taken sink.new)
+        (spell (bundle_entries manifest.now log.now store.now))) }
+    ensures fault { OnErr result
+        (TookPart (K.taken sink.old) (K.taken sink.new)
+        (spell (bundle_entries manifest.now log.now store.now))) }
     ensures cause { HasCause (K.faults sink.old) (K.faults sink.new) result }
 {
     let contents = bundle_contents(manifest, log, store);
@@ -40,7 +44,9 @@ pub fn write_bundle<K: Sink>(
 /// Returns the length in bytes of the bundle of a manifest, a log and a store, or none where that
 /// is no u64.
 pub fn bundle_length(manifest: &[u8], log: &[u8], store: &[u8]) -> Option<u64>
-    ensures { SomeIff result (length (spell (bundle_entries manifest.now log.now store.now)) < 2 ^ 64) (length (spell (bundle_entries manifest.now log.now store.now))) }
+    ensures { SomeIff result
+        (length (spell (bundle_entries manifest.now log.now store.now)) < 2 ^ 64)
+        (length (spell (bundle_entries manifest.now log.now store.now))) }
 {
     let contents = bundle_contents(manifest, log, store);
     container_length(&contents)
@@ -57,8 +63,12 @@ pub fn write_recorded_bundle<B: Sink, K: Sink>(
     log: &[u8],
     store: &ContainerWriter<K>,
 ) -> Result<(), SinkFailed>
-    ensures ok { OnOk result (Appends (B.taken sink.old) (B.taken sink.new) (spell (bundle_entries manifest.now log.now (spell store.now.entries)))) }
-    ensures fault { OnErr result (TookPart (B.taken sink.old) (B.taken sink.new) (spell (bundle_entries manifest.now log.now (spell store.now.entries)))) }
+    ensures ok { OnOk result
+        (Appends (B.taken sink.old) (B.taken sink.new)
+        (spell (bundle_entries manifest.now log.now (spell store.now.entries)))) }
+    ensures fault { OnErr result
+        (TookPart (B.taken sink.old) (B.taken sink.new)
+        (spell (bundle_entries manifest.now log.now (spell store.now.entries)))) }
     ensures cause { HasCause (B.faults sink.old) (B.faults sink.new) result }
 {
     let contents = outer_contents(manifest, log);
@@ -72,7 +82,9 @@ pub fn recorded_bundle_length<K: Sink>(
     log: &[u8],
     store: &ContainerWriter<K>,
 ) -> Option<u64>
-    ensures { SomeIff result (length (spell (bundle_entries manifest.now log.now (spell store.now.entries))) < 2 ^ 64) (length (spell (bundle_entries manifest.now log.now (spell store.now.entries)))) }
+    ensures { SomeIff result
+        (length (spell (bundle_entries manifest.now log.now (spell store.now.entries))) < 2 ^ 64)
+        (length (spell (bundle_entries manifest.now log.now (spell store.now.entries)))) }
 {
     let contents = outer_contents(manifest, log);
     nested_length(&contents, STORE_ZIP_FILE_NAME, store)
@@ -80,7 +92,8 @@ pub fn recorded_bundle_length<K: Sink>(
 
 /// Returns what stands before the store of a bundle.
 fn outer_contents<'a>(manifest: &'a [u8], log: &'a [u8]) -> [NamedContent<'a>; 2]
-    ensures entries { map entry_of result ≡ entry_named manifest_name manifest.now ∷ entry_named log_name log.now ∷ [] }
+    ensures entries { map entry_of result
+        ≡ entry_named manifest_name manifest.now ∷ entry_named log_name log.now ∷ [] }
     ensures names { AllByRecursion (λ c. length c.name.now < 65536) result }
 {
     [

@@ -47,7 +47,9 @@ pub fn truncate_output(
     max_size: usize,
 ) -> Result<CutOutput<'_>, AllocError>
     ensures bytes { IfOk result (λ c. cut_bytes c ≡ cut buf.now max_size) }
-    ensures size { max_size < length buf.now → IfOk result (λ c. length (cut_bytes c) ≡ max max_size (length (marker (length buf.now - max_size)))) }
+    ensures size { max_size < length buf.now
+        → IfOk result
+        (λ c. length (cut_bytes c) ≡ max max_size (length (marker (length buf.now - max_size)))) }
     ensures lent { length buf.now ≤ max_size → result ≡ Ok (Borrowed buf.entry) }
     ensures borrowed { IfOk result (λ c. IsBorrowed c ↔ (length buf.now ≤ max_size)) }
 {
@@ -75,7 +77,9 @@ fn join_around(
     digits: &[u8],
     suffix: &[u8],
 ) -> Result<Vec<u8>, AllocError>
-    ensures { (n : ℕ) → digits.now ≡ decimal n → IfOk result (λ bytes. bytes.items ≡ prefix.now ++ (marker n ++ suffix.now)) }
+    ensures { (n : ℕ)
+        → digits.now ≡ decimal n
+        → IfOk result (λ bytes. bytes.items ≡ prefix.now ++ (marker n ++ suffix.now)) }
 {
     let mut bytes = Vec::with_capacity(alloc, capacity)?;
     bytes.extend_from_slice(prefix)?;

@@ -17,9 +17,11 @@ pub(crate) fn add_entry<S: Sink>(
 ) -> Result<(), RunStoreError>
     requires sound { store.old.failed ≡ false }
     requires name { has_name_length path.now ≡ true }
-    ensures ok { OnOk result (AddsEntry S.taken S.faults store.old store.new (entry_named path.now content.now)) }
+    ensures ok { OnOk result
+        (AddsEntry S.taken S.faults store.old store.new (entry_named path.now content.now)) }
     ensures sound { OnOk result (store.new.failed ≡ false) }
-    ensures err { IfErr result (RefusesEntry S.taken S.faults store.old store.new (entry_named path.now content.now)) }
+    ensures err { IfErr result
+        (RefusesEntry S.taken S.faults store.old store.new (entry_named path.now content.now)) }
 {
     match store.add(path, content) {
         Ok(()) => Ok(()),

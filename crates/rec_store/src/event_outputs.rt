@@ -68,7 +68,8 @@ impl<'n, N: OutputNamer> OutputRules<'n, N> {
     ) -> Result<ExecutionStatuses<RecordingSpec>, RunStoreError>
         requires sound { store.old.failed ≡ false }
         ensures { StoresAs S.taken S.faults store.old store.new
-            (flat_map (status_entries (N.number self.now.namer.now) self.now.max_size) statuses.statuses)
+            (flat_map (status_entries (N.number self.now.namer.now) self.now.max_size)
+            statuses.statuses)
             (statuses_recorded (N.number self.now.namer.now) self.now.max_size statuses) result }
     {
         let _some = statuses.statuses.as_slice();

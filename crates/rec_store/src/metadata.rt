@@ -31,9 +31,11 @@ pub fn write_metadata<S: Sink, L: Sink, N: OutputNamer>(
 ) -> Result<(), RunStoreError>
     requires sound { has_failed recorder.old ≡ false }
     ensures ok { OnOk result (Stores S.taken S.faults recorder.old recorder.new
-        (metadata_of build_scope.now rerun_info.now cargo_metadata.now test_list.now record_opts.now)) }
+        (metadata_of build_scope.now rerun_info.now cargo_metadata.now test_list.now
+        record_opts.now)) }
     ensures err { IfErr result (Unstored S.taken S.faults recorder.old recorder.new
-        (metadata_of build_scope.now rerun_info.now cargo_metadata.now test_list.now record_opts.now)) }
+        (metadata_of build_scope.now rerun_info.now cargo_metadata.now test_list.now
+        record_opts.now)) }
 {
     recorder.write_build_scope(build_scope)?;
     write_rerun(recorder, rerun_info)?;
@@ -46,8 +48,10 @@ fn write_rerun<S: Sink, L: Sink, N: OutputNamer>(
     rerun_info: &Option<RerunInfo>,
 ) -> Result<(), RunStoreError>
     requires sound { has_failed recorder.old ≡ false }
-    ensures ok { OnOk result (Stores S.taken S.faults recorder.old recorder.new (rerun_entries rerun_info.now)) }
-    ensures err { IfErr result (Unstored S.taken S.faults recorder.old recorder.new (rerun_entries rerun_info.now)) }
+    ensures ok { OnOk result
+        (Stores S.taken S.faults recorder.old recorder.new (rerun_entries rerun_info.now)) }
+    ensures err { IfErr result
+        (Unstored S.taken S.faults recorder.old recorder.new (rerun_entries rerun_info.now)) }
 {
     match rerun_info {
         Some(rerun_info) => recorder.write_rerun_info(rerun_info),
@@ -61,7 +65,8 @@ fn write_rerun<S: Sink, L: Sink, N: OutputNamer>(
 ///
 /// `AllocError` comes where memory ran out.
 pub fn write_manifest(alloc: Global, run: &RecordedRunInfo) -> Result<Vec<u8>, AllocError>
-    ensures { IfOk result (λ text. text.items ≡ compact_text (manifest_value (manifest_of run.now))) }
+    ensures { IfOk result
+        (λ text. text.items ≡ compact_text (manifest_value (manifest_of run.now))) }
 {
     let manifest = PortableManifest::new(alloc, run)?;
     let text = write_text(alloc, &manifest);

@@ -35,7 +35,8 @@ fn add_names(
     names: &mut Vec<OutputFileName>,
     kind: &OutputEventKind<RecordingSpec>,
 ) -> Result<(), AllocError>
-    ensures { OnOk result (AddsNames names.old.items names.new.items (of_output_kind description_paths kind.now)) }
+    ensures { OnOk result
+        (AddsNames names.old.items names.new.items (of_output_kind description_paths kind.now)) }
 {
     match kind {
         OutputEventKind::SetupScriptFinished { run_status, .. } => {
@@ -55,7 +56,9 @@ fn add_attempts(
     names: &mut Vec<OutputFileName>,
     attempts: &[ExecuteStatus<RecordingSpec>],
 ) -> Result<(), AllocError>
-    ensures { OnOk result (AddsNames names.old.items names.new.items (flat_map (of_status description_paths) attempts.now)) }
+    ensures { OnOk result
+        (AddsNames names.old.items names.new.items
+        (flat_map (of_status description_paths) attempts.now)) }
 {
     for attempt in attempts {
         add_execution(names, &attempt.output)?;
@@ -68,7 +71,8 @@ fn add_execution(
     names: &mut Vec<OutputFileName>,
     output: &ChildExecutionOutputDescription<RecordingSpec>,
 ) -> Result<(), AllocError>
-    ensures { OnOk result (AddsNames names.old.items names.new.items (of_execution description_paths output.now)) }
+    ensures { OnOk result
+        (AddsNames names.old.items names.new.items (of_execution description_paths output.now)) }
 {
     match output {
         ChildExecutionOutputDescription::Output { output, .. } => add_description(names, output),
@@ -81,7 +85,8 @@ fn add_description(
     names: &mut Vec<OutputFileName>,
     output: &ZipStoreOutputDescription,
 ) -> Result<(), AllocError>
-    ensures { OnOk result (AddsNames names.old.items names.new.items (description_paths output.now)) }
+    ensures { OnOk result
+        (AddsNames names.old.items names.new.items (description_paths output.now)) }
 {
     match output {
         ZipStoreOutputDescription::Split { stdout, stderr } => {

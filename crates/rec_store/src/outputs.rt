@@ -40,7 +40,8 @@ fn put_output<S: Sink>(
     content: &[u8],
 ) -> Result<(), RunStoreError>
     requires sound { store.old.failed ≡ false }
-    ensures { StoresAs S.taken S.faults store.old store.new (entry_named (spec.output_path file_name) content.now ∷ []) tt result }
+    ensures { StoresAs S.taken S.faults store.old store.new
+        (entry_named (spec.output_path file_name) content.now ∷ []) tt result }
 {
     let path = output_path(alloc, file_name)?;
     add_entry(alloc, store, path.as_str(), content)
@@ -70,7 +71,8 @@ impl<'n, N: OutputNamer> OutputRules<'n, N> {
 
     /// Returns how an output of so many bytes, which has some, is recorded.
     fn recorded(&self, file_name: OutputFileName, size: usize) -> ZipStoreOutput
-        ensures { result ≡ (if nat_le size self.now.max_size then Full file_name else Truncated file_name size) }
+        ensures { result
+            ≡ (if nat_le size self.now.max_size then Full file_name else Truncated file_name size) }
     {
         if size <= self.max_size {
             ZipStoreOutput::Full { file_name }
@@ -92,7 +94,8 @@ impl<'n, N: OutputNamer> OutputRules<'n, N> {
         requires sound { store.old.failed ≡ false }
         ensures { StoresAs S.taken S.faults store.old store.new
             (captured_entries (N.number self.now.namer.now) self.now.max_size kind output.now)
-            (option_map (stored_as (N.number self.now.namer.now) self.now.max_size kind) output.now) result }
+            (option_map (stored_as (N.number self.now.namer.now) self.now.max_size kind) output.now)
+            result }
     {
         match output {
             Some(output) => Ok(Some(self.store_output(store, kind, output.as_bytes())?)),
@@ -109,7 +112,8 @@ impl<'n, N: OutputNamer> OutputRules<'n, N> {
         requires sound { store.old.failed ≡ false }
         ensures { StoresAs S.taken S.faults store.old store.new
             (description_entries (N.number self.now.namer.now) self.now.max_size output.now)
-            (description_recorded (N.number self.now.namer.now) self.now.max_size output.now) result }
+            (description_recorded (N.number self.now.namer.now) self.now.max_size output.now)
+            result }
     {
         match output {
             ChildOutputDescription::Split { stdout, stderr } => {

@@ -119,7 +119,8 @@ fn string_from(alloc: Global, path: &str, content: &[u8]) -> Result<String, Reco
 
 /// Returns bytes as a text, where they are UTF-8.
 fn text_of(bytes: &[u8]) -> Option<&str>
-    ensures { MatchOption result (is_utf8 bytes.now ≡ false) (λ text. (is_utf8 bytes.now ≡ true) × (text.now ≡ bytes.now)) }
+    ensures { MatchOption result (is_utf8 bytes.now ≡ false)
+        (λ text. (is_utf8 bytes.now ≡ true) × (text.now ≡ bytes.now)) }
 {
     match str::from_utf8(bytes) {
         Ok(text) => Some(text),
@@ -233,7 +234,8 @@ pub fn extract_entry(
     store_path: &str,
     out: &mut dyn Sink,
 ) -> Result<u64, RecordReadError>
-    ensures answer { Extracts (taken out.old) (taken out.new) store_path.now entries.now.entries result }
+    ensures answer { Extracts (taken out.old) (taken out.new) store_path.now entries.now.entries
+        result }
     ensures sink { SinkCause (faults out.old) (faults out.new) result }
     ensures disk { NoDiskFault result }
 {

@@ -79,7 +79,16 @@ impl<'n, S: Sink, L: Sink, N: OutputNamer> Model for RunRecorder<'n, S, L, N> {
 
     ghost Value = { Recording S L N };
 
-    ghost view = { λ r. record { store = r.store; log = r.log; log_failed = r.log_failed; log_bytes = r.log_bytes; events = r.events; namer = r.namer.now; max_output = r.max_output_size } };
+    ghost view = { λ r.
+        record {
+          store = r.store;
+          log = r.log;
+          log_failed = r.log_failed;
+          log_bytes = r.log_bytes;
+          events = r.events;
+          namer = r.namer.now;
+          max_output = r.max_output_size;
+        } };
 
     // The line of an event has at least one byte.
     ghost invariant = { λ r. r.events ≤ r.log_bytes };
@@ -104,7 +113,9 @@ impl<'n, S: Sink, L: Sink, N: OutputNamer> RunRecorder<'n, S, L, N> {
           namer = namer.now;
           max_output = max_output_size;
         } }
-        ensures accepted { S.taken store ≡ Some [] → L.taken log ≡ Some [] → HasAccepted S.taken L.taken N.number [] result }
+        ensures accepted { S.taken store ≡ Some []
+            → L.taken log ≡ Some []
+            → HasAccepted S.taken L.taken N.number [] result }
     {
         RunRecorder {
             alloc,
@@ -160,15 +171,20 @@ impl<'n, S: Sink, L: Sink, N: OutputNamer> RunRecorder<'n, S, L, N> {
     /// - `StoreWrite` comes where the store's sink fails now. It took a proper prefix of the end.
     pub fn finish(self) -> RecorderEnd<S, L>
         ensures log { result.log ≡ self.entry.log }
-        ensures ok { IfOk result.result (λ sizes. (has_failed self.entry ≡ false) × (sizes ≡ sizes_of self.entry)
-            × Appends (S.taken self.entry.store.sink) (S.taken result.store) (ending self.entry.store.entries)) }
+        ensures ok { IfOk result.result
+            (λ sizes. (has_failed self.entry ≡ false) × (sizes ≡ sizes_of self.entry)
+            × Appends (S.taken self.entry.store.sink) (S.taken result.store)
+            (ending self.entry.store.entries)) }
         ensures sound { AreFrom [] self.entry.store.entries }
         ensures err { IfErr result.result (Unended S.taken S.faults self.entry result.store) }
         ensures later { S.faults self.entry.store.sink ≤ S.faults result.store }
 
         // Nothing that was accepted is lost, whether the end was written or not.
-        ensures stopped { (events : List LiveEvent) → HasAccepted S.taken L.taken N.number events self.entry → HavePaths self.entry.store.entries required_paths
-            → AreStopped (N.number self.entry.namer) self.entry.max_output events (L.taken result.log) (S.taken result.store) }
+        ensures stopped { (events : List LiveEvent)
+            → HasAccepted S.taken L.taken N.number events self.entry
+            → HavePaths self.entry.store.entries required_paths
+            → AreStopped (N.number self.entry.namer) self.entry.max_output events
+            (L.taken result.log) (S.taken result.store) }
     {
         let failed = self.is_failed();
         let RunRecorder {
@@ -220,9 +236,13 @@ impl<'n, S: Sink, L: Sink, N: OutputNamer> RunRecorder<'n, S, L, N> {
         &mut self,
         build_scope: &RecordedBuildScope,
     ) -> Result<(), RunStoreError>
-        ensures ok { OnOk result (Stores S.taken S.faults self.old self.new (build_scope_entry build_scope.now ∷ [])) }
-        ensures read { OnOk result (bytes_form recorded_scope_form (build_scope_entry build_scope.now).content ≡ Some build_scope.now) }
-        ensures err { IfErr result (Unstored S.taken S.faults self.old self.new (build_scope_entry build_scope.now ∷ [])) }
+        ensures ok { OnOk result
+            (Stores S.taken S.faults self.old self.new (build_scope_entry build_scope.now ∷ [])) }
+        ensures read { OnOk result
+            (bytes_form recorded_scope_form (build_scope_entry build_scope.now).content
+            ≡ Some build_scope.now) }
+        ensures err { IfErr result
+            (Unstored S.taken S.faults self.old self.new (build_scope_entry build_scope.now ∷ [])) }
         ensures entries { KeepsEntries self.old.store self.new.store }
         ensures later { KeepsCounts S.faults L.faults self.old self.new }
         ensures accepted { KeepsAccepted S.taken L.taken N.number self.old self.new }
@@ -237,9 +257,13 @@ impl<'n, S: Sink, L: Sink, N: OutputNamer> RunRecorder<'n, S, L, N> {
     ///
     /// The refusals are those of [`RunRecorder::write_meta`].
     pub fn write_rerun_info(&mut self, rerun_info: &RerunInfo) -> Result<(), RunStoreError>
-        ensures ok { OnOk result (Stores S.taken S.faults self.old self.new (rerun_entry rerun_info.now ∷ [])) }
-        ensures read { OnOk result (bytes_form rerun_info_form (rerun_entry rerun_info.now).content ≡ Some rerun_info.now) }
-        ensures err { IfErr result (Unstored S.taken S.faults self.old self.new (rerun_entry rerun_info.now ∷ [])) }
+        ensures ok { OnOk result
+            (Stores S.taken S.faults self.old self.new (rerun_entry rerun_info.now ∷ [])) }
+        ensures read { OnOk result
+            (bytes_form rerun_info_form (rerun_entry rerun_info.now).content
+            ≡ Some rerun_info.now) }
+        ensures err { IfErr result
+            (Unstored S.taken S.faults self.old self.new (rerun_entry rerun_info.now ∷ [])) }
         ensures entries { KeepsEntries self.old.store self.new.store }
         ensures later { KeepsCounts S.faults L.faults self.old self.new }
         ensures accepted { KeepsAccepted S.taken L.taken N.number self.old self.new }
@@ -264,9 +288,13 @@ impl<'n, S: Sink, L: Sink, N: OutputNamer> RunRecorder<'n, S, L, N> {
         test_list: &TestListSummary,
         opts: &RecordOpts,
     ) -> Result<(), RunStoreError>
-        ensures ok { OnOk result (Stores S.taken S.faults self.old self.new (meta_entries cargo_metadata_json.now test_list.now opts.now)) }
+        ensures ok { OnOk result
+            (Stores S.taken S.faults self.old self.new
+            (meta_entries cargo_metadata_json.now test_list.now opts.now)) }
         ensures read { OnOk result (AreMetaRead test_list.now opts.now) }
-        ensures err { IfErr result (Unstored S.taken S.faults self.old self.new (meta_entries cargo_metadata_json.now test_list.now opts.now)) }
+        ensures err { IfErr result
+            (Unstored S.taken S.faults self.old self.new
+            (meta_entries cargo_metadata_json.now test_list.now opts.now)) }
         ensures entries { KeepsEntries self.old.store self.new.store }
         ensures later { KeepsCounts S.faults L.faults self.old self.new }
         ensures accepted { KeepsAccepted S.taken L.taken N.number self.old self.new }
@@ -298,12 +326,17 @@ impl<'n, S: Sink, L: Sink, N: OutputNamer> RunRecorder<'n, S, L, N> {
     /// After `RunLogWrite` a part of the line may stand in the log. Any other refusal leaves the log
     /// as it was.
     pub fn write_event(&mut self, event: TestEventSummary<LiveSpec>) -> Result<(), RunStoreError>
-        ensures ok { OnOk result (Logs S.taken S.faults L.taken L.faults N.number self.old self.new event) }
-        ensures logged { OnOk result (IsLogged (event_recorded (N.number self.old.namer) self.old.max_output event)) }
-        ensures err { IfErr result (Unlogged S.taken S.faults L.taken L.faults N.number self.old self.new event) }
+        ensures ok { OnOk result
+            (Logs S.taken S.faults L.taken L.faults N.number self.old self.new event) }
+        ensures logged { OnOk result
+            (IsLogged (event_recorded (N.number self.old.namer) self.old.max_output event)) }
+        ensures err { IfErr result
+            (Unlogged S.taken S.faults L.taken L.faults N.number self.old self.new event) }
         ensures entries { KeepsEntries self.old.store self.new.store }
         ensures later { KeepsCounts S.faults L.faults self.old self.new }
-        ensures outputs { OnOk result (HasOutputs self.new.store.entries (event_recorded (N.number self.old.namer) self.old.max_output event)) }
+        ensures outputs { OnOk result
+            (HasOutputs self.new.store.entries
+            (event_recorded (N.number self.old.namer) self.old.max_output event)) }
         ensures accepted { AcceptsEvent S.taken L.taken N.number self.old self.new event result }
     {
         // An event is let go of by a call: in place, each of its kinds would be a case of the proof.
@@ -321,7 +354,8 @@ impl<'n, S: Sink, L: Sink, N: OutputNamer> RunRecorder<'n, S, L, N> {
     /// Records an event that is loaded.
     fn write_loaded(&mut self, event: TestEventSummary<LiveSpec>) -> Result<(), RunStoreError>
         requires sound { self.old.store.failed ≡ false }
-        ensures { LogsLoaded S.taken S.faults L.taken L.faults N.number self.old self.new event result }
+        ensures { LogsLoaded S.taken S.faults L.taken L.faults N.number self.old self.new event
+            result }
     {
         let recorded = self.store_event(event)?;
         let result = self.append_event(&recorded);
@@ -383,8 +417,12 @@ impl<'n, S: Sink, L: Sink, N: OutputNamer> RunRecorder<'n, S, L, N> {
     ) -> Result<(), RunStoreError>
         requires sound { self.old.store.failed ≡ false }
         ensures kept { self.new ≡ record self.old { store = self.new.store } }
-        ensures ok { OnOk result (AddsEach S.taken S.faults self.old.store self.new.store (three_entries test_list.now metadata.now opts.now)) }
-        ensures err { IfErr result (AddsUpTo S.taken S.faults self.old.store self.new.store (three_entries test_list.now metadata.now opts.now)) }
+        ensures ok { OnOk result
+            (AddsEach S.taken S.faults self.old.store self.new.store
+            (three_entries test_list.now metadata.now opts.now)) }
+        ensures err { IfErr result
+            (AddsUpTo S.taken S.faults self.old.store self.new.store
+            (three_entries test_list.now metadata.now opts.now)) }
     {
         self.store_entry(TEST_LIST_JSON_PATH, test_list)?;
         self.store_entry(CARGO_METADATA_JSON_PATH, metadata)?;
@@ -394,9 +432,14 @@ impl<'n, S: Sink, L: Sink, N: OutputNamer> RunRecorder<'n, S, L, N> {
     /// Stores an item as its JSON text.
     fn store_item<T: Form>(&mut self, path: &str, item: &T) -> Result<(), RunStoreError>
         requires name { has_name_length path.now ≡ true }
-        ensures ok { OnOk result (Stores S.taken S.faults self.old self.new (json_entry path.now (T.value_of item.now) ∷ [])) }
-        ensures read { OnOk result (bytes_form T.form_of (compact_text (T.value_of item.now)) ≡ Some item.now) }
-        ensures err { IfErr result (Unstored S.taken S.faults self.old self.new (json_entry path.now (T.value_of item.now) ∷ [])) }
+        ensures ok { OnOk result
+            (Stores S.taken S.faults self.old self.new
+            (json_entry path.now (T.value_of item.now) ∷ [])) }
+        ensures read { OnOk result
+            (bytes_form T.form_of (compact_text (T.value_of item.now)) ≡ Some item.now) }
+        ensures err { IfErr result
+            (Unstored S.taken S.faults self.old self.new
+            (json_entry path.now (T.value_of item.now) ∷ [])) }
     {
         if self.is_failed() {
             return Err(RunStoreError::Failed);
@@ -410,9 +453,13 @@ impl<'n, S: Sink, L: Sink, N: OutputNamer> RunRecorder<'n, S, L, N> {
         requires sound { self.old.store.failed ≡ false }
         requires name { has_name_length path.now ≡ true }
         ensures kept { self.new ≡ record self.old { store = self.new.store } }
-        ensures ok { OnOk result (AddsEntry S.taken S.faults self.old.store self.new.store (entry_named path.now content.now)) }
+        ensures ok { OnOk result
+            (AddsEntry S.taken S.faults self.old.store self.new.store
+            (entry_named path.now content.now)) }
         ensures sound { OnOk result (self.new.store.failed ≡ false) }
-        ensures err { IfErr result (RefusesEntry S.taken S.faults self.old.store self.new.store (entry_named path.now content.now)) }
+        ensures err { IfErr result
+            (RefusesEntry S.taken S.faults self.old.store self.new.store
+            (entry_named path.now content.now)) }
     {
         add_entry(self.alloc, &mut self.store, path, content)
     }
@@ -431,7 +478,12 @@ fn log_sizes(bytes: u64, events: u64) -> ComponentSizes
 
 /// Returns the sizes of a store, which is a container.
 fn component_sizes(sizes: ContainerSizes) -> ComponentSizes
-    ensures { result ≡ record { compressed = sizes.compressed; uncompressed = sizes.uncompressed; entries = sizes.entries } }
+    ensures { result
+        ≡ record {
+          compressed = sizes.compressed;
+          uncompressed = sizes.uncompressed;
+          entries = sizes.entries;
+        } }
 {
     ComponentSizes {
         compressed: sizes.compressed,

@@ -52,7 +52,8 @@ pub fn judge_size(
     name: &str,
     content: &[u8],
 ) -> Result<Option<TooLarge>, AllocError>
-    ensures { IfOk result (λ found. found ≡ judged.too_large limit (entry_named name.now content.now)) }
+    ensures { IfOk result
+        (λ found. found ≡ judged.too_large limit (entry_named name.now content.now)) }
 {
     let size = content.len() as u64;
     if size <= limit {

@@ -35,7 +35,9 @@ pub trait StoreReader {
     ///
     /// Those of [`read_text_entry`](crate::parts::read_text_entry), or a fault of what it reads from.
     fn read_cargo_metadata(&mut self, alloc: Global) -> Result<String, RecordReadError>
-        ensures answer { (es : List Entry) → holds self.old es → Answers string_bytes (utf8_part cargo_metadata_path es (limit self.old)) result }
+        ensures answer { (es : List Entry)
+            → holds self.old es
+            → Answers string_bytes (utf8_part cargo_metadata_path es (limit self.old)) result }
         ensures same { Keeps (limit self.old) (limit self.new) (holds self.old) (holds self.new) }
         ensures cause { DiskCause (failures self.old) (failures self.new) result };
 
@@ -45,7 +47,10 @@ pub trait StoreReader {
     ///
     /// Those of [`read_metadata`](crate::parts::read_metadata), or a fault of what it reads from.
     fn read_test_list(&mut self, alloc: Global) -> Result<TestListSummary, RecordReadError>
-        ensures answer { (es : List Entry) → holds self.old es → Answers (λ x. x) (metadata_part test_list_form test_list_path es (limit self.old)) result }
+        ensures answer { (es : List Entry)
+            → holds self.old es
+            → Answers (λ x. x) (metadata_part test_list_form test_list_path es (limit self.old))
+            result }
         ensures same { Keeps (limit self.old) (limit self.new) (holds self.old) (holds self.new) }
         ensures cause { DiskCause (failures self.old) (failures self.new) result };
 
@@ -55,7 +60,10 @@ pub trait StoreReader {
     ///
     /// Those of [`read_metadata`](crate::parts::read_metadata), or a fault of what it reads from.
     fn read_record_opts(&mut self, alloc: Global) -> Result<RecordOpts, RecordReadError>
-        ensures answer { (es : List Entry) → holds self.old es → Answers (λ x. x) (metadata_part record_opts_form record_opts_path es (limit self.old)) result }
+        ensures answer { (es : List Entry)
+            → holds self.old es
+            → Answers (λ x. x) (metadata_part record_opts_form record_opts_path es (limit self.old))
+            result }
         ensures same { Keeps (limit self.old) (limit self.new) (holds self.old) (holds self.new) }
         ensures cause { DiskCause (failures self.old) (failures self.new) result };
 
@@ -65,7 +73,10 @@ pub trait StoreReader {
     ///
     /// Those of [`read_metadata`](crate::parts::read_metadata), or a fault of what it reads from.
     fn read_build_scope(&mut self, alloc: Global) -> Result<RecordedBuildScope, RecordReadError>
-        ensures answer { (es : List Entry) → holds self.old es → Answers (λ x. x) (metadata_part recorded_scope_form build_scope_path es (limit self.old)) result }
+        ensures answer { (es : List Entry)
+            → holds self.old es
+            → Answers (λ x. x)
+            (metadata_part recorded_scope_form build_scope_path es (limit self.old)) result }
         ensures same { Keeps (limit self.old) (limit self.new) (holds self.old) (holds self.new) }
         ensures cause { DiskCause (failures self.old) (failures self.new) result };
 
@@ -75,7 +86,9 @@ pub trait StoreReader {
     ///
     /// Those of [`read_rerun_info`](crate::parts::read_rerun_info), or a fault of what it reads from.
     fn read_rerun_info(&mut self, alloc: Global) -> Result<Option<RerunInfo>, RecordReadError>
-        ensures answer { (es : List Entry) → holds self.old es → Answers (λ x. x) (rerun_info_part es (limit self.old)) result }
+        ensures answer { (es : List Entry)
+            → holds self.old es
+            → Answers (λ x. x) (rerun_info_part es (limit self.old)) result }
         ensures same { Keeps (limit self.old) (limit self.new) (holds self.old) (holds self.new) }
         ensures cause { DiskCause (failures self.old) (failures self.new) result };
 
@@ -85,7 +98,9 @@ pub trait StoreReader {
     ///
     /// Those of [`read_output`](crate::parts::read_output), or a fault of what it reads from.
     fn read_output(&mut self, alloc: Global, file_name: &str) -> Result<Vec<u8>, RecordReadError>
-        ensures answer { (es : List Entry) → holds self.old es → Answers (λ v. v.items) (output_part file_name.now es (limit self.old)) result }
+        ensures answer { (es : List Entry)
+            → holds self.old es
+            → Answers (λ v. v.items) (output_part file_name.now es (limit self.old)) result }
         ensures same { Keeps (limit self.old) (limit self.new) (holds self.old) (holds self.new) }
         ensures cause { DiskCause (failures self.old) (failures self.new) result };
 
@@ -100,7 +115,9 @@ pub trait StoreReader {
         store_path: &str,
         out: &mut dyn Sink,
     ) -> Result<u64, RecordReadError>
-        ensures answer { (es : List Entry) → holds self.old es → Extracts (taken out.old) (taken out.new) store_path.now es result }
+        ensures answer { (es : List Entry)
+            → holds self.old es
+            → Extracts (taken out.old) (taken out.new) store_path.now es result }
         ensures same { Keeps (limit self.old) (limit self.new) (holds self.old) (holds self.new) }
         ensures cause { DiskCause (failures self.old) (failures self.new) result }
         ensures sink { SinkCause (faults out.old) (faults out.new) result };

@@ -29,7 +29,8 @@ pub(crate) fn copy_test(
     slot_assignment: &TestSlotAssignment,
     command_line: &Items<Text>,
 ) -> Result<(OwnedTestInstanceId, TestSlotAssignment, Items<Text>), AllocError>
-    ensures { IfOk result (λ copies. copies ≡ (test_instance.now, slot_assignment.now, command_line.now)) }
+    ensures { IfOk result
+        (λ copies. copies ≡ (test_instance.now, slot_assignment.now, command_line.now)) }
 {
     let test_instance = test_instance.to_owned(alloc)?;
     let Ok((slot_assignment, command_line)) = clone_both(alloc, slot_assignment, command_line)

@@ -18,7 +18,10 @@ pub(crate) fn run_started(
     cli_args: &Items<Text>,
     stress_condition: &Option<StressCondition>,
 ) -> Result<CoreEventKind, AllocError>
-    ensures { IfOk result (λ summary. summary ≡ core.RunStarted run_id profile_name.now cli_args.now (option_map condition_summary stress_condition.now)) }
+    ensures { IfOk result
+        (λ summary. summary
+        ≡ core.RunStarted run_id profile_name.now cli_args.now
+        (option_map condition_summary stress_condition.now)) }
 {
     let (profile_name, cli_args) = clone_both(alloc, profile_name, cli_args)?;
     Ok(CoreEventKind::RunStarted {
@@ -38,7 +41,9 @@ pub(crate) fn run_finished(
     run_stats: &RunFinishedStats,
     outstanding_not_seen: &Option<TestsNotSeenSummary>,
 ) -> Result<CoreEventKind, AllocError>
-    ensures { IfOk result (λ summary. summary ≡ core.RunFinished run_id start_time elapsed run_stats.now outstanding_not_seen.now) }
+    ensures { IfOk result
+        (λ summary. summary
+        ≡ core.RunFinished run_id start_time elapsed run_stats.now outstanding_not_seen.now) }
 {
     let outstanding_not_seen = outstanding_not_seen.try_clone(alloc)?;
     Ok(CoreEventKind::RunFinished {

@@ -19,7 +19,10 @@ pub(crate) fn script_started(
     args: &Items<Text>,
     no_capture: bool,
 ) -> Result<CoreEventKind, AllocError>
-    ensures { IfOk result (λ summary. summary ≡ core.SetupScriptStarted (index_summary stress_index.now) index total script_id.now program.now args.now no_capture) }
+    ensures { IfOk result
+        (λ summary. summary
+        ≡ core.SetupScriptStarted (index_summary stress_index.now) index total script_id.now
+        program.now args.now no_capture) }
 {
     let (script_id, program, args) = copy_script(alloc, script_id, program, args)?;
     Ok(CoreEventKind::SetupScriptStarted {
@@ -43,7 +46,10 @@ pub(crate) fn script_slow(
     elapsed: Duration,
     will_terminate: bool,
 ) -> Result<CoreEventKind, AllocError>
-    ensures { IfOk result (λ summary. summary ≡ core.SetupScriptSlow (index_summary stress_index.now) script_id.now program.now args.now elapsed will_terminate) }
+    ensures { IfOk result
+        (λ summary. summary
+        ≡ core.SetupScriptSlow (index_summary stress_index.now) script_id.now program.now args.now
+        elapsed will_terminate) }
 {
     let (script_id, program, args) = copy_script(alloc, script_id, program, args)?;
     Ok(CoreEventKind::SetupScriptSlow {

@@ -21,7 +21,10 @@ pub(crate) fn test_started(
     running: usize,
     command_line: &Items<Text>,
 ) -> Result<CoreEventKind, AllocError>
-    ensures { IfOk result (λ summary. summary ≡ core.TestStarted (index_summary stress_index.now) test_instance.now slot_assignment.now current_stats.now running command_line.now) }
+    ensures { IfOk result
+        (λ summary. summary
+        ≡ core.TestStarted (index_summary stress_index.now) test_instance.now slot_assignment.now
+        current_stats.now running command_line.now) }
 {
     let (test_instance, slot_assignment, command_line) = copy_test(
         alloc,
@@ -48,7 +51,10 @@ pub(crate) fn test_slow(
     elapsed: Duration,
     will_terminate: bool,
 ) -> Result<CoreEventKind, AllocError>
-    ensures { IfOk result (λ summary. summary ≡ core.TestSlow (index_summary stress_index.now) test_instance.now retry_data elapsed will_terminate) }
+    ensures { IfOk result
+        (λ summary. summary
+        ≡ core.TestSlow (index_summary stress_index.now) test_instance.now retry_data elapsed
+        will_terminate) }
 {
     let test_instance = test_instance.to_owned(alloc)?;
     Ok(CoreEventKind::TestSlow {
@@ -70,7 +76,10 @@ pub(crate) fn retry_started(
     running: usize,
     command_line: &Items<Text>,
 ) -> Result<CoreEventKind, AllocError>
-    ensures { IfOk result (λ summary. summary ≡ core.TestRetryStarted (index_summary stress_index.now) test_instance.now slot_assignment.now retry_data running command_line.now) }
+    ensures { IfOk result
+        (λ summary. summary
+        ≡ core.TestRetryStarted (index_summary stress_index.now) test_instance.now
+        slot_assignment.now retry_data running command_line.now) }
 {
     let (test_instance, slot_assignment, command_line) = copy_test(
         alloc,
@@ -96,7 +105,10 @@ pub(crate) fn test_skipped(
     reason: MismatchReason,
     junit_report_skipped: ReportSkipPolicy,
 ) -> Result<CoreEventKind, AllocError>
-    ensures { IfOk result (λ summary. summary ≡ core.TestSkipped (index_summary stress_index.now) test_instance.now reason junit_report_skipped) }
+    ensures { IfOk result
+        (λ summary. summary
+        ≡ core.TestSkipped (index_summary stress_index.now) test_instance.now reason
+        junit_report_skipped) }
 {
     let test_instance = test_instance.to_owned(alloc)?;
     Ok(CoreEventKind::TestSkipped {

@@ -39,8 +39,10 @@ impl Handing {
         target: &mut T,
         event: &TestEventSummary<RecordingSpec>,
     ) -> Result<(), TraceBuildError>
-        ensures processed { (g : ChromeTraceGroupBy) (version : Parts) (events : List PlainEvent) → HandsOn g version events self.old
-            → Processes T.holds g version events (plain event.now) self.old target.old self.new target.new result }
+        ensures processed { (g : ChromeTraceGroupBy) (version : Parts) (events : List PlainEvent)
+            → HandsOn g version events self.old
+            → Processes T.holds g version events (plain event.now) self.old target.old self.new
+            target.new result }
         ensures cause { TargetCause (T.faults target.old) (T.faults target.new) result }
     {
         if self.failed {
@@ -62,8 +64,10 @@ impl Handing {
         requires numbered { IsNumbered drawn.prepared self.old.tracer }
         requires room { HasRoom drawn.prepared.news self.old.tracer.known }
         requires sound { self.old.failed ≡ false }
-        ensures handed { (before : Tracer) → IsPrepared before (plain event.now) self.old.tracer drawn.prepared
-            → HandsOver T.holds (map event_value drawn.events.items) before (plain event.now) target.old self.new target.new result }
+        ensures handed { (before : Tracer)
+            → IsPrepared before (plain event.now) self.old.tracer drawn.prepared
+            → HandsOver T.holds (map event_value drawn.events.items) before (plain event.now)
+            target.old self.new target.new result }
         ensures cause { TargetCause (T.faults target.old) (T.faults target.new) result }
     {
         let DrawnEvent { events, prepared } = drawn;
@@ -133,9 +137,12 @@ impl<'t, T: TraceTarget> TraceBuilder<'t, T> {
         event: &TestEventSummary<RecordingSpec>,
     ) -> Result<(), TraceBuildError>
         ensures same { self.new.target.ghost_name ≡ self.old.target.ghost_name }
-        ensures processed { (g : ChromeTraceGroupBy) (version : Parts) (events : List PlainEvent) → HandsOn g version events self.old.handing
-            → Processes T.holds g version events (plain event.now) self.old.handing self.old.target.now self.new.handing self.new.target.now result }
-        ensures cause { TargetCause (T.faults self.old.target.now) (T.faults self.new.target.now) result }
+        ensures processed { (g : ChromeTraceGroupBy) (version : Parts) (events : List PlainEvent)
+            → HandsOn g version events self.old.handing
+            → Processes T.holds g version events (plain event.now) self.old.handing
+            self.old.target.now self.new.handing self.new.target.now result }
+        ensures cause { TargetCause (T.faults self.old.target.now) (T.faults self.new.target.now)
+            result }
     {
         self.handing.trace_event(self.target, event)
     }
@@ -151,7 +158,9 @@ impl<'t, T: TraceTarget> TraceBuilder<'t, T> {
     /// that are pending, and where tests are grouped by binary, the binaries that have started an attempt. It is at
     /// most the greatest usize. To count takes as long as there is much to count.
     pub fn held(&self) -> usize
-        ensures { (g : ChromeTraceGroupBy) (version : Parts) (events : List PlainEvent) → HandsOn g version events self.now.handing → IsHeld g events result }
+        ensures { (g : ChromeTraceGroupBy) (version : Parts) (events : List PlainEvent)
+            → HandsOn g version events self.now.handing
+            → IsHeld g events result }
     {
         self.handing.tracer.held()
     }
@@ -163,7 +172,9 @@ impl<'t, T: TraceTarget> TraceBuilder<'t, T> {
     ///
     /// Fails only where memory ran out.
     pub fn finish(self, alloc: Global) -> Result<Value, AllocError>
-        ensures { IfOk result (λ v. (g : ChromeTraceGroupBy) (version : Parts) (events : List PlainEvent) → HandsOn g version events self.entry.handing
+        ensures { IfOk result
+            (λ v. (g : ChromeTraceGroupBy) (version : Parts) (events : List PlainEvent)
+            → HandsOn g version events self.entry.handing
             → view v ≡ other_data version (known_of g events).last_run) }
     {
         let tracer = &self.handing.tracer;

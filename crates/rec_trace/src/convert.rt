@@ -52,7 +52,8 @@ where
     I: Iterator<Item = Result<TestEventSummary<RecordingSpec>, LineError>> + Drop,
     requires can { I.can_next events }
     requires ends { IsFinite (I.remaining events) }
-    ensures trace { IfOk result (λ bytes. Converts I.next_gives events group_by message_format version.now bytes.items) }
+    ensures trace { IfOk result
+        (λ bytes. Converts I.next_gives events group_by message_format version.now bytes.items) }
     ensures no_trace { IfErr result (λ error. HasNoTrace I.next_gives events group_by error) }
 {
     let runner = version.try_clone(alloc)?;

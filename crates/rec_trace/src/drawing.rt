@@ -47,8 +47,12 @@ pub fn draw_event<S: OutputSpec>(
     judged: &JudgedEvent,
     event: &TestEventSummary<S>,
 ) -> Result<Vec<TraceEvent>, AllocError>
-    requires { IsJudged tracker.now (trace_input group_by tracker.now.binaries (plain event.now)) judged.now }
-    ensures { IfOk result (λ events. map event_value events.items ≡ all_events (drawn version.now group_by tracker.now (known_in known.now) (plain event.now))) }
+    requires { IsJudged tracker.now (trace_input group_by tracker.now.binaries (plain event.now))
+        judged.now }
+    ensures { IfOk result
+        (λ events. map event_value events.items
+        ≡ all_events
+        (drawn version.now group_by tracker.now (known_in known.now) (plain event.now))) }
 {
     let sight = Sight {
         alloc,
@@ -73,7 +77,9 @@ fn draw_kind<S: OutputSpec>(
     events: &mut Vec<TraceEvent>,
 ) -> Result<(), AllocError>
     requires { IsJudgedAct sight.now (act_of (plain_kind kind.now)) }
-    ensures { OnOk result (Draws (in_sight sight.now drawn_kind (plain_kind kind.now)) events.old.items events.new.items) }
+    ensures { OnOk result
+        (Draws (in_sight sight.now drawn_kind (plain_kind kind.now)) events.old.items
+        events.new.items) }
 {
     match kind {
         TestEventKindSummary::Core(kind) => draw_core(sight, kind, events),
@@ -88,7 +94,8 @@ fn draw_core(
     events: &mut Vec<TraceEvent>,
 ) -> Result<(), AllocError>
     requires { IsJudgedAct sight.now (core_act kind.now) }
-    ensures { OnOk result (Draws (in_sight sight.now drawn_core kind.now) events.old.items events.new.items) }
+    ensures { OnOk result
+        (Draws (in_sight sight.now drawn_core kind.now) events.old.items events.new.items) }
 {
     match kind {
         CoreEventKind::RunStarted { .. } => draw_run_start(sight, kind, events),
@@ -114,7 +121,9 @@ fn draw_output<S: OutputSpec>(
     events: &mut Vec<TraceEvent>,
 ) -> Result<(), AllocError>
     requires { IsJudgedAct sight.now (output_act (plain_output_kind kind.now)) }
-    ensures { OnOk result (Draws (in_sight sight.now drawn_output (plain_output_kind kind.now)) events.old.items events.new.items) }
+    ensures { OnOk result
+        (Draws (in_sight sight.now drawn_output (plain_output_kind kind.now)) events.old.items
+        events.new.items) }
 {
     match kind {
         OutputEventKind::SetupScriptFinished { .. } => draw_script_end(sight, kind, events),

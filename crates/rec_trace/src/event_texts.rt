@@ -36,7 +36,8 @@ pub fn write_events(
     events: &[TraceEvent],
 ) -> Result<bool, AllocError>
     ensures some { IfOk result (λ some. some ≡ (later || has_some (map event_value events.now))) }
-    ensures written { OnOk result (text.new.items ≡ text.old.items ++ event_texts format later (map event_value events.now)) }
+    ensures written { OnOk result
+        (text.new.items ≡ text.old.items ++ event_texts format later (map event_value events.now)) }
     ensures known { OnOk result (AreWritable (map event_value events.now)) }
     ensures before { StartsWith text.old.items text.new.items }
 {
@@ -56,7 +57,9 @@ fn write_event(
     later: bool,
     event: &TraceEvent,
 ) -> Result<(), AllocError>
-    ensures written { OnOk result (text.new.items ≡ (text.old.items ++ comma_if later) ++ event_text format (event_value event.now)) }
+    ensures written { OnOk result
+        (text.new.items
+        ≡ (text.old.items ++ comma_if later) ++ event_text format (event_value event.now)) }
     ensures known { OnOk result (IsWritable 9 (event_value event.now)) }
     ensures before { StartsWith text.old.items text.new.items }
 {
@@ -76,7 +79,8 @@ fn write_lines(
     text: &mut Vec<u8>,
     event: &TraceEvent,
 ) -> Result<(), AllocError>
-    ensures written { OnOk result (text.new.items ≡ text.old.items ++ event_text JsonPretty (event_value event.now)) }
+    ensures written { OnOk result
+        (text.new.items ≡ text.old.items ++ event_text JsonPretty (event_value event.now)) }
     ensures before { OnErr result (text.new.items ≡ text.old.items) }
 {
     let lines = nested_lines(alloc, scratch, event)?;

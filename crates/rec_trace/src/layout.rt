@@ -27,7 +27,8 @@ pub fn write_tokens(mut reader: Reader<'_>, lines: &mut Pretty) -> Result<(), Al
 ///
 /// Fails only where memory ran out.
 pub fn lay_out(alloc: Global, text: &str) -> Result<Vec<u8>, AllocError>
-    ensures { IfOk result (λ s. ArePrintable (tokens text.now) → s.items ≡ pretty (tokens text.now)) }
+    ensures { IfOk result
+        (λ s. ArePrintable (tokens text.now) → s.items ≡ pretty (tokens text.now)) }
 {
     let mut scratch = Scratch::new(alloc);
     let reader = Reader::new(text, &mut scratch)?;

@@ -38,7 +38,8 @@ fn write_run(
     version: &Version,
     run: &RunStart,
 ) -> Result<(), AllocError>
-    ensures written { OnOk result (text.new ≡ text.old ++ value_tokens (other_data version.now (Some run.now))) }
+    ensures written { OnOk result
+        (text.new ≡ text.old ++ value_tokens (other_data version.now (Some run.now))) }
     ensures known { OnOk result (IsWritable 8 (other_data version.now (Some run.now))) }
 {
     let object = ObjectWriter::begin(alloc, text);
@@ -52,7 +53,8 @@ fn write_run(
 
 /// Writes what a trace says of runs by this version of the runner, where none started.
 fn write_version(alloc: Global, text: &mut JsonText, version: &Version) -> Result<(), AllocError>
-    ensures written { OnOk result (text.new ≡ text.old ++ value_tokens (other_data version.now None)) }
+    ensures written { OnOk result
+        (text.new ≡ text.old ++ value_tokens (other_data version.now None)) }
     ensures known { OnOk result (IsWritable 8 (other_data version.now None)) }
 {
     let object = ObjectWriter::begin(alloc, text);
@@ -71,7 +73,8 @@ pub fn other_data_text(
     version: &Version,
     last_run: &Option<RunStart>,
 ) -> Result<String, AllocError>
-    ensures text { IfOk result (λ s. string_bytes s ≡ compact_text (other_data version.now last_run.now)) }
+    ensures text { IfOk result
+        (λ s. string_bytes s ≡ compact_text (other_data version.now last_run.now)) }
     ensures known { IfOk result (λ _. IsWritable 8 (other_data version.now last_run.now)) }
 {
     let mut text = JsonText::new(alloc);

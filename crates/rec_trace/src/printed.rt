@@ -46,9 +46,12 @@ impl Printed {
     ///
     /// Fails only where memory ran out. The trace events so far then stay as they are.
     pub fn put_all(&mut self, alloc: Global, events: &[TraceEvent]) -> Result<(), AllocError>
-        ensures all { OnOk result ((format : ChromeTraceMessageFormat) (kept : List Data) → AreKept format kept self.old
+        ensures all { OnOk result
+            ((format : ChromeTraceMessageFormat) (kept : List Data) → AreKept format kept self.old
             → AreKept format (kept ++ map event_value events.now) self.new) }
-        ensures same { OnErr result ((format : ChromeTraceMessageFormat) (kept : List Data) → AreKept format kept self.old → AreKept format kept self.new) }
+        ensures same { OnErr result
+            ((format : ChromeTraceMessageFormat) (kept : List Data) → AreKept format kept self.old
+            → AreKept format kept self.new) }
     {
         let before = self.text.as_slice().len();
         let scratch = &mut self.scratch;
@@ -83,7 +86,9 @@ impl Printed {
         version: &Version,
         last_run: &Option<RunStart>,
     ) -> Result<Vec<u8>, AllocError>
-        ensures { IfOk result (λ s. (format : ChromeTraceMessageFormat) (events : List Data) → AreKept format events self
+        ensures { IfOk result
+            (λ s. (format : ChromeTraceMessageFormat) (events : List Data)
+            → AreKept format events self
             → s.items ≡ text_in format (trace_value (other_data version.now last_run.now) events)) }
     {
         let Printed {

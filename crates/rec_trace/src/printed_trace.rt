@@ -53,7 +53,9 @@ impl PrintedTrace {
         alloc: Global,
         event: &TestEventSummary<S>,
     ) -> Result<(), ChromeTraceError>
-        ensures { (format : ChromeTraceMessageFormat) (g : ChromeTraceGroupBy) (version : Parts) (events : List PlainEvent) → HasTraced format g version events self.old
+        ensures { (format : ChromeTraceMessageFormat) (g : ChromeTraceGroupBy) (version : Parts)
+            (events : List PlainEvent)
+            → HasTraced format g version events self.old
             → Traces format g version events (plain event.now) self.new result }
     {
         let drawn = self.tracer.prepare(alloc, event)?;
@@ -69,8 +71,10 @@ impl PrintedTrace {
     ) -> Result<(), ChromeTraceError>
         requires numbered { IsNumbered drawn.prepared self.old.tracer }
         requires room { HasRoom drawn.prepared.news self.old.tracer.known }
-        ensures { (before : Tracer) → IsPrepared before (plain event.now) self.old.tracer drawn.prepared
-            → Prints (map event_value drawn.events.items) before (plain event.now) self.old self.new result }
+        ensures { (before : Tracer)
+            → IsPrepared before (plain event.now) self.old.tracer drawn.prepared
+            → Prints (map event_value drawn.events.items) before (plain event.now) self.old self.new
+            result }
     {
         let DrawnEvent { events, prepared } = drawn;
         let put = self.printed.put_all(alloc, &events);
@@ -98,8 +102,11 @@ impl PrintedTrace {
     ///
     /// Fails only where memory ran out.
     pub fn into_bytes(self, alloc: Global) -> Result<Vec<u8>, AllocError>
-        ensures { IfOk result (λ text. (format : ChromeTraceMessageFormat) (g : ChromeTraceGroupBy) (version : Parts) (events : List PlainEvent)
-            → HasTraced format g version events self → text.items ≡ trace_text format g version events) }
+        ensures { IfOk result
+            (λ text. (format : ChromeTraceMessageFormat) (g : ChromeTraceGroupBy) (version : Parts)
+            (events : List PlainEvent)
+            → HasTraced format g version events self
+            → text.items ≡ trace_text format g version events) }
     {
         let PrintedTrace { tracer, printed } = self;
         let text = printed.into_bytes(alloc, tracer.version(), tracer.last_run());

@@ -10,7 +10,8 @@ use rec_trace_events::TraceEvent;
 /// Puts events in their order, up to the first at which the target fails. It takes no memory itself.
 pub fn put_all<T: TraceTarget>(target: &mut T, events: Vec<TraceEvent>) -> Result<(), TargetFailed>
     ensures all { OnOk result (Takes T.holds target.old target.new (map event_value events.items)) }
-    ensures part { OnErr result (TakesPart T.holds target.old target.new (map event_value events.items)) }
+    ensures part { OnErr result
+        (TakesPart T.holds target.old target.new (map event_value events.items)) }
     ensures cause { HasCause (T.faults target.old) (T.faults target.new) result }
 {
     for event in events {

@@ -74,7 +74,9 @@ impl Tracer {
     /// Counts what is kept of the events so far: the open spans, the rows and processes that were named, the pending
     /// arrows, and where each binary is a process, the binaries. It goes over the tests of which something is noted.
     pub fn held(&self) -> usize
-        ensures { (version : Parts) (events : List PlainEvent) → StandsFor self.now.group_by version events self.now → IsHeld self.now.group_by events result }
+        ensures { (version : Parts) (events : List PlainEvent)
+            → StandsFor self.now.group_by version events self.now
+            → IsHeld self.now.group_by events result }
     {
         let spans = self.tracker.open_spans().len();
         let known = self.known.named().saturating_add(self.known.pending());
@@ -105,9 +107,13 @@ impl Tracer {
         alloc: Global,
         event: &TestEventSummary<S>,
     ) -> Result<DrawnEvent, ChromeTraceError>
-        ensures judged { Judges result (next_refusal self.old.tracker (trace_input self.old.group_by self.old.tracker.binaries (plain event.now))) }
-        ensures drawn { IfOk result (λ d. map event_value d.events.items ≡ draws self.old (plain event.now)) }
-        ensures prepared { IfOk result (λ d. IsPrepared self.old (plain event.now) self.new d.prepared) }
+        ensures judged { Judges result
+            (next_refusal self.old.tracker
+            (trace_input self.old.group_by self.old.tracker.binaries (plain event.now))) }
+        ensures drawn { IfOk result
+            (λ d. map event_value d.events.items ≡ draws self.old (plain event.now)) }
+        ensures prepared { IfOk result
+            (λ d. IsPrepared self.old (plain event.now) self.new d.prepared) }
         ensures err { OnErr result (StaysSame self.old self.new) }
     {
         let judged = self.tracker.judge_event(alloc, self.group_by, event)?;
@@ -129,8 +135,10 @@ impl Tracer {
         event: &TestEventSummary<S>,
         judged: &JudgedEvent,
     ) -> Result<Vec<TraceEvent>, AllocError>
-        requires { IsJudged self.now.tracker (trace_input self.now.group_by self.now.tracker.binaries (plain event.now)) judged.now }
-        ensures { IfOk result (λ events. map event_value events.items ≡ draws self.now (plain event.now)) }
+        requires { IsJudged self.now.tracker
+            (trace_input self.now.group_by self.now.tracker.binaries (plain event.now)) judged.now }
+        ensures { IfOk result
+            (λ events. map event_value events.items ≡ draws self.now (plain event.now)) }
     {
         draw_event(
             alloc,
@@ -150,7 +158,8 @@ impl Tracer {
         event: &TestEventSummary<S>,
         judged: JudgedEvent,
     ) -> Result<PreparedEvent, AllocError>
-        requires { IsJudged self.old.tracker (trace_input self.old.group_by self.old.tracker.binaries (plain event.now)) judged }
+        requires { IsJudged self.old.tracker
+            (trace_input self.old.group_by self.old.tracker.binaries (plain event.now)) judged }
         ensures ok { IfOk result (IsPrepared self.old (plain event.now) self.new) }
         ensures err { OnErr result (StaysSame self.old self.new) }
     {
@@ -175,7 +184,9 @@ impl Tracer {
     pub fn accept<S: OutputSpec>(&mut self, event: &TestEventSummary<S>, prepared: PreparedEvent)
         requires numbered { prepared.opened.number ≡ suc self.old.tracker.number }
         requires room { HasRoom prepared.news self.old.known }
-        ensures { (before : Tracer) → IsPrepared before (plain event.now) self.old prepared → Advances before (plain event.now) self.new }
+        ensures { (before : Tracer)
+            → IsPrepared before (plain event.now) self.old prepared
+            → Advances before (plain event.now) self.new }
     {
         self.tracker.advance(event, prepared.opened);
         self.known.take(prepared.news);
@@ -183,7 +194,9 @@ impl Tracer {
 
     /// Lets an event go that was prepared. It takes no memory.
     pub fn let_go<S: OutputSpec>(&mut self, event: &TestEventSummary<S>, prepared: PreparedEvent)
-        ensures { (before : Tracer) → IsPrepared before (plain event.now) self.old prepared → StaysSame before self.new }
+        ensures { (before : Tracer)
+            → IsPrepared before (plain event.now) self.old prepared
+            → StaysSame before self.new }
     {
         self.tracker.take_back(event, prepared.opened);
         self.known.let_go(prepared.news);

@@ -70,7 +70,9 @@ impl TraceTarget for VecTarget {
         // The call's number, when it fails, and what it takes of the spare places.
         ensures numbered { self.new.calls ≡ next_count self.old.calls }
         ensures unlisted { OnOk result (Contains self.old.fail_at.items self.new.calls → ⊥) }
-        ensures failed { OnErr result (Contains self.old.fail_at.items self.new.calls ⊎ (vec_capacity self.old.events ≤ vec_len self.old.events)) }
+        ensures failed { OnErr result
+            (Contains self.old.fail_at.items self.new.calls
+            ⊎ (vec_capacity self.old.events ≤ vec_len self.old.events)) }
         ensures place { OnOk result (vec_len self.new.events ≡ vec_len self.old.events + 1) }
         ensures room { vec_capacity self.old.events ≤ vec_capacity self.new.events }
         ensures rules { self.new.fail_at ≡ self.old.fail_at }

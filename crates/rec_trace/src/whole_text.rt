@@ -20,7 +20,9 @@ pub fn trace_prefix(
     format: ChromeTraceMessageFormat,
     other_data: &str,
 ) -> Result<Vec<u8>, AllocError>
-    ensures { IfOk result (λ s. (other : Data) → other_data.now ≡ compact_text other → IsWritable 8 other → s.items ≡ trace_prefix format other) }
+    ensures { IfOk result
+        (λ s. (other : Data) → other_data.now ≡ compact_text other → IsWritable 8 other
+        → s.items ≡ trace_prefix format other) }
 {
     let prefix = compact_prefix(alloc, other_data)?;
     match format {
@@ -31,7 +33,9 @@ pub fn trace_prefix(
 
 /// Writes in one line what stands before the events.
 fn compact_prefix(alloc: Global, other_data: &str) -> Result<String, AllocError>
-    ensures { IfOk result (λ s. (other : Data) → other_data.now ≡ compact_text other → string_bytes s ≡ compact_prefix other) }
+    ensures { IfOk result
+        (λ s. (other : Data) → other_data.now ≡ compact_text other
+        → string_bytes s ≡ compact_prefix other) }
 {
     let mut prefix = String::from_str(alloc, "{\"displayTimeUnit\":\"ms\",\"otherData\":")?;
     prefix.push_str(other_data)?;
@@ -42,7 +46,9 @@ fn compact_prefix(alloc: Global, other_data: &str) -> Result<String, AllocError>
 /// Writes over several lines what stands before the events, from what stands there in one line: that is what a trace
 /// without events has before its end.
 fn pretty_prefix(alloc: Global, mut prefix: String) -> Result<Vec<u8>, AllocError>
-    ensures { IfOk result (λ s. (other : Data) → string_bytes prefix ≡ compact_prefix other → IsWritable 8 other → s.items ≡ trace_prefix JsonPretty other) }
+    ensures { IfOk result
+        (λ s. (other : Data) → string_bytes prefix ≡ compact_prefix other → IsWritable 8 other
+        → s.items ≡ trace_prefix JsonPretty other) }
 {
     prefix.push_str(trace_end(ChromeTraceMessageFormat::Json, false))?;
     let mut lines = lay_out(alloc, &prefix)?;

@@ -35,7 +35,9 @@ impl<'a, S: OutputSpec> Args for FailedAttemptArgs<'a, S> {
     ghost use Rattle.rec_trace_events.specs.Args.{failed_attempt_args};
     ghost use Rattle.rec_trace_events.specs.AttemptEnds.{group_or_global};
 
-    ghost value_of = { λ a. failed_attempt_args a.test.now a.stress_index.now (group_or_global (option_copied a.test_group)) a.status.now a.delay_before_next_attempt.now };
+    ghost value_of = { λ a. failed_attempt_args a.test.now a.stress_index.now
+        (group_or_global (option_copied a.test_group)) a.status.now
+        a.delay_before_next_attempt.now };
 
     #[tactic(auto, unfolding(crate::specs::Args::failed_attempt_args))]
     fn write(&self, alloc: Global, text: &mut JsonText) -> Result<(), AllocError> {
@@ -70,7 +72,8 @@ impl<'a, S: OutputSpec> Args for LastAttemptArgs<'a, S> {
     ghost use Rattle.rec_trace_events.specs.Args.{last_attempt_args};
     ghost use Rattle.rec_trace_events.specs.AttemptEnds.{group_or_global};
 
-    ghost value_of = { λ a. last_attempt_args a.test.now a.stress_index.now (group_or_global (option_copied a.test_group)) a.last.now a.flaky };
+    ghost value_of = { λ a. last_attempt_args a.test.now a.stress_index.now
+        (group_or_global (option_copied a.test_group)) a.last.now a.flaky };
 
     fn write(&self, alloc: Global, text: &mut JsonText) -> Result<(), AllocError> {
         let (test, last) = (self.test, self.last);
@@ -148,7 +151,8 @@ fn with_last_fields<S: OutputSpec>(
 /// Writes a group, or else the global one.
 fn with_group(object: ObjectWriter, text: &mut JsonText, group: Option<&TestGroup>) -> ObjectWriter
     ensures { Writes object text.old result text.new
-        ((codes "test_group", Some (test_group_value (group_or_global (option_copied group.entry)))) ∷ [])
+        ((codes "test_group", Some (test_group_value (group_or_global (option_copied group.entry))))
+        ∷ [])
         (IsWritable 0 (test_group_value (group_or_global (option_copied group.entry)))) }
 {
     match group {

@@ -62,7 +62,9 @@ pub fn event<A: Args>(
     parts: &EventParts<'_>,
     args: Option<&A>,
 ) -> Result<TraceEvent, AllocError>
-    ensures { IfOk result (λ e. event_value e ≡ event_of parts.now (option_map A.value_of (option_copied args.entry))) }
+    ensures { IfOk result
+        (λ e. event_value e
+        ≡ event_of parts.now (option_map A.value_of (option_copied args.entry))) }
 {
     let mut text = JsonText::new(alloc);
     write_event(alloc, &mut text, parts, args)?;

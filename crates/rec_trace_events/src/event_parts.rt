@@ -37,7 +37,9 @@ fn write_args<A: Args>(
     text: &mut JsonText,
     args: Option<&A>,
 ) -> Result<(), AllocError>
-    ensures written { OnOk result (text.new ≡ with_field (codes "args") (option_map A.value_of (option_copied args.entry)) text.old) }
+    ensures written { OnOk result
+        (text.new
+        ≡ with_field (codes "args") (option_map A.value_of (option_copied args.entry)) text.old) }
     ensures known { OnOk result (IfWritten 8 (option_map A.value_of (option_copied args.entry))) }
 {
     match args {
@@ -97,8 +99,12 @@ pub fn write_event<A: Args>(
     parts: &EventParts<'_>,
     args: Option<&A>,
 ) -> Result<(), AllocError>
-    ensures written { OnOk result (text.new ≡ text.old ++ value_tokens (event_of parts.now (option_map A.value_of (option_copied args.entry)))) }
-    ensures known { OnOk result (IsWritable 9 (event_of parts.now (option_map A.value_of (option_copied args.entry)))) }
+    ensures written { OnOk result
+        (text.new
+        ≡ text.old
+        ++ value_tokens (event_of parts.now (option_map A.value_of (option_copied args.entry)))) }
+    ensures known { OnOk result
+        (IsWritable 9 (event_of parts.now (option_map A.value_of (option_copied args.entry)))) }
 {
     text.begin_object()?;
     write_args(alloc, text, args)?;

@@ -60,7 +60,9 @@ fn instant_event<'a, A: Args>(
     scope: &'a str,
     args: &A,
 ) -> Result<TraceEvent, AllocError>
-    ensures { IfOk result (λ e. event_value e ≡ instant_event name.now category row at scope.now (A.value_of args.now)) }
+    ensures { IfOk result
+        (λ e. event_value e
+        ≡ instant_event name.now category row at scope.now (A.value_of args.now)) }
 {
     let parts = EventParts {
         phase: "i",

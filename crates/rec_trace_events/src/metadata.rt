@@ -86,7 +86,8 @@ fn place_event(alloc: Global, event: &str, row: Row, place: u64) -> Result<Trace
 
 /// Makes the list of two events.
 fn pair(alloc: Global, first: TraceEvent, second: TraceEvent) -> Result<Vec<TraceEvent>, AllocError>
-    ensures { IfOk result (λ events. map event_value events.items ≡ event_value first ∷ event_value second ∷ []) }
+    ensures { IfOk result
+        (λ events. map event_value events.items ≡ event_value first ∷ event_value second ∷ []) }
 {
     let mut events = Vec::new(alloc);
     events.push(first)?;

@@ -26,7 +26,8 @@ pub struct RunBeginArgs<'a> {
 impl<'a> Args for RunBeginArgs<'a> {
     ghost use Rattle.rec_trace_events.specs.Args.{run_begin_args};
 
-    ghost value_of = { λ a. run_begin_args a.version.now a.run_id.now a.profile.now a.cli_args.now a.stress_condition.now };
+    ghost value_of = { λ a. run_begin_args a.version.now a.run_id.now a.profile.now a.cli_args.now
+        a.stress_condition.now };
 
     #[tactic(auto, unfolding(crate::specs::Args::run_begin_args))]
     fn write(&self, alloc: Global, text: &mut JsonText) -> Result<(), AllocError> {
@@ -86,7 +87,8 @@ fn with_not_seen(
 impl<'a> Args for RunEndArgs<'a> {
     ghost use Rattle.rec_trace_events.specs.Args.{run_end_args};
 
-    ghost value_of = { λ a. run_end_args a.version.now a.time_taken.now a.profile.now a.run_stats.now a.outstanding_not_seen.now };
+    ghost value_of = { λ a. run_end_args a.version.now a.time_taken.now a.profile.now
+        a.run_stats.now a.outstanding_not_seen.now };
 
     #[tactic(auto, unfolding(crate::specs::Args::run_end_args))]
     fn write(&self, alloc: Global, text: &mut JsonText) -> Result<(), AllocError> {

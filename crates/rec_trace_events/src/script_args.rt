@@ -46,7 +46,8 @@ pub struct SlowScriptArgs<'a> {
 impl<'a> Args for SlowScriptArgs<'a> {
     ghost use Rattle.rec_trace_events.specs.Args.{slow_script_args};
 
-    ghost value_of = { λ a. slow_script_args a.script_id.now a.stress_index.now a.elapsed.now a.will_terminate };
+    ghost value_of = { λ a. slow_script_args a.script_id.now a.stress_index.now a.elapsed.now
+        a.will_terminate };
 
     #[tactic(auto, unfolding(crate::specs::Args::slow_script_args))]
     fn write(&self, alloc: Global, text: &mut JsonText) -> Result<(), AllocError> {

@@ -20,7 +20,10 @@ fn slice_event<'a, A: Args>(
     at: i64,
     args: Option<&A>,
 ) -> Result<TraceEvent, AllocError>
-    ensures { IfOk result (λ e. event_value e ≡ slice_event phase.now name.now category row at (option_map A.value_of (option_copied args.entry))) }
+    ensures { IfOk result
+        (λ e. event_value e
+        ≡ slice_event phase.now name.now category row at
+        (option_map A.value_of (option_copied args.entry))) }
 {
     let parts = EventParts {
         phase,
@@ -49,7 +52,9 @@ pub fn begin_event<A: Args>(
     at: i64,
     args: Option<&A>,
 ) -> Result<TraceEvent, AllocError>
-    ensures { IfOk result (λ e. event_value e ≡ begin_event name.now category row at (option_map A.value_of (option_copied args.entry))) }
+    ensures { IfOk result
+        (λ e. event_value e
+        ≡ begin_event name.now category row at (option_map A.value_of (option_copied args.entry))) }
 {
     slice_event(alloc, "B", name, category, row, at, args)
 }
@@ -68,7 +73,9 @@ pub fn end_event<A: Args>(
     at: i64,
     args: Option<&A>,
 ) -> Result<TraceEvent, AllocError>
-    ensures { IfOk result (λ e. event_value e ≡ end_event name.now category row at (option_map A.value_of (option_copied args.entry))) }
+    ensures { IfOk result
+        (λ e. event_value e
+        ≡ end_event name.now category row at (option_map A.value_of (option_copied args.entry))) }
 {
     slice_event(alloc, "E", name, category, row, at, args)
 }

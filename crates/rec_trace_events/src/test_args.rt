@@ -67,7 +67,8 @@ pub struct SlowTestArgs<'a> {
 impl<'a> Args for SlowTestArgs<'a> {
     ghost use Rattle.rec_trace_events.specs.Args.{slow_test_args};
 
-    ghost value_of = { λ a. slow_test_args a.test.now a.stress_index.now a.retry_data.now a.elapsed.now a.will_terminate };
+    ghost value_of = { λ a. slow_test_args a.test.now a.stress_index.now a.retry_data.now
+        a.elapsed.now a.will_terminate };
 
     #[tactic(auto, unfolding(crate::specs::Args::slow_test_args))]
     fn write(&self, alloc: Global, text: &mut JsonText) -> Result<(), AllocError> {

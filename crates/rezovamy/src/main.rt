@@ -33,7 +33,8 @@ fn status_without_memory<G: Sink>(diag: &mut G) -> u8 {
 
 /// Returns the path of the file that the bundle goes into, empty where the words name none.
 fn path_of(alloc: Global, words: &[String]) -> Result<String, AllocError>
-    ensures { IfOk result (λ path. string_bytes path ≡ unwrap_or (bundle_of (command (texts words.now))) []) }
+    ensures { IfOk result
+        (λ path. string_bytes path ≡ unwrap_or (bundle_of (command (texts words.now))) []) }
 {
     String::from_str(alloc, bundle_path(words).unwrap_or(""))
 }

@@ -17,7 +17,8 @@ use std::alloc::{AllocError, Global};
 
 /// The name of the status that an object has.
 fn name_in<'a>(object: &[(&'a str, Node<'a>)]) -> Option<&'a str>
-    ensures { option_map (λ name. name.now) result ≡ required as_str (codes "status") (members_view object.now) }
+    ensures { option_map (λ name. name.now) result
+        ≡ required as_str (codes "status") (members_view object.now) }
 {
     member(object, "status")?.as_str()
 }

@@ -52,8 +52,11 @@ impl RewrittenLog {
         alloc: Global,
         item: Result<TestEventSummary<RecordingSpec>, LineError>,
     ) -> Result<(), RecordReadError>
-        ensures ok { OnOk result ((e : RecordedEvent) × (item ≡ Ok e) × AddsEvent e self.old self.new) }
-        ensures err { IfErr result (λ x. (x ≡ OutOfMemory) ⊎ ((fault : LineError) × (item ≡ Err fault) × (x ≡ line_refusal fault))) }
+        ensures ok { OnOk result
+            ((e : RecordedEvent) × (item ≡ Ok e) × AddsEvent e self.old self.new) }
+        ensures err { IfErr result
+            (λ x. (x ≡ OutOfMemory)
+            ⊎ ((fault : LineError) × (item ≡ Err fault) × (x ≡ line_refusal fault))) }
     {
         match item {
             Ok(event) => {

@@ -33,7 +33,8 @@ impl MetadataTexts {
         limit: u64,
         entries: &Container<'_>,
     ) -> Result<MetadataTexts, RecordReadError>
-        ensures { Rewrites (λ m t. text_entries t ≡ metadata_entries m) (metadata_judged limit entries.now.entries) result }
+        ensures { Rewrites (λ m t. text_entries t ≡ metadata_entries m)
+            (metadata_judged limit entries.now.entries) result }
     {
         let build_scope = rewrite::<RecordedBuildScope>(
             alloc,
@@ -89,7 +90,8 @@ fn rewrite<T: Form + Drop>(
     entries: &Container<'_>,
     path: &str,
 ) -> Result<Vec<u8>, RecordReadError>
-    ensures { Rewrites (λ x text. text.items ≡ compact_text (T.value_of x)) (metadata_part T.form_of path.now entries.now.entries limit) result }
+    ensures { Rewrites (λ x text. text.items ≡ compact_text (T.value_of x))
+        (metadata_part T.form_of path.now entries.now.entries limit) result }
 {
     let item: T = read_metadata(alloc, entries, limit, path)?;
     let text = write_text(alloc, &item);

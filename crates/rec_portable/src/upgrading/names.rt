@@ -31,7 +31,9 @@ pub(crate) fn judge_store_names(
     paths: &BTreeSet<String>,
     entries: &Container<'_>,
 ) -> Result<(), UpgradeError>
-    ensures { (named : List (List ℕ)) → ArePaths named paths.now → Judges (none_foreign (first_unnamed named entries.now.entries)) result }
+    ensures { (named : List (List ℕ))
+        → ArePaths named paths.now
+        → Judges (none_foreign (first_unnamed named entries.now.entries)) result }
 {
     refuse(alloc, first_without_name(paths, entries))
 }
@@ -77,7 +79,9 @@ fn is_in_place(i: usize, name: &str) -> bool
 
 /// Returns the name of the first entry that is neither metadata nor one of these paths.
 fn first_without_name<'a>(paths: &BTreeSet<String>, entries: &Container<'a>) -> Option<&'a str>
-    ensures { (named : List (List ℕ)) → ArePaths named paths.now → option_map (λ n. n.now) result ≡ first_unnamed named entries.now.entries }
+    ensures { (named : List (List ℕ))
+        → ArePaths named paths.now
+        → option_map (λ n. n.now) result ≡ first_unnamed named entries.now.entries }
 {
     for i in 0..entries.len() {
         let name = entries.name(i);

@@ -31,7 +31,9 @@ pub(crate) fn rewrite_parts(
     log: &PortableRecordingRunLog<'_>,
     entries: &Container<'_>,
 ) -> Result<RewrittenRun, RecordReadError>
-    ensures { (m : PortableManifest) → Rewrites (IsRewrittenRun m entries.now.entries) (parts_judged limit m log.now entries.now.entries) result }
+    ensures { (m : PortableManifest)
+        → Rewrites (IsRewrittenRun m entries.now.entries)
+        (parts_judged limit m log.now entries.now.entries) result }
 {
     let metadata = MetadataTexts::read(alloc, limit, entries)?;
     let log = rewrite_log(alloc, log)?;

@@ -20,7 +20,11 @@ pub(crate) fn judge_sizes(
     log: &[u8],
     store: &[NamedContent<'_>],
 ) -> Result<(), UpgradeError>
-    ensures { Judges (unless (entries_refusal limit (entry_named manifest_name manifest.now ∷ entry_named log_name log.now ∷ map entry_of store.now)) tt) result }
+    ensures { Judges
+        (unless
+        (entries_refusal limit
+        (entry_named manifest_name manifest.now ∷ entry_named log_name log.now
+        ∷ map entry_of store.now)) tt) result }
 {
     judge_one(alloc, limit, PORTABLE_MANIFEST_FILE_NAME, manifest)?;
     judge_one(alloc, limit, RUN_LOG_FILE_NAME, log)?;
@@ -43,7 +47,8 @@ fn judge_entries(
 
 /// Judges the size of a content.
 fn judge_one(alloc: Global, limit: u64, name: &str, content: &[u8]) -> Result<(), UpgradeError>
-    ensures { Judges (unless (entries_refusal limit (entry_named name.now content.now ∷ [])) tt) result }
+    ensures { Judges (unless (entries_refusal limit (entry_named name.now content.now ∷ [])) tt)
+        result }
 {
     match judge_size(alloc, limit, name, content)? {
         None => Ok(()),

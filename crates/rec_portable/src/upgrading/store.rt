@@ -24,7 +24,9 @@ pub(crate) fn store_contents<'a>(
     metadata: &'a MetadataTexts,
     entries: &'a Container<'_>,
 ) -> Result<Vec<NamedContent<'a>>, AllocError>
-    ensures { IfOk result (λ cs. map entry_of cs.items ≡ text_entries metadata.now ++ other_entries entries.now.entries) }
+    ensures { IfOk result
+        (λ cs. map entry_of cs.items
+        ≡ text_entries metadata.now ++ other_entries entries.now.entries) }
 {
     let mut contents = metadata.contents(alloc)?;
     for i in 0..entries.len() {
@@ -40,7 +42,8 @@ fn add_output<'a>(
     content: &'a [u8],
 ) -> Result<(), AllocError>
     ensures { OnOk result (map entry_of contents.new.items
-        ≡ map entry_of contents.old.items ++ (if is_metadata_path name.now then [] else entry_named name.now content.now ∷ [])) }
+        ≡ map entry_of contents.old.items
+        ++ (if is_metadata_path name.now then [] else entry_named name.now content.now ∷ [])) }
 {
     if is_metadata(name) {
         return Ok(());
@@ -62,8 +65,12 @@ pub(crate) fn spell_store(
     contents: &[NamedContent<'_>],
 ) -> Result<SpelledStore, UpgradeError>
     requires names { AllByRecursion (λ c. length c.name.now < 65536) contents.now }
-    ensures ok { IfOk result (λ s. (s.bytes.items ≡ container_of contents.now) × (s.sizes ≡ sizes_of_store (map entry_of contents.now))) }
-    ensures err { IfErr result (λ e. (e ≡ OutOfMemory) ⊎ ((e ≡ CountOutOfRange) × ¬ (length (container_of contents.now) < 2 ^ 64))) }
+    ensures ok { IfOk result
+        (λ s. (s.bytes.items ≡ container_of contents.now)
+        × (s.sizes ≡ sizes_of_store (map entry_of contents.now))) }
+    ensures err { IfErr result
+        (λ e. (e ≡ OutOfMemory)
+        ⊎ ((e ≡ CountOutOfRange) × ¬ (length (container_of contents.now) < 2 ^ 64))) }
 {
     let Some(compressed) = container_length(contents) else {
         return Err(UpgradeError::CountOutOfRange);
@@ -89,7 +96,8 @@ pub(crate) fn spell_store(
 
 /// Returns how many bytes the contents have, or none where that is no u64.
 fn contents_length(contents: &[NamedContent<'_>]) -> Option<u64>
-    ensures { SomeIff result (content_bytes (map entry_of contents.now) < 2 ^ 64) (content_bytes (map entry_of contents.now)) }
+    ensures { SomeIff result (content_bytes (map entry_of contents.now) < 2 ^ 64)
+        (content_bytes (map entry_of contents.now)) }
 {
     let mut length = 0u64;
     for content in contents {

@@ -42,7 +42,10 @@ fn draw_attempt_names(
     slot: u64,
     events: &mut Vec<TraceEvent>,
 ) -> Result<(), AllocError>
-    ensures { OnOk result (Draws (in_sight sight.now naming row (test_process sight.now.group_by test.now) (slot_name slot)) events.old.items events.new.items) }
+    ensures { OnOk result
+        (Draws
+        (in_sight sight.now naming row (test_process sight.now.group_by test.now) (slot_name slot))
+        events.old.items events.new.items) }
 {
     let name = slot_name(sight.alloc, slot)?;
     let process = test_process(sight.group_by, test);
@@ -61,8 +64,13 @@ fn draw_attempt_start<A: Args>(
     events: &mut Vec<TraceEvent>,
 ) -> Result<(), AllocError>
     requires { IsJudgedAct sight.now (AttemptStarts test.now slot) }
-    ensures { OnOk result (Draws (in_sight sight.now attempt_starts test.now slot (A.value_of args.now)
-        (option_to_list (option_map (ArrowFinishes test.now (test_span sight.now.group_by sight.now.tracker.now.binaries test.now slot).row sight.now.judged.now.at) flow)) running)
+    ensures { OnOk result
+        (Draws (in_sight sight.now attempt_starts test.now slot (A.value_of args.now)
+        (option_to_list
+        (option_map
+        (ArrowFinishes test.now
+        (test_span sight.now.group_by sight.now.tracker.now.binaries test.now slot).row
+        sight.now.judged.now.at) flow)) running)
         events.old.items events.new.items) }
 {
     let Some(span) = &sight.judged.started else {
@@ -83,7 +91,8 @@ pub fn draw_test_start(
 ) -> Result<(), AllocError>
     requires named { core_name kind.now ≡ codes "test-started" }
     requires judged { IsJudgedAct sight.now (core_act kind.now) }
-    ensures { OnOk result (Draws (in_sight sight.now drawn_core kind.now) events.old.items events.new.items) }
+    ensures { OnOk result
+        (Draws (in_sight sight.now drawn_core kind.now) events.old.items events.new.items) }
 {
     let CoreEventKind::TestStarted {
         test_instance,
@@ -111,7 +120,8 @@ pub fn draw_retry_start(
 ) -> Result<(), AllocError>
     requires named { core_name kind.now ≡ codes "test-retry-started" }
     requires judged { IsJudgedAct sight.now (core_act kind.now) }
-    ensures { OnOk result (Draws (in_sight sight.now drawn_core kind.now) events.old.items events.new.items) }
+    ensures { OnOk result
+        (Draws (in_sight sight.now drawn_core kind.now) events.old.items events.new.items) }
 {
     let CoreEventKind::TestRetryStarted {
         test_instance,
@@ -141,7 +151,8 @@ pub fn draw_slow_test(
     events: &mut Vec<TraceEvent>,
 ) -> Result<(), AllocError>
     requires named { core_name kind.now ≡ codes "test-slow" }
-    ensures { OnOk result (Draws (in_sight sight.now drawn_core kind.now) events.old.items events.new.items) }
+    ensures { OnOk result
+        (Draws (in_sight sight.now drawn_core kind.now) events.old.items events.new.items) }
 {
     let CoreEventKind::TestSlow {
         stress_index,
@@ -172,7 +183,9 @@ pub fn draw_failed_attempt<S: OutputSpec>(
 ) -> Result<(), AllocError>
     requires named { output_name kind.now ≡ codes "test-attempt-failed-will-retry" }
     requires judged { IsJudgedAct sight.now (output_act (plain_output_kind kind.now)) }
-    ensures { OnOk result (Draws (in_sight sight.now drawn_output (plain_output_kind kind.now)) events.old.items events.new.items) }
+    ensures { OnOk result
+        (Draws (in_sight sight.now drawn_output (plain_output_kind kind.now)) events.old.items
+        events.new.items) }
 {
     let OutputEventKind::TestAttemptFailedWillRetry {
         stress_index,
@@ -206,7 +219,9 @@ pub fn draw_test_end<S: OutputSpec>(
 ) -> Result<(), AllocError>
     requires named { output_name kind.now ≡ codes "test-finished" }
     requires judged { IsJudgedAct sight.now (output_act (plain_output_kind kind.now)) }
-    ensures { OnOk result (Draws (in_sight sight.now drawn_output (plain_output_kind kind.now)) events.old.items events.new.items) }
+    ensures { OnOk result
+        (Draws (in_sight sight.now drawn_output (plain_output_kind kind.now)) events.old.items
+        events.new.items) }
 {
     let OutputEventKind::TestFinished {
         stress_index,

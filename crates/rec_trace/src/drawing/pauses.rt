@@ -19,7 +19,8 @@ pub fn draw_cancel(
     events: &mut Vec<TraceEvent>,
 ) -> Result<(), AllocError>
     requires named { core_name kind.now ≡ codes "run-begin-cancel" }
-    ensures { OnOk result (Draws (in_sight sight.now drawn_core kind.now) events.old.items events.new.items) }
+    ensures { OnOk result
+        (Draws (in_sight sight.now drawn_core kind.now) events.old.items events.new.items) }
 {
     let CoreEventKind::RunBeginCancel {
         setup_scripts_running,
@@ -36,7 +37,10 @@ pub fn draw_cancel(
 
 /// Draws the ends of all open spans, unless the run is in a pause already.
 fn draw_pause(sight: &Sight<'_>, events: &mut Vec<TraceEvent>) -> Result<(), AllocError>
-    ensures { OnOk result (Draws (if sight.now.tracker.now.in_pause then [] else bare phases.End sight.now.judged.now.at sight.now.tracker.now.spans)
+    ensures { OnOk result
+        (Draws
+        (if sight.now.tracker.now.in_pause then [] else bare phases.End sight.now.judged.now.at
+        sight.now.tracker.now.spans)
         events.old.items events.new.items) }
 {
     if sight.tracker.in_pause() {
@@ -52,7 +56,8 @@ pub fn draw_run_pause(
     events: &mut Vec<TraceEvent>,
 ) -> Result<(), AllocError>
     requires named { core_name kind.now ≡ codes "run-paused" }
-    ensures { OnOk result (Draws (in_sight sight.now drawn_core kind.now) events.old.items events.new.items) }
+    ensures { OnOk result
+        (Draws (in_sight sight.now drawn_core kind.now) events.old.items events.new.items) }
 {
     let CoreEventKind::RunPaused {
         setup_scripts_running,
@@ -69,7 +74,10 @@ pub fn draw_run_pause(
 
 /// Draws the begins of all open spans, where the run is in a pause.
 fn draw_resume(sight: &Sight<'_>, events: &mut Vec<TraceEvent>) -> Result<(), AllocError>
-    ensures { OnOk result (Draws (if sight.now.tracker.now.in_pause then bare phases.Begin sight.now.judged.now.at sight.now.tracker.now.spans else [])
+    ensures { OnOk result
+        (Draws
+        (if sight.now.tracker.now.in_pause then bare phases.Begin sight.now.judged.now.at
+        sight.now.tracker.now.spans else [])
         events.old.items events.new.items) }
 {
     if !sight.tracker.in_pause() {
@@ -85,7 +93,8 @@ pub fn draw_run_continuation(
     events: &mut Vec<TraceEvent>,
 ) -> Result<(), AllocError>
     requires named { core_name kind.now ≡ codes "run-continued" }
-    ensures { OnOk result (Draws (in_sight sight.now drawn_core kind.now) events.old.items events.new.items) }
+    ensures { OnOk result
+        (Draws (in_sight sight.now drawn_core kind.now) events.old.items events.new.items) }
 {
     let CoreEventKind::RunContinued {
         setup_scripts_running,

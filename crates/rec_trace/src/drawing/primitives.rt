@@ -23,7 +23,8 @@ use std::alloc::AllocError;
 /// Puts an event after those so far, where it was made.
 fn put(events: &mut Vec<TraceEvent>, made: Result<TraceEvent, AllocError>) -> Result<(), AllocError>
     ensures { (value : Data) → IfOk made (λ e. event_value e ≡ value)
-        → OnOk result (map event_value events.new.items ≡ map event_value events.old.items ++ value ∷ []) }
+        → OnOk result
+        (map event_value events.new.items ≡ map event_value events.old.items ++ value ∷ []) }
 {
     events.push(made?)?;
     Ok(())
@@ -38,7 +39,10 @@ fn name_process(
     name: &str,
     events: &mut Vec<TraceEvent>,
 ) -> Result<(), AllocError>
-    ensures { OnOk result (Draws (if (known_in sight.now.known.now).is_named (process_row pid) then [] else ProcessNamed pid name.now ∷ [])
+    ensures { OnOk result
+        (Draws
+        (if (known_in sight.now.known.now).is_named (process_row pid) then [] else ProcessNamed pid
+        name.now ∷ [])
         events.old.items events.new.items) }
 {
     if sight.known.is_named(Row { pid, tid: 0 }) {
@@ -55,7 +59,9 @@ fn name_row(
     name: &str,
     events: &mut Vec<TraceEvent>,
 ) -> Result<(), AllocError>
-    ensures { OnOk result (Draws (if (known_in sight.now.known.now).is_named row then [] else RowNamed row name.now ∷ [])
+    ensures { OnOk result
+        (Draws
+        (if (known_in sight.now.known.now).is_named row then [] else RowNamed row name.now ∷ [])
         events.old.items events.new.items) }
 {
     if sight.known.is_named(row) {
@@ -73,7 +79,9 @@ pub fn draw_names(
     name: &str,
     events: &mut Vec<TraceEvent>,
 ) -> Result<(), AllocError>
-    ensures { OnOk result (Draws (in_sight sight.now naming row process.now name.now) events.old.items events.new.items) }
+    ensures { OnOk result
+        (Draws (in_sight sight.now naming row process.now name.now) events.old.items
+        events.new.items) }
 {
     name_process(sight, row.pid, process, events)?;
     name_row(sight, row, name, events)
@@ -97,7 +105,9 @@ pub fn draw_run_names(
     name: &str,
     events: &mut Vec<TraceEvent>,
 ) -> Result<(), AllocError>
-    ensures { OnOk result (Draws (in_sight sight.now naming row (in_sight sight.now run_process) name.now) events.old.items events.new.items) }
+    ensures { OnOk result
+        (Draws (in_sight sight.now naming row (in_sight sight.now run_process) name.now)
+        events.old.items events.new.items) }
 {
     let process = run_process(sight)?;
     draw_names(sight, row, process.as_str(), name, events)
@@ -125,7 +135,10 @@ pub fn draw_slice<A: Args>(
     args: Option<&A>,
     events: &mut Vec<TraceEvent>,
 ) -> Result<(), AllocError>
-    ensures { OnOk result (Draws (Slice (mark phase sight.now.judged.now.at span.now) (option_map A.value_of (option_copied args.entry)) ∷ [])
+    ensures { OnOk result
+        (Draws
+        (Slice (mark phase sight.now.judged.now.at span.now)
+        (option_map A.value_of (option_copied args.entry)) ∷ [])
         events.old.items events.new.items) }
 {
     let (name, category) = (span.name.as_str(), category_of(&span.key));
@@ -149,7 +162,10 @@ pub fn draw_in_pause(
     span: &Span,
     events: &mut Vec<TraceEvent>,
 ) -> Result<(), AllocError>
-    ensures { OnOk result (Draws (if sight.now.tracker.now.in_pause then bare phase sight.now.judged.now.at (span.now ∷ []) else [])
+    ensures { OnOk result
+        (Draws
+        (if sight.now.tracker.now.in_pause then bare phase sight.now.judged.now.at (span.now ∷ [])
+        else [])
         events.old.items events.new.items) }
 {
     if !sight.tracker.in_pause() {
@@ -165,7 +181,9 @@ pub fn draw_start<A: Args>(
     args: Option<&A>,
     events: &mut Vec<TraceEvent>,
 ) -> Result<(), AllocError>
-    ensures { OnOk result (Draws (in_sight sight.now opens span.now (option_map A.value_of (option_copied args.entry)) [])
+    ensures { OnOk result
+        (Draws
+        (in_sight sight.now opens span.now (option_map A.value_of (option_copied args.entry)) [])
         events.old.items events.new.items) }
 {
     draw_slice(sight, Phase::Begin, span, args, events)?;
@@ -179,7 +197,10 @@ pub fn draw_end<A: Args>(
     args: &A,
     events: &mut Vec<TraceEvent>,
 ) -> Result<(), AllocError>
-    ensures { OnOk result (Draws (in_sight sight.now closes (option_to_list (option_copied span.entry)) (Some (A.value_of args.now)))
+    ensures { OnOk result
+        (Draws
+        (in_sight sight.now closes (option_to_list (option_copied span.entry))
+        (Some (A.value_of args.now)))
         events.old.items events.new.items) }
 {
     let Some(span) = span else { return Ok(()) };
@@ -193,7 +214,9 @@ pub fn draw_all(
     phase: Phase,
     events: &mut Vec<TraceEvent>,
 ) -> Result<(), AllocError>
-    ensures { OnOk result (Draws (bare phase sight.now.judged.now.at sight.now.tracker.now.spans) events.old.items events.new.items) }
+    ensures { OnOk result
+        (Draws (bare phase sight.now.judged.now.at sight.now.tracker.now.spans) events.old.items
+        events.new.items) }
 {
     for span in sight.tracker.open_spans().iter() {
         draw_slice(sight, phase, span, None::<&NoArgs>, events)?;
@@ -210,7 +233,8 @@ pub fn draw_counter(
     scripts: usize,
     events: &mut Vec<TraceEvent>,
 ) -> Result<(), AllocError>
-    ensures { OnOk result (Draws (in_sight sight.now counter tests scripts ∷ []) events.old.items events.new.items) }
+    ensures { OnOk result
+        (Draws (in_sight sight.now counter tests scripts ∷ []) events.old.items events.new.items) }
 {
     let running = RunningCounts { tests, scripts };
     let counter = concurrency_event(sight.alloc, running, sight.judged.at);
@@ -223,7 +247,8 @@ pub fn draw_results(
     counts: TestCounts,
     events: &mut Vec<TraceEvent>,
 ) -> Result<(), AllocError>
-    ensures { OnOk result (Draws (Results counts sight.now.judged.now.at ∷ []) events.old.items events.new.items) }
+    ensures { OnOk result
+        (Draws (Results counts sight.now.judged.now.at ∷ []) events.old.items events.new.items) }
 {
     let results = results_event(sight.alloc, counts, sight.judged.at);
     put(events, results)
@@ -237,7 +262,9 @@ pub fn draw_run_mark(
     scripts: usize,
     events: &mut Vec<TraceEvent>,
 ) -> Result<(), AllocError>
-    ensures { OnOk result (Draws (in_sight sight.now run_marked what tests scripts) events.old.items events.new.items) }
+    ensures { OnOk result
+        (Draws (in_sight sight.now run_marked what tests scripts) events.old.items
+        events.new.items) }
 {
     draw_run_names(sight, Row { pid: 0, tid: 1 }, "run", events)?;
     let running = RunningCounts { tests, scripts };
@@ -253,7 +280,10 @@ pub fn draw_slow<A: Args>(
     args: &A,
     events: &mut Vec<TraceEvent>,
 ) -> Result<(), AllocError>
-    ensures { OnOk result (Draws (map (λ s. Slow category s.row sight.now.judged.now.at (A.value_of args.now)) (option_to_list (option_copied span.entry)))
+    ensures { OnOk result
+        (Draws
+        (map (λ s. Slow category s.row sight.now.judged.now.at (A.value_of args.now))
+        (option_to_list (option_copied span.entry)))
         events.old.items events.new.items) }
 {
     match span {
@@ -274,7 +304,11 @@ pub fn draw_arrow_start(
     span: Option<&Span>,
     events: &mut Vec<TraceEvent>,
 ) -> Result<(), AllocError>
-    ensures { OnOk result (Draws (map (λ s. ArrowStarts test.now s.row sight.now.judged.now.at sight.now.tracker.now.next_flow) (option_to_list (option_copied span.entry)))
+    ensures { OnOk result
+        (Draws
+        (map
+        (λ s. ArrowStarts test.now s.row sight.now.judged.now.at sight.now.tracker.now.next_flow)
+        (option_to_list (option_copied span.entry)))
         events.old.items events.new.items) }
 {
     match span {
@@ -295,7 +329,10 @@ pub fn draw_arrow_finish(
     flow: Option<u64>,
     events: &mut Vec<TraceEvent>,
 ) -> Result<(), AllocError>
-    ensures { OnOk result (Draws (option_to_list (option_map (ArrowFinishes test.now row sight.now.judged.now.at) flow)) events.old.items events.new.items) }
+    ensures { OnOk result
+        (Draws
+        (option_to_list (option_map (ArrowFinishes test.now row sight.now.judged.now.at) flow))
+        events.old.items events.new.items) }
 {
     match flow {
         Some(flow) => {

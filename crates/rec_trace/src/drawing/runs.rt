@@ -25,7 +25,9 @@ fn draw_profile_names(
     profile: &Text,
     events: &mut Vec<TraceEvent>,
 ) -> Result<(), AllocError>
-    ensures { OnOk result (Draws (in_sight sight.now naming row (run_process_name (Some profile.now)) (codes "run")) events.old.items events.new.items) }
+    ensures { OnOk result
+        (Draws (in_sight sight.now naming row (run_process_name (Some profile.now)) (codes "run"))
+        events.old.items events.new.items) }
 {
     let process = run_process_name(sight.alloc, Some(profile))?;
     draw_names(sight, row, process.as_str(), "run", events)
@@ -39,7 +41,8 @@ pub fn draw_run_start(
 ) -> Result<(), AllocError>
     requires named { core_name kind.now ≡ codes "run-started" }
     requires judged { IsJudgedAct sight.now (core_act kind.now) }
-    ensures { OnOk result (Draws (in_sight sight.now drawn_core kind.now) events.old.items events.new.items) }
+    ensures { OnOk result
+        (Draws (in_sight sight.now drawn_core kind.now) events.old.items events.new.items) }
 {
     let CoreEventKind::RunStarted {
         run_id,
@@ -66,7 +69,8 @@ pub fn draw_run_start(
 
 /// Returns the profile of the run that started last, or an empty text.
 fn last_profile(known: &Known) -> &str
-    ensures { result.now ≡ unwrap_or (option_map (λ run. run.profile_name) (known_in known.now).last_run) [] }
+    ensures { result.now
+        ≡ unwrap_or (option_map (λ run. run.profile_name) (known_in known.now).last_run) [] }
 {
     match known.last_run() {
         Some(run) => run.profile_name.as_str(),
@@ -81,7 +85,8 @@ pub fn draw_run_end(
     events: &mut Vec<TraceEvent>,
 ) -> Result<(), AllocError>
     requires named { core_name kind.now ≡ codes "run-finished" }
-    ensures { OnOk result (Draws (in_sight sight.now drawn_core kind.now) events.old.items events.new.items) }
+    ensures { OnOk result
+        (Draws (in_sight sight.now drawn_core kind.now) events.old.items events.new.items) }
 {
     let CoreEventKind::RunFinished {
         elapsed,
@@ -110,7 +115,8 @@ pub fn draw_sub_run_start(
 ) -> Result<(), AllocError>
     requires named { core_name kind.now ≡ codes "stress-sub-run-started" }
     requires judged { IsJudgedAct sight.now (core_act kind.now) }
-    ensures { OnOk result (Draws (in_sight sight.now drawn_core kind.now) events.old.items events.new.items) }
+    ensures { OnOk result
+        (Draws (in_sight sight.now drawn_core kind.now) events.old.items events.new.items) }
 {
     let CoreEventKind::StressSubRunStarted { progress } = kind else {
         unreachable!()
@@ -130,7 +136,8 @@ pub fn draw_sub_run_end(
     events: &mut Vec<TraceEvent>,
 ) -> Result<(), AllocError>
     requires named { core_name kind.now ≡ codes "stress-sub-run-finished" }
-    ensures { OnOk result (Draws (in_sight sight.now drawn_core kind.now) events.old.items events.new.items) }
+    ensures { OnOk result
+        (Draws (in_sight sight.now drawn_core kind.now) events.old.items events.new.items) }
 {
     let CoreEventKind::StressSubRunFinished {
         progress,

@@ -23,7 +23,9 @@ fn draw_script_names(
     index: usize,
     events: &mut Vec<TraceEvent>,
 ) -> Result<(), AllocError>
-    ensures { OnOk result (Draws (in_sight sight.now naming row (codes "setup-scripts") (script_name index)) events.old.items events.new.items) }
+    ensures { OnOk result
+        (Draws (in_sight sight.now naming row (codes "setup-scripts") (script_name index))
+        events.old.items events.new.items) }
 {
     let name = script_name(sight.alloc, index)?;
     draw_names(sight, row, "setup-scripts", name.as_str(), events)
@@ -37,7 +39,8 @@ pub fn draw_script_start(
 ) -> Result<(), AllocError>
     requires named { core_name kind.now ≡ codes "setup-script-started" }
     requires judged { IsJudgedAct sight.now (core_act kind.now) }
-    ensures { OnOk result (Draws (in_sight sight.now drawn_core kind.now) events.old.items events.new.items) }
+    ensures { OnOk result
+        (Draws (in_sight sight.now drawn_core kind.now) events.old.items events.new.items) }
 {
     let CoreEventKind::SetupScriptStarted { index, .. } = kind else {
         unreachable!()
@@ -58,7 +61,8 @@ pub fn draw_slow_script(
     events: &mut Vec<TraceEvent>,
 ) -> Result<(), AllocError>
     requires named { core_name kind.now ≡ codes "setup-script-slow" }
-    ensures { OnOk result (Draws (in_sight sight.now drawn_core kind.now) events.old.items events.new.items) }
+    ensures { OnOk result
+        (Draws (in_sight sight.now drawn_core kind.now) events.old.items events.new.items) }
 {
     let CoreEventKind::SetupScriptSlow {
         stress_index,
@@ -88,7 +92,9 @@ pub fn draw_script_end<S: OutputSpec>(
 ) -> Result<(), AllocError>
     requires named { output_name kind.now ≡ codes "setup-script-finished" }
     requires judged { IsJudgedAct sight.now (output_act (plain_output_kind kind.now)) }
-    ensures { OnOk result (Draws (in_sight sight.now drawn_output (plain_output_kind kind.now)) events.old.items events.new.items) }
+    ensures { OnOk result
+        (Draws (in_sight sight.now drawn_output (plain_output_kind kind.now)) events.old.items
+        events.new.items) }
 {
     let OutputEventKind::SetupScriptFinished {
         stress_index,

@@ -65,7 +65,10 @@ impl Names {
         ensures same { (other : Row) → row_named self.new other ≡ row_named self.old other }
         ensures room { OnOk result (HasRow row self.new) }
         ensures kept { (other : Row) → HasRow other self.old → HasRow other self.new }
-        ensures says { (other : Row) → row_eq row other ≡ false → RowSays self.old other → RowSays self.new other }
+        ensures says { (other : Row)
+            → row_eq row other ≡ false
+            → RowSays self.old other
+            → RowSays self.new other }
     {
         if self.rows.contains_key(&row) {
             return Ok(());
@@ -78,7 +81,8 @@ impl Names {
     /// Names a row and its process, for which there is room. It takes no memory.
     pub fn name(&mut self, row: Option<Row>)
         requires { HasRows row self.old }
-        ensures named { (other : Row) → row_named self.new other ≡ (names row other || row_named self.old other) }
+        ensures named { (other : Row)
+            → row_named self.new other ≡ (names row other || row_named self.old other) }
         ensures says { EachRowSaysBut row self.old → EachRowSays self.new }
     {
         if let Some(row) = row {
@@ -101,7 +105,9 @@ impl Names {
     /// Takes the room away that was made for the name of one row, unless it was named.
     fn let_go_row(&mut self, row: Row)
         ensures same { (other : Row) → row_named self.new other ≡ row_named self.old other }
-        ensures says { (other : Row) → (row_eq row other ≡ false → RowSays self.old other) → RowSays self.new other }
+        ensures says { (other : Row)
+            → (row_eq row other ≡ false → RowSays self.old other)
+            → RowSays self.new other }
     {
         if self.is_named(row) {
             return;
@@ -112,9 +118,12 @@ impl Names {
     /// Names one row.
     fn name_row(&mut self, row: Row)
         requires { HasRow row self.old }
-        ensures named { (other : Row) → row_named self.new other ≡ (row_eq row other || row_named self.old other) }
+        ensures named { (other : Row)
+            → row_named self.new other ≡ (row_eq row other || row_named self.old other) }
         ensures kept { (other : Row) → HasRow other self.old → HasRow other self.new }
-        ensures says { (other : Row) → (row_eq row other ≡ false → RowSays self.old other) → RowSays self.new other }
+        ensures says { (other : Row)
+            → (row_eq row other ≡ false → RowSays self.old other)
+            → RowSays self.new other }
     {
         // Only a new row can want memory.
         let Ok(_) = self.rows.insert(row, true) else {

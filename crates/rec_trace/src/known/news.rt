@@ -264,7 +264,8 @@ pub fn news_of<S: OutputSpec>(
     test: Option<NewTest<'_>>,
     kind: &TestEventKindSummary<S>,
 ) -> Result<News, AllocError>
-    ensures { IfOk result (λ news. news ≡ news_with row (option_map test_told test.entry) (plain_kind kind.now)) }
+    ensures { IfOk result
+        (λ news. news ≡ news_with row (option_map test_told test.entry) (plain_kind kind.now)) }
 {
     let run = run_of(alloc, kind)?;
     let Ok(test) = test_copied(alloc, test) else {

@@ -76,8 +76,10 @@ impl Notes {
     ///
     /// Fails only where memory ran out.
     pub fn make_room(&mut self, alloc: Global, news: &Option<TestNews>) -> Result<(), AllocError>
-        ensures groups { (test : OwnedTestInstanceId) → group_noted self.new test ≡ group_noted self.old test }
-        ensures arrows { (test : OwnedTestInstanceId) → arrow_noted self.new test ≡ arrow_noted self.old test }
+        ensures groups { (test : OwnedTestInstanceId)
+            → group_noted self.new test ≡ group_noted self.old test }
+        ensures arrows { (test : OwnedTestInstanceId)
+            → arrow_noted self.new test ≡ arrow_noted self.old test }
         ensures room { OnOk result (HasTests news.now self.new) }
         ensures says { EachTestSays self.old → EachTestSaysBut news.now self.new }
     {
@@ -89,10 +91,15 @@ impl Notes {
 
     /// Makes room for the notes of one test.
     fn make_test(&mut self, alloc: Global, test: &OwnedTestInstanceId) -> Result<(), AllocError>
-        ensures groups { (other : OwnedTestInstanceId) → group_noted self.new other ≡ group_noted self.old other }
-        ensures arrows { (other : OwnedTestInstanceId) → arrow_noted self.new other ≡ arrow_noted self.old other }
+        ensures groups { (other : OwnedTestInstanceId)
+            → group_noted self.new other ≡ group_noted self.old other }
+        ensures arrows { (other : OwnedTestInstanceId)
+            → arrow_noted self.new other ≡ arrow_noted self.old other }
         ensures room { OnOk result (HasTest test.now self.new) }
-        ensures says { (other : OwnedTestInstanceId) → test_eq test.now other ≡ false → TestSays self.old other → TestSays self.new other }
+        ensures says { (other : OwnedTestInstanceId)
+            → test_eq test.now other ≡ false
+            → TestSays self.old other
+            → TestSays self.new other }
     {
         if self.tests.contains_key(test) {
             return Ok(());
@@ -108,8 +115,10 @@ impl Notes {
 
     /// Takes the room away that was made for the notes of a test, unless something is noted of it.
     pub fn let_go(&mut self, news: &Option<TestNews>)
-        ensures groups { (test : OwnedTestInstanceId) → group_noted self.new test ≡ group_noted self.old test }
-        ensures arrows { (test : OwnedTestInstanceId) → arrow_noted self.new test ≡ arrow_noted self.old test }
+        ensures groups { (test : OwnedTestInstanceId)
+            → group_noted self.new test ≡ group_noted self.old test }
+        ensures arrows { (test : OwnedTestInstanceId)
+            → arrow_noted self.new test ≡ arrow_noted self.old test }
         ensures says { EachTestSaysBut news.now self.old → EachTestSays self.new }
     {
         if let Some(news) = news {
@@ -119,9 +128,13 @@ impl Notes {
 
     /// Takes the room away that was made for the notes of one test.
     fn let_go_test(&mut self, test: &OwnedTestInstanceId)
-        ensures groups { (other : OwnedTestInstanceId) → group_noted self.new other ≡ group_noted self.old other }
-        ensures arrows { (other : OwnedTestInstanceId) → arrow_noted self.new other ≡ arrow_noted self.old other }
-        ensures says { (other : OwnedTestInstanceId) → (test_eq test.now other ≡ false → TestSays self.old other) → TestSays self.new other }
+        ensures groups { (other : OwnedTestInstanceId)
+            → group_noted self.new other ≡ group_noted self.old other }
+        ensures arrows { (other : OwnedTestInstanceId)
+            → arrow_noted self.new other ≡ arrow_noted self.old other }
+        ensures says { (other : OwnedTestInstanceId)
+            → (test_eq test.now other ≡ false → TestSays self.old other)
+            → TestSays self.new other }
     {
         if self.says_nothing(test) {
             drop(self.tests.remove(test));
@@ -140,8 +153,10 @@ impl Notes {
     /// Takes the news of a test, for which there is room. It takes no memory.
     pub fn take(&mut self, news: Option<TestNews>)
         requires { HasTests news self.old }
-        ensures groups { (test : OwnedTestInstanceId) → group_noted self.new test ≡ groups_with news (group_noted self.old) test }
-        ensures arrows { (test : OwnedTestInstanceId) → arrow_noted self.new test ≡ arrows_with news (arrow_noted self.old) test }
+        ensures groups { (test : OwnedTestInstanceId)
+            → group_noted self.new test ≡ groups_with news (group_noted self.old) test }
+        ensures arrows { (test : OwnedTestInstanceId)
+            → arrow_noted self.new test ≡ arrows_with news (arrow_noted self.old) test }
         ensures says { EachTestSaysBut news self.old → EachTestSays self.new }
     {
         if let Some(news) = news {
@@ -152,9 +167,15 @@ impl Notes {
     /// Takes the news of a test.
     fn take_news(&mut self, news: TestNews)
         requires { HasTest news.test self.old }
-        ensures groups { (test : OwnedTestInstanceId) → group_noted self.new test ≡ of_test news.test news.group (group_noted self.old) test }
-        ensures arrows { (test : OwnedTestInstanceId) → arrow_noted self.new test ≡ of_test news.test (arrow_with news.arrow (arrow_noted self.old news.test)) (arrow_noted self.old) test }
-        ensures says { (other : OwnedTestInstanceId) → (test_eq news.test other ≡ false → TestSays self.old other) → TestSays self.new other }
+        ensures groups { (test : OwnedTestInstanceId)
+            → group_noted self.new test ≡ of_test news.test news.group (group_noted self.old) test }
+        ensures arrows { (test : OwnedTestInstanceId)
+            → arrow_noted self.new test
+            ≡ of_test news.test (arrow_with news.arrow (arrow_noted self.old news.test))
+            (arrow_noted self.old) test }
+        ensures says { (other : OwnedTestInstanceId)
+            → (test_eq news.test other ≡ false → TestSays self.old other)
+            → TestSays self.new other }
     {
         let arrow = arrow_after(news.arrow, self.arrow(&news.test));
         let notes = TestNotes {
@@ -167,9 +188,13 @@ impl Notes {
     /// Puts notes of a test in the place of those before, and removes its entry where they are empty.
     fn put(&mut self, test: OwnedTestInstanceId, notes: TestNotes)
         requires { HasTest test self.old }
-        ensures groups { (other : OwnedTestInstanceId) → group_noted self.new other ≡ of_test test notes.group (group_noted self.old) other }
-        ensures arrows { (other : OwnedTestInstanceId) → arrow_noted self.new other ≡ of_test test notes.arrow (arrow_noted self.old) other }
-        ensures says { (other : OwnedTestInstanceId) → (test_eq test other ≡ false → TestSays self.old other) → TestSays self.new other }
+        ensures groups { (other : OwnedTestInstanceId)
+            → group_noted self.new other ≡ of_test test notes.group (group_noted self.old) other }
+        ensures arrows { (other : OwnedTestInstanceId)
+            → arrow_noted self.new other ≡ of_test test notes.arrow (arrow_noted self.old) other }
+        ensures says { (other : OwnedTestInstanceId)
+            → (test_eq test other ≡ false → TestSays self.old other)
+            → TestSays self.new other }
     {
         // The entries of tests that ended aren't kept for all of a long run.
         if notes.group.is_none() && notes.arrow.is_none() {
@@ -183,9 +208,13 @@ impl Notes {
 
     /// Removes the entry of a test.
     fn forget(&mut self, test: &OwnedTestInstanceId)
-        ensures groups { (other : OwnedTestInstanceId) → group_noted self.new other ≡ of_test test.now None (group_noted self.old) other }
-        ensures arrows { (other : OwnedTestInstanceId) → arrow_noted self.new other ≡ of_test test.now None (arrow_noted self.old) other }
-        ensures says { (other : OwnedTestInstanceId) → (test_eq test.now other ≡ false → TestSays self.old other) → TestSays self.new other }
+        ensures groups { (other : OwnedTestInstanceId)
+            → group_noted self.new other ≡ of_test test.now None (group_noted self.old) other }
+        ensures arrows { (other : OwnedTestInstanceId)
+            → arrow_noted self.new other ≡ of_test test.now None (arrow_noted self.old) other }
+        ensures says { (other : OwnedTestInstanceId)
+            → (test_eq test.now other ≡ false → TestSays self.old other)
+            → TestSays self.new other }
     {
         drop(self.tests.remove(test));
     }
@@ -193,9 +222,14 @@ impl Notes {
     /// Replaces the notes of a test.
     fn replace(&mut self, test: OwnedTestInstanceId, notes: TestNotes)
         requires { HasTest test self.old }
-        ensures groups { (other : OwnedTestInstanceId) → group_noted self.new other ≡ of_test test notes.group (group_noted self.old) other }
-        ensures arrows { (other : OwnedTestInstanceId) → arrow_noted self.new other ≡ of_test test notes.arrow (arrow_noted self.old) other }
-        ensures says { notes_say notes ≡ true → (other : OwnedTestInstanceId) → (test_eq test other ≡ false → TestSays self.old other) → TestSays self.new other }
+        ensures groups { (other : OwnedTestInstanceId)
+            → group_noted self.new other ≡ of_test test notes.group (group_noted self.old) other }
+        ensures arrows { (other : OwnedTestInstanceId)
+            → arrow_noted self.new other ≡ of_test test notes.arrow (arrow_noted self.old) other }
+        ensures says { notes_say notes ≡ true
+            → (other : OwnedTestInstanceId)
+            → (test_eq test other ≡ false → TestSays self.old other)
+            → TestSays self.new other }
     {
         // Only a new test can want memory.
         let Ok(before) = self.tests.insert(test, notes) else {
