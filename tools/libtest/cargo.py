@@ -10,7 +10,7 @@ from libtest.runs import FAILED, Ending, clean
 
 RUNNING = re.compile(r"\bRunning\b")
 SOURCE = re.compile(r"\bRunning (?:unittests )?([^\s`]+) \(")
-FILE = re.compile(r"[/\\]([^/\\\s]+?-[0-9a-f]{16})(?:\.exe)?(?=[)`\s]|\Z)")
+FILE = re.compile(r"[/\\]([^/\\\s]+?-[0-9a-f]{16})(?:\.exe)?(?=[)`'\s]|\Z)")
 DOC_TESTS = re.compile(r"(.*?)\bDoc-tests (\S+)", re.S)
 FAILURE = re.compile(r"(.*?)error: (?:test|doctest|bench) failed, to rerun pass `([^`]*)`\s*", re.S)
 CAUSE = re.compile(r"\s*process didn't exit successfully: `.*` \(([^()]*(?:\([^()]*\)[^()]*)?)\)\s*", re.S)

@@ -204,6 +204,10 @@ def try_names(convert, options):
     values = convert(stream(" > ".join(words)), options(["--no-clock"]), lambda _: None)
     if sorted(values[0]["test-list"]["suites"]) != IDS or values[-1]["run-stats"]["single"]["failed"]:
         yield f"the binaries that cargo names are {values[0]['test-list']['suites']}"
+    quoted = "=     Running `env 'X=1 2' '/a b/target/debug/deps/s-1123456789abcdef' -Z unstable-options`"
+    values = convert(stream(f"{NAMED} > {quoted} > suite 0 > end"), options(["--no-clock"]), lambda _: None)
+    if list(values[0]["test-list"]["suites"]) != ["other-sums::s"]:
+        yield f"a binary that cargo names in quotation marks is {values[0]['test-list']['suites']}"
     inner = OTHER.replace("t-2", "t-3")
     values = convert(
         stream(f"{NAMED} > {UNIT} > suite 1 > started x > {inner} > ok x > end"), options(["--no-clock"]), lambda _: None,
