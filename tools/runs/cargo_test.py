@@ -38,7 +38,9 @@ def cargo_words(words):
     added = [] if has(own, "--no-fail-fast") else ["--no-fail-fast"]
     added += ["--message-format", "json-render-diagnostics"]
     events = [word for word in EVENTS if word not in of_tests or not word.startswith("--")]
-    return ["cargo", *toolchain, "test", *added, *own, "--", *events, *of_tests]
+    # What a word of the configuration says stands above the environment, and the last one counts.
+    loud = ["--config", "term.quiet=false"] if has(own, "--config") else []
+    return ["cargo", *toolchain, "test", *added, *own, *loud, "--", *events, *of_tests]
 
 
 def refuse(own, of_tests):

@@ -9,6 +9,7 @@ from runs.fault import Fault
 
 EVENTS = ["-Z", "unstable-options", "--format", "json", "--report-time", "--show-output"]
 SET = ["--no-fail-fast", "--message-format", "json-render-diagnostics"]
+LOUD = ["--config", "term.quiet=false"]
 
 
 class Words(unittest.TestCase):
@@ -20,6 +21,8 @@ class Words(unittest.TestCase):
             (["--", "--show-output"], ["cargo", "test", *SET, "--", *EVENTS[:-1], "--show-output"]),
             (["+nightly", "-v"], ["cargo", "+nightly", "test", *SET, "-v", "--", *EVENTS]),
             (["x", "--", "-q"], ["cargo", "test", *SET, "x", "--", *EVENTS, "-q"]),
+            (["--config", "x", "y"], ["cargo", "test", *SET, "--config", "x", "y", *LOUD, "--", *EVENTS]),
+            (["--config=x"], ["cargo", "test", *SET, "--config=x", *LOUD, "--", *EVENTS]),
             (["--no-fail-fast"], ["cargo", "test", *SET[1:], "--no-fail-fast", "--", *EVENTS]),
         ]:
             self.assertEqual(cargo_test.cargo_words(words), command)
