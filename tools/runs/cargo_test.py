@@ -37,10 +37,16 @@ def cargo_words(words):
     refuse(own, of_tests)
     added = [] if has(own, "--no-fail-fast") else ["--no-fail-fast"]
     added += ["--message-format", "json-render-diagnostics"]
-    events = [word for word in EVENTS if word not in of_tests or not word.startswith("--")]
     # What a word of the configuration says stands above the environment, and the last one counts.
     loud = ["--config", "term.quiet=false"] if has(own, "--config") else []
-    return ["cargo", *toolchain, "test", *added, *own, *loud, "--", *events, *of_tests]
+    return ["cargo", *toolchain, "test", *added, *own, *loud, "--", *events_beside(of_tests), *of_tests]
+
+
+def events_beside(of_tests):
+    """The words for events that aren't among those for the binaries, which take each only once."""
+    allows = "-Zunstable-options" in of_tests or ("-Z", "unstable-options") in zip(of_tests, of_tests[1:])
+    events = EVENTS[2:] if allows else EVENTS
+    return [word for word in events if word not in of_tests or not word.startswith("--")]
 
 
 def refuse(own, of_tests):

@@ -21,6 +21,8 @@ class Words(unittest.TestCase):
             (["--", "--show-output"], ["cargo", "test", *SET, "--", *EVENTS[:-1], "--show-output"]),
             (["+nightly", "-v"], ["cargo", "+nightly", "test", *SET, "-v", "--", *EVENTS]),
             (["x", "--", "-q"], ["cargo", "test", *SET, "x", "--", *EVENTS, "-q"]),
+            (["--", "-Z", "unstable-options", "x"], ["cargo", "test", *SET, "--", *EVENTS[2:], "-Z", "unstable-options", "x"]),
+            (["--", "-Zunstable-options"], ["cargo", "test", *SET, "--", *EVENTS[2:], "-Zunstable-options"]),
             (["--config", "x", "y"], ["cargo", "test", *SET, "--config", "x", "y", *LOUD, "--", *EVENTS]),
             (["--config=x"], ["cargo", "test", *SET, "--config=x", *LOUD, "--", *EVENTS]),
             (["--no-fail-fast"], ["cargo", "test", *SET[1:], "--no-fail-fast", "--", *EVENTS]),
