@@ -11,7 +11,7 @@ import re
 import sys
 import tempfile
 
-from command_line import whole
+from command_line import print_out, whole
 from runs import bundle, store
 from runs.fault import Fault
 from runs.page_data import MOST_OUTPUT, Outputs, page_data
@@ -82,9 +82,14 @@ def page_of(path, most_output=MOST_OUTPUT):
     return page_html(bundle.read(path, ask))
 
 
+def bytes_of(text):
+    """A page as UTF-8, which halves of pairs are spelled in."""
+    return text.encode("utf-8", "backslashreplace")
+
+
 def write_whole(path, text):
     """Writes a file aside and renames it, so that it is there whole or as it was; a pipe or a device is written to."""
-    data = text.encode("utf-8", "backslashreplace")
+    data = bytes_of(text)
     if path.exists() and not path.is_file():
         path.write_bytes(data)
         return
@@ -121,7 +126,7 @@ def run(words):
     if words.to == "-":
         if sys.stdout is None:
             raise Fault("standard output is closed: name a file with --to")
-        print(text, end="", flush=True)
+        print_out(bytes_of(text).decode())
         return 0
-    print(written(text, pathlib.Path(words.to) if words.to else beside(path)), flush=True)
+    print_out(f"{written(text, pathlib.Path(words.to) if words.to else beside(path))}\n")
     return 0

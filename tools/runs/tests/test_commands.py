@@ -136,6 +136,12 @@ class Reading(Case):
             self.assertEqual((done.returncode, done.stdout, len(done.stderr.splitlines())), (1, "", 1))
             self.assertIn(said, done.stderr)
 
+    def test_a_page_is_utf_8_and_its_path_as_it_was_named(self):
+        self.environment["PYTHONIOENCODING"] = "ascii"
+        self.assertIn("<title>1 failed · default · 1970-01-01", self.out("page", "--to", "-"))
+        path = f"{self.folder}/\udcff.html"
+        self.assertEqual(self.run_it("page", "--to", path, errors="surrogateescape").stdout, f"{path}\n")
+
     def test_flaky(self):
         self.assertEqual(self.out("flaky").splitlines(), [
             "failed  tried again  passed  runs  test", "     1            0       1     2  alpha t0",
