@@ -15,8 +15,8 @@ def table(heads, rows, right=()):
 
 
 def as_json(value):
-    """A value for scripts, with a line break at its end."""
-    return json.dumps(value, indent=2, ensure_ascii=False) + "\n"
+    """A value for scripts, with a line break at its end. Halves of pairs are spelled as JSON spells them."""
+    return json.dumps(value, indent=2, ensure_ascii=False).encode("utf-8", "backslashreplace").decode() + "\n"
 
 
 def printed(lines):

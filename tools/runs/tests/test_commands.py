@@ -94,6 +94,11 @@ class Reading(Case):
         })
         self.assertEqual(second["id"], made.ID)
 
+    def test_a_name_that_is_no_text_is_json(self):
+        path = self.runs / f"{OTHER}.bundle"
+        path.write_bytes(path.read_bytes().replace(b'"default"', b'"\\ud800x"'))
+        self.assertEqual(json.loads(self.out("list", "--json"))[0]["profile"], "\ud800x")
+
     def test_show(self):
         head = f"run {OTHER} of 1970-01-01 00:33:20, profile default: cargo test"
         failed, end = "FAIL [1.0s] alpha t0 (exit code 101)", "3 tests in 1.0s: 2 passed, 1 failed"
