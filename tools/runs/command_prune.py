@@ -17,7 +17,8 @@ def run(words):
     # A file that can't be read is no run of which it is known that it is old.
     gone = runs.summaries(lambda line: None)[words.keep:]
     for old in gone:
-        runs.remove(old.id)
+        # By its file: in a copy under another name stands the id of a run that may have to stay.
+        runs.remove(old.bundle.stem)
     for path in runs.abandoned():
         path.unlink(missing_ok=True)
     print_out(f"{saying.count(len(gone), 'run')} removed, {saying.size(sum(old.size for old in gone))} freed\n")

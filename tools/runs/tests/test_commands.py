@@ -155,6 +155,12 @@ class Reading(Case):
         first, *_ = json.loads(self.out("flaky", "--json"))
         self.assertEqual(first, {"binary": "alpha", "test": "t0", "runs": 2, "passed": 1, "failed": 1, "retried": 0})
 
+    def test_prune_removes_a_copy_and_not_the_run_of_its_name(self):
+        copy = self.runs / "0a1b2c3d-0000-4000-8000-000000000009.bundle"
+        copy.write_bytes((self.runs / f"{made.ID}.bundle").read_bytes())
+        self.assertIn("2 runs removed", self.out("prune", "--keep", "1"))
+        self.assertEqual(os.listdir(self.runs), [f"{OTHER}.bundle"])
+
     def test_prune(self):
         self.assertIn("0 runs removed", self.out("prune", "--keep", "2"))
         self.assertIn("1 run removed", self.out("prune", "--keep", "1"))
