@@ -73,7 +73,8 @@ class Bundle:
 
     def __init__(self, path):
         self.path = pathlib.Path(path)
-        self.file = open(self.path, "rb")
+        # A pipe in place of a bundle isn't waited for.
+        self.file = open(self.path, "rb", opener=lambda name, flags: os.open(name, flags | os.O_NONBLOCK))
 
     def __enter__(self):
         self.size = os.fstat(self.file.fileno()).st_size

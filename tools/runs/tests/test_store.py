@@ -121,6 +121,13 @@ class Finding(Case):
         self.assertEqual([run.id for run in self.runs.summaries(said.append)], [THIRD, FIRST])
         self.assertIn("Is a directory", said[0])
 
+    def test_a_pipe_in_place_of_a_bundle_is_not_waited_for(self):
+        self.runs.path_of(SECOND).unlink()
+        os.mkfifo(self.runs.path_of(SECOND))
+        said = []
+        self.assertEqual([run.id for run in self.runs.summaries(said.append)], [THIRD, FIRST])
+        self.assertIn("can't be read", said[0])
+
     def test_other_files_are_no_runs(self):
         (self.runs.folder / "notes.bundle").touch()
         (self.runs.folder / f".{FIRST}.x.aside").touch()
