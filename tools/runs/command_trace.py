@@ -1,7 +1,6 @@
 """Prints the trace of a recorded run, as the program draws it."""
 
-import sys
-
+from command_line import print_out
 from runs import program, store
 
 SUMMARY = "print the trace of a run, for a viewer as ui.perfetto.dev"
@@ -18,9 +17,7 @@ def add_options(parser):
 def run(words):
     """Lets the program print the trace."""
     path = store.here().find(words.run)
-    if sys.stdout is None:
-        raise OSError("standard output is closed")
     with open(path, "rb") as bundle:
-        limits = program.limits(path.stat().st_size)
-        program.run(["trace", "--group-by", words.group_by, *limits], stdin=bundle, stdout=sys.stdout.buffer)
+        trace = program.run(["trace", "--group-by", words.group_by, *program.limits(path.stat().st_size)], stdin=bundle)
+    print_out(trace.decode("utf-8", "surrogateescape"))
     return 0

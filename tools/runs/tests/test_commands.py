@@ -258,6 +258,14 @@ class Recording(Case):
         self.assertEqual(report, self.runs.parent / "rezovamy-junit/junit.xml")
         self.assertIn('failures="2"', report.read_text())
 
+    def test_a_trace_that_nobody_reads(self):
+        self.run_it("test", "--from", str(LINES))
+        reading, writing = os.pipe()
+        os.close(reading)
+        done = self.run_it("trace", capture_output=False, stdout=writing)
+        os.close(writing)
+        self.assertEqual((done.returncode, done.stderr), (141, ""))
+
     def test_lines_of_a_pipe(self):
         done = self.run_it("test", "--from", "-", input=LINES.read_text())
         self.assertEqual(done.returncode, 101)
