@@ -63,6 +63,11 @@ def name(text):
     return HARMFUL.sub(visible, text)
 
 
+def is_text(name):
+    """Whether a name has no bytes that aren't UTF-8."""
+    return not re.search("[\ud800-\udfff]", name)
+
+
 def output(data):
     """The bytes that a test printed, as a text without harm; those that aren't UTF-8 are spelled."""
     return harmless(data.decode("utf-8", "backslashreplace"))

@@ -11,7 +11,7 @@ import subprocess
 import tempfile
 import time
 
-from runs import bundle
+from runs import bundle, saying
 from runs.fault import Fault
 
 FOLDER, ENDING, ASIDE = "rezovamy-runs", ".bundle", ".aside"
@@ -141,6 +141,8 @@ class Store:
 
     def prepare(self):
         """Makes the folder, so that a fault is known before anything runs that shall come into it."""
+        if not saying.is_text(str(self.folder)):
+            raise Fault(f"{self.folder} is no UTF-8, and the program takes no other path: name another folder in REZOVAMY_RUNS")
         with self.writable():
             self.folder.mkdir(parents=True, exist_ok=True)
             if not os.access(self.folder, os.W_OK | os.X_OK):

@@ -67,6 +67,12 @@ class Adding(Case):
         with self.assertRaisesRegex(Fault, "REZOVAMY_RUNS"), runs.adding(FIRST):
             pass
 
+    def test_a_folder_whose_name_is_no_text_is_a_fault(self):
+        runs = store.Store(self.runs.folder / "\udcff")
+        with self.assertRaisesRegex(Fault, "no UTF-8.*REZOVAMY_RUNS"):
+            runs.prepare()
+        self.assertFalse(runs.folder.exists())
+
     def test_what_a_killed_recording_left_is_found_after_a_day(self):
         self.add(FIRST)
         young, old = (self.runs.folder / f".{FIRST}.{part}.aside" for part in ("young", "old"))
