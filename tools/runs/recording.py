@@ -4,6 +4,7 @@ import signal
 import subprocess
 
 from runs import program
+from runs.fault import Fault
 
 
 def hear_signals():
@@ -18,4 +19,7 @@ def record(store, session):
     with store.adding(session.run_id) as aside:
         words = ["record", str(aside), *program.limits(3 * len(session.data))]
         program.run(words, input=session.data, stdout=subprocess.DEVNULL)
+        # A program that is another one may end well, and leave the file as it is made: empty.
+        if not aside.stat().st_size:
+            raise Fault(f"{program.find()} wrote no bundle: it isn't rezovamy, so name another program in REZOVAMY")
     return store.path_of(session.run_id)

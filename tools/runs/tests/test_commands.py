@@ -213,6 +213,13 @@ class Faults(Case):
         for words in (["trace"], ["junit"], ["test"]):
             self.assertIn("REZOVAMY", self.fault(1, *words))
 
+    def test_a_program_that_is_another_one(self):
+        self.environment["REZOVAMY"] = "/bin/true"
+        done = self.run_it("test", "--from", str(LINES))
+        self.assertEqual(done.returncode, 101)
+        self.assertIn("wrote no bundle: it isn't rezovamy", done.stderr.splitlines()[-1])
+        self.assertEqual(os.listdir(self.runs), [])
+
 
 class BrokenOff(Case):
     def test_a_recording_that_is_broken_off_leaves_nothing(self):
