@@ -38,7 +38,7 @@ def plan_of(path):
         text = program.run(["rerun", *program.limits(path.stat().st_size)], stdin=opened)
     try:
         return rerun.read(text.decode())
-    except rerun.NoPlan as fault:
+    except (rerun.NoPlan, UnicodeDecodeError) as fault:
         raise Fault(f"a test of {path} has a name that can't be told: {fault}; run all again with `rezovamy-runs test`") from fault
 
 

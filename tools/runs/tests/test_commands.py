@@ -220,6 +220,14 @@ class Faults(Case):
         self.assertIn("wrote no bundle: it isn't rezovamy", done.stderr.splitlines()[-1])
         self.assertEqual(os.listdir(self.runs), [])
 
+    def test_a_program_that_prints_no_text(self):
+        self.add(made.ID, 0, "pass")
+        other = self.folder / "other"
+        other.write_text("#!/bin/sh\nprintf '\\377'\n")
+        other.chmod(0o755)
+        self.environment["REZOVAMY"] = str(other)
+        self.assertIn("run all again", self.fault(1, "again"))
+
 
 class BrokenOff(Case):
     def test_a_recording_that_is_broken_off_leaves_nothing(self):
