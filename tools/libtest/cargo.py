@@ -18,6 +18,8 @@ SIGNAL = re.compile(r"signal: (\d{1,3})(?:, (SIG\w+))?.*", re.S)
 EXIT = re.compile(r"exit (?:status|code): (-?\d{1,10}|0x[0-9a-fA-F]{1,8}).*", re.S)
 ERROR = re.compile(r"error(?:\[\w+\])?: .*", re.S)
 NOT_COMPILED = re.compile(r"error: could not compile .*", re.S)
+# One of these stands in each line of cargo's that one of the patterns above finds.
+WORDS = ("Running", "Doc-tests", "error", "process didn't exit successfully")
 # The lines of JSON that cargo prints.
 REASONS = {"compiler-artifact", "compiler-message", "build-script-executed", "build-finished", "timing-info"}
 LIBRARIES = {"lib", "rlib", "dylib", "cdylib", "staticlib", "proc-macro"}

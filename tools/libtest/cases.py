@@ -271,7 +271,7 @@ LONG_LINES = [
     "=" + "Running " * 50000, "=Running x (/a/" + "b-0123456789abcdef" * 20000 + "!",
     "=" + "Doc-tests " * 50000, '={"type":' * 50000,
     f"{FAILED} > =  process didn't exit successfully: `x` ({'a' * 300000}", "=" + "error: test failed, to rerun pass `" * 20000,
-    '={ "type": "test", ' * 20000, '={ "type": "test", ' + '"name": "x", ' * 30000,
+    '={ "type": "test", ' * 20000, '={ "type": "test", ' + '"name": "x", ' * 30000, "=" + "z" * 30_000_000,
 ]
 
 

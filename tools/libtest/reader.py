@@ -111,6 +111,9 @@ class Reader:
         return not self.nextest and (self.announces or bool(self.runs))
 
     def take_cargo(self, line):
+        # A long line that has none of cargo's words takes no time then.
+        if not self.builds and not any(word in line for word in cargo.WORDS):
+            return False
         words = without_escapes(line)
         announced = None if self.nextest else self.targets.announced(words, self.running)
         if announced:
