@@ -208,6 +208,12 @@ def try_names(convert, options):
     values = convert(stream(f"{NAMED} > {quoted} > suite 0 > end"), options(["--no-clock"]), lambda _: None)
     if list(values[0]["test-list"]["suites"]) != ["other-sums::s"]:
         yield f"a binary that cargo names in quotation marks is {values[0]['test-list']['suites']}"
+    lines = " > ".join([*NAMED.split(" > ")[:3], INTEGRATION, "suite 1", "started x", CRASHED])
+    values = convert(
+        stream(f"{lines} > {NAMED} > {OTHER} > suite 1 > started y > failed y > end"), options(["--no-clock"]), lambda _: None,
+    )
+    if brief(values) != "started x 0 > finished x abort-11 > started y 0 > finished y failed > 2 of 2":
+        yield f"a run of cargo after one that ended in a crash: {brief(values)}"
     inner = OTHER.replace("t-2", "t-3")
     values = convert(
         stream(f"{NAMED} > {UNIT} > suite 1 > started x > {inner} > ok x > end"), options(["--no-clock"]), lambda _: None,

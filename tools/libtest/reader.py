@@ -95,7 +95,7 @@ class Reader:
             return self.take_suite(value)
         if value.get("type") in ("test", "bench") and isinstance(value.get("name"), str):
             return self.take_test(value)
-        if str(value.get("reason")) in cargo.REASONS and not self.running():
+        if str(value.get("reason")) in cargo.REASONS and self.is_at_rest():
             self.targets.learn(value)
             return True
         return value.get("type") == "report" and bool(self.binaries and self.binaries[-1].suites)
@@ -105,6 +105,10 @@ class Reader:
     def running(self):
         """The tests that run in the binary that was announced last."""
         return self.binaries[-1].lost() if self.binaries else []
+
+    def is_at_rest(self):
+        """Whether no test runs, or cargo has said that its binary failed."""
+        return not self.running() or bool(self.binaries[-1].failed_at)
 
     def is_libtests(self):
         """Whether the stream is that of libtest, so that a line of `nextest` in it is one that a test prints."""
@@ -156,7 +160,7 @@ class Reader:
     def take_build(self, words):
         """Takes what cargo says of a build that failed, from the first error on; it stays text like any other."""
         before_tests = not self.binaries and cargo.ERROR.fullmatch(words.rstrip())
-        if before_tests or cargo.NOT_COMPILED.fullmatch(words.rstrip()) and not self.running():
+        if before_tests or cargo.NOT_COMPILED.fullmatch(words.rstrip()) and self.is_at_rest():
             self.builds = True
             self.build_errors.append((self.now(), words.strip()))
         if self.builds:
@@ -390,6 +394,14 @@ class Reader:
                 self.close(attempt, self.mark(self.clock.ended(attempt.start.time, taken)), "failed-timed-out", None)
 
     # ---- the end
+
+    def leave(self, status):
+        """Takes the end of a run of cargo with what it answered, after which another run comes: a test that ran there has ended."""
+        self.line += 1
+        self.clock.tick()
+        self.leave_torn()
+        if self.binaries:
+            ends.leave(self, self.binaries[-1], ends.FAILED if status else ends.PASSED)
 
     def finish(self, status=None):
         """Takes the end of the input with what cargo answered, if that is known, and says what is missing."""

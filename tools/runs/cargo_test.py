@@ -77,16 +77,20 @@ class CargoTest(Lines):
     """Runs of cargo one after the other, and the lines that they print. A signal that asks the front end to end is handed to all of
     the processes of the one that runs, and is the last one's.
 
-    Each runs in a group of its own, so that no process stays. `watch` is called while no line comes.
+    Each runs in a group of its own, so that no process stays. `watch` is called while no line comes, and `leave` with what a run
+    answered before the next one.
     """
 
-    def __init__(self, commands, watch):
-        self.commands, self.watch, self.process, self.status = commands, watch, None, 0
+    def __init__(self, commands, watch, leave=lambda status: None):
+        self.commands, self.watch, self.leave, self.process, self.status = commands, watch, leave, None, 0
         super().__init__(None, PAUSE)
         signal.signal(signal.SIGHUP, lambda _number, frame: self.stop(signal.SIGTERM, frame))
 
     def __iter__(self):
+        code = None
         for command in self.commands:
+            if code is not None:
+                self.leave(code)
             self.start(command)
             yield from super().__iter__()
             code = self.end_process()

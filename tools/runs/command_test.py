@@ -72,7 +72,7 @@ def run_cargo(commands, profile, cli_args, plan=None):
     progress = Progress()
     following = Following(progress.say)
     progress.reader = following.reader
-    lines = cargo_test.CargoTest(commands, progress.refresh)
+    lines = cargo_test.CargoTest(commands, progress.refresh, following.reader.leave)
     follow(following, lines, progress)
     try:
         return following.session(lines.end(), lines.broken, profile, cli_args, plan)

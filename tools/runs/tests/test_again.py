@@ -50,6 +50,12 @@ for name in names:
     say({{"type": "test", "event": "started", "name": name}})
     if name == "hangs":
         time.sleep(600)
+    if name == "exits":
+        sys.exit(0)
+    if name == "crashes":
+        say(f"error: test failed, to rerun pass `-p alpha {{kind}} {{target['name']}}`")
+        say(f"\\nCaused by:\\n  process didn't exit successfully: `{{file}}` (signal: 6, SIGABRT: process abort signal)")
+        sys.exit(101)
     say({{"type": "test", "event": "failed" if name.startswith("bad") else "ok", "name": name, "exec_time": 0.5}})
 say({{"type": "suite", "event": "ok"}})
 sys.exit(101 if any(name.startswith("bad") for name in names) else 0)
@@ -106,6 +112,17 @@ class Again(Case):
             ["--release", "-p", "alpha", "--lib", *events, "t1"],
             ["--release", "-p", "alpha", "--test", "it", *events, "bad", "t2"],
         ])
+
+    def test_what_runs_after_a_binary_that_ended_in_a_test_is_told_too(self):
+        self.plan("run alpha exits", "run alpha::bin/b crashes", "run alpha::bin/c bad", "run alpha::bin/d t2")
+        done = self.run_it("again")
+        self.assertEqual(done.returncode, 101)
+        self.assertRegex(done.stdout, r"FAIL \[.*\] alpha exits \(exit code 0\)")
+        self.assertRegex(done.stdout, r"ABORT \[.*\] alpha::bin/b crashes \(signal 6, SIGABRT\)")
+        self.assertIn("FAIL [0.500s] alpha::bin/c bad", done.stdout)
+        self.assertRegex(done.stdout, "4 tests in .*: 1 passed, 3 failed\n")
+        head = json.loads((self.folder / "session").read_text().splitlines()[0])
+        self.assertEqual(list(head["test-list"]["suites"]), ["alpha", "alpha::bin/b", "alpha::bin/c", "alpha::bin/d"])
 
     def test_where_all_have_passed_nothing_is_run(self):
         self.plan("skip alpha t0", "skip alpha t1")
