@@ -57,6 +57,17 @@ class RealRuns(unittest.TestCase):
         compared = json.loads(self.run_it("compare", json.loads(self.run_it("list", "--json").stdout)[1]["id"], "--json").stdout)
         self.assertEqual([test["test"] for test in compared["gone"]], ["fails", "hangs"])
 
+    def test_a_locale_without_utf_8(self):
+        plain = {"LC_ALL": "C", "PYTHONUTF8": "0", "PYTHONCOERCECLOCALE": "0"}
+        done = subprocess.run(
+            self.words("test", "--profile", "größe", "--", "--lib", "--", "passes", "größe"), cwd=self.folder,
+            env={**self.environment, **plain, "REZOVAMY_RUNS": str(self.folder / "größe")}, capture_output=True, text=True,
+        )
+        self.assertEqual(done.returncode, 0, done.stderr)
+        self.assertIn(f"in {self.folder}/größe/", done.stdout)
+        path = done.stdout.rpartition(" in ")[2].strip()
+        self.assertIn("profile größe: cargo test --lib -- passes größe\n", self.run_it("show", path).stdout)
+
     @unittest.skipUnless(has_rerun(), "the built program has no `rerun`: what needs it is left out")
     def test_what_failed_runs_again(self):
         self.assertEqual(self.run_it("test").returncode, 101)
