@@ -89,6 +89,11 @@ def complain(line):
         pass
 
 
+def told(status):
+    """The status as a process can tell it, by one byte; none but 0 becomes 0."""
+    return status & 255 or int(status != 0)
+
+
 def main():
     """Runs the front end on the words of the process, and answers its status."""
     settle_streams()
@@ -96,10 +101,10 @@ def main():
         status = run(sys.argv[1:])
         if sys.stdout is not None:
             sys.stdout.flush()
-        return status
+        return told(status)
     except Fault as fault:
         complain(str(fault))
-        return fault.status
+        return told(fault.status)
     except BrokenPipeError:
         give_up_output()
         return BROKEN_PIPE

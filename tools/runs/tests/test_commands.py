@@ -264,6 +264,10 @@ class Recording(Case):
         self.assertIn('failures="2"', (self.folder / "xml/junit.xml").read_text())
         self.assertEqual(self.run_it("junit", "--to", "xml", "--fail").returncode, 4)
 
+    def test_no_status_of_tests_that_failed_becomes_0(self):
+        for status, expected in (("0", 101), ("3", 3), ("256", 1), ("259", 3)):
+            self.assertEqual(self.run_it("test", "--from", str(LINES), "--status", status).returncode, expected)
+
     def test_all_of_it_in_one_command(self):
         done = self.run_it("test", "--from", str(LINES), "--page", "--junit")
         self.assertEqual(done.returncode, 101)
