@@ -213,6 +213,12 @@ class Faults(Case):
         for words in (["trace"], ["junit"], ["test"]):
             self.assertIn("REZOVAMY", self.fault(1, *words))
 
+    def test_an_older_python(self):
+        older = "import runpy, sys; sys.version_info = (3, 10, 13); runpy.run_path(sys.argv[1], run_name='__main__')"
+        done = subprocess.run([sys.executable, "-c", older, TOOLS / "rezovamy-runs"], capture_output=True, text=True)
+        said = "rezovamy-runs: Python 3.11 or newer is wanted: put it on the path as python3\n"
+        self.assertEqual((done.returncode, done.stdout, done.stderr), (1, "", said))
+
     def test_a_program_that_is_another_one(self):
         self.environment["REZOVAMY"] = "/bin/true"
         done = self.run_it("test", "--from", str(LINES))
