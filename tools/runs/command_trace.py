@@ -1,7 +1,10 @@
 """Prints the trace of a recorded run, as the program draws it."""
 
-from command_line import print_out
+import select
+import sys
+
 from runs import program, store
+from runs.fault import Fault
 
 SUMMARY = "print the trace of a run, for a viewer as ui.perfetto.dev"
 
@@ -14,10 +17,24 @@ def add_options(parser):
     )
 
 
+def has_no_reader(stream):
+    """Whether what is written to a stream goes into a pipe that nobody reads any more."""
+    poll = select.poll()
+    poll.register(stream, select.POLLOUT)
+    return any(events & select.POLLERR for _, events in poll.poll(0))
+
+
 def run(words):
-    """Lets the program print the trace."""
+    """Lets the program print the trace, which isn't held here."""
     path = store.here().find(words.run)
+    if sys.stdout is None:
+        raise OSError("standard output is closed")
     with open(path, "rb") as bundle:
-        trace = program.run(["trace", "--group-by", words.group_by, *program.limits(path.stat().st_size)], stdin=bundle)
-    print_out(trace.decode("utf-8", "surrogateescape"))
+        limits = program.limits(path.stat().st_size)
+        try:
+            program.run(["trace", "--group-by", words.group_by, *limits], stdin=bundle, stdout=sys.stdout.buffer)
+        except Fault as fault:
+            if has_no_reader(sys.stdout):
+                raise BrokenPipeError from fault
+            raise
     return 0
