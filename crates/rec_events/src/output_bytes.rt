@@ -27,6 +27,13 @@ impl ChildSingleOutput {
         ChildSingleOutput { bytes }
     }
 
+    /// Returns the vector that holds the bytes.
+    pub fn into_vec(self) -> Vec<u8>
+        ensures { result.items ≡ self }
+    {
+        self.bytes
+    }
+
     /// Returns the bytes.
     pub fn as_bytes(&self) -> &[u8]
         ensures value { result.now ≡ self.now }

@@ -11,7 +11,7 @@ use std::collections::BTreeSet;
 use std::marker::Model;
 
 /// Holds a set of test names. Contracts see them in the order of their bytes, each once.
-#[derive(Drop)]
+#[derive(Debug, Drop)]
 pub struct TestNames {
     inner: BTreeSet<String>,
 }
@@ -26,6 +26,13 @@ impl Model for TestNames {
 }
 
 impl TestNames {
+    /// Makes a set of these names.
+    pub fn new(names: BTreeSet<String>) -> TestNames
+        ensures { result ≡ texts names.keys }
+    {
+        TestNames { inner: names }
+    }
+
     /// Makes an empty set: no names.
     pub fn empty(alloc: Global) -> TestNames
         ensures { result ≡ [] }
@@ -46,6 +53,13 @@ impl TestNames {
     {
         self.inner.insert(name.into_string())?;
         Ok(())
+    }
+
+    /// Returns the set that holds the names.
+    pub fn into_set(self) -> BTreeSet<String>
+        ensures { texts result.keys ≡ self }
+    {
+        self.inner
     }
 
     /// Returns the names as a set of strings.

@@ -55,6 +55,13 @@ impl<V> TextMap<V> {
         Ok(())
     }
 
+    /// Returns the map that holds the pairs.
+    pub fn into_map(self) -> BTreeMap<String, V>
+        ensures { pairs result.entries ≡ self }
+    {
+        self.inner
+    }
+
     /// Returns the map itself.
     pub fn as_map(&self) -> &BTreeMap<String, V>
         ensures pairs { pairs result.now.entries ≡ self.now }
