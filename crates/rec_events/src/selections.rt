@@ -6,7 +6,7 @@ use crate::{Items, Text, TryClone, clone_both};
 use std::alloc::{AllocError, Global};
 
 /// Selects targets of one kind: those named, or all.
-#[derive(PartialEq, Eq, Drop)]
+#[derive(PartialEq, Eq, Debug, Drop)]
 pub struct NamedTargets {
     /// The targets that are named.
     pub names: Items<Text>,
@@ -36,7 +36,7 @@ impl TryClone for NamedTargets {
 }
 
 /// Says which packages are built.
-#[derive(PartialEq, Eq, Drop)]
+#[derive(PartialEq, Eq, Debug, Drop)]
 pub struct PackageSelection {
     /// The packages that are named.
     pub specs: Items<Text>,
@@ -71,7 +71,7 @@ impl TryClone for PackageSelection {
 }
 
 /// Says which targets of the packages are built.
-#[derive(PartialEq, Eq, Drop)]
+#[derive(PartialEq, Eq, Debug, Drop)]
 pub struct TargetSelection {
     /// Whether the libraries are built.
     pub lib: bool,
@@ -123,7 +123,7 @@ impl TryClone for TargetSelection {
 }
 
 /// Says which features of the packages are built.
-#[derive(PartialEq, Eq, Drop)]
+#[derive(PartialEq, Eq, Debug, Drop)]
 pub struct FeatureSelection {
     /// The features that are named.
     pub features: Items<Text>,
@@ -157,7 +157,7 @@ impl TryClone for FeatureSelection {
 }
 
 /// Holds everything that says what is built.
-#[derive(PartialEq, Eq, Drop)]
+#[derive(PartialEq, Eq, Debug, Drop)]
 pub struct BuildScope {
     /// Which packages are built.
     pub packages: PackageSelection,

@@ -6,7 +6,7 @@ use crate::{
 use std::fmt;
 
 /// Names a release of nextest, printed as three numbers with dots between them.
-#[derive(Copy, Clone, PartialEq, Eq)]
+#[derive(Copy, Clone, PartialEq, Eq, Debug)]
 pub struct Release {
     /// The first number.
     pub major: u64,
@@ -29,7 +29,7 @@ impl fmt::Display for Release {
 }
 
 /// Says what to do with a recording that is too old.
-#[derive(Copy, Clone, PartialEq, Eq)]
+#[derive(Copy, Clone, PartialEq, Eq, Debug)]
 pub enum TooOldRecordingGuidance {
     /// This release and those before it read the recording. No version has this guidance today.
     UseOlderNextest { last_nextest_version: Release },

@@ -27,7 +27,7 @@ pub const BUILD_SCOPE_JSON_PATH: &str = "meta/build-scope.json";
 pub const RERUN_INFO_JSON_PATH: &str = "meta/rerun-info.json";
 
 /// Says which kind of output a file of a store holds.
-#[derive(Copy, Clone, PartialEq, Eq)]
+#[derive(Copy, Clone, PartialEq, Eq, Debug)]
 pub enum OutputDict {
     /// No output.
     None,

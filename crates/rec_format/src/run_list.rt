@@ -18,7 +18,7 @@ pub struct RecordedRunList {
 }
 
 /// Says whether a run list may be written back.
-#[derive(Copy, Clone, PartialEq, Eq)]
+#[derive(Copy, Clone, PartialEq, Eq, Debug)]
 pub enum RunsJsonWritePermission {
     /// All that the list holds is known.
     Allowed,

@@ -4,7 +4,7 @@ ghost use Rattle.std.specs.Prelude.{◌≡◌};
 use rec_events::BuildScope;
 
 /// Says where the test binaries of a run came from.
-#[derive(Copy, Clone, PartialEq, Eq)]
+#[derive(Copy, Clone, PartialEq, Eq, Debug)]
 pub enum BuildKind {
     /// Cargo built them.
     Cargo,
@@ -13,7 +13,7 @@ pub enum BuildKind {
 }
 
 /// Describes what was built for a run, and by whom.
-#[derive(PartialEq, Eq, Drop)]
+#[derive(PartialEq, Eq, Debug, Drop)]
 pub struct RecordedBuildScope {
     /// Where the test binaries came from.
     pub build_kind: BuildKind,

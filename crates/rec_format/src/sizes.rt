@@ -1,7 +1,7 @@
 //! The sizes of an event log and of a store.
 
 /// Counts the bytes and the entries of one part of a recording.
-#[derive(Copy, Clone)]
+#[derive(Copy, Clone, Debug)]
 pub struct ComponentSizes {
     /// The length as it is stored, in bytes.
     pub compressed: u64,
@@ -27,7 +27,7 @@ impl Default for ComponentSizes {
 }
 
 /// Counts the bytes and the entries of a run's event log and store.
-#[derive(Copy, Clone)]
+#[derive(Copy, Clone, Debug)]
 pub struct RecordedSizes {
     /// The event log, whose entries are events.
     pub log: ComponentSizes,
@@ -50,7 +50,7 @@ impl Default for RecordedSizes {
 }
 
 /// Holds `ComponentSizes` as they stand in JSON.
-#[derive(Copy, Clone, PartialEq, Eq)]
+#[derive(Copy, Clone, PartialEq, Eq, Debug)]
 pub struct ComponentSizesFormat {
     /// The length as it is stored, in bytes.
     pub compressed: u64,
@@ -76,7 +76,7 @@ impl Default for ComponentSizesFormat {
 }
 
 /// Holds `RecordedSizes` as they stand in JSON.
-#[derive(Copy, Clone, PartialEq, Eq)]
+#[derive(Copy, Clone, PartialEq, Eq, Debug)]
 pub struct RecordedSizesFormat {
     /// The event log, whose entries are events.
     pub log: ComponentSizesFormat,

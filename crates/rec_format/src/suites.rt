@@ -10,7 +10,7 @@ use std::collections::BTreeMap;
 use std::marker::Model;
 
 /// Lists which tests of a binary passed, and which are still to pass.
-#[derive(PartialEq, Eq, Drop)]
+#[derive(PartialEq, Eq, Debug, Drop)]
 pub struct RerunTestSuiteInfo {
     /// The id of the binary.
     pub binary_id: RustBinaryId,

@@ -10,7 +10,7 @@ use std::fmt;
 use std::marker::Model;
 
 /// Numbers a major version of the store's format. A store of another one isn't read.
-#[derive(Copy, Clone, PartialEq, Eq, PartialOrd, Ord)]
+#[derive(Copy, Clone, PartialEq, Eq, PartialOrd, Ord, Debug)]
 pub struct StoreFormatMajorVersion {
     version: u32,
 }
@@ -53,7 +53,7 @@ impl fmt::Display for StoreFormatMajorVersion {
 }
 
 /// Numbers a minor version of the store's format. A store of an older one is still read.
-#[derive(Copy, Clone, PartialEq, Eq, PartialOrd, Ord)]
+#[derive(Copy, Clone, PartialEq, Eq, PartialOrd, Ord, Debug)]
 pub struct StoreFormatMinorVersion {
     version: u32,
 }
@@ -106,7 +106,7 @@ impl fmt::Display for StoreFormatMinorVersion {
 }
 
 /// Numbers a major version of the bundle's format. A bundle of another one isn't read.
-#[derive(Copy, Clone, PartialEq, Eq, PartialOrd, Ord)]
+#[derive(Copy, Clone, PartialEq, Eq, PartialOrd, Ord, Debug)]
 pub struct PortableRecordingFormatMajorVersion {
     version: u32,
 }
@@ -149,7 +149,7 @@ impl fmt::Display for PortableRecordingFormatMajorVersion {
 }
 
 /// Numbers a minor version of the bundle's format. A bundle of an older one is still read.
-#[derive(Copy, Clone, PartialEq, Eq, PartialOrd, Ord)]
+#[derive(Copy, Clone, PartialEq, Eq, PartialOrd, Ord, Debug)]
 pub struct PortableRecordingFormatMinorVersion {
     version: u32,
 }
@@ -208,7 +208,7 @@ pub const STORE_FORMAT_VERSION: StoreFormatVersion = StoreFormatVersion {
 };
 
 /// Names a version of the store's format, printed as `major.minor`.
-#[derive(Copy, Clone, PartialEq, Eq)]
+#[derive(Copy, Clone, PartialEq, Eq, Debug)]
 pub struct StoreFormatVersion {
     /// The major version.
     pub major: StoreFormatMajorVersion,
@@ -282,7 +282,7 @@ pub const PORTABLE_RECORDING_FORMAT_VERSION: PortableRecordingFormatVersion =
     };
 
 /// Names a version of the bundle's format, printed as `major.minor`.
-#[derive(Copy, Clone, PartialEq, Eq)]
+#[derive(Copy, Clone, PartialEq, Eq, Debug)]
 pub struct PortableRecordingFormatVersion {
     /// The major version.
     pub major: PortableRecordingFormatMajorVersion,
@@ -348,7 +348,7 @@ impl fmt::Display for PortableRecordingFormatVersion {
 pub const RUNS_JSON_FORMAT_VERSION: RunsJsonFormatVersion = RunsJsonFormatVersion { version: 3 };
 
 /// Numbers a version of the run list's format. A list of a newer one isn't written back.
-#[derive(Copy, Clone, PartialEq, Eq, PartialOrd, Ord)]
+#[derive(Copy, Clone, PartialEq, Eq, PartialOrd, Ord, Debug)]
 pub struct RunsJsonFormatVersion {
     version: u32,
 }

@@ -5,7 +5,7 @@ ghost use Rattle.std.specs.Prelude.{◌≡◌, ◌+◌, ◌<◌, ◌^◌};
 pub use rec_format::ComponentSizes;
 
 /// Says how large the log and the store of a recorded run are.
-#[derive(Clone, Copy, Default)]
+#[derive(Clone, Copy, Default, Debug)]
 pub struct StoreSizes {
     /// The event log. Its entries are the events.
     pub log: ComponentSizes,
