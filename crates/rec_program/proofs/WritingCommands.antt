@@ -156,7 +156,7 @@ module _ {S B T G : Type 0} (left : S → Option (List ℕ)) (source_faults : S 
   pub salvaged : status ≡ 0 → RunsSalvage left source_faults taken bundle_faults out_taken out_faults diag_taken diag_faults settings status s0 s1 b0 b1 o0 o1 d0 d1
       → (bytes : List ℕ) × (es : List Entry) × (stopped : StoppedRun) × (made : Salvaged) × Gave left source_faults settings.session_limit s0 s1 bytes × IsContainer bytes es
       × (stopped_run settings.read_limit es ≡ Ok stopped) × Salvages stopped.run stopped.log stopped.store made
-      × Appends (taken b0) (taken b1) made.bundle.items × Appends (out_taken o0) (out_taken o1) (counts_line made.events made.outputs)
+      × Appends (taken b0) (taken b1) made.bundle × Appends (out_taken o0) (out_taken o1) (counts_line made.events made.outputs)
   salvaged zeroed (inl (s, shows, inl (took, inl p))) = let r = of_run s shows in (r.bytes, r.es, r.stopped, s, r.gave, r.is, r.found, r.salvages, took, p.1)
   salvaged zeroed (inl (s, shows, inl (took, inr p))) = absurd (let eleven : status ≡ 11 = p.0 in omega (arith, zeroed, eleven))
   salvaged zeroed (inl (s, shows, inr f)) = absurd (let ten : status ≡ 10 = f.3.0 in omega (arith, zeroed, ten))
@@ -167,7 +167,7 @@ module _ {S B T G : Type 0} (left : S → Option (List ℕ)) (source_faults : S 
       → (b1 ≡ b0)
       ⊎ ((bytes : List ℕ) × (es : List Entry) × (stopped : StoppedRun) × (made : Salvaged) × Gave left source_faults settings.session_limit s0 s1 bytes × IsContainer bytes es
       × (stopped_run settings.read_limit es ≡ Ok stopped) × Salvages stopped.run stopped.log stopped.store made
-      × (((status ≡ 11) × Appends (taken b0) (taken b1) made.bundle.items) ⊎ ((status ≡ 10) × TookPart (taken b0) (taken b1) made.bundle.items)))
+      × (((status ≡ 11) × Appends (taken b0) (taken b1) made.bundle) ⊎ ((status ≡ 10) × TookPart (taken b0) (taken b1) made.bundle)))
   not_salvaged other (inl (s, shows, inl (took, inl p))) = absurd (other p.0)
   not_salvaged other (inl (s, shows, inl (took, inr p))) = let r = of_run s shows in inr (r.bytes, r.es, r.stopped, s, r.gave, r.is, r.found, r.salvages, inl (p.0, took))
   not_salvaged other (inl (s, shows, inr f)) = let r = of_run s shows in inr (r.bytes, r.es, r.stopped, s, r.gave, r.is, r.found, r.salvages, inr (f.3.0, f.1))

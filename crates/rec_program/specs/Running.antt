@@ -97,8 +97,8 @@ module _ {B T G : Type 0} (taken : B → Option (List ℕ)) (bundle_faults : B �
   -- what was salvaged was written, and the line with its counts was printed; or the bundle's sink failed, which was reported
   abbrev pub WritesSalvage : Salvaged → ℕ → B → B → T → T → G → G → Type 0
   WritesSalvage s status b0 b1 o0 o1 d0 d1 =
-      (Appends (taken b0) (taken b1) s.bundle.items × Prints out_taken out_faults diag_taken diag_faults (counts_line s.events s.outputs) status o0 o1 d0 d1)
-      ⊎ (Rose (bundle_faults b0) (bundle_faults b1) × TookPart (taken b0) (taken b1) s.bundle.items × (o1 ≡ o0)
+      (Appends (taken b0) (taken b1) s.bundle × Prints out_taken out_faults diag_taken diag_faults (counts_line s.events s.outputs) status o0 o1 d0 d1)
+      ⊎ (Rose (bundle_faults b0) (bundle_faults b1) × TookPart (taken b0) (taken b1) s.bundle × (o1 ≡ o0)
       × Refuses refusal_shown refusal_status diag_taken diag_faults BundleFailed status d0 d1)
 
 module _ {S B T G : Type 0} (left : S → Option (List ℕ)) (source_faults : S → ℕ) (taken : B → Option (List ℕ)) (bundle_faults : B → ℕ)

@@ -311,7 +311,7 @@ pub fn run_program<S: Source, B: Sink, T: Sink, G: Sink>(
         × IsContainer bytes es
         × (stopped_run settings.read_limit es ≡ Ok stopped)
         × Salvages stopped.run stopped.log stopped.store made
-        × Appends (B.taken bundle.old) (B.taken bundle.new) made.bundle.items
+        × Appends (B.taken bundle.old) (B.taken bundle.new) made.bundle
         × Appends (T.taken out.old) (T.taken out.new) (counts_line made.events made.outputs) }
 
     // With another status the bundle's sink took nothing; or the status is 11, and it took the whole bundle; or the status is 10, and it
@@ -325,8 +325,8 @@ pub fn run_program<S: Source, B: Sink, T: Sink, G: Sink>(
         × IsContainer bytes es
         × (stopped_run settings.read_limit es ≡ Ok stopped)
         × Salvages stopped.run stopped.log stopped.store made
-        × (((result ≡ 11) × Appends (B.taken bundle.old) (B.taken bundle.new) made.bundle.items)
-        ⊎ ((result ≡ 10) × TookPart (B.taken bundle.old) (B.taken bundle.new) made.bundle.items))) }
+        × (((result ≡ 11) × Appends (B.taken bundle.old) (B.taken bundle.new) made.bundle)
+        ⊎ ((result ≡ 10) × TookPart (B.taken bundle.old) (B.taken bundle.new) made.bundle))) }
 
     // A bundle with a reading is upgraded, where its versions are read and nothing is too long.
     ensures upgraded_complete { (path : List ℕ) (settings : Settings) (bytes : List ℕ)
@@ -532,7 +532,7 @@ fn write_salvaged<B: Sink, T: Sink, G: Sink>(
         result
         bundle.old bundle.new out.old out.new diag.old diag.new }
 {
-    match write_all(bundle, &counted.salvaged.bundle) {
+    match write_all(bundle, counted.salvaged.bundle.as_slice()) {
         Ok(()) => print(counted.line.as_bytes(), out, diag),
         Err(_) => refuse(SalvageRefusal::BundleFailed, diag),
     }

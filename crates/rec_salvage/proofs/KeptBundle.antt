@@ -175,7 +175,7 @@ salvages run log bytes es s prefix sound made =
 
 -- ---- what was made
 
-pub made : (run : RecordedRunInfo) (log : List ℕ) (es : List Entry) (n : ℕ) (g : Gathered) (s : KeptStore) (sizes : RecordedSizes) (seen : List ℕ) (bundle : Vec ℕ Global) → n ≤ length log
+pub made : (run : RecordedRunInfo) (log : List ℕ) (es : List Entry) (n : ℕ) (g : Gathered) (s : KeptStore) (sizes : RecordedSizes) (seen : List ℕ) (bundle : List ℕ) → n ≤ length log
     → take n log ≡ salvaged_log es log → HasGathered (salvaged_events es log) g → IsStore (salvaged_store es log) (length (named_entries es (salvaged_events es log))) s
     → sizes.log ≡ sizes_of_log n g.events → sizes.store ≡ s.sizes → seen ≡ s.bytes.items
     → IsBundle (record run { sizes = sizes }) (take n log) seen bundle

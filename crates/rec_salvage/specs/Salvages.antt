@@ -1,6 +1,5 @@
 -- The bundle that is made of what is kept of a run, and what it is read as.
-use Rattle.std.specs.Global.{Global}
-use Rattle.std.specs.Prelude.{◌≡◌, ℕ, ◌<◌, ◌^◌, List, None, Vec, length, map}
+use Rattle.std.specs.Prelude.{◌≡◌, ℕ, ◌<◌, ◌^◌, List, None, length, map}
 use Rattle.rec_container.specs.Container.{Entry, spell}
 use Rattle.rec_container.specs.WholePrefixes.{IsWholePrefix}
 use Rattle.rec_format.specs.declared.run.RecordedRunInfo.{RecordedRunInfo}
@@ -15,15 +14,15 @@ use Rattle.rec_salvage.specs.Refusals.{prefix_refusal}
 use Rattle.rec_salvage.specs.Salvaged.{manifest_text, named_entries, salvaged_bundle, salvaged_events, salvaged_run}
 
 -- the bundle of this run, log and store, which is short enough for its lengths; its manifest is one that reads back
-pub record IsBundle (run : RecordedRunInfo) (log store : List ℕ) (bundle : Vec ℕ Global) : Type 0 where
-  pub spelled : bundle.items ≡ spell (bundle_entries (manifest_text run) log store)
-  pub short : length bundle.items < 2 ^ 64
+pub record IsBundle (run : RecordedRunInfo) (log store : List ℕ) (bundle : List ℕ) : Type 0 where
+  pub spelled : bundle ≡ spell (bundle_entries (manifest_text run) log store)
+  pub short : length bundle < 2 ^ 64
   pub manifest : IsManifest (manifest_of run)
 
 -- the bundle of what is kept, by the entries of the store's whole prefix; its manifest is one that reads back
 pub record IsMade (run : RecordedRunInfo) (log : List ℕ) (es : List Entry) (s : Salvaged) : Type 0 where
-  pub bundle : s.bundle.items ≡ salvaged_bundle run es log
-  pub short : length s.bundle.items < 2 ^ 64
+  pub bundle : s.bundle ≡ salvaged_bundle run es log
+  pub short : length s.bundle < 2 ^ 64
   pub manifest : IsManifest (manifest_of (salvaged_run run es log))
   pub events : s.events ≡ length (salvaged_events es log)
   pub outputs : s.outputs ≡ length (named_entries es (salvaged_events es log))
@@ -34,11 +33,11 @@ pub record Salvages (run : RecordedRunInfo) (log store : List ℕ) (s : Salvaged
   pub entries : List Entry
   pub prefix : IsWholePrefix store entries
   pub sound : prefix_refusal entries ≡ None
-  pub bundle : s.bundle.items ≡ salvaged_bundle run entries log
+  pub bundle : s.bundle ≡ salvaged_bundle run entries log
   pub events : s.events ≡ length (salvaged_events entries log)
   pub outputs : s.outputs ≡ length (named_entries entries (salvaged_events entries log))
   pub recorded : RunRecord
-  pub read : IsReading s.bundle.items recorded
+  pub read : IsReading s.bundle recorded
   pub run_is : recorded.run ≡ salvaged_run run entries log
   pub events_are : recorded.events ≡ map (event_resolved entries) (salvaged_events entries log)
   pub outputs_are : recorded.outputs ≡ named_entries entries (salvaged_events entries log)
@@ -46,5 +45,5 @@ pub record Salvages (run : RecordedRunInfo) (log store : List ℕ) (s : Salvaged
 -- the bundle is read, and its events are these with each output cut at m bytes
 pub record Restores (m : ℕ) (events : List LiveEvent) (s : Salvaged) : Type 0 where
   pub recorded : RunRecord
-  pub read : IsReading s.bundle.items recorded
+  pub read : IsReading s.bundle recorded
   pub events_are : recorded.events ≡ map (event_kept m) events

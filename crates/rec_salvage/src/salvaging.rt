@@ -17,6 +17,7 @@ use crate::gathering::take_lines;
 use crate::metadata::check_metadata;
 use crate::store::keep_store;
 use rec_container::{Container, PrefixError};
+use rec_events::Items;
 use rec_format::{ComponentSizes, PortableManifest, RecordedRunInfo, RecordedSizes};
 use rec_forms::Held;
 use rec_portable::bundle_text;
@@ -26,7 +27,7 @@ use std::alloc::{AllocError, Global};
 #[derive(Drop)]
 pub struct Salvaged {
     /// The bundle.
-    pub bundle: Vec<u8>,
+    pub bundle: Items<u8>,
     /// How many events its log has.
     pub events: u64,
     /// How many outputs its store has.
@@ -138,13 +139,13 @@ fn make_bundle(
     sizes: RecordedSizes,
     log: &[u8],
     store: &[u8],
-) -> Result<Vec<u8>, AllocError>
+) -> Result<Items<u8>, AllocError>
     ensures { IfOk result (IsBundle (record run.now { sizes = sizes }) log.now store.now) }
 {
     let manifest = manifest_with(alloc, run, sizes)?;
     let bundle = bundle_text(alloc, &manifest, log, store);
     manifest.discard();
-    bundle
+    Ok(Items::new(bundle?))
 }
 
 /// Returns the sizes of a log.

@@ -73,7 +73,7 @@ const CASES: [Case; 8] = [
 fn write_salvaged(alloc: Global, salvaged: &Salvaged, text: &mut String) -> Result<(), Fail> {
     let (events, outputs) = (salvaged.events, salvaged.outputs);
     write!(text, "events={events} outputs={outputs}")?;
-    let bundle = Container::parse(alloc, &salvaged.bundle)?;
+    let bundle = Container::parse(alloc, salvaged.bundle.as_slice())?;
     let store = Container::parse(alloc, bundle.get("store.zip").unwrap_or(b""));
     drop(bundle);
     let entries = store?;
