@@ -5,7 +5,7 @@
     tools/gate_cost.py --processors 2    the same on so many of the machine's processors
     tools/gate_cost.py --write           writes it into docs/PROVING.md, between the two comments there, if the gate passes
     tools/gate_cost.py --watch 30        runs nothing: measures each `rt ci` on the machine, until no check was seen for 30 minutes
-    tools/gate_cost.py --first-run 1     measures the first `rt run --jobs 1` in place of `rt ci`; 0 leaves the jobs to `rt`
+    tools/gate_cost.py --first-run 4     measures README's first lines in place of `rt ci`, four crates at a time; 0: `rt run` alone
 
 A crate has a proof; its tests, which are two checks of a crate of tests; a seed, which is a second proof where two edits or more
 begin with it, and the check at the end that it still holds; and the edits themselves. The checker's processes are looked at every
@@ -21,6 +21,7 @@ import math
 import os
 import pathlib
 import resource
+import shlex
 import subprocess
 import sys
 import tempfile
@@ -206,19 +207,20 @@ def run_gate(processors):
     return Measure(sampler.costs(), minutes, len(usable), gate.returncode, children_seconds() - before)
 
 
-def run_words(jobs, bundle):
-    """The words of the README that prove and run the program, with so many jobs a crate; with 0 `rt` chooses."""
-    return ["rt", "run", *(["--jobs", str(jobs)] if jobs else []), "--", "record", bundle]
+def run_words(at_a_time, bundle):
+    """The words of the README that prove the crates, so many at a time, and run the program; with 0 `rt run` alone proves one by one."""
+    run = f"rt run -- record {shlex.quote(bundle)}"
+    return ["sh", "-c", f"rt all check --jobs {at_a_time} && {run}" if at_a_time else run]
 
 
-def first_run(jobs):
-    """Runs the program for the first time in a fresh clone, with so many jobs a crate; with 0 `rt` chooses."""
+def first_run(at_a_time):
+    """Runs the program for the first time in a fresh clone, whose crates are proved so many at a time; with 0 by `rt run` alone."""
     with tempfile.TemporaryDirectory(prefix="first-run-") as room:
         subprocess.run(["git", "clone", "--quiet", str(TOP), f"{room}/clone"], check=True)
         folder = pathlib.Path(room, "clone/crates", PROGRAM)
         sampler, started, before = Sampler(), time.monotonic(), children_seconds()
         with open(folder / "data/example.session", "rb") as session:
-            run = subprocess.Popen(run_words(jobs, f"{room}/bundle"), cwd=folder, stdin=session, stdout=subprocess.DEVNULL)
+            run = subprocess.Popen(run_words(at_a_time, f"{room}/bundle"), cwd=folder, stdin=session, stdout=subprocess.DEVNULL)
             while run.poll() is None:
                 sampler.look_below(lambda _: [run.pid])
                 time.sleep(PAUSE)
@@ -331,7 +333,7 @@ def main():
     parser.add_argument("--processors", type=whole(1, most), default=most, metavar="N", help=f"run the gate on N processors ({most})")
     parser.add_argument("--write", action="store_true", help="write the table into docs/PROVING.md")
     parser.add_argument("--watch", type=whole(1, 10**4), metavar="MINUTES", help="run nothing, and measure the gates that run")
-    parser.add_argument("--first-run", type=whole(0, 64), metavar="JOBS", help="measure the first `rt run` with so many jobs a crate")
+    parser.add_argument("--first-run", type=whole(0, 64), metavar="CRATES", help="measure the first `rt run`, so many crates at a time")
     asked = parser.parse_args()
     if asked.watch and asked.write:
         parser.error("of gates that are watched it isn't known whether they pass, so --write doesn't go with --watch")

@@ -48,9 +48,9 @@ class Kinds(unittest.TestCase):
 
 
 class FirstRun(unittest.TestCase):
-    def test_rt_chooses_how_many_jobs_a_crate_has(self):
-        self.assertEqual(gate_cost.run_words(0, "b"), ["rt", "run", "--", "record", "b"])
-        self.assertEqual(gate_cost.run_words(2, "b"), ["rt", "run", "--jobs", "2", "--", "record", "b"])
+    def test_so_many_crates_at_a_time_or_one_by_one(self):
+        self.assertEqual(gate_cost.run_words(0, "b"), ["sh", "-c", "rt run -- record b"])
+        self.assertEqual(gate_cost.run_words(2, "a b"), ["sh", "-c", "rt all check --jobs 2 && rt run -- record 'a b'"])
 
     def test_lines(self):
         made = {

@@ -24,8 +24,8 @@ pub const MAX_TESTS: u64 = 10000;
 ///
 /// Its first line is its head, and each further line is an event. The tests are named `t0`, `t1` and so on,
 /// each in one of four binaries in turn. They run in batches of eight, each test on a slot of its own: those of a
-/// batch start together, and finish three seconds later. In every tenth batch the run pauses in between. Every
-/// hundredth test fails. Each test writes one of sixteen lines, `output 0` to `output 15`.
+/// batch start a microsecond apart, and each finishes three seconds after its start. In every tenth batch the run
+/// pauses in between. Every hundredth test fails. Each test writes one of sixteen lines, `output 0` to `output 15`.
 ///
 /// # Errors
 ///
