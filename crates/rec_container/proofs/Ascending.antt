@@ -13,10 +13,10 @@ use Rattle.std.specs.Option.{option_map}
 use Rattle.std.specs.Ordering.{is_eq, ordering_reverse}
 use Rattle.rec_container.specs.Sorted.{Contents, Ascend, is_named, name_cmp}
 
--- what is at the place `from` or behind it, and before the place `to`, is all that may have the name
+-- what is at the place `from` or after it, and before the place `to`, is all that may have the name
 pub record IsBetween (contents : Contents) (name : List ℕ) (from to : ℕ) : Type 0 where
   pub before : (i : ℕ) (e : Bor (List ℕ) × Bor (List ℕ)) → i < from → slice_get contents i ≡ Some e → slice_cmp nat_cmp name e.0.now ≡ Greater
-  pub behind : (e : Bor (List ℕ) × Bor (List ℕ)) → slice_get contents to ≡ Some e → slice_cmp nat_cmp name e.0.now ≡ Less
+  pub after : (e : Bor (List ℕ) × Bor (List ℕ)) → slice_get contents to ≡ Some e → slice_cmp nat_cmp name e.0.now ≡ Less
 
 names_total : IsTotalOrder name_cmp
 names_total = on_total (λ (k : Bor (List ℕ)). k.now) nat_list_cmp_total
@@ -48,10 +48,10 @@ turned_back a b h = nat_list_cmp_total.antisymm b a ∙ ap ordering_reverse h
 at_or_before : (i j : ℕ) → i < j + 1 → (i ≡ j) ⊎ (i < j)
 at_or_before i j h = grind arith
 
--- a name behind one entry is behind all before it
-pub behind_all : (contents : Contents) (name : List ℕ) (i : ℕ) (d : Bor (List ℕ) × Bor (List ℕ)) → Ascend contents → slice_get contents i ≡ Some d → slice_cmp nat_cmp name d.0.now ≡ Greater
+-- a name after one entry is after all before it
+pub after_all : (contents : Contents) (name : List ℕ) (i : ℕ) (d : Bor (List ℕ) × Bor (List ℕ)) → Ascend contents → slice_get contents i ≡ Some d → slice_cmp nat_cmp name d.0.now ≡ Greater
     → (j : ℕ) (e : Bor (List ℕ) × Bor (List ℕ)) → j < i + 1 → slice_get contents j ≡ Some e → slice_cmp nat_cmp name e.0.now ≡ Greater
-behind_all contents name i d sorted stands greater j e before is = by (at_or_before j i before)
+after_all contents name i d sorted stands greater j e before is = by (at_or_before j i before)
   where
     by : (j ≡ i) ⊎ (j < i) → slice_cmp nat_cmp name e.0.now ≡ Greater
     by (inl same) = subst (λ (x : Bor (List ℕ) × Bor (List ℕ)). slice_cmp nat_cmp name x.0.now ≡ Greater) (some_same d e (sym stands ∙ ap (slice_get contents) (sym same) ∙ is)) greater
@@ -78,4 +78,4 @@ pub none_between : (contents : Contents) (name : List ℕ) (from to : ℕ) → A
 unfolding at
 none_between contents name from to sorted between same =
     sym (lookup_at_gap names_total (at name) contents from sorted between.before
-    (λ e is. between.behind e (ap (slice_get contents) (sym same) ∙ is)))
+    (λ e is. between.after e (ap (slice_get contents) (sym same) ∙ is)))

@@ -111,7 +111,7 @@ IsSound-push es fs name content compressed uncompressed size h some short text a
     subst (λ (l : List Entry). IsSound l size (uncompressed + length content)) (sym same)
     (record { entries = AreFrom-push [] es (entry_named name content) h.entries is absent; sizes = HasSizes-push es name content compressed uncompressed size h.sizes e })
 
--- the same for the entries of a map, as they are seen, where they were kept until the new one was put behind them
+-- the same for the entries of a map, as they are seen, where they were kept until the new one was put after them
 pub IsSound-one_more : (es : List Entry) (old mid new : List (String Global × Vec ℕ Global)) (made : Entry) (name content : List ℕ) (compressed uncompressed size : ℕ) → entries_of old ≡ es
     → IsSound (entries_of old) compressed uncompressed → 0 < length name → length name < 65536 → IsUtf8 name → content_of es name ≡ None → size ≡ length (spell (es ++ entry_named name content ∷ [])) → size < 2 ^ 64
     → mid ≡ old → made ≡ entry_named name content → entries_of new ≡ entries_of mid ++ made ∷ [] → IsSound (entries_of new) size (uncompressed + length content)

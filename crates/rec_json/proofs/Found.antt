@@ -23,27 +23,27 @@ abbrev pub before : List Node → Items → Items
 before [] rest = rest
 before (v ∷ vs) rest = item (view v) (before vs rest)
 
-abbrev pub behind : List Node → Left Items → Left Items
-behind vs o = parse_map (before vs) o
+abbrev pub after : List Node → Left Items → Left Items
+after vs o = parse_map (before vs) o
 
 before-one_more : (vs : List Node) (v : Node) (rest : Items) → before vs (item (view v) rest) ≡ before (vs ++ v ∷ []) rest
 before-one_more [] v rest = refl
 before-one_more (w ∷ vs) v rest = ap (item (view w)) (before-one_more vs v rest)
 
-pub behind-one_more : (vs : List Node) (v : Node) (o : Left Items) → behind vs (parse_map (item (view v)) o) ≡ behind (vs ++ v ∷ []) o
-behind-one_more vs v None = refl
-behind-one_more vs v (Some p) = ap (λ ds. Some (ds, p.1)) (before-one_more vs v p.0)
+pub after-one_more : (vs : List Node) (v : Node) (o : Left Items) → after vs (parse_map (item (view v)) o) ≡ after (vs ++ v ∷ []) o
+after-one_more vs v None = refl
+after-one_more vs v (Some p) = ap (λ ds. Some (ds, p.1)) (before-one_more vs v p.0)
 
-pub behind-none : (o : Left Items) → o ≡ behind [] o
-behind-none None = refl
-behind-none (Some p) = refl
+pub after-none : (o : Left Items) → o ≡ after [] o
+after-none None = refl
+after-none (Some p) = refl
 
 before-nothing : (vs : List Node) → before vs no_items ≡ items_view vs
 before-nothing [] = refl
 before-nothing (v ∷ vs) = ap (item (view v)) (before-nothing vs)
 
-pub behind-nothing : (vs : List Node) (r : List Token) → behind vs (Some (no_items, r)) ≡ Some (items_view vs, r)
-behind-nothing vs r = ap (λ ds. Some (ds, r)) (before-nothing vs)
+pub after-nothing : (vs : List Node) (r : List Token) → after vs (Some (no_items, r)) ≡ Some (items_view vs, r)
+after-nothing vs r = ap (λ ds. Some (ds, r)) (before-nothing vs)
 
 -- ---- objects
 

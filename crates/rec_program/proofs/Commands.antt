@@ -290,7 +290,7 @@ events_read : (ls : List NumberedLine) → first_line_fault ls ≡ None → even
 events_read ls none = ap (λ o. unless_refused (option_map line_error o) (events_before_fault ls)) none
 
 module _ (limit : ℕ) (es : List Entry) where
-  -- the log and the report behind a printed text
+  -- the log and the report after a printed text
   slots_are : (text : List ℕ) → PrintsSlots limit es (Ok text) → (log : List ℕ) × (report : SlotReport) × (log_part limit es ≡ Ok log) × (first_line_fault (log_lines log) ≡ None)
       × Reports (plain_log (log_lines log)) (Ok report) × (text ≡ slot_lines report)
   slots_are text p =

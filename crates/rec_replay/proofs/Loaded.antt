@@ -68,11 +68,11 @@ some_before ns ms h = omega (arith, length-append ns ms)
 some_after : (ns ms : List OutputFileName) → 0 < length ms → 0 < length (ns ++ ms)
 some_after ns ms h = omega (arith, length-append ns ms)
 
-none_before : (ns ms : List OutputFileName) → length (ns ++ ms) ≡ 0 → length ns ≡ 0
-none_before ns ms h = omega (arith, length-append ns ms)
+no_names_before : (ns ms : List OutputFileName) → length (ns ++ ms) ≡ 0 → length ns ≡ 0
+no_names_before ns ms h = omega (arith, length-append ns ms)
 
-none_behind : (ns ms : List OutputFileName) → length (ns ++ ms) ≡ 0 → length ms ≡ 0
-none_behind ns ms h = omega (arith, length-append ns ms)
+no_names_after : (ns ms : List OutputFileName) → length (ns ++ ms) ≡ 0 → length ms ≡ 0
+no_names_after ns ms h = omega (arith, length-append ns ms)
 
 -- ---- one call
 
@@ -133,7 +133,7 @@ module _ {T V : Type 0} (l m f g : ℕ) (O M : List Entry → Type 0) (ns ms : L
         (denied_before (first_refusal es l ns) (first_refusal es l ms) e (p.answer es (λ h. w (some_before ns ms h))));
     same = p.same;
     cause = record { later = p.cause.later; failed = p.cause.failed };
-    named = λ h. p.named (none_before ns ms h);
+    named = λ h. p.named (no_names_before ns ms h);
   }
 
 module _ {T U V : Type 0} (l m n f g k : ℕ) (O M N : List Entry → Type 0) (ns ms : List OutputFileName) (x : List Entry → T) (y : List Entry → U) (z : List Entry → V)
@@ -165,7 +165,7 @@ module _ {T U V : Type 0} (l m n f g k : ℕ) (O M N : List Entry → Type 0) (n
         subst (λ (refusal : Option RecordReadError). Denies (or_done refusal) e) (sym (refusal-append es l ns ms)) (denied_after (first_refusal es l ns) (first_refusal es l ms) e s.0 t);
     same = keeps_on l m n O M N p.same q.same;
     cause = record { later = (let h = p.cause.later in let i = q.cause.later in omega arith); failed = caused_later f g k e p.cause.later q.cause.failed };
-    named = λ h. q.named (none_behind ns ms h);
+    named = λ h. q.named (no_names_after ns ms h);
   }
 
 -- memory ran out before anything was read

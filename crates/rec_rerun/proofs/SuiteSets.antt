@@ -105,13 +105,13 @@ suite_of-put s (x ∷ xs) id = by (slice_cmp nat_cmp s.binary_id x.binary_id) re
     replaced true = refl
     replaced false = refl
 
-    behind : (a b : Bool) → bytes_eq id x.binary_id ≡ a → bytes_eq id s.binary_id ≡ b → slice_cmp nat_cmp s.binary_id x.binary_id ≡ Greater
+    after : (a b : Bool) → bytes_eq id x.binary_id ≡ a → bytes_eq id s.binary_id ≡ b → slice_cmp nat_cmp s.binary_id x.binary_id ≡ Greater
         → (if a then Some x else (if b then Some s else suite_of id xs)) ≡ (if b then Some s else (if a then Some x else suite_of id xs))
-    behind true true p q e =
+    after true true p q e =
         let same : s.binary_id ≡ x.binary_id = sym ((bytes_eq-Decides id s.binary_id).0 q) ∙ (bytes_eq-Decides id x.binary_id).0 p in
         absurd (false≢true (sym (sym (is_eq-slice_cmp s.binary_id x.binary_id) ∙ ap is_eq e) ∙ (bytes_eq-Decides s.binary_id x.binary_id).1 same))
-    behind true false p q e = refl
-    behind false b p q e = refl
+    after true false p q e = refl
+    after false b p q e = refl
 
     by : (o : Ordering) → slice_cmp nat_cmp s.binary_id x.binary_id ≡ o
         → suite_of id (put_suite s xs) ≡ (if bytes_eq id s.binary_id then Some s else suite_of id xs)
@@ -120,7 +120,7 @@ suite_of-put s (x ∷ xs) id = by (slice_cmp nat_cmp s.binary_id x.binary_id) re
     by Equal e more = replaced (bytes_eq id s.binary_id)
         ∙ ap (λ y. if bytes_eq id s.binary_id then Some s else (if bytes_eq id y then Some x else suite_of id xs)) (same_text s.binary_id x.binary_id e)
     by Greater e more = ap (λ o. if bytes_eq id x.binary_id then Some x else o) more
-        ∙ behind (bytes_eq id x.binary_id) (bytes_eq id s.binary_id) refl refl e
+        ∙ after (bytes_eq id x.binary_id) (bytes_eq id s.binary_id) refl refl e
 
 -- what holds of all suites and of one more holds of all with it
 pub All-put_suite : (P : RerunTestSuiteInfo → Type 0) (s : RerunTestSuiteInfo) (ss : List RerunTestSuiteInfo) → P s → AllByRecursion P ss → AllByRecursion P (put_suite s ss)

@@ -84,8 +84,8 @@ none_before es fs name h = by (content_of es name) refl
     by None is = refl
     by (Some c) is = not_found (content_of (es ++ fs) name) c h (content_of-found es fs name c is)
 
-none_behind : (es fs : List Entry) (name : List ℕ) → content_of (es ++ fs) name ≡ None → content_of fs name ≡ None
-none_behind es fs name h = sym (content_of-missing es fs name (none_before es fs name h)) ∙ h
+none_after : (es fs : List Entry) (name : List ℕ) → content_of (es ++ fs) name ≡ None → content_of fs name ≡ None
+none_after es fs name h = sym (content_of-missing es fs name (none_before es fs name h)) ∙ h
 
 -- an entry that is found has a spelling
 pub found_is_entry : (seen es : List Entry) (name content : List ℕ) → AreFrom seen es → content_of es name ≡ Some content → IsEntry (entry_named name content)
@@ -114,7 +114,7 @@ chosen_from t seen before (e ∷ es) less h =
   where
     more : (name : List ℕ) → t name ≡ true → content_of (seen ++ e ∷ []) name ≡ None → content_of (before ++ e ∷ []) name ≡ None
     more name holds none =
-        content_of-missing before (e ∷ []) name (less name holds (none_before seen (e ∷ []) name none)) ∙ none_behind seen (e ∷ []) name none
+        content_of-missing before (e ∷ []) name (less name holds (none_before seen (e ∷ []) name none)) ∙ none_after seen (e ∷ []) name none
 
     by : (b : Bool) → t e.name ≡ b → AreFrom (before ++ e ∷ []) (chosen t es) → AreFrom before (chosen t es) → AreFrom before (if b then e ∷ chosen t es else chosen t es)
     by true is kept left = (h.0, less e.name is h.1, kept)

@@ -12,7 +12,7 @@ use Rattle.rec_spans.specs.declared.settings.ChromeTraceGroupBy.TheVariants.{Slo
 use Rattle.rec_spans.specs.Kinds.{history}
 use Rattle.rec_spans.specs.Plain.{PlainEvent}
 use Rattle.rec_slots.proofs.Histories.{length-history}
-use Rattle.rec_slots.proofs.OpenAttempts.{AreOpen, AreStarts, begun-is, none-open, on-before, open-cut, open-put, open-same, starts-cut, starts-kept, starts-outside, starts-put, starts-same}
+use Rattle.rec_slots.proofs.OpenAttempts.{AreOpen, AreStarts, begun-is, no-prefix, none-open, on-before, open-cut, open-put, open-same, starts-cut, starts-kept, starts-outside, starts-put, starts-same}
 use Rattle.rec_slots.specs.Beats.{Does, IsBeat, IsNoAttempt, changed_run, marks_before}
 use Rattle.rec_slots.specs.declared.attempts.Attempts.{Attempts}
 use Rattle.rec_slots.specs.declared.beats.Beat.{Beat}
@@ -99,16 +99,12 @@ module _ (events : List PlainEvent) (n : ℕ) where
       record {
         none = starts.0;
         starts = starts.1;
-        before = λ none. has.before (front (marks_before events n) (changed_run c) (sym marks ∙ none));
+        before = λ none. has.before (no-prefix (marks_before events n) (changed_run c) (sym marks ∙ none));
         running = λ begun. elim (on-before (marks_before events n) (changed_run c) (sym marks ∙ begun)) [
           | inl on ↦ open-same events n le quiet a.running (has.running on.0)
           | inr off ↦ none-open events n a.running off.0 (has.before off.0)
         ];
       }
-    where
-      front : (xs ys : List RunMark) → xs ++ ys ≡ [] → xs ≡ []
-      front [] ys e = refl
-      front (x ∷ xs) ys e = cc
 
   -- nothing is noted of an event that starts and ends no attempt
   pub noted-same : (beat : Beat) (a : Attempts) → IsBeat events n beat → IsNoAttempt events n → HasNoted events n a → HasNoted events (suc n) a

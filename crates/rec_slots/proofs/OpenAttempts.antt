@@ -62,15 +62,16 @@ on-before (m ∷ []) [] e = inl (e, refl)
 on-before (m ∷ []) (x ∷ more) e = cc
 on-before (m ∷ n ∷ ms) more e = cc
 
+-- a list that is empty has an empty prefix
+pub no-prefix : {A : Type 0} → (xs ys : List A) → xs ++ ys ≡ [] → xs ≡ []
+no-prefix [] ys e = refl
+no-prefix (x ∷ xs) ys e = cc
+
 -- where there was nothing of a run, there was nothing before
 none-before : (events : List PlainEvent) (a n : ℕ) → a ≤ n → marks_before events n ≡ [] → marks_before events a ≡ []
-none-before events a n le none = front (marks_before events a) (flat_map run_mark (drop a (take n (acts events))))
+none-before events a n le none = no-prefix (marks_before events a) (flat_map run_mark (drop a (take n (acts events))))
     (ap (λ l. run_marks l ++ flat_map run_mark (drop a (take n (acts events)))) (sym (take-take a n (acts events) le))
     ∙ sym (flat_map-append run_mark (take a (take n (acts events))) (drop a (take n (acts events)))) ∙ ap run_marks (take-append-drop a (take n (acts events))) ∙ none)
-  where
-    front : (xs ys : List RunMark) → xs ++ ys ≡ [] → xs ≡ []
-    front [] ys e = refl
-    front (x ∷ xs) ys e = cc
 
 -- ---- attempts
 

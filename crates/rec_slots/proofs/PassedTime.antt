@@ -10,7 +10,7 @@ use Rattle.rec_spans.specs.Kinds.{history}
 use Rattle.rec_spans.specs.Past.{is_paused}
 use Rattle.rec_spans.specs.Plain.{PlainEvent}
 use Rattle.rec_spans.specs.Positions.{past_at}
-use Rattle.rec_slots.proofs.OpenAttempts.{begun-is, on-before}
+use Rattle.rec_slots.proofs.OpenAttempts.{begun-is, no-prefix, on-before}
 use Rattle.rec_slots.specs.Acts.Act.{RunStarts, RunEnds}
 use Rattle.rec_slots.specs.Acts.{acts}
 use Rattle.rec_slots.specs.Beats.{Does, IsBeat, IsNear, changed_run, held_after, is_known, known_after, marks_before, spans_before}
@@ -286,10 +286,6 @@ module _ (events : List PlainEvent) where
   over-before (m ∷ k ∷ []) (x ∷ more) e = cc
   over-before (m ∷ k ∷ l ∷ ms) more e = cc
 
-  front : (xs ys : List RunMark) → xs ++ ys ≡ [] → xs ≡ []
-  front [] ys e = refl
-  front (x ∷ xs) ys e = cc
-
   pub timed-more : (n : ℕ) (beat : Beat) (mid new : Times) → IsBeat events n beat → HasPassed events n mid → new.last ≡ beat.at → new.fell ≡ mid.fell → AreClocks new.clocks
       → SameTimes mid.clocks new.clocks
       → ((slot : ℕ) → is_open new.clocks slot ≡ held_after beat.change slot (is_open mid.clocks slot))
@@ -307,7 +303,7 @@ module _ (events : List PlainEvent) where
     where
       spent : mid.fell ≡ None → AreSpent events (suc n) new.clocks
       spent none = record {
-        before = λ empty. at-start mid.clocks new.clocks same (has.before none (front (marks_before events n) (changed_run beat.change) (sym is.marks ∙ empty)));
+        before = λ empty. at-start mid.clocks new.clocks same (has.before none (no-prefix (marks_before events n) (changed_run beat.change) (sym is.marks ∙ empty)));
         running = λ begun. elim (on-before (marks_before events n) (changed_run beat.change) (sym is.marks ∙ begun)) [
           | inl on ↦ still-running (suc n) mid.clocks new.clocks same (has.running none on.0)
           | inr off ↦ run-starts n new.clocks (subst IsNear is.at is.near) (started n beat.change is.does off.1) (at-start mid.clocks new.clocks same (has.before none off.0))

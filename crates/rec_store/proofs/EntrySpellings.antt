@@ -60,14 +60,14 @@ unfolding HaveNames
 names_then seen [] fs h more = subst (λ (l : List Entry). HaveNames l fs) (append-nil seen) more
 names_then seen (e ∷ es) fs h more = (h.0, h.1, names_then (seen ++ e ∷ []) es fs h.2 (subst (λ (l : List Entry). HaveNames l fs) (sym (append_assoc seen (e ∷ []) es)) more))
 
--- behind entries that lack their names
-names_behind : (before seen es : List Entry) → AllByRecursion (IsAbsent before) es → HaveNames seen es → HaveNames (before ++ seen) es
+-- after entries that lack their names
+names_after : (before seen es : List Entry) → AllByRecursion (IsAbsent before) es → HaveNames seen es → HaveNames (before ++ seen) es
 unfolding HaveNames
-names_behind before seen [] absent h = tt
-names_behind before seen (e ∷ es) absent h = (
+names_after before seen [] absent h = tt
+names_after before seen (e ∷ es) absent h = (
   h.0,
   content_of-missing before seen e.name absent.0 ∙ h.1,
-  subst (λ (l : List Entry). HaveNames l es) (sym (append_assoc before seen (e ∷ []))) (names_behind before (seen ++ e ∷ []) es absent.1 h.2),
+  subst (λ (l : List Entry). HaveNames l es) (sym (append_assoc before seen (e ∷ []))) (names_after before (seen ++ e ∷ []) es absent.1 h.2),
 )
 
 -- others among entries
@@ -220,9 +220,9 @@ module _ (p : RunParts) (small : length (written p) < 2 ^ 64) where
       let metadata = metadata_of p.build_scope p.rerun_info p.cargo_metadata p.test_list p.record_opts in
       let absent : AllByRecursion (IsAbsent metadata) p.outputs =
       all_weaker IsOther (IsAbsent metadata) (λ e is. metadata_without p.build_scope p.rerun_info p.cargo_metadata p.test_list p.record_opts e.name is) p.outputs others in
-      let behind : HaveNames metadata p.outputs = subst (λ (l : List Entry). HaveNames l p.outputs) (append-nil metadata) (names_behind metadata [] p.outputs absent names) in
+      let after : HaveNames metadata p.outputs = subst (λ (l : List Entry). HaveNames l p.outputs) (append-nil metadata) (names_after metadata [] p.outputs absent names) in
       spelled [] (written_store p)
-      (names_then [] metadata p.outputs (metadata_names p.build_scope p.rerun_info p.cargo_metadata p.test_list p.record_opts) behind)
+      (names_then [] metadata p.outputs (metadata_names p.build_scope p.rerun_info p.cargo_metadata p.test_list p.record_opts) after)
       (omega (arith, length-spell (written_store p), contents_small.2))
 
   -- those of its store have spellings where its outputs are the other entries of a container

@@ -1,4 +1,4 @@
--- Entries that aren't metadata, beside and behind the metadata of a store.
+-- Entries that aren't metadata, beside and after the metadata of a store.
 use Rattle.std.proofs.Common.{◌≡◌, ℕ, List, [], ◌∷◌, ◌++◌, Bool, true, false, ◌||◌, not, cond, Option, Some, None, refl, sym, ap, ◌∙◌, if◌then◌else◌}
 use Rattle.std.proofs.lemmas.List.Elements.{filter-append}
 use Rattle.std.proofs.lemmas.Slice.Eq.{bytes_eq-Decides}
@@ -70,7 +70,7 @@ others_found (e ∷ es) path other = by (is_metadata e.name) (bytes_eq path e.na
     by true false p q rest = rest
     by true true p q rest = contradicts (is_metadata path) (ap is_metadata ((bytes_eq-Decides path e.name).0 q) ∙ p) other
 
--- ---- behind metadata
+-- ---- after metadata
 
 both_false : (a b : Bool) → (a || b) ≡ false → (a ≡ false) × (b ≡ false)
 both_false true b h = absurd (let k = h in cc)
@@ -98,15 +98,15 @@ metadata_left_out scope None metadata list opts = refl
 metadata_left_out scope (Some info) metadata list opts = refl
 
 module _ (scope : RecordedBuildScope) (rerun : Option RerunInfo) (metadata : List ℕ) (list : TestListSummary) (opts : RecordOpts) where
-  -- others that stand behind metadata are what the test leaves of all
-  pub others_behind : (outs : List Entry) → AllByRecursion IsOther outs → filter is_other (metadata_of scope rerun metadata list opts ++ outs) ≡ outs
-  others_behind outs h =
+  -- others that stand after metadata are what the test leaves of all
+  pub others_after : (outs : List Entry) → AllByRecursion IsOther outs → filter is_other (metadata_of scope rerun metadata list opts ++ outs) ≡ outs
+  others_after outs h =
       filter-append is_other (metadata_of scope rerun metadata list opts) outs
       ∙ ap (λ l. l ++ filter is_other outs) (metadata_left_out scope rerun metadata list opts)
       ∙ others_stay outs h
 
   -- so another name stands for the same there as in the entries from which they were chosen
-  pub found_behind : (es : List Entry) (path : List ℕ) → is_metadata path ≡ false → content_of (metadata_of scope rerun metadata list opts ++ filter is_other es) path ≡ content_of es path
-  found_behind es path other =
+  pub found_after : (es : List Entry) (path : List ℕ) → is_metadata path ≡ false → content_of (metadata_of scope rerun metadata list opts ++ filter is_other es) path ≡ content_of es path
+  found_after es path other =
       content_of-missing (metadata_of scope rerun metadata list opts) (filter is_other es) path (metadata_without scope rerun metadata list opts path other)
       ∙ others_found es path other

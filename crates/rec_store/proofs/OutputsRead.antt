@@ -9,7 +9,7 @@ use Rattle.rec_format.specs.declared.head.SessionHead.{SessionHead}
 use Rattle.rec_codec.specs.Event.{LiveEvent, RecordedEvent}
 use Rattle.rec_store.proofs.Held.{all_held, all_weaker, all_with}
 use Rattle.rec_store.proofs.KeptLaws.{names, paths_of_events}
-use Rattle.rec_store.proofs.OtherEntries.{others_behind}
+use Rattle.rec_store.proofs.OtherEntries.{others_after}
 use Rattle.rec_store.proofs.OutputLaws.{outputs_of_events, outputs_are_others, stored_are_outputs, with_outputs, clash_outputs}
 use Rattle.rec_store.specs.Bundle.{events_recorded, run_outputs, outputs_stored, run_store}
 use Rattle.rec_store.specs.Clashes.{clash}
@@ -64,6 +64,6 @@ module _ (number : List ℕ → ℕ) (m : ℕ) (head : SessionHead) (events : Li
   run_outputs_read =
       outputs_among (events_recorded number m events) (run_store number m head events) (outputs_stored number m events) (run_outputs number m events)
       (paths_of_events number m events)
-      (others_behind head.build_scope head.rerun_info head.cargo_metadata head.test_list head.record_opts (outputs_stored number m events)
+      (others_after head.build_scope head.rerun_info head.cargo_metadata head.test_list head.record_opts (outputs_stored number m events)
       (outputs_are_others (outputs_stored number m events) (stored_are_outputs number m events)))
       run_held (all_with (IsAmong (names (run_outputs number m events))) [] (run_outputs number m events) tt (entries_among (run_outputs number m events)))

@@ -44,7 +44,7 @@ use Rattle.rec_codec.specs.EventForms.{IsEvent}
 use Rattle.rec_codec.specs.Lines.{is_blank, lines, text_of}
 use Rattle.rec_store.proofs.EntrySpellings.{written_sizes_are}
 use Rattle.rec_store.proofs.Held.{all_weaker}
-use Rattle.rec_store.proofs.OtherEntries.{IsOther, all_others, found_behind, is_other, no_rerun, others_behind, path_of_output}
+use Rattle.rec_store.proofs.OtherEntries.{IsOther, all_others, found_after, is_other, no_rerun, others_after, path_of_output}
 use Rattle.rec_store.proofs.PartOutputs.{IsOutputPath, event_paths_are, only_some}
 use Rattle.rec_store.proofs.PartsOf.{AreReadFrom, the_same}
 use Rattle.rec_store.proofs.PartsWithin.{then_some}
@@ -126,7 +126,7 @@ if_rerun_info : (o : Option RerunInfo) → IfSome o IsRerunInfo → IfSome o (λ
 if_rerun_info None is = tt
 if_rerun_info (Some info) is = rerun_info_text info is
 
--- ---- outputs, behind the metadata
+-- ---- outputs, after the metadata
 
 all_same : (f g : List ℕ → Bool) (paths : List (List ℕ)) → AllByRecursion (λ path. f path ≡ g path) paths → list_all f paths ≡ list_all g paths
 all_same f g [] h = refl
@@ -137,13 +137,13 @@ pub outputs_chosen : (events : List RecordedEvent) (es outs : List Entry) → ou
 outputs_chosen events es outs h = (only_some _ (filter is_other es) outs h).1
 
 module _ (scope : RecordedBuildScope) (rerun : Option RerunInfo) (metadata : List ℕ) (list : TestListSummary) (opts : RecordOpts) (es : List Entry) where
-  abbrev behind : List Entry
-  behind = metadata_of scope rerun metadata list opts ++ filter is_other es
+  abbrev after : List Entry
+  after = metadata_of scope rerun metadata list opts ++ filter is_other es
 
-  under : (path : List ℕ) → IsOutputPath path → content_of behind path ≡ content_of es path
-  under path is = found_behind scope rerun metadata list opts es path (ap is_metadata is.1 ∙ path_of_output is.0)
+  under : (path : List ℕ) → IsOutputPath path → content_of after path ≡ content_of es path
+  under path is = found_after scope rerun metadata list opts es path (ap is_metadata is.1 ∙ path_of_output is.0)
 
-  -- they are read as such behind metadata, wherever metadata stood before
+  -- they are read as such after metadata, wherever metadata stood before
   pub outputs_back : (events : List RecordedEvent) (outs : List Entry) → outputs_of events es ≡ Some outs → outputs_of events (metadata_of scope rerun metadata list opts ++ outs) ≡ Some outs
   outputs_back events outs h =
       let paths = flat_map event_paths events in
@@ -151,36 +151,36 @@ module _ (scope : RecordedBuildScope) (rerun : Option RerunInfo) (metadata : Lis
       let named : List Entry → Bool = λ l. list_all (λ (e : Entry). list_any (λ p. bytes_eq e.name p) paths) l in
       let chosen = only_some _ others outs h in
       let tests = and_parts (list_all (λ p. is_some (content_of es p)) paths) (named others) chosen.0 in
-      let stay : AllByRecursion (λ p. is_some (content_of behind p) ≡ is_some (content_of es p)) paths =
-      all_weaker IsOutputPath (λ p. is_some (content_of behind p) ≡ is_some (content_of es p)) (λ p is. ap is_some (under p is)) paths (event_paths_are events) in
-      let found = all_same (λ p. is_some (content_of behind p)) (λ p. is_some (content_of es p)) paths stay ∙ tests.0 in
-      let read : outputs_of events behind ≡ Some others =
-      ap (λ (l : List Entry). only (list_all (λ p. is_some (content_of behind p)) paths && named l) l) (others_behind scope rerun metadata list opts others (all_others es))
-      ∙ ap (λ b. only b others) (and_from (list_all (λ p. is_some (content_of behind p)) paths) (named others) found tests.1) in
+      let stay : AllByRecursion (λ p. is_some (content_of after p) ≡ is_some (content_of es p)) paths =
+      all_weaker IsOutputPath (λ p. is_some (content_of after p) ≡ is_some (content_of es p)) (λ p is. ap is_some (under p is)) paths (event_paths_are events) in
+      let found = all_same (λ p. is_some (content_of after p)) (λ p. is_some (content_of es p)) paths stay ∙ tests.0 in
+      let read : outputs_of events after ≡ Some others =
+      ap (λ (l : List Entry). only (list_all (λ p. is_some (content_of after p)) paths && named l) l) (others_after scope rerun metadata list opts others (all_others es))
+      ∙ ap (λ b. only b others) (and_from (list_all (λ p. is_some (content_of after p)) paths) (named others) found tests.1) in
       subst (λ (l : List Entry). outputs_of events (metadata_of scope rerun metadata list opts ++ l) ≡ Some l) chosen.1 read
 
-  bytes_stay : (f : OutputFileName) → bytes_under behind f ≡ bytes_under es f
+  bytes_stay : (f : OutputFileName) → bytes_under after f ≡ bytes_under es f
   bytes_stay f = ap (λ o. unwrap_or o []) (under (output_path f) (f, refl))
 
-  output_stays : (o : ZipStoreOutput) → resolved behind o ≡ resolved es o
+  output_stays : (o : ZipStoreOutput) → resolved after o ≡ resolved es o
   output_stays Empty = refl
   output_stays (Full f) = ap full (bytes_stay f)
   output_stays (Truncated f n) = ap (λ b. truncated b n) (bytes_stay f)
 
-  captured_stays : (o : Option ZipStoreOutput) → option_map (resolved behind) o ≡ option_map (resolved es) o
+  captured_stays : (o : Option ZipStoreOutput) → option_map (resolved after) o ≡ option_map (resolved es) o
   captured_stays None = refl
   captured_stays (Some o) = ap Some (output_stays o)
 
-  outputs_stay : (o : ZipStoreOutputDescription) → outputs_resolved behind o ≡ outputs_resolved es o
+  outputs_stay : (o : ZipStoreOutputDescription) → outputs_resolved after o ≡ outputs_resolved es o
   outputs_stay (stored.Split out err) =
-      ap (λ o. split o (option_map (resolved behind) err)) (captured_stays out) ∙ ap (λ o. split (option_map (resolved es) out) o) (captured_stays err)
+      ap (λ o. split o (option_map (resolved after) err)) (captured_stays out) ∙ ap (λ o. split (option_map (resolved es) out) o) (captured_stays err)
   outputs_stay (stored.Combined both) = ap combined (output_stays both)
 
-  event_stays : (e : RecordedEvent) → event_resolved behind e ≡ event_resolved es e
+  event_stays : (e : RecordedEvent) → event_resolved after e ≡ event_resolved es e
   event_stays e = ap (λ (f : ZipStoreOutputDescription → KeptOutputs). let made : KeptEvent = event_with f e in made) (λ i o. outputs_stay o i)
 
   -- what names stand for stays
-  pub resolved_stays : (events : List RecordedEvent) → map (event_resolved behind) events ≡ map (event_resolved es) events
+  pub resolved_stays : (events : List RecordedEvent) → map (event_resolved after) events ≡ map (event_resolved es) events
   resolved_stays events = λ i. map (λ e. event_stays e i) events
 
 -- ---- all of it

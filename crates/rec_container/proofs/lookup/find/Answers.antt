@@ -1,7 +1,7 @@
 use Rattle.std.proofs.Common.{◌+◌, ◌-◌, ◌/◌, arith, ap, sym, ◌∙◌, nat_cmp}
 use Rattle.std.proofs.lemmas.Option.{slice_get-get_or}
 use Rattle.std.specs.Cmp.Lexicographic.{slice_cmp}
-use Rattle.rec_container.proofs.Ascending.{behind_all, before_it, found_at, none_between}
+use Rattle.rec_container.proofs.Ascending.{after_all, before_it, found_at, none_between}
 use Rattle.rec_container.proofs.Halving.{halve}
 use Rattle.rec_container.proofs.lookup.find.Goals as goal
 
@@ -33,7 +33,7 @@ loop-from-preserved-in-Less g c =
       inside = omega arith;
       later = omega arith;
       halved = halve _ _ _ _ _ here.invariant.halved (omega arith) (omega arith) (omega arith);
-      between = record { before = here.invariant.between.before; behind = before_it c.args.sorted.now c.args.name.now _ _ (slice_get-get_or c.args.sorted.now _ _ (omega arith)) (ap (slice_cmp nat_cmp c.args.name.now) (sym c.as_bytes.ensures.value) ∙ sym c.in-Less.ensures.order) };
+      between = record { before = here.invariant.between.before; after = before_it c.args.sorted.now c.args.name.now _ _ (slice_get-get_or c.args.sorted.now _ _ (omega arith)) (ap (slice_cmp nat_cmp c.args.name.now) (sym c.as_bytes.ensures.value) ∙ sym c.in-Less.ensures.order) };
     }
 
 pub loop-from-preserved : goal.loop-from-preserved
@@ -48,7 +48,7 @@ loop-from-preserved g c =
       inside = here.invariant.inside;
       later = omega arith;
       halved = halve _ _ _ _ _ here.invariant.halved (omega arith) (omega arith) (omega arith);
-      between = record { before = behind_all c.args.sorted.now c.args.name.now _ _ c.requires (slice_get-get_or c.args.sorted.now _ _ (omega arith)) (ap (slice_cmp nat_cmp c.args.name.now) (sym c.as_bytes.ensures.value) ∙ sym c.in-Greater.ensures.order); behind = here.invariant.between.behind };
+      between = record { before = after_all c.args.sorted.now c.args.name.now _ _ c.requires (slice_get-get_or c.args.sorted.now _ _ (omega arith)) (ap (slice_cmp nat_cmp c.args.name.now) (sym c.as_bytes.ensures.value) ∙ sym c.in-Greater.ensures.order); after = here.invariant.between.after };
     }
 
 pub returns-clause-found : goal.returns-clause-found

@@ -5,7 +5,7 @@ use Rattle.json.specs.Reads.{token_of}
 use Rattle.json.specs.Token.{Token, begin_array, begin_object}
 use Rattle.serde_json.specs.Data.{array, object}
 use Rattle.serde_json.specs.Read.{converted, of_items, of_json}
-use Rattle.rec_json.proofs.Found.{behind, behind-none, behind-nothing, behind-one_more, members_view-one_more, view-Array, view-Object}
+use Rattle.rec_json.proofs.Found.{after, after-none, after-nothing, after-one_more, members_view-one_more, view-Array, view-Object}
 use Rattle.rec_json.proofs.parse.+nodes.Goals as goal
 use Rattle.rec_json.proofs.ReadSteps.{array_too_deep, at_array, at_object, at_scalar, into, items_closed, members_closed, no_item, no_key, no_member, nothing_left, object_too_deep, one_item, one_member}
 use Rattle.rec_json.specs.declared.errors.ReadError.TheVariants.{Invalid, OutOfMemory}
@@ -88,7 +88,7 @@ read_items-items-init t c =
     record {
       turns = length c.args.reader.now;
       enough = omega arith;
-      whole = behind-none all ∙ ap (λ es. behind es all) (sym c.new-found.ensures.items);
+      whole = after-none all ∙ ap (λ es. after es all) (sym c.new-found.ensures.items);
       shorter = omega arith;
     }
 
@@ -109,7 +109,7 @@ pub read_items-returns-in_err-item-clause-err : goal.read_items-returns-in_err-i
 read_items-returns-in_err-item-clause-err t c = λ refused.
     let i = c.items.invariant in
     let going : (after_end_array c.items.reader ≡ None) × (c.take_end_array.new.self ≡ c.items.reader) = c.items-test.ensures in
-    i.whole ∙ ap (behind c.items.found.items) (no_item (value c.args.depth) i.turns c.items.reader going.0 (rw (← going.1) (c.read_node.ensures.err (grind arith))))
+    i.whole ∙ ap (after c.items.found.items) (no_item (value c.args.depth) i.turns c.items.reader going.0 (rw (← going.1) (c.read_node.ensures.err (grind arith))))
 
 pub read_items-items-preserved : goal.read_items-items-preserved
 read_items-items-preserved t c =
@@ -124,7 +124,7 @@ read_items-items-preserved t c =
     record {
       turns = i.turns - 1;
       enough = omega (arith, i.enough, less);
-      whole = i.whole ∙ ap (behind found) turn ∙ behind-one_more found v _ ∙ ap (λ vs. behind vs (converted of_items (items p (i.turns - 1) r))) (sym c.in_ok-push.ensures.items);
+      whole = i.whole ∙ ap (after found) turn ∙ after-one_more found v _ ∙ ap (λ vs. after vs (converted of_items (items p (i.turns - 1) r))) (sym c.in_ok-push.ensures.items);
       shorter = omega (arith, i.shorter, less);
     }
 
@@ -132,7 +132,7 @@ pub read_items-returns-clause-ok : goal.read_items-returns-clause-ok
 read_items-returns-clause-ok t c =
     let i = c.items.invariant in
     let r = c.take_end_array.new.self in
-    i.whole ∙ ap (behind c.items.found.items) (items_closed (value c.args.depth) i.turns c.items.reader r i.enough c.items-test.ensures) ∙ behind-nothing c.items.found.items r
+    i.whole ∙ ap (after c.items.found.items) (items_closed (value c.args.depth) i.turns c.items.reader r i.enough c.items-test.ensures) ∙ after-nothing c.items.found.items r
 
 -- ---- objects
 

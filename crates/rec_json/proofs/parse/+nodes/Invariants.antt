@@ -2,7 +2,7 @@ use Rattle.std.proofs.Common.{◌≡◌, ℕ, ◌+◌, ◌*◌, ◌≤◌, lengt
 use Rattle.json.specs.Json.{value, items, members}
 use Rattle.serde_json.specs.Data.{no_members}
 use Rattle.serde_json.specs.Read.{converted, of_items}
-use Rattle.rec_json.proofs.Found.{behind}
+use Rattle.rec_json.proofs.Found.{after}
 use Rattle.rec_json.proofs.parse.+nodes.Given as goal
 use Rattle.rec_json.proofs.ReadSteps.{into}
 use Rattle.rec_json.specs.Nodes.{members_view}
@@ -22,7 +22,7 @@ invariant-read_items-items l =
     record {
       turns : ℕ;
       enough : length l.reader ≤ turns;
-      whole : converted of_items (items (value l.depth) (length l.initial.reader) l.initial.reader) ≡ behind l.found.items (converted of_items (items (value l.depth) turns l.reader));
+      whole : converted of_items (items (value l.depth) (length l.initial.reader) l.initial.reader) ≡ after l.found.items (converted of_items (items (value l.depth) turns l.reader));
       shorter : length l.reader ≤ length l.initial.reader;
     }
 
