@@ -73,8 +73,7 @@ class Bundle:
 
     def __init__(self, path):
         self.path = pathlib.Path(path)
-        # A pipe in place of a bundle isn't waited for.
-        self.file = open(self.path, "rb", opener=lambda name, flags: os.open(name, flags | os.O_NONBLOCK))
+        self.file = opened(self.path)
 
     def __enter__(self):
         self.size = os.fstat(self.file.fileno()).st_size
@@ -148,6 +147,11 @@ class Bundle:
                 loaded[name] = store.content(b"out/" + name.encode())
             return loaded[name]
         return load
+
+
+def opened(path):
+    """The open file of a bundle. A pipe in its place isn't waited for."""
+    return open(path, "rb", opener=lambda name, flags: os.open(name, flags | os.O_NONBLOCK))
 
 
 def check_versions(manifest):

@@ -34,7 +34,7 @@ def run(words):
 
 def plan_of(path):
     """What is to be run again of the run in a bundle, as the program says it."""
-    with open(path, "rb") as opened:
+    with bundle.opened(path) as opened:
         text = program.run(["rerun", *program.limits(path.stat().st_size)], stdin=opened)
     try:
         return rerun.read(text.decode())

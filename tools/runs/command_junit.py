@@ -4,7 +4,7 @@ import pathlib
 import tempfile
 
 import junit_xml
-from runs import program, store
+from runs import bundle, program, store
 from runs.fault import Fault
 
 SUMMARY = "write JUnit XML of a run, for a CI"
@@ -29,8 +29,8 @@ def run(words):
 
 def write(path, folder, fails=False):
     """Writes the files of a bundle's run, prints their paths, and answers the status."""
-    with open(path, "rb") as bundle:
-        report = program.run(["report", *program.limits(path.stat().st_size)], stdin=bundle)
+    with bundle.opened(path) as opened:
+        report = program.run(["report", *program.limits(path.stat().st_size)], stdin=opened)
     with tempfile.NamedTemporaryFile(suffix=".reports") as reports:
         reports.write(report)
         reports.flush()

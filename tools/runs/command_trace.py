@@ -3,7 +3,7 @@
 import select
 import sys
 
-from runs import program, store
+from runs import bundle, program, store
 from runs.fault import Fault
 
 SUMMARY = "print the trace of a run, for a viewer as ui.perfetto.dev"
@@ -29,10 +29,10 @@ def run(words):
     path = store.here().find(words.run)
     if sys.stdout is None:
         raise OSError("standard output is closed")
-    with open(path, "rb") as bundle:
+    with bundle.opened(path) as opened:
         limits = program.limits(path.stat().st_size)
         try:
-            program.run(["trace", "--group-by", words.group_by, *limits], stdin=bundle, stdout=sys.stdout.buffer)
+            program.run(["trace", "--group-by", words.group_by, *limits], stdin=opened, stdout=sys.stdout.buffer)
         except Fault as fault:
             if has_no_reader(sys.stdout):
                 raise BrokenPipeError from fault

@@ -207,6 +207,12 @@ class Faults(Case):
         os.close(writing)
         self.assertEqual((done.returncode, done.stderr), (141, ""))
 
+    def test_a_pipe_in_place_of_a_bundle_is_not_waited_for(self):
+        self.runs.mkdir()
+        os.mkfifo(self.runs / f"{OTHER}.bundle")
+        for command in ("show", "again", "page", "trace", "junit"):
+            self.fault(1, command, OTHER, timeout=60)
+
     def test_a_program_that_is_not_there(self):
         self.add(made.ID, 0, "pass")
         self.environment["REZOVAMY"] = "/nowhere"
