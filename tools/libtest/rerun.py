@@ -123,6 +123,22 @@ def is_nameless(plan):
     return any(target_of(binary) is None for binary in plan.run)
 
 
+def not_found(plan, suites):
+    """A line for each binary with tests of a plan that a run of them lacks, of which cargo says nothing; `suites` are its tests."""
+    found = []
+    for binary, names in plan.run.items():
+        is_asked = target_of(binary) and not runs_whole(binary, names, plan.skip.get(binary))
+        lacking = [name for name in names if name not in suites.get(binary, ())] if is_asked else []
+        if lacking:
+            found.append(f"{binary} {first_of(lacking)}: no test of this name is there, as it is built now, so that it didn't run")
+    return found
+
+
+def first_of(names):
+    """The first of the names, and how many more there are."""
+    return f"{names[0]}, and {len(names) - 1} more of it" if len(names) > 1 else names[0]
+
+
 def remarks(plan):
     """What the runs of cargo don't do as they should, a line each."""
     found = []
@@ -132,6 +148,5 @@ def remarks(plan):
         elif "::doc/" in binary and plan.skip.get(binary):
             found.append(f"{binary}: cargo can't be given the names of doctests, so that all of them run")
     for binary, names in plan.gone.items():
-        others = f", and {len(names) - 1} more of it" if len(names) > 1 else ""
-        found.append(f"{binary} {names[0]}{others}: the run's test list lacks it, so that it isn't run")
+        found.append(f"{binary} {first_of(names)}: the run's test list lacks it, so that it isn't run")
     return found

@@ -7,6 +7,8 @@ from runs.fault import Fault
 
 SUMMARY = "run again what hasn't passed in a run, with the words after --, and record that"
 TAKES_REST = True
+# The status where all passed that ran, and something didn't run that should have.
+NOT_ALL = 1
 
 
 def add_options(parser):
@@ -29,7 +31,15 @@ def run(words):
         return nothing_to_run(plan, before, bool(nameless))
     runs.prepare()
     cli_args = ["rezovamy-runs", "again", before.id, *(["--", *words.rest] if words.rest else [])]
-    return command_test.keep(runs, command_test.run_cargo(commands, before.profile, cli_args, plan), words)
+    session = command_test.run_cargo(commands, before.profile, cli_args, plan)
+    return command_test.keep(runs, session, words) or status_of_lacking(rerun.not_found(plan, session.suites))
+
+
+def status_of_lacking(lines):
+    """Says which tests didn't run although all passed that did, and answers the status: what failed before isn't mended so."""
+    for line in lines:
+        say(f"rezovamy-runs: {saying.name(line)}")
+    return NOT_ALL if lines else 0
 
 
 def plan_of(path):

@@ -22,11 +22,12 @@ UNKNOWN = re.compile(r"\d+ lines are no event of a run")
 
 @dataclasses.dataclass
 class Session:
-    """The session of a run, and the status with which its tests ended."""
+    """The session of a run, the status with which its tests ended, and the tests that ran or were skipped, by binary."""
 
     run_id: str
     data: bytes
     status: int
+    suites: dict
 
 
 def spoken(say):
@@ -68,10 +69,11 @@ class Following:
         words = argparse.Namespace(status=status or None, profile=profile, nextest_version=NEXTEST_VERSION)
         run_id = str(uuid.uuid5(uuid.NAMESPACE_OID, self.digest.hexdigest()) if self.is_kept else uuid.uuid4())
         head, started, *events = telling.session(self.reader, words, run_id)
-        head = {**head, "cli-args": cli_args, **(members_of_rerun(plan, head) if plan else {})}
+        suites = head["test-list"]["suites"]
+        head = {**head, "cli-args": cli_args, **(members_of_rerun(plan, suites) if plan else {})}
         started = {**started, "cli-args": cli_args}
         data = "".join(text(value) + "\n" for value in (head, started, *events)).encode()
-        return Session(run_id, data, self.status_of(head["status"], status))
+        return Session(run_id, data, self.status_of(head["status"], status), suites)
 
     def status_of(self, ended, status):
         """The status of the tests; where the end of a run of `nextest` wasn't told, that of what was seen."""
@@ -79,7 +81,8 @@ class Following:
         return ended.get("exit-code", status or seen)
 
 
-def members_of_rerun(plan, head):
+def members_of_rerun(plan, suites):
     """What the head of a rerun has besides: which run it reruns with what came of it, and that run's tests in the test list."""
-    suites = plan.listed(head["test-list"]["suites"])
-    return {"parent-run-id": plan.info["parent-run-id"], "rerun-info": plan.info, "test-list": {"suites": suites}}
+    return {
+        "parent-run-id": plan.info["parent-run-id"], "rerun-info": plan.info, "test-list": {"suites": plan.listed(suites)},
+    }

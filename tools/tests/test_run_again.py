@@ -92,6 +92,12 @@ class Faults(unittest.TestCase):
 
 
 class Plans(unittest.TestCase):
+    def test_what_a_run_lacks(self):
+        plan = rerun.read(INFO + "run a x\nrun a y\nrun a z\nrun a::doc/a s.rs - (line 3)\nrun a::plain plain\nrun (cargo) (run)\n")
+        line, = rerun.not_found(plan, {"a": ["y"]})
+        self.assertTrue(line.startswith("a x, and 1 more of it: no test of this name is there"), line)
+        self.assertEqual(rerun.not_found(plan, {"a": ["z", "y", "x"]}), [])
+
     def test_the_list_has_what_ran_and_what_was_skipped(self):
         plan = rerun.read(INFO + "run a x\nrun b y\nskip a w\ngone c z\n")
         self.assertEqual(plan.info, json.loads(INFO))

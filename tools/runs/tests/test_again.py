@@ -29,13 +29,14 @@ elif sys.argv[1] == "record":
     (folder / "session").write_text(session)
     pathlib.Path(sys.argv[2]).write_bytes(made.bundle_of(session))
 """
-# It keeps its words, and runs the tests after `--exact`: those whose names begin with `bad` fail, and one hangs.
+# It keeps its words, and runs the tests after `--exact`: those whose names begin with `bad` fail, and one hangs; it has none
+# whose name begins with `gone`.
 CARGO = f"""#!{sys.executable}
 import json, pathlib, sys, time
 folder = pathlib.Path(__file__).parent
 with open(folder / "asked", "a") as asked:
     asked.write(json.dumps(sys.argv[1:]) + "\\n")
-names = sys.argv[sys.argv.index("--exact") + 1:]
+names = [name for name in sys.argv[sys.argv.index("--exact") + 1:] if not name.startswith("gone")]
 kind = sys.argv[sys.argv.index("-p") + 2]
 target = {{"kind": [kind.lstrip("-")], "name": sys.argv[sys.argv.index(kind) + 1] if kind != "--lib" else "alpha"}}
 say = lambda value: print(json.dumps(value) if isinstance(value, dict) else value, flush=True)
@@ -139,6 +140,17 @@ class Again(Case):
         done = self.run_it("again")
         self.assertEqual((done.returncode, len(done.stderr.splitlines())), (0, 2))
         self.assertIn("beta t9: the run's test list lacks it, so that it isn't run\n", done.stderr)
+
+    def test_tests_that_are_not_there_any_more_have_not_passed(self):
+        self.plan("run alpha gone1", "run alpha t1", "run alpha gone2", "run alpha::it gone3")
+        done = self.run_it("again")
+        self.assertIn("1 passed", done.stdout)
+        lacking = "no test of this name is there, as it is built now, so that it didn't run"
+        self.assertEqual((done.returncode, done.stderr.splitlines()), (1, [
+            f"rezovamy-runs: alpha gone1, and 1 more of it: {lacking}", f"rezovamy-runs: alpha::it gone3: {lacking}",
+        ]))
+        self.plan("run alpha gone1", "run alpha bad")
+        self.assertEqual(self.run_it("again").returncode, 101)
 
     def test_tests_that_never_started_are_counted(self):
         data = made.bundle(
