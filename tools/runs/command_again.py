@@ -25,21 +25,22 @@ def run(words):
     plan, before = plan_of(path), bundle.read_summary(path)
     commands = [cargo_test.cargo_words(chosen.words(words.rest)) for chosen in rerun.selections(plan)]
     nameless = never_started(path)
-    for remark in [*rerun.remarks(plan), *nameless]:
-        say(f"rezovamy-runs: {saying.name(remark)}")
+    say_each(rerun.remarks(plan))
     if not commands:
+        say_each(nameless)
         return nothing_to_run(plan, before, bool(nameless))
     runs.prepare()
     cli_args = ["rezovamy-runs", "again", before.id, *(["--", *words.rest] if words.rest else [])]
     session = command_test.run_cargo(commands, before.profile, cli_args, plan)
-    return command_test.keep(runs, session, words) or status_of_lacking(rerun.not_found(plan, session.suites))
+    status = command_test.keep(runs, session, words)
+    lacking = nameless if status else [*nameless, *rerun.not_found(plan, session.suites)]
+    say_each(lacking)
+    return status or (NOT_ALL if lacking else 0)
 
 
-def status_of_lacking(lines):
-    """Says which tests didn't run although all passed that did, and answers the status: what failed before isn't mended so."""
+def say_each(lines):
     for line in lines:
         say(f"rezovamy-runs: {saying.name(line)}")
-    return NOT_ALL if lines else 0
 
 
 def plan_of(path):

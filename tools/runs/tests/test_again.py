@@ -161,6 +161,10 @@ class Again(Case):
         self.plan()
         said = "rezovamy-runs: 2 tests of the run never started, and nothing names them: `rezovamy-runs test` runs all"
         self.assertEqual(self.fault(1, "again")[0], said)
+        self.plan("run alpha t1")
+        done = self.run_it("again", made.ID)
+        self.assertIn("1 passed", done.stdout)
+        self.assertEqual((done.returncode, done.stderr), (1, f"{said}\n"))
 
     def test_a_plan_that_is_none(self):
         self.plan("run alpha t\x0bu", "t2")
