@@ -84,7 +84,9 @@ class CargoTest(Lines):
     def __init__(self, commands, watch, leave=lambda status: None):
         self.commands, self.watch, self.leave, self.process, self.status = commands, watch, leave, None, 0
         super().__init__(None, PAUSE)
-        signal.signal(signal.SIGHUP, lambda _number, frame: self.stop(signal.SIGTERM, frame))
+        # As with `nohup`, a hang-up may be ignored.
+        if signal.getsignal(signal.SIGHUP) is not signal.SIG_IGN:
+            signal.signal(signal.SIGHUP, lambda _number, frame: self.stop(signal.SIGTERM, frame))
 
     def __iter__(self):
         code = None

@@ -55,6 +55,12 @@ class Heard(unittest.TestCase):
         for number in (signal.SIGINT, signal.SIGTERM, signal.SIGHUP):
             self.addCleanup(signal.signal, number, signal.getsignal(number))
 
+    def test_a_signal_that_is_ignored_breaks_nothing_off(self):
+        for number in (signal.SIGINT, signal.SIGTERM, signal.SIGHUP):
+            signal.signal(number, signal.SIG_IGN)
+        lines = cargo_test.CargoTest([["sh", "-c", "kill -HUP $PPID; kill -TERM $PPID; echo first"]], lambda: None)
+        self.assertEqual((list(lines), lines.end()), ([b"first\n"], 0))
+
     def test_what_is_left_running_is_not_waited_for(self):
         for left in ("while echo tick; do sleep 0.05; done", "sleep 9 & echo"):
             begin = time.monotonic()
