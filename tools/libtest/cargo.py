@@ -47,6 +47,12 @@ def doctests_of(package, crate):
     return Target(f"{package or crate}::doc/{crate}", package, ["--doc"])
 
 
+def folders_shared(folder, file):
+    """How many folders of a path from the top of a workspace are the last ones of a package's folder."""
+    above, below = folder.parts, pathlib.PurePosixPath(file.replace("\\", "/")).parts
+    return max((length for length in range(len(below)) if above[len(above) - length:] == below[:length]), default=0)
+
+
 def fits(target, hint):
     """Whether this is how cargo would say that the target is to be run again."""
     package, words = split(hint)
@@ -101,12 +107,13 @@ def running_binary(words):
 class Targets:
     """The targets that cargo has built, by its lines of JSON; without these, by what it says before it runs one.
 
-    Those in `waiting` are test binaries that cargo has built and hasn't run yet.
+    Those in `waiting` are test binaries that cargo has built and hasn't run yet. Of the libraries of a name there are the packages
+    with their folders, in `packages` those that were built, and in `libraries` those of a manifest.
     """
 
     def __init__(self):
         self.built, self.waiting, self.packages, self.named = {}, {}, {}, {}
-        self.sources, self.libraries = {}, {}
+        self.sources, self.libraries, self.documented = {}, {}, set()
 
     def ask(self, manifest_path, wanted):
         """Learns of a manifest's packages, or of the one that is wanted, which targets their sources are."""
@@ -120,7 +127,7 @@ class Targets:
                 path = source.relative_to(folder).as_posix() if source.is_relative_to(folder) else source.as_posix()
                 self.sources.setdefault((path, name.replace("-", "_")), []).append(target_of(package["name"], kind, name))
                 if kind in LIBRARIES:
-                    self.libraries[name.replace("-", "_")] = package["name"]
+                    self.libraries.setdefault(name.replace("-", "_"), {})[package["name"]] = folder
 
     def learn(self, value):
         """Takes a line of JSON of cargo's, which may name something that was built."""
@@ -137,7 +144,9 @@ class Targets:
             if isinstance(value.get("profile"), dict) and value["profile"].get("test") is True:
                 self.waiting[file_name] = self.built[file_name]
         if kind in LIBRARIES:
-            self.packages[name.replace("-", "_")] = package
+            # Those of a registry have no folder of the workspace.
+            folder = pathlib.PurePosixPath(*re.split(r"[/\\]", str(value.get("manifest_path")))[:-1])
+            self.packages.setdefault(name.replace("-", "_"), {})[package] = folder if "path+" in value["package_id"] else None
 
     def announced(self, words, running):
         """The target that runs next, with what stands before cargo's words in the line; None where they aren't such.
@@ -154,11 +163,32 @@ class Targets:
             return None
         return target, text
 
+    def folders(self, crate):
+        """The packages that have a library of this name, with their folders; those of a registry where there is no other one."""
+        found = (self.packages or self.libraries).get(crate.replace("-", "_"), {})
+        own = {package: folder for package, folder in found.items() if folder}
+        return own or dict.fromkeys(found, pathlib.PurePosixPath())
+
     def doctests(self, crate):
-        """The doctests of a library; None where it isn't one that was built."""
-        package = self.packages.get(crate.replace("-", "_"))
-        known = package or self.libraries.get(crate.replace("-", "_"))
-        return doctests_of(known, clean(crate)) if package or not self.packages else None
+        """The doctests of a library; None where it isn't one that was built. Of several packages that have one of its name it is
+        the next one, in the order of their names, in which cargo takes them."""
+        folders = sorted(self.folders(crate))
+        if self.packages and not folders:
+            return None
+        left = [package for package in folders if (package, crate) not in self.documented]
+        package = next(iter(left or folders), None)
+        self.documented.add((package, crate))
+        return doctests_of(package, clean(crate))
+
+    def doctests_by_file(self, target, name):
+        """The doctests to which one of this name belongs: where several packages have such a library, its file tells the package."""
+        crate = target.id.rpartition("/")[2]
+        folders = self.folders(crate)
+        if len(folders) < 2:
+            return target
+        shared = {package: folders_shared(folder, name.partition(" - ")[0]) for package, folder in folders.items()}
+        # What isn't in a folder that has a package's name is in the package at the top.
+        return doctests_of(min(folders, key=lambda one: (-shared[one], len(folders[one].parts), one != target.package)), crate)
 
     def binary(self, file_name, path):
         """The target of a file; None where it isn't one that was built.

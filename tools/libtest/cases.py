@@ -222,6 +222,29 @@ def try_names(convert, options):
         yield f"a binary that cargo didn't build: {brief(values)}"
 
 
+def try_doctests(convert, options):
+    """Of packages whose libraries have one name, the file of a doctest tells which it is, and without one cargo's order."""
+    built = [
+        "=" + text({
+            "reason": "compiler-artifact", "package_id": f"{source}#{package}@0.1.0", "manifest_path": f"/w{folder}/Cargo.toml",
+            "target": {"kind": ["lib"], "name": "s"},
+        }) for source, package, folder in (
+            ("path+file:///w", "cc", "/src/c"), ("path+file:///w", "top", ""), ("path+file:///w", "bb", "/b"), ("registry+x", "aa", "/"),
+        )
+    ]
+    tests = [
+        "suite 1 > =" + text({"type": "test", "event": "started", "name": f"{file} - f (line 1)"})
+        + " > =" + text({"type": "test", "event": "ok", "name": f"{file} - f (line 1)"}) + " > end"
+        for file in ("src/lib.rs", "src/c/x/y.rs", "b/src/lib.rs")
+    ]
+    failures = [f"=error: doctest failed, to rerun pass `-p {package} --doc`" for package in ("bb", "cc", "top")]
+    for ends_of_them, expected in ((tests, ["top", "cc", "bb"]), (failures, ["bb", "cc", "top"])):
+        lines = [*built, *(f"{DOC} > {end}" for end in ends_of_them)]
+        suites = convert(stream(" > ".join(lines)), options(["--no-clock"]), lambda _: None)[0]["test-list"]["suites"]
+        if [(binary, len(names)) for binary, names in suites.items()] != [(f"{package}::doc/s", 1) for package in expected]:
+            yield f"doctests of libraries of one name are {suites}"
+
+
 def try_cut(convert, options):
     """A run of which the lines end before a test binary that cargo built has failed, unless cargo's answer says otherwise."""
     tests = [
@@ -410,7 +433,7 @@ def try_bytes(convert, options):
 def self_test(convert, options):
     """What is wrong with the tool, a line each."""
     tries = (
-        try_cases, try_names, try_cut, try_torn, try_long_lines, try_texts, try_clock, try_ends, try_interruption,
+        try_cases, try_names, try_doctests, try_cut, try_torn, try_long_lines, try_texts, try_clock, try_ends, try_interruption,
         try_random_streams, try_bytes, try_example,
     )
     return [fault for attempt in tries for fault in attempt(convert, options)]

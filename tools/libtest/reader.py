@@ -235,6 +235,9 @@ class Reader:
         if binary is None or binary.suite is None:
             return False
         self.resolve(binary)
+        if binary.target and binary.target.words == ["--doc"] and not binary.runs():
+            binary.target = self.targets.doctests_by_file(binary.target, name)
+            binary.id = binary.target.id
         run = binary.suite.named.get(name)
         if what == "started":
             known = run is None and self.start_one(binary, name)
