@@ -64,6 +64,8 @@ class Following:
         if self.reader.first is None:
             raise Fault("no test ran, so nothing is recorded: see what stands above, and what was asked for", status or 1)
         if status == REFUSED and all(run.name == ends.BUILD for run in self.reader.runs):
+            # Nothing was built, so no build is said to have failed.
+            self.reader.runs.clear()
             raise Fault("cargo didn't take its words, so nothing is recorded: see what stands above, and correct them", status)
         # Cargo answers 0 where a test ended its process with 0, and that test has failed.
         words = argparse.Namespace(status=status or None, profile=profile, nextest_version=NEXTEST_VERSION)

@@ -22,9 +22,12 @@ class Refused(unittest.TestCase):
     def test_words_that_cargo_does_not_take_are_no_run(self):
         following = Following(lambda line: None, 1000)
         following.read(b"error: unexpected argument '--bogus' found\n")
+        progress = Progress(Stream())
+        progress.reader = following.reader
         with self.assertRaisesRegex(Fault, "didn't take its words") as caught:
             following.session(1, None, "default", [])
-        self.assertEqual(caught.exception.status, 1)
+        progress.finish()
+        self.assertEqual((caught.exception.status, progress.stream.text), (1, ""))
 
     def test_a_build_that_fails_is_one(self):
         following = Following(lambda line: None, 1000)
