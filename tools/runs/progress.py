@@ -45,8 +45,7 @@ class Progress:
             return
         line = progress_line(self.reader)
         if self.is_terminal:
-            width = shutil.get_terminal_size().columns
-            self.write(line if len(line) < width else line[:width - 4] + " ..")
+            self.write(saying.cut(line, shutil.get_terminal_size().columns))
             self.is_drawn = True
         else:
             self.write(line + "\n")

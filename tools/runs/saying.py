@@ -3,6 +3,7 @@
 import os
 import re
 import time
+import unicodedata
 
 # The sequences by which programs colour their text.
 COLOUR = re.compile("\x1b\\[[0-9;:]*m")
@@ -61,6 +62,22 @@ def harmless(text):
 def name(text):
     """A name in one line."""
     return HARMFUL.sub(visible, text)
+
+
+def columns(text):
+    """How many columns of a terminal a text takes: wide characters take two, and those that stand upon others none."""
+    return sum(0 if unicodedata.combining(one) else 2 if unicodedata.east_asian_width(one) in "WF" else 1 for one in text)
+
+
+def cut(line, width):
+    """The line, or as much of its begin as a terminal of this width doesn't wrap."""
+    if columns(line) < width:
+        return line
+    kept, room = 0, width - 4 - columns(line[:1])
+    while room >= 0:
+        kept += 1
+        room -= columns(line[kept])
+    return f"{line[:kept]} .."[:max(0, width - 1)]
 
 
 def is_text(name):

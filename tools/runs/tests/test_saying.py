@@ -26,6 +26,13 @@ class Texts(unittest.TestCase):
     def test_counts(self):
         self.assertEqual([saying.count(number, "test") for number in (0, 1, 2)], ["0 tests", "1 test", "2 tests"])
 
+    def test_a_line_is_cut_where_a_terminal_would_wrap_it(self):
+        for line, width, text in [
+            ("abcdefghij", 11, "abcdefghij"), ("abcdefghij", 10, "abcdef .."), ("测试名称测", 11, "测试名称测"), ("测试名称测", 10, "测试名 .."),
+            ("e\u0301e\u0301e", 4, "e\u0301e\u0301e"), ("abc", 2, " "), ("abc", 0, ""), ("", 0, ""),
+        ]:
+            self.assertEqual(saying.cut(line, width), text)
+
     def test_instants_that_no_calendar_has(self):
         self.assertEqual(saying.moment(1e18), "second 1000000000000000000")
 
