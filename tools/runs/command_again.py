@@ -24,7 +24,7 @@ def run(words):
     path = runs.find(words.run)
     plan, before = plan_of(path), bundle.read_summary(path)
     commands = [cargo_test.cargo_words(chosen.words(words.rest)) for chosen in rerun.selections(plan)]
-    nameless = never_started(path)
+    nameless = never_started(first_of(plan, before))
     say_each(rerun.remarks(plan))
     if not commands:
         say_each(nameless)
@@ -53,9 +53,17 @@ def plan_of(path):
         raise Fault(f"a test of {path} has a name that can't be told: {fault}; run all again with `rezovamy-runs test`") from fault
 
 
+def first_of(plan, before):
+    """The bundle of the run with which a row of reruns began. What never started in one of these was named there."""
+    return before.bundle.with_name(f"{plan.info['root-info']['run-id']}{store.ENDING}") if before.parent else before.bundle
+
+
 def never_started(path):
-    """What is said of tests that were announced and never started; the run has no name of them."""
-    last = bundle.read(path, lambda opened: opened.first_and_last()[1]) or {}
+    """What is said of tests that were announced and never started: the run has no name of them. It may be gone by now."""
+    try:
+        last = bundle.read(path, lambda opened: opened.first_and_last()[1]) or {}
+    except (FileNotFoundError, Fault):
+        return []
     unseen = last.get("outstanding-not-seen") or {}
     count = unseen.get("total-not-seen", 0) - len(unseen.get("not-seen", []))
     if count <= 0:

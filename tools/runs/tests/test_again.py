@@ -10,7 +10,7 @@ import unittest
 
 from runs import program
 from runs.tests import made
-from runs.tests.test_commands import LINES, TOOLS, Case, has_program
+from runs.tests.test_commands import LINES, OTHER, TOOLS, Case, has_program
 
 INFO = {
     "parent-run-id": made.ID, "root-info": {"build-scope": {"build-kind": "cargo", "scope": {}}, "run-id": made.ID},
@@ -152,12 +152,27 @@ class Again(Case):
         self.plan("run alpha gone1", "run alpha bad")
         self.assertEqual(self.run_it("again").returncode, 101)
 
-    def test_tests_that_never_started_are_counted(self):
+    def add_unseen(self, run_id, count, **more):
+        """A run in which so many tests never started."""
+        unseen = {"not-seen": [], "total-not-seen": count}
         data = made.bundle(
-            made.run_started(), made.run_finished(1, 1, outstanding_not_seen={"not-seen": [], "total-not-seen": 2}),
-            ended=made.completed(0, 0),
+            made.run_started(), made.run_finished(1, 1, outstanding_not_seen=unseen), ended=made.completed(0, 0), run_id=run_id, **more,
         )
-        (self.runs / f"{made.ID}.bundle").write_bytes(data)
+        (self.runs / f"{run_id}.bundle").write_bytes(data)
+
+    def test_tests_that_never_started_in_a_rerun_are_those_of_the_run_before(self):
+        self.add_unseen(made.ID, 2)
+        self.add_unseen(OTHER, 5, **{"parent-run-id": made.ID})
+        self.plan("run alpha t1")
+        done = self.run_it("again", OTHER)
+        self.assertEqual(done.returncode, 1)
+        self.assertIn("2 tests of the run never started", done.stderr)
+        (self.runs / f"{made.ID}.bundle").unlink()
+        done = self.run_it("again", OTHER)
+        self.assertEqual((done.returncode, done.stderr), (0, ""))
+
+    def test_tests_that_never_started_are_counted(self):
+        self.add_unseen(made.ID, 2)
         self.plan()
         said = "rezovamy-runs: 2 tests of the run never started, and nothing names them: `rezovamy-runs test` runs all"
         self.assertEqual(self.fault(1, "again")[0], said)
