@@ -57,5 +57,16 @@ class Texts(unittest.TestCase):
         self.assertEqual(self.value("styled([], one)", list(told)), list(told.values()))
 
 
+@unittest.skipIf(NODE is None, "no Node is here")
+class Data(unittest.TestCase):
+    def test_very_many_tests(self):
+        value = {"binaries": ["alpha"], "outputs": []}
+        value["tests"] = [{"name": "t", "state": "passed", "binary": 0, "attempts": [{"number": 1, "seconds": 2}]}] * 200_000
+        script = "const document = { getElementById: () => ({ textContent: require('fs').readFileSync(0, 'utf-8') }) };\n"
+        script += f"{page.part('text.js')}\n{page.part('data.js')}\nconsole.log(LONGEST, TEST_COUNT);"
+        done = subprocess.run([NODE, "-e", script], input=json.dumps(value), capture_output=True, text=True, check=True)
+        self.assertEqual(done.stdout, "2 200000\n")
+
+
 if __name__ == "__main__":
     unittest.main()
