@@ -40,6 +40,8 @@ function prepare_test(test, index) {
   if (test.stress !== undefined) test.place += ` (sub-run ${test.stress + 1})`;
   test.attempts ??= [];
   test.attempts.forEach((attempt, at) => prepare_attempt(test, attempt, at));
+  // A setup script is in a state of its own, whether it failed or not.
+  test.end = test.state === "script" ? test.attempts[0]?.kind ?? "script" : test.state;
   test.seconds = test.attempts.reduce((sum, attempt) => sum + (attempt.seconds ?? 0), 0);
   test.start = Math.min(Infinity, ...test.attempts.filter((one) => one.slices.length).map((one) => one.begin));
   test.shown = test.name.replace(SPECIAL, (part) => spelled(part));

@@ -124,9 +124,9 @@ function back_button() {
 }
 
 function draw_test(test, attempt) {
-  const head = element("h2", "", state_mark(test.state), element("span", "", safe_nodes(test.name)));
+  const head = element("h2", "", state_mark(test.end), element("span", "", safe_nodes(test.name)));
   const facts = [
-    test.place, STATES[test.state].word, time_of(test),
+    test.place, STATES[test.end === "script" ? "passed" : test.end].word, time_of(test),
     test.flaky_fails ? "passing at a later attempt counts as a failure" : "", test.command ?? "",
   ];
   const under = element("p", "under", ...facts.filter(Boolean).map((one) => element("span", "", safe_nodes(one))));

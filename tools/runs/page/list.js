@@ -18,7 +18,7 @@ function by_start(one, other) {
 }
 
 const ORDERS = {
-  failures: (one, other) => STATES[one.state].rank - STATES[other.state].rank || by_start(one, other),
+  failures: (one, other) => STATES[one.end].rank - STATES[other.end].rank || by_start(one, other),
   slowest: (one, other) => other.seconds - one.seconds || one.index - other.index,
   start: by_start,
   name: (one, other) => compare(one.place, other.place) || compare(one.name, other.name) || one.index - other.index,
@@ -49,7 +49,8 @@ function refresh_list() {
 }
 
 function say_found(count) {
-  const some = count ? `${whole(count)} of ${whole(TEST_COUNT)} shown` : "No test is found. Try fewer letters, or more states.";
+  const none = "No test is found. Try fewer letters, or more states.";
+  const some = listed.length ? `${whole(count)} of ${whole(TEST_COUNT)} shown` : none;
   document.getElementById("found").textContent = listed.length === TESTS.length ? `All ${whole(TEST_COUNT)} shown` : some;
 }
 
@@ -70,7 +71,7 @@ function row_of(test, at, height, wanted) {
   bar.style.width = `${Math.min(100, 100 * test.seconds / LONGEST)}%`;
   const long = element("span", "long", bar);
   long.setAttribute("aria-hidden", "true");
-  row.append(state_mark(test.state), name, place, ...(tries ? [tries] : []),
+  row.append(state_mark(test.end), name, place, ...(tries ? [tries] : []),
     element("span", "took", time_of(test) || (test.reason ?? "")), long);
   row.addEventListener("click", () => choose(test, { from: "list" }));
   return row;

@@ -1,6 +1,6 @@
 // What is told of the run where no test is chosen: failures first, then what was tried again, the slowest tests, and binaries.
 
-const FAILURES = TESTS.filter((test) => test.state === "failed" || test.state === "unfinished").sort(ORDERS.failures);
+const FAILURES = TESTS.filter((test) => test.end === "failed" || test.end === "unfinished").sort(ORDERS.failures);
 const MOST_ITEMS = 50;
 
 function first_line(text) {
@@ -18,7 +18,7 @@ function item(test, { reason = "", bar = false } = {}) {
   button.type = "button";
   const name = element("span", "name", safe_nodes(test.name), " ", element("span", "place", safe_nodes(test.place)));
   const tries = test.attempts.length > 1 ? `${test.attempts.length} attempts` : "";
-  button.append(state_mark(test.state), name, element("span", "took", [tries, time_of(test)].filter(Boolean).join(", ")));
+  button.append(state_mark(test.end), name, element("span", "took", [tries, time_of(test)].filter(Boolean).join(", ")));
   if (reason) button.append(element("span", "why", safe_nodes(reason)));
   if (bar) {
     const part = element("i");
@@ -81,12 +81,11 @@ function about_run() {
 function draw_run() {
   const tests = TESTS.filter((test) => test.state !== "script" && test.attempts.length);
   const flaky = tests.filter((test) => test.state === "flaky");
-  const scripts = TESTS.filter((test) => test.state === "script" && test.attempts.some((attempt) => attempt.bad));
   const slowest = [...tests].sort(ORDERS.slowest).slice(0, 10);
   const warnings = RUN.notes.map((note) => element("p", "warning", note));
   const with_reason = (test) => ({ reason: why(test) });
   details.replaceChildren(
-    ...warnings, part("Failures", [...scripts, ...FAILURES], with_reason), part("Passed when tried again", flaky, with_reason),
+    ...warnings, part("Failures", FAILURES, with_reason), part("Passed when tried again", flaky, with_reason),
     element("div", "pair",
       part("Slowest tests", slowest, () => ({ bar: true })), element("div", "", table_of_binaries(), about_run())),
   );

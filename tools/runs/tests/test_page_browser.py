@@ -81,6 +81,21 @@ class InBrowser(unittest.TestCase):
         self.browser.evaluate("document.getElementById('sort').dispatchEvent(new Event('change'))")
         self.assertEqual(self.browser.evaluate(ROWS)[:2], ["takes_a_second", "takes_a_moment"])
 
+    def test_a_setup_script_that_failed_is_a_failure(self):
+        script = {"script_id": "database", "index": 0, "program": "sh", "args": []}
+        self.open(session_of([
+            event("setup-script-started", 0, **script),
+            event("setup-script-finished", 1, **script, run_status=status(0, 1, exit_code(3), combined=b"")),
+            started(1, "passes", 0), finished(2, "passes", status(1, 1)),
+        ]))
+        self.assertEqual(self.browser.evaluate(ROWS), ["database", "passes"])
+        self.browser.press("n", text="n")
+        told = self.browser.evaluate(DETAILS).split("\n")
+        self.assertEqual([one for one in told if one][1:4], ["✕", "database", "setup script"])
+        self.assertIn("failed, exit code 3", told)
+        self.browser.evaluate("document.querySelector('[data-state=script]').click()")
+        self.assertEqual(self.browser.evaluate("document.getElementById('found').innerText"), "0 of 1 shown")
+
     def test_what_could_do_harm_is_shown(self):
         self.open(nasty_session())
         self.search("a</script>")
