@@ -53,10 +53,15 @@ def policy_hash(text):
 
 
 def page_title(value):
-    """The name of the page's window."""
+    """The name of the page's window: how many tests failed or never ended, if any, or passed."""
     states = [test["state"] for test in value["tests"]]
-    failed, passed = states.count("failed"), states.count("passed") + states.count("flaky")
-    told = f"{failed} failed" if failed else f"{passed} passed"
+    scripts = [attempt for test in value["tests"] if test["state"] == "script" for attempt in test["attempts"]]
+    counts = {
+        "failed": states.count("failed"), "setup failed": sum("bad" in attempt for attempt in scripts),
+        "unfinished": states.count("unfinished") + sum(attempt["result"] == "unfinished" for attempt in scripts),
+    }
+    passed = states.count("passed") + states.count("flaky")
+    told = next((f"{count} {word}" for word, count in counts.items() if count), f"{passed} passed")
     return f"{told} · {value['run']['profile']} · {value['run']['when']}"
 
 

@@ -207,6 +207,17 @@ class PageFile(unittest.TestCase):
         text, _ = page_of(nasty_session())
         self.assertRegex(text, r"<title>1 failed · ci · \d{4}-")
 
+    def test_the_title_calls_no_broken_run_passed(self):
+        def title(*states, **attempt):
+            tests = [{"name": "t", "state": state, "attempts": [attempt]} for state in states]
+            return page.page_title({"tests": tests, "run": {"profile": "ci", "when": "now"}})
+        self.assertEqual(title("unfinished", "passed", "failed"), "1 failed · ci · now")
+        self.assertEqual(title("unfinished", "passed", "flaky"), "1 unfinished · ci · now")
+        self.assertEqual(title("script", "skipped", result="fail", bad=True), "1 setup failed · ci · now")
+        self.assertEqual(title("script", result="unfinished"), "1 unfinished · ci · now")
+        self.assertEqual(title("script", "passed", "flaky", result="pass"), "2 passed · ci · now")
+        self.assertEqual(title(), "0 passed · ci · now")
+
     def test_all_parts_are_used(self):
         used = {"page.html", "style.css"} | {f"{name}.js" for name in page.SCRIPTS}
         self.assertEqual({path.name for path in page.PARTS.iterdir()}, used)
