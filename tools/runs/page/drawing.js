@@ -164,11 +164,12 @@ function draw_retries(context, loud) {
 
 function draw_arrow(context, from, to) {
   if (!from.slices.length || !to.slices.length || to.begin < view.from || from.end > view.to) return;
-  // It runs between the rows, so that it strikes no label through.
-  const down = to.row > from.row, top = (attempt) => AXIS + attempt.row * lane - lanes.scrollTop;
+  // It runs between the rows, so that it strikes no label through. Above the first row the axis would hide it.
+  const same = from.row === to.row, down = to.row > from.row || (same && from.row === 0);
+  const top = (attempt) => AXIS + attempt.row * lane - lanes.scrollTop;
   const left = x_at(from.end) - 2, right = x_at(to.begin), bend = Math.max(10, Math.abs(right - left) / 2);
-  const begin = top(from) + (down ? lane - 2 : 2), end = top(to) + (from.row === to.row || down ? 4 : lane - 4);
-  const lift = from.row === to.row ? lane * 0.4 : 0;
+  const begin = top(from) + (down ? lane - 2 : 2), end = top(to) + (same === down ? lane - 4 : 4);
+  const lift = same ? lane * (down ? -0.4 : 0.4) : 0;
   context.beginPath();
   context.moveTo(left, begin);
   context.bezierCurveTo(left + bend, begin - lift, right - bend, end - lift, right - 3, end);

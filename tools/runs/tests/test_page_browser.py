@@ -7,7 +7,7 @@ import unittest
 
 from runs import page
 from runs.tests import browser
-from runs.tests.made import bundle_of, event, exit_code, finished, session_of, started, status
+from runs.tests.made import bundle_of, event, exit_code, failed, finished, retried, session_of, started, status
 from runs.tests.test_page import EXAMPLES, nasty_session
 
 PROGRAM = browser.find()
@@ -154,6 +154,21 @@ class InBrowser(unittest.TestCase):
         # In the pause there is nothing to click on.
         self.browser.click(box["width"] * 0.42, second_row)
         self.assertIn("Slowest tests", self.browser.evaluate(DETAILS))
+
+    def test_an_arrow_within_the_first_row_is_whole(self):
+        failing = status(0, 1, exit_code(), 1, 2)
+        self.open(session_of([
+            started(0, "flaky", 0), failed(1, "flaky", failing), retried(2, "flaky", 2, 2, 0),
+            finished(3, "flaky", failing, status(2, 1, "pass", 2, 2)),
+        ]))
+        # Midway between both attempts nothing but the arrow is drawn below the axis.
+        self.assertEqual(self.browser.evaluate("""(() => {
+            const canvas = document.getElementById("canvas"), context = canvas.getContext("2d");
+            const { data } = context.getImageData(Math.round(canvas.width / 2), 22, 50, canvas.height - 22);
+            const columns = new Set();
+            data.forEach((part, at) => { if (part) columns.add(Math.floor(at / 4) % 50); });
+            return columns.size;
+        })()"""), 50)
 
     def test_a_long_output_is_drawn_when_it_is_asked_for(self):
         self.open(session_of([started(0, "long", 0), finished(1, "long", status(0, 1, stdout=b"a" * 30_000 + b"b" * 30_000))]))
