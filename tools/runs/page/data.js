@@ -44,7 +44,7 @@ function prepare_test(test, index) {
   test.end = test.state === "script" ? test.attempts[0]?.kind ?? "script" : test.state;
   test.seconds = test.attempts.reduce((sum, attempt) => sum + (attempt.seconds ?? 0), 0);
   test.start = Math.min(Infinity, ...test.attempts.filter((one) => one.slices.length).map((one) => one.begin));
-  test.shown = test.name.replace(SPECIAL, (part) => spelled(part));
+  test.shown = shown(test.name);
   test.sought = `${test.place}::${test.name} ${test.place}`.toLowerCase();
   return test;
 }

@@ -63,7 +63,7 @@ function row_of(test, at, height, wanted) {
   row.setAttribute("aria-posinset", at + 1);
   row.setAttribute("aria-selected", String(test === chosen));
   const name = element("span", "name", marked_safely(test.name, wanted));
-  name.title = test.name;
+  name.title = test.shown;
   const place = element("span", "place", marked_safely(test.place, wanted));
   const tries = test.attempts.length > 1 ? element("span", "tries", `${test.attempts.length}×`) : null;
   if (tries) tries.setAttribute("aria-label", `${test.attempts.length} attempts`);

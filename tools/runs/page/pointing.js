@@ -169,7 +169,7 @@ function lanes_key(event) {
       choose(next.test, { from: "timeline", attempt: next, quiet: true });
       reveal_attempt(next);
       const { label, under } = rows[next.row];
-      announce(`${next.test.shown}, ${next.test.place}, ${ending_of(next)}, ${duration(next.seconds)}, ${label} ${under}`);
+      announce(`${next.test.shown}, ${shown(next.test.place)}, ${ending_of(next)}, ${duration(next.seconds)}, ${label} ${under}`);
     }
   } else if (event.key === "Enter" && chosen) open_details();
   else return;

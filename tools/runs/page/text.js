@@ -52,6 +52,11 @@ function spelled(text) {
   }).join("");
 }
 
+// A text for where nothing marks what is spelled.
+function shown(text) {
+  return text.replace(SPECIAL, (part) => spelled(part));
+}
+
 // The names of a style after the codes of a sequence that colours text. Backgrounds and colours of many bits are left out.
 function styled(style, codes) {
   const numbers = codes.split(";").map(Number);

@@ -37,7 +37,7 @@ function rows_of_binaries(attempts, row_for) {
   for (const { test, slot } of attempts) slots.set(test.binary, (slots.get(test.binary) ?? new Set()).add(slot));
   for (const [binary, used] of slots) {
     [...used].sort((one, other) => one - other).forEach((slot, at) => {
-      const row = row_for(`${binary} ${slot}`, at ? "" : BINARIES[binary], `${slot}`);
+      const row = row_for(`${binary} ${slot}`, at ? "" : shown(BINARIES[binary]), `${slot}`);
       row.first = at === 0;
     });
   }

@@ -106,6 +106,18 @@ class InBrowser(unittest.TestCase):
         self.assertEqual(self.browser.evaluate("document.querySelectorAll('script').length"), 2)
         self.assertEqual(self.browser.evaluate("document.querySelector('.byte').textContent"), "\\xff")
 
+    def test_what_could_turn_the_name_of_a_row_is_shown(self):
+        events = [started(0, "t\u202e", 0), finished(1, "t\u202e", status(0, 1))]
+        for one in events:
+            one["test-instance"]["binary-id"] = "a\u202eb\0"
+        self.open(session_of(events))
+        self.assertEqual(self.browser.evaluate("document.querySelector('.row .name').title"), "t\\u{202e}")
+        self.browser.evaluate("document.querySelector('[data-rows=binary]').click()")
+        self.browser.evaluate("document.getElementById('lanes').focus()")
+        self.browser.press("ArrowRight", 39)
+        said = self.browser.evaluate("document.getElementById('said').textContent")
+        self.assertEqual(said, r"t\u{202e}, a\u{202e}b\x00, passed, 1.00 s, a\u{202e}b\x00 0")
+
     def test_attempts_are_shown_in_their_order(self):
         self.open(nasty_session())
         self.search("flaky")
