@@ -36,10 +36,10 @@ function open_details() {
   if (is_narrow()) scrollTo(0, 0);
 }
 
-// So that the address leads to the test again.
+// So that the address leads to the test again. A slash stands between its binary and its name, since either may have `::`.
 function keep_in_address(test) {
   try {
-    const place = test ? `#${encodeURIComponent(`${test.place}::${test.name}`)}` : location.pathname + location.search;
+    const place = test ? `#${[test.place, test.name].map(encodeURIComponent).join("/")}` : location.pathname + location.search;
     history.replaceState(null, "", place);
   } catch {
     // Some browsers refuse that for files; the page works without.
@@ -48,8 +48,8 @@ function keep_in_address(test) {
 
 function choose_by_address() {
   try {
-    const wanted = decodeURIComponent(location.hash.slice(1));
-    const found = wanted && TESTS.find((test) => `${test.place}::${test.name}` === wanted);
+    const [place, name] = location.hash.slice(1).split("/").map(decodeURIComponent);
+    const found = TESTS.find((test) => test.place === place && test.name === name);
     if (found) choose(found, { from: "address" });
   } catch {
     // An address that isn't spelled well names no test.

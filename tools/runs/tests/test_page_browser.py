@@ -69,7 +69,19 @@ class InBrowser(unittest.TestCase):
         self.assertIn("failed, exit code 101", told)
         self.assertIn("2 + 3 – or 2 × 3?\nabout to fail\n", told)
         self.assertEqual(self.browser.evaluate("document.getElementById('found').innerText"), "1 of 8 shown")
-        self.assertEqual(self.browser.evaluate("location.hash"), "#sums%3A%3Awrong%3A%3Aexpects_a_product")
+        self.assertEqual(self.browser.evaluate("location.hash"), "#sums%3A%3Awrong/expects_a_product")
+
+    def test_an_address_leads_to_its_test_alone(self):
+        events = [started(0, "a::t", 0), finished(1, "a::t", status(0, 1)), started(2, "t", 0), finished(3, "t", status(2, 1))]
+        for one in events[2:]:
+            one["test-instance"]["binary-id"] = "alpha::a"
+        self.open(session_of(events))
+        self.browser.evaluate("document.querySelectorAll('.row')[1].click()")
+        address = self.browser.evaluate("location.hash")
+        self.browser.evaluate("document.querySelector('.back').click()")
+        self.browser.evaluate(f"location.hash = '{address}'")
+        self.browser.wait_until("document.querySelector('#details h2')")
+        self.assertIn("alpha::a", self.browser.evaluate(DETAILS))
 
     def test_failures_come_first(self):
         self.open((EXAMPLES / "sums.session").read_text())
