@@ -8,8 +8,9 @@ function first_line(text) {
 }
 
 function why(test) {
+  if (test.state === "failed" && !test.attempts.at(-1).bad) return "it passed at a later attempt, which counts as a failure";
   const last = test.attempts.findLast((attempt) => attempt.bad || attempt.result === "unfinished");
-  if (!last) return test.flaky_fails ? "it passed at a later attempt, which counts as a failure" : "";
+  if (!last) return "";
   return last.error ? first_line(last.error) : ending_of(last);
 }
 

@@ -140,6 +140,14 @@ class InBrowser(unittest.TestCase):
         self.search("hangs")
         self.assertIn("never ended\nfrom 1.50 s, without 2.00 s of pause", self.browser.evaluate(DETAILS))
 
+    def test_a_test_that_fails_though_it_passed_says_why(self):
+        tries = status(0, 1, exit_code(), 1, 2), status(2, 1, "pass", 2, 2)
+        self.open(session_of([
+            started(0, "t", 0), failed(1, "t", tries[0]), retried(2, "t", 2, 2, 0), finished(3, "t", *tries, flaky="fail"),
+        ]))
+        why = self.browser.evaluate("document.querySelector('.why').innerText")
+        self.assertEqual(why, "it passed at a later attempt, which counts as a failure")
+
     def test_a_search_in_outputs(self):
         self.open(nasty_session())
         self.browser.evaluate("document.getElementById('in-outputs').click()")
