@@ -35,10 +35,10 @@ function draw_share() {
   }
 }
 
-// Light or dark as the system has it, until one is chosen.
+// Light or dark as the system has it, until one is chosen; on paper light.
 const THEMES = ["auto", "light", "dark"];
 const prefers_dark = matchMedia("(prefers-color-scheme: dark)");
-let theme = "auto";
+let theme = "auto", on_paper = false;
 
 function kept(key, value) {
   try {
@@ -50,7 +50,7 @@ function kept(key, value) {
 }
 
 function apply_theme() {
-  const dark = theme === "dark" || (theme === "auto" && prefers_dark.matches);
+  const dark = !on_paper && (theme === "dark" || (theme === "auto" && prefers_dark.matches));
   document.documentElement.dataset.theme = dark ? "dark" : "light";
   const button = document.getElementById("theme");
   button.textContent = { auto: "Theme: auto", light: "Theme: light", dark: "Theme: dark" }[theme];
@@ -64,6 +64,8 @@ function start_head() {
   theme = THEMES.find((one) => one === kept("rezovamy-theme")) ?? "auto";
   apply_theme();
   prefers_dark.addEventListener("change", apply_theme);
+  addEventListener("beforeprint", () => { on_paper = true; apply_theme(); });
+  addEventListener("afterprint", () => { on_paper = false; apply_theme(); });
   document.getElementById("theme").addEventListener("click", () => {
     theme = THEMES[(THEMES.indexOf(theme) + 1) % THEMES.length];
     kept("rezovamy-theme", theme);

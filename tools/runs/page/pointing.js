@@ -178,7 +178,8 @@ function lanes_key(event) {
 
 function start_timeline() {
   read_colours();
-  document.addEventListener("theme", () => { read_colours(); redraw(); });
+  // At once, since a page that is printed has no next frame.
+  document.addEventListener("theme", () => { read_colours(); draw_all(); });
   document.addEventListener("resized", resize_lanes);
   new ResizeObserver(resize_lanes).observe(lanes.parentElement);
   addEventListener("resize", resize_lanes);

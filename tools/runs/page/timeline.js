@@ -113,9 +113,13 @@ function reveal_attempt(attempt, nearer = false) {
 function redraw() {
   waiting_frame ||= requestAnimationFrame(() => {
     waiting_frame = 0;
-    draw_lanes();
-    draw_overview();
+    draw_all();
   });
+}
+
+function draw_all() {
+  draw_lanes();
+  draw_overview();
 }
 
 function fit_canvas(target, wide, high) {

@@ -1,7 +1,9 @@
 """A page in a headless Chromium: by mouse, by keyboard, light and dark, with little and with much in it."""
 
+import base64
 import contextlib
 import pathlib
+import re
 import tempfile
 import unittest
 
@@ -233,6 +235,24 @@ class InBrowser(unittest.TestCase):
         self.search("test_1999")
         self.assertEqual(self.browser.evaluate(ROWS), ["test_1999"])
         self.assertIn("the last words of test 1999", self.browser.evaluate(DETAILS))
+
+    def test_on_paper(self):
+        self.open(many_tests(), dark=True)
+        themes = "['beforeprint', 'afterprint'].forEach((name) => addEventListener(name, () => themes.push(dataset.theme)))"
+        self.browser.evaluate(f"const {{ dataset }} = document.documentElement, themes = []; {themes}")
+        printed = base64.b64decode(self.browser.ask("Page.printToPDF")["data"])
+        # The list has a row of some pixels for each test, of which paper has those in sight.
+        self.assertLess(len(re.findall(rb"/Type ?/Page\b", printed)), 10)
+        self.assertEqual(self.browser.evaluate("themes"), ["light", "dark"])
+
+    def test_an_output_is_whole_on_paper(self):
+        self.open(session_of([started(0, "long", 0), finished(1, "long", status(0, 1, stdout=b"a\n" * 1000))]))
+        self.search("long")
+        is_whole = "((pre) => pre.clientHeight === pre.scrollHeight)(document.querySelector('pre'))"
+        self.assertFalse(self.browser.evaluate(is_whole))
+        self.browser.ask("Emulation.setEmulatedMedia", media="print")
+        self.addCleanup(self.browser.ask, "Emulation.setEmulatedMedia", media="")
+        self.assertTrue(self.browser.evaluate(is_whole))
 
     def test_a_run_without_tests(self):
         self.open(session_of([event("run-started", 0, profile_name="default", cli_args=[])]))
