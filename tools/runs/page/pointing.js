@@ -133,10 +133,14 @@ function wheel(event) {
   if (Math.abs(event.deltaX) > Math.abs(event.deltaY) || event.shiftKey) {
     const by = (event.deltaX || event.deltaY) * step / (width - gutter) * (view.to - view.from);
     look(view.from + by, view.to + by);
-  } else if (event.ctrlKey || event.metaKey || (lanes.scrollHeight <= lanes.clientHeight + 1 && !is_narrow())) {
+  } else if (event.ctrlKey || event.metaKey || nothing_scrolls()) {
     zoom(Math.exp(event.deltaY * step * 0.0025), Math.max(gutter, x));
   } else return;
   event.preventDefault();
+}
+
+function nothing_scrolls() {
+  return lanes.scrollHeight <= lanes.clientHeight + 1 && document.documentElement.scrollHeight <= innerHeight;
 }
 
 function strip_move(event) {

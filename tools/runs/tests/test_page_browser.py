@@ -228,6 +228,12 @@ class InBrowser(unittest.TestCase):
         self.browser.evaluate("document.querySelector('.back').click()")
         self.assertEqual(self.browser.evaluate("getComputedStyle(document.getElementById('tests')).display"), "flex")
 
+    def test_a_low_window_has_room_for_tests(self):
+        self.open(many_tests(), wide=844, high=390)
+        self.assertGreater(self.browser.evaluate("document.getElementById('list').clientHeight"), 140)
+        self.browser.evaluate("document.getElementById('found').scrollIntoView()")
+        self.assertLessEqual(self.browser.evaluate("document.getElementById('found').getBoundingClientRect().bottom"), 390)
+
     def test_many_tests(self):
         self.open(many_tests())
         self.assertEqual(self.browser.evaluate("document.getElementById('headline').innerText"), "10 failed, 9,990 passed")
