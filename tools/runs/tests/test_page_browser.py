@@ -228,6 +228,11 @@ class InBrowser(unittest.TestCase):
         self.browser.evaluate("document.querySelector('.back').click()")
         self.assertEqual(self.browser.evaluate("getComputedStyle(document.getElementById('tests')).display"), "flex")
 
+    def test_the_order_of_tests_stands_in_their_column(self):
+        self.open((EXAMPLES / "sums.session").read_text(), wide=780)
+        right = "document.getElementById('{}').getBoundingClientRect().right"
+        self.assertTrue(self.browser.evaluate(f"{right.format('sort')} <= {right.format('tests')}"))
+
     def test_a_low_window_has_room_for_tests(self):
         self.open(many_tests(), wide=844, high=390)
         self.assertGreater(self.browser.evaluate("document.getElementById('list').clientHeight"), 140)
