@@ -153,13 +153,19 @@ function draw_slow(context, attempt, top) {
 }
 
 // An arrow leads from a failed attempt to the one by which it is tried again: behind the slices, or before them where it is loud.
+// Where very many are in sight they would hide one another, and only the loud ones are drawn.
 function draw_retries(context, loud) {
-  const tests = loud || RETRIED.length <= 400 ? RETRIED : [];
-  for (const test of tests.filter((one) => (one === chosen || one === hovered?.test) === loud)) {
+  const tests = RETRIED.filter((one) => (one === chosen || one === hovered?.test) === loud && may_be_seen(one));
+  if (tests.length > 400) return;
+  for (const test of tests) {
     context.strokeStyle = context.fillStyle = loud ? paint.ink : paint.muted;
     context.lineWidth = loud ? 1.6 : 1;
     for (let at = 1; at < test.attempts.length; at++) draw_arrow(context, test.attempts[at - 1], test.attempts[at]);
   }
+}
+
+function may_be_seen({ attempts, start }) {
+  return start <= view.to && attempts.some((one) => one.begin >= view.from);
 }
 
 function draw_arrow(context, from, to) {

@@ -196,13 +196,31 @@ class InBrowser(unittest.TestCase):
             finished(3, "flaky", failing, status(2, 1, "pass", 2, 2)),
         ]))
         # Midway between both attempts nothing but the arrow is drawn below the axis.
-        self.assertEqual(self.browser.evaluate("""(() => {
-            const canvas = document.getElementById("canvas"), context = canvas.getContext("2d");
-            const { data } = context.getImageData(Math.round(canvas.width / 2), 22, 50, canvas.height - 22);
-            const columns = new Set();
-            data.forEach((part, at) => { if (part) columns.add(Math.floor(at / 4) % 50); });
+        self.assertEqual(self.drawn_columns(22, 50), 50)
+
+    def test_arrows_of_very_many_retries_are_drawn_where_few_are_in_sight(self):
+        events = []
+        for number in range(500):
+            tries = status(number, 0.1, exit_code(), 1, 2), status(number + 0.8, 0.1, "pass", 2, 2)
+            events += [
+                started(number, f"t{number}", 0), failed(number + 0.1, f"t{number}", tries[0]),
+                retried(number + 0.8, f"t{number}", 2, 2, 0), finished(number + 0.9, f"t{number}", *tries),
+            ]
+        self.open(session_of(events))
+        for _ in range(5):
+            self.browser.evaluate("document.querySelector('[data-zoom=in]').click()")
+        self.browser.evaluate("new Promise((done) => requestAnimationFrame(() => requestAnimationFrame(done)))")
+        # Below the only row there are lines of the axis in a few columns, and arrows.
+        self.assertGreater(self.drawn_columns(46, 500), 250)
+
+    def drawn_columns(self, top, wide):
+        """In how many of so many columns from the middle of the timeline on something is drawn below a height."""
+        return self.browser.evaluate(f"""(() => {{
+            const canvas = document.getElementById("canvas"), context = canvas.getContext("2d"), columns = new Set();
+            const {{ data }} = context.getImageData(Math.round(canvas.width / 2), {top}, {wide}, canvas.height - {top});
+            data.forEach((part, at) => {{ if (part) columns.add(Math.floor(at / 4) % {wide}); }});
             return columns.size;
-        })()"""), 50)
+        }})()""")
 
     def test_a_long_output_is_drawn_when_it_is_asked_for(self):
         self.open(session_of([started(0, "long", 0), finished(1, "long", status(0, 1, stdout=b"a" * 30_000 + b"b" * 30_000))]))
