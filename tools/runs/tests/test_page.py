@@ -174,6 +174,28 @@ class Addresses(html.parser.HTMLParser):
         self.found += [value for name, value in attributes if name in leading or name.startswith("on")]
 
 
+def luminance(colour):
+    """How light a colour is, from 0 to 1, as the guidelines for accessible pages reckon it."""
+    digits = colour if len(colour) == 6 else "".join(digit * 2 for digit in colour)
+    parts = [int(digits[place:place + 2], 16) / 255 for place in (0, 2, 4)]
+    red, green, blue = [part / 12.92 if part <= 0.03928 else ((part + 0.055) / 1.055) ** 2.4 for part in parts]
+    return 0.2126 * red + 0.7152 * green + 0.0722 * blue
+
+
+class Colours(unittest.TestCase):
+    def test_words_stand_out_from_what_is_behind_them(self):
+        words = {"ink", "muted", "faint", "accent", "failed", "flaky", "passed", "skipped", "unfinished", "script"}
+        words |= {"red", "green", "yellow", "blue", "magenta", "cyan", "gray"}
+        themes = re.findall(r"^:root\S* \{(.*?)\}", page.part("style.css"), re.S | re.M)
+        self.assertEqual(len(themes), 2)
+        for theme in themes:
+            colours = {name: luminance(digits) for name, digits in re.findall(r"--([\w-]+): #(\w+)", theme)}
+            for name in words:
+                for behind in ("panel", "back", "hover", "chosen", "code"):
+                    dark, light = sorted((colours[name], colours[behind]))
+                    self.assertGreaterEqual((light + 0.05) / (dark + 0.05), 4.5, (name, behind))
+
+
 class PageFile(unittest.TestCase):
     def test_nothing_ends_the_script_early(self):
         text, value = page_of(nasty_session())
