@@ -189,6 +189,13 @@ class InBrowser(unittest.TestCase):
         self.browser.click(box["width"] * 0.42, second_row)
         self.assertIn("Slowest tests", self.browser.evaluate(DETAILS))
 
+    def test_the_tip_of_a_very_long_name_is_small(self):
+        self.open(session_of([started(0, "x" * 5000, 0), finished(1, "x" * 5000, status(0, 1))]))
+        self.browser.ask("Input.dispatchMouseEvent", type="mouseMoved", x=700, y=160)
+        self.browser.wait_until("!document.getElementById('tip').hidden")
+        self.assertLess(self.browser.evaluate("document.getElementById('tip').offsetHeight"), 120)
+        self.assertTrue(self.browser.evaluate("document.documentElement.scrollHeight <= innerHeight"))
+
     def test_an_arrow_within_the_first_row_is_whole(self):
         failing = status(0, 1, exit_code(), 1, 2)
         self.open(session_of([
