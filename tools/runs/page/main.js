@@ -84,7 +84,7 @@ function page_key(event) {
     event.preventDefault();
     return;
   }
-  if (event.target.matches("input, select")) return;
+  if (event.target.matches("[type=search], select")) return;
   if (event.key === "/") {
     if (is_narrow() && chosen) choose(null);
     search.focus();

@@ -176,6 +176,12 @@ class InBrowser(unittest.TestCase):
         said = self.browser.evaluate("document.getElementById('said').textContent")
         self.assertEqual(said.strip(), "tests::adds, sums, passed, 7 µs, slot 0")
 
+    def test_a_box_that_is_ticked_keeps_no_keys(self):
+        self.open((EXAMPLES / "sums.session").read_text())
+        self.browser.evaluate("document.getElementById('in-outputs').focus()")
+        self.browser.press("n", text="n")
+        self.assertIn("answers_an_error", self.browser.evaluate("document.querySelector('#details h2')?.innerText ?? ''"))
+
     def test_a_click_on_a_slice_shows_its_test(self):
         self.open((EXAMPLES / "pause_and_retry.session").read_text())
         box = self.browser.evaluate("document.getElementById('canvas').getBoundingClientRect().toJSON()")
