@@ -1,6 +1,6 @@
 // Which test is chosen, and the keys of the whole page.
 
-let chosen = null;
+let chosen = null, waiting_address = 0;
 const said = document.getElementById("said");
 
 function announce(text) {
@@ -26,7 +26,10 @@ function choose(test, { from = "", attempt = null, quiet = false } = {}) {
   } else redraw();
   if (!test) cursor = null;
   if (is_narrow() && test && !quiet) open_details();
-  keep_in_address(test);
+  // A key that is held chooses faster than browsers let an address change.
+  clearTimeout(waiting_address);
+  if (quiet) waiting_address = setTimeout(() => keep_in_address(test), 200);
+  else keep_in_address(test);
 }
 
 // Goes to the outputs. In a narrow window they take the place of the list.

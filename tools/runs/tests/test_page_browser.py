@@ -176,6 +176,15 @@ class InBrowser(unittest.TestCase):
         said = self.browser.evaluate("document.getElementById('said').textContent")
         self.assertEqual(said.strip(), "tests::adds, sums, passed, 7 µs, slot 0")
 
+    def test_a_key_that_is_held(self):
+        self.open((EXAMPLES / "sums.session").read_text())
+        # The browser complains of an address that changes so often.
+        self.browser.evaluate("""for (let times = 0; times < 400; times++) {
+            const key = times % 2 ? "ArrowUp" : "ArrowDown";
+            document.getElementById("list").dispatchEvent(new KeyboardEvent("keydown", { key, bubbles: true }));
+        }""")
+        self.browser.wait_until("location.hash === '#sums%3A%3Awrong/answers_an_error'")
+
     def test_a_box_that_is_ticked_keeps_no_keys(self):
         self.open((EXAMPLES / "sums.session").read_text())
         self.browser.evaluate("document.getElementById('in-outputs').focus()")
