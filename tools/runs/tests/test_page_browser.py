@@ -259,6 +259,16 @@ class InBrowser(unittest.TestCase):
         self.open((EXAMPLES / "sums.session").read_text(), dark=True)
         self.assertEqual(self.browser.evaluate(colour), "rgb(18, 21, 24)")
 
+    def test_what_is_chosen_is_seen_in_forced_colours(self):
+        self.open((EXAMPLES / "sums.session").read_text())
+        self.browser.ask("Emulation.setEmulatedMedia", features=[{"name": "forced-colors", "value": "active"}])
+        self.browser.evaluate("document.querySelector('.row').click()")
+        outline = "getComputedStyle(document.querySelector('{}')).outlineStyle"
+        self.assertEqual(self.browser.evaluate(outline.format(".row[aria-selected=true]")), "solid")
+        self.assertEqual(self.browser.evaluate(outline.format(".row[aria-selected=false]")), "none")
+        width = "getComputedStyle(document.querySelector('[data-state=failed]')).borderTopWidth"
+        self.assertEqual(self.browser.evaluate(width), "2px")
+
     def test_a_narrow_window_shows_one_thing_at_a_time(self):
         self.open((EXAMPLES / "sums.session").read_text(), wide=380, high=800)
         self.assertTrue(self.browser.evaluate("document.documentElement.scrollWidth <= 380"))
