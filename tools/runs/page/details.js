@@ -123,7 +123,7 @@ function back_button() {
   return button;
 }
 
-function draw_test(test, attempt) {
+function draw_test(test) {
   const head = element("h2", "", state_mark(test.end), element("span", "", safe_nodes(test.name)));
   const facts = [
     test.place, STATES[test.end === "script" ? "passed" : test.end].word, time_of(test),
@@ -134,5 +134,4 @@ function draw_test(test, attempt) {
   if (test.reason) parts.push(element("p", "under", `Skipped: ${test.reason}.`));
   details.replaceChildren(...parts, ...test.attempts.map((one) => attempt_card(one)));
   details.scrollTop = 0;
-  if (attempt?.at) document.getElementById(`attempt-${attempt.at}`).scrollIntoView({ block: "nearest" });
 }

@@ -14,7 +14,7 @@ function is_narrow() {
 // Shows a test, or the whole run. `from` says where it was chosen, and `quiet` that the keyboard stays there.
 function choose(test, { from = "", attempt = null, quiet = false } = {}) {
   chosen = test;
-  if (test) draw_test(test, attempt);
+  if (test) draw_test(test);
   else draw_run();
   document.body.classList.toggle("chosen", Boolean(test) && !quiet);
   details.setAttribute("aria-label", test ? `Details of ${test.shown}` : "Overview of the run");
@@ -26,6 +26,7 @@ function choose(test, { from = "", attempt = null, quiet = false } = {}) {
   } else redraw();
   if (!test) cursor = null;
   if (is_narrow() && test && !quiet) open_details();
+  if (attempt?.at) document.getElementById(`attempt-${attempt.at}`).scrollIntoView({ block: "nearest" });
   // A key that is held chooses faster than browsers let an address change.
   clearTimeout(waiting_address);
   if (quiet) waiting_address = setTimeout(() => keep_in_address(test), 200);

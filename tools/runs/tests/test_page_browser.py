@@ -278,6 +278,17 @@ class InBrowser(unittest.TestCase):
         self.browser.evaluate("document.querySelector('.back').click()")
         self.assertEqual(self.browser.evaluate("getComputedStyle(document.getElementById('tests')).display"), "flex")
 
+    def test_a_narrow_window_shows_the_attempt_that_was_clicked_on(self):
+        tries = status(0, 4, exit_code(), 1, 2, stdout=b"line\n" * 500), status(6, 4, "pass", 2, 2, stdout=b"second\n")
+        self.open(session_of([
+            started(0, "t", 0), failed(4, "t", tries[0]), retried(6, "t", 2, 2, 0), finished(10, "t", *tries),
+        ]), wide=400, high=500)
+        box = self.browser.evaluate("document.getElementById('canvas').getBoundingClientRect().toJSON()")
+        self.browser.click(box["right"] - 60, box["top"] + 32)
+        self.browser.wait_until("document.getElementById('attempt-1')")
+        bottom = self.browser.evaluate("document.getElementById('attempt-1').getBoundingClientRect().bottom")
+        self.assertTrue(0 < bottom <= 500, bottom)
+
     def test_the_order_of_tests_stands_in_their_column(self):
         self.open((EXAMPLES / "sums.session").read_text(), wide=780)
         right = "document.getElementById('{}').getBoundingClientRect().right"
