@@ -29,7 +29,7 @@ def run(words):
     if not commands:
         say_each(nameless)
         return nothing_to_run(plan, before, bool(nameless))
-    runs.prepare()
+    command_test.prepare(runs, words)
     cli_args = ["rezovamy-runs", "again", before.id, *(["--", *words.rest] if words.rest else [])]
     session = command_test.run_cargo(commands, before.profile, cli_args, plan)
     status = command_test.keep(runs, session, words)

@@ -38,6 +38,11 @@ def write(path, folder, fails=False):
         return junit_xml.run(junit_xml.options([*more, "--events", str(path), reports.name, str(folder)]))
 
 
+def remove_older(runs):
+    """Removes the files of an older run, so that nobody takes them for those of a run of which nothing is recorded."""
+    junit_xml.remove_older(beside(runs))
+
+
 def beside(runs):
     """The folder for the XML where none is named."""
     if not runs.is_somewhere():

@@ -44,12 +44,19 @@ def run(words):
         raise Fault("--from takes lines that are there, and no words of cargo: leave one of them out", 2)
     program.find()
     runs = store.here(cargo_test.manifest_of(words.rest))
-    runs.prepare()
+    prepare(runs, words)
     if words.source is None:
         session = run_cargo([cargo_test.cargo_words(words.rest)], words.profile, ["cargo", "test", *words.rest])
     else:
         session = read_lines(words)
     return keep(runs, session, words)
+
+
+def prepare(runs, words):
+    """Makes the folder ready for a run that begins."""
+    runs.prepare()
+    if words.junit:
+        command_junit.remove_older(runs)
 
 
 def keep(runs, session, words):

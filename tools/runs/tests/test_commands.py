@@ -289,6 +289,13 @@ class Recording(Case):
         self.assertEqual(report, self.runs.parent / "rezovamy-junit/junit.xml")
         self.assertIn('failures="2"', report.read_text())
 
+    def test_a_run_of_which_nothing_is_recorded_leaves_no_xml_of_an_older_one(self):
+        self.run_it("test", "--from", str(LINES), "--junit")
+        report = self.runs.parent / "rezovamy-junit/junit.xml"
+        self.assertTrue(report.exists())
+        self.assertEqual(self.run_it("test", "--from", os.devnull, "--junit").returncode, 1)
+        self.assertFalse(report.exists())
+
     def test_a_trace_that_nobody_reads(self):
         self.run_it("test", "--from", str(LINES))
         reading, writing = os.pipe()
