@@ -5,7 +5,7 @@ import select
 import signal
 import time
 
-REASONS = {signal.SIGINT: "interrupt", signal.SIGTERM: "signal"}
+REASONS = {signal.SIGINT: "interrupt", signal.SIGTERM: "signal", signal.SIGHUP: "signal"}
 LONGEST_WAIT = 1
 
 
@@ -19,6 +19,7 @@ class Lines:
         self.descriptor, self.broken, self.until, self.pause = descriptor, None, None, pause
         self.woken, self.wake = os.pipe()
         for number in REASONS:
+            # As a hang-up by `nohup`, each may be ignored.
             if signal.getsignal(number) is not signal.SIG_IGN:
                 signal.signal(number, self.stop)
 

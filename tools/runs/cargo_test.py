@@ -84,9 +84,6 @@ class CargoTest(Lines):
     def __init__(self, commands, watch, leave=lambda status: None):
         self.commands, self.watch, self.leave, self.process, self.status = commands, watch, leave, None, 0
         super().__init__(None, PAUSE)
-        # As with `nohup`, a hang-up may be ignored.
-        if signal.getsignal(signal.SIGHUP) is not signal.SIG_IGN:
-            signal.signal(signal.SIGHUP, lambda _number, frame: self.stop(signal.SIGTERM, frame))
 
     def __iter__(self):
         code = None
@@ -120,7 +117,8 @@ class CargoTest(Lines):
 
     def stop(self, number, frame):
         super().stop(number, frame)
-        self.send(number)
+        # Cargo and its tests needn't know a hang-up.
+        self.send(signal.SIGTERM if number == signal.SIGHUP else number)
 
     def send(self, number):
         """Sends a signal to all processes of the run that are left."""

@@ -321,25 +321,31 @@ class Recording(Case):
         self.assertEqual([one.returncode for one in both], [101, 101])
         self.assertEqual(len(json.loads(self.out("list", "--json"))), 2)
 
-    def test_a_run_that_is_broken_off(self):
+    def break_off(self, number):
+        """Sends a signal to a run of which some lines have come, and answers its status."""
         words = [sys.executable, TOOLS / "rezovamy-runs", "test", "--from", "-"]
         one = subprocess.Popen(
             words, cwd=self.folder, env=self.environment, stdin=subprocess.PIPE, stderr=subprocess.PIPE,
             stdout=subprocess.DEVNULL,
-            preexec_fn=lambda: signal.signal(signal.SIGINT, signal.default_int_handler),
+            preexec_fn=lambda: signal.signal(number, signal.SIG_DFL if number == signal.SIGHUP else signal.default_int_handler),
         )
         one.stdin.write(b"marked\n" + b"".join(LINES.read_bytes().splitlines(True)[:20]))
         one.stdin.flush()
         while b"marked" not in one.stderr.readline():
             pass
-        one.send_signal(signal.SIGINT)
+        one.send_signal(number)
         one.stderr.read()
-        self.assertEqual(one.wait(60), 130)
+        status = one.wait(60)
         one.stdin.close()
         one.stderr.close()
-        run, = json.loads(self.out("list", "--json"))
-        self.assertEqual((run["status"], run["exit-code"]), ("cancelled", 130))
-        self.assertEqual(os.listdir(self.runs), [f"{run['id']}.bundle"])
+        return status
+
+    def test_a_run_that_is_broken_off(self):
+        for number, status in (signal.SIGINT, 130), (signal.SIGHUP, 143):
+            self.assertEqual(self.break_off(number), status)
+            run, *_ = json.loads(self.out("list", "--json"))
+            self.assertEqual((run["status"], run["exit-code"]), ("cancelled", status))
+            self.assertIn(f"{run['id']}.bundle", os.listdir(self.runs))
 
     def test_a_recording_that_fails_leaves_nothing(self):
         self.environment["REZOVAMY"] = "/bin/false"
