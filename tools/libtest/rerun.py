@@ -128,7 +128,8 @@ def not_found(plan, suites):
     found = []
     for binary, names in plan.run.items():
         is_asked = target_of(binary) and not runs_whole(binary, names, plan.skip.get(binary))
-        lacking = [name for name in names if name not in suites.get(binary, ())] if is_asked else []
+        there = set(suites.get(binary, ()))
+        lacking = [name for name in names if name not in there] if is_asked else []
         if lacking:
             found.append(f"{binary} {first_of(lacking)}: no test of this name is there, as it is built now, so that it didn't run")
     return found

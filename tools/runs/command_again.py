@@ -24,7 +24,7 @@ def run(words):
     path = runs.find(words.run)
     plan, before = plan_of(path), bundle.read_summary(path)
     commands = [cargo_test.cargo_words(chosen.words(words.rest)) for chosen in rerun.selections(plan)]
-    nameless = never_started(first_of(plan, before))
+    nameless = never_started(root_bundle(plan, before))
     say_each(rerun.remarks(plan))
     if not commands:
         say_each(nameless)
@@ -53,7 +53,7 @@ def plan_of(path):
         raise Fault(f"a test of {path} has a name that can't be told: {fault}; run all again with `rezovamy-runs test`") from fault
 
 
-def first_of(plan, before):
+def root_bundle(plan, before):
     """The bundle of the run with which a row of reruns began. What never started in one of these was named there."""
     return before.bundle.with_name(f"{plan.info['root-info']['run-id']}{store.ENDING}") if before.parent else before.bundle
 

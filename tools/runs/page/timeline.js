@@ -96,13 +96,12 @@ function attempt_at(x, y) {
   return near.reduce((best, one) => (best && worth(best) >= worth(one) ? best : one), null);
 }
 
-// Brings an attempt into sight; one that would be a hair's breadth is brought nearer.
-function reveal_attempt(attempt, nearer = false) {
+// Brings an attempt into sight.
+function reveal_attempt(attempt) {
   const length = view.to - view.from, { begin, end } = attempt;
-  const wanted = nearer && (end - begin) / length < 0.004 ? Math.max((end - begin) * 40, NEAREST) : length;
-  if (begin < view.from || end > view.to || wanted !== length) {
-    const middle = end - begin > wanted ? begin + wanted * 0.4 : (begin + end) / 2;
-    look(middle - wanted / 2, middle + wanted / 2);
+  if (begin < view.from || end > view.to) {
+    const middle = end - begin > length ? begin + length * 0.4 : (begin + end) / 2;
+    look(middle - length / 2, middle + length / 2);
   }
   const top = attempt.row * lane, room = lanes.clientHeight - AXIS;
   if (top < lanes.scrollTop) lanes.scrollTop = top;
