@@ -1,4 +1,4 @@
--- What each kind of event is for the spans of a trace. The sixteen kinds stand here, and nowhere else.
+-- What each of the sixteen kinds of events is for the spans of a trace.
 use Rattle.std.specs.Prelude.{ℕ, List}
 use Rattle.rec_events.specs.declared.events.CoreEventKind.TheVariants.{RunStarted, StressSubRunStarted, SetupScriptStarted, SetupScriptSlow, TestStarted, TestSlow, TestRetryStarted, TestSkipped, RunBeginCancel, RunPaused, RunContinued, StressSubRunFinished, RunFinished}
 use Rattle.rec_events.specs.declared.events.CoreEventKind.{CoreEventKind}

@@ -9,48 +9,68 @@ use rec_events::{
     TestEventKindSummary,
 };
 
-/// Says what an event is for the spans of a trace: what starts, ends or is slow, or how many setup scripts
-/// run.
+/// Says what an event is for the spans of a trace: what starts, ends or is slow, or how many setup
+/// scripts run. Its kinds hold:
+///
+/// - `index` and `id` are those of the setup script, and `test` is the test.
+/// - `slot` is the number of the slot on which the attempt runs.
+/// - `scripts` is how many setup scripts run after the event.
 #[derive(Clone, Copy)]
 pub enum Act<'e> {
+    /// The run starts.
     RunStarts,
+    /// The run ends.
     RunEnds,
+    /// One of a stress run's runs starts.
     SubRunStarts,
+    /// One of a stress run's runs ends.
     SubRunEnds,
+    /// A setup script starts.
     ScriptStarts {
         index: usize,
         id: &'e ScriptId,
     },
+    /// A setup script ends.
     ScriptEnds {
         index: usize,
         id: &'e ScriptId,
     },
+    /// A setup script is slow.
     ScriptIsSlow {
         id: &'e ScriptId,
     },
+    /// An attempt of a test starts.
     AttemptStarts {
         test: &'e OwnedTestInstanceId,
         slot: u64,
     },
+    /// An attempt of a test failed, and another one follows.
     AttemptFails {
         test: &'e OwnedTestInstanceId,
     },
+    /// The last attempt of a test ends. `current_stats` are the counts of the run, or of the
+    /// sub-run, then.
     TestEnds {
         test: &'e OwnedTestInstanceId,
         current_stats: &'e RunStats,
     },
+    /// An attempt of a test is slow.
     TestIsSlow {
         test: &'e OwnedTestInstanceId,
     },
+    /// The run pauses.
     Pauses {
         scripts: usize,
     },
+    /// The run goes on.
     Continues {
         scripts: usize,
     },
+    /// The run is cancelled.
     Cancels {
         scripts: usize,
     },
+    /// It is nothing for the spans.
     Silent,
 }
 

@@ -16,6 +16,8 @@ pub type RecordReadErrorText = LineError;
 /// Says why there is no trace of a history. Events are numbered from 1. Of the first event that is refused,
 /// the first cause is answered in the order number, instant, start that is missing, span that is open,
 /// slot that is busy, row or flow number, count; but want of memory may come at any time.
+///
+/// `docs/FORMATS.md#refusals-of-a-trace` lists these causes. `event` is the number of the event.
 #[derive(Drop, Error)]
 pub enum ChromeTraceError {
     /// The history could not be read.
@@ -52,7 +54,7 @@ pub enum ChromeTraceError {
         event: u64,
         slot: u64,
     },
-    /// The event's instant isn't an i64 in microseconds since the epoch.
+    /// The event's instant isn't an i64 in microseconds since the Unix epoch.
     #[error("the instant of event {event} is out of range")]
     TimestampOutOfRange {
         event: u64,

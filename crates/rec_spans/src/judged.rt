@@ -7,7 +7,7 @@ use crate::spans::Span;
 pub struct JudgedEvent {
     /// The event's number, counted from 1.
     pub number: u64,
-    /// The event's instant, in microseconds since the epoch.
+    /// The event's instant, in microseconds since the Unix epoch.
     pub at: i64,
     /// The span that the event starts, if it starts one.
     pub started: Option<Span>,

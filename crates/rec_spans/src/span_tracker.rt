@@ -159,7 +159,7 @@ impl SpanTracker {
     }
 }
 
-/// Returns the instant of an event, in microseconds since the epoch.
+/// Returns the instant of an event, in microseconds since the Unix epoch.
 fn instant(number: u64, timestamp: &Stamp) -> Result<i64, ChromeTraceError>
     ensures value { IfOk result (λ t. t ≡ micros timestamp.now) }
     ensures judged { Judges result (instant_refusal number (micros timestamp.now)) }

@@ -41,24 +41,34 @@ impl fmt::Display for SpanKey {
 /// slots, the setup scripts by their indexes.
 #[derive(Clone, Copy, PartialEq, Eq, PartialOrd, Ord, Drop)]
 pub enum Place {
+    /// The run.
     Run,
+    /// One of a stress run's runs.
     SubRun,
+    /// The test on the slot of this number.
     Slot(u64),
+    /// The setup script of this index.
     Script(usize),
 }
 
-/// Holds a span of time: what it is of, its place, its row and its name.
+/// Holds a span of time, as `docs/FORMATS.md#spans-and-rows` describes it.
 #[derive(Drop)]
 pub struct Span {
+    /// What the span is of.
     pub key: SpanKey,
+    /// Its place among the spans that are open at once.
     pub place: Place,
+    /// The row of its slices.
     pub row: Row,
+    /// The name of its slices.
     pub name: Text,
 }
 
 /// Says which end of a slice a mark is.
 #[derive(Clone, Copy, Drop)]
 pub enum Phase {
+    /// The begin.
     Begin,
+    /// The end.
     End,
 }

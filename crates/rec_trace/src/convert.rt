@@ -10,8 +10,9 @@ use rec_events::{RecordingSpec, TestEventSummary, TryClone, Version};
 use rec_spans::{ChromeTraceError, ChromeTraceGroupBy};
 use std::alloc::Global;
 
-/// Writes the Chrome trace of a history of recorded events, in UTF-8 and in the form asked for. The iterator
-/// has to end, and is read up to the first item that is refused.
+/// Writes the Chrome trace of a history of recorded events, in UTF-8 and in the form asked for. The
+/// iterator has to end, and is read up to the first item that is refused. `docs/FORMATS.md#trace`
+/// describes the trace.
 ///
 /// # Example
 ///

@@ -32,8 +32,9 @@ use scripts::{draw_script_end, draw_script_start, draw_slow_script};
 use sight::Sight;
 use std::alloc::{AllocError, Global};
 
-/// Draws the trace events of an event that was judged, of a run by this version of the runner, where this is open
-/// and known before it.
+/// Draws the trace events of an event that was judged, of a run by this version of the runner,
+/// where this is open and known before it. `docs/FORMATS.md#what-each-event-draws` says what each
+/// kind of event draws.
 ///
 /// # Errors
 ///

@@ -91,7 +91,8 @@ impl PrintedTrace {
         }
     }
 
-    /// Lets the trace go, as `drop` does. A crate that lets one go by this call doesn't prove anew how each of its parts is let go.
+    /// Drops the trace. It is a call so that this is proved once, here: where a crate drops a trace
+    /// in place, its own proof goes over each part of the trace again.
     pub fn discard(self) {
         drop(self);
     }

@@ -40,7 +40,9 @@ pub struct PreparedEvent {
 /// Holds what an event draws, with what it takes to accept it or to let it go.
 #[derive(Drop)]
 pub struct DrawnEvent {
+    /// What the event draws.
     pub events: Vec<TraceEvent>,
+    /// What it takes to accept the event, or to let it go.
     pub prepared: PreparedEvent,
 }
 

@@ -7,9 +7,10 @@ ghost use Rattle.rec_trace_events.specs.EventTexts.{IsArgs};
 use rec_json::JsonText;
 use std::alloc::{AllocError, Global};
 
-/// Writes the args of a trace event, which are a JSON object.
+/// Writes the args of a trace event, which are a JSON object. `docs/FORMATS.md#args` lists the
+/// members that each has.
 pub trait Args {
-    // the value that they are written as
+    /// Names the value that they are written as.
     ghost value_of: { Self → Data };
 
     /// Writes the args at the end of `text`.

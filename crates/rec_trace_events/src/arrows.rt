@@ -9,8 +9,9 @@ use crate::event_parts::EventParts;
 use crate::rows::{Category, Row};
 use std::alloc::{AllocError, Global};
 
-/// Makes the start of the arrow of this number, on the row of the attempt that failed, at an instant in
-/// microseconds since the epoch.
+/// Makes the start of the arrow of this number, on the row of the attempt that failed, at an
+/// instant in microseconds since the Unix epoch. `docs/FORMATS.md#arrows` says which arrow leads
+/// where.
 ///
 /// # Errors
 ///
@@ -32,8 +33,8 @@ pub fn arrow_start(alloc: Global, row: Row, at: i64, id: u64) -> Result<TraceEve
     event(alloc, &parts, None::<&NoArgs>)
 }
 
-/// Makes the finish of the arrow of this number, on the row of the attempt that follows, at an instant in
-/// microseconds since the epoch. It ends at the slice that begins there.
+/// Makes the finish of the arrow of this number, on the row of the attempt that follows, at an
+/// instant in microseconds since the Unix epoch. It ends at the slice that begins there.
 ///
 /// # Errors
 ///

@@ -20,11 +20,13 @@ use std::alloc::{AllocError, Global};
 /// Holds the args of the end of an attempt that failed, after which another one follows.
 #[derive(Drop)]
 pub struct FailedAttemptArgs<'a, S: OutputSpec> {
+    /// The test.
     pub test: &'a OwnedTestInstanceId,
     /// Which of a stress run's runs it belongs to.
     pub stress_index: &'a Option<StressIndexSummary>,
     /// The group in which the attempt was started; none stands for the global group.
     pub test_group: Option<&'a TestGroup>,
+    /// The attempt that failed.
     pub status: &'a ExecuteStatus<S>,
     /// How long the runner waits before the next attempt.
     pub delay_before_next_attempt: &'a Duration,
@@ -56,6 +58,7 @@ impl<'a, S: OutputSpec> Args for FailedAttemptArgs<'a, S> {
 /// Holds the args of the end of a test, which is that of its last attempt.
 #[derive(Drop)]
 pub struct LastAttemptArgs<'a, S: OutputSpec> {
+    /// The test.
     pub test: &'a OwnedTestInstanceId,
     /// Which of a stress run's runs it belongs to.
     pub stress_index: &'a Option<StressIndexSummary>,
@@ -161,7 +164,8 @@ fn with_group(object: ObjectWriter, text: &mut JsonText, group: Option<&TestGrou
     }
 }
 
-/// Returns the flaky result of a test, where it counts: several attempts were made, and the last one succeeded.
+/// Returns the flaky result of a test, where it counts: several attempts were made, and the last
+/// one succeeded.
 pub fn counted_flaky_result<S: OutputSpec>(
     statuses: &ExecutionStatuses<S>,
     last: &ExecuteStatus<S>,

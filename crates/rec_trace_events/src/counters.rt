@@ -48,7 +48,7 @@ impl Args for RunningCounts {
     }
 }
 
-/// Makes the event that counts what runs, at an instant in microseconds since the epoch.
+/// Makes the event that counts what runs, at an instant in microseconds since the Unix epoch.
 ///
 /// # Errors
 ///
@@ -78,7 +78,7 @@ impl Args for TestCounts {
     }
 }
 
-/// Makes the event that counts how tests ended, at an instant in microseconds since the epoch.
+/// Makes the event that counts how tests ended, at an instant in microseconds since the Unix epoch.
 ///
 /// # Errors
 ///

@@ -5,18 +5,23 @@ ghost use Rattle.rec_trace_events.specs.TraceEvents.{test_counts};
 
 use rec_events::RunStats;
 
-/// Counts the tests and the setup scripts that run.
+/// Counts the tests and the setup scripts that run, as `docs/FORMATS.md#counters` says.
 #[derive(Clone, Copy, Drop)]
 pub struct RunningCounts {
+    /// How many tests run.
     pub tests: usize,
+    /// How many setup scripts run.
     pub scripts: usize,
 }
 
-/// Counts the tests that ended: those that passed, those of them that failed at first, and those that failed.
+/// Counts the tests that ended, as `docs/FORMATS.md#counters` says.
 #[derive(Clone, Copy, Drop)]
 pub struct TestCounts {
+    /// How many passed.
     pub passed: usize,
+    /// How many of these failed at first.
     pub flaky: usize,
+    /// How many failed, for any cause.
     pub failed: usize,
 }
 

@@ -14,7 +14,10 @@ use serde_json::Value;
 use std::alloc::{AllocError, Global};
 use std::marker::Model;
 
-/// Holds an event of a trace as its JSON text, which is that of an object. Contracts see the bytes of the text.
+/// Holds an event of a trace as its JSON text, which is that of an object. Contracts see the bytes
+/// of the text.
+///
+/// `docs/FORMATS.md#trace-events` says what it has: a part of Chrome's Trace Event Format.
 #[derive(Drop)]
 pub struct TraceEvent {
     text: String,

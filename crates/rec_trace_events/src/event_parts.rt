@@ -13,15 +13,19 @@ use rec_forms::ObjectWriter;
 use rec_json::JsonText;
 use std::alloc::{AllocError, Global};
 
-/// Holds what an event has beside its args. The last three are of some phases alone.
+/// Holds what an event has beside its args, as `docs/FORMATS.md#trace-events` lists it. The last
+/// three are of some phases alone.
 #[derive(Drop)]
 pub struct EventParts<'a> {
-    /// The kind of event, a letter of the trace format.
+    /// What it is: a letter, the `ph` of the Trace Event Format.
     pub phase: &'a str,
+    /// Its name.
     pub name: &'a str,
+    /// What it is of; empty for metadata.
     pub category: &'a str,
+    /// Where it stands.
     pub row: Row,
-    /// The instant, in microseconds since the epoch.
+    /// The instant, in microseconds since the Unix epoch.
     pub at: i64,
     /// The number of an arrow.
     pub id: Option<u64>,

@@ -13,7 +13,8 @@ use rec_forms::ObjectWriter;
 use rec_json::JsonText;
 use std::alloc::{AllocError, Global};
 
-/// Says what an instant marks of the whole run.
+/// Says what an instant marks of the whole run. `docs/FORMATS.md#what-each-event-draws` says when
+/// it is drawn.
 #[derive(Clone, Copy, Drop)]
 pub enum RunMark {
     /// No further test is to begin, for this reason.
@@ -100,7 +101,7 @@ impl Args for MarkArgs {
     }
 }
 
-/// Makes a mark of the run, on its row, at an instant in microseconds since the epoch.
+/// Makes a mark of the run, on its row, at an instant in microseconds since the Unix epoch.
 ///
 /// # Errors
 ///
@@ -119,8 +120,8 @@ pub fn mark_event(
     instant_event(alloc, mark.name(), Category::Run, row, at, "p", &args)
 }
 
-/// Makes the event of a test or a setup script that is slow, on its row, at an instant in microseconds since the
-/// epoch.
+/// Makes the event of a test or a setup script that is slow, on its row, at an instant in
+/// microseconds since the Unix epoch.
 ///
 /// # Errors
 ///

@@ -112,7 +112,8 @@ fn name_and_place(
     pair(alloc, name, place)
 }
 
-/// Makes the events that name a process and say its place among the others, which is that of its number.
+/// Makes the events that name a process and say its place among the others, which is that of its
+/// number. `docs/FORMATS.md#spans-and-rows` says when they are drawn.
 ///
 /// # Errors
 ///

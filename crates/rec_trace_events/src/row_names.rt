@@ -5,7 +5,8 @@ ghost use Rattle.rec_trace_events.specs.RowNames.{run_process_name, script_name,
 use rec_events::Text;
 use std::alloc::{AllocError, Global};
 
-/// Makes the name of the run's process, under the profile of the run that started last, if one started.
+/// Makes the name of the run's process, under the profile of the run that started last, if one
+/// started, as `docs/FORMATS.md#spans-and-rows` gives it.
 ///
 /// # Errors
 ///

@@ -13,13 +13,18 @@ use rec_forms::ObjectWriter;
 use rec_json::JsonText;
 use std::alloc::{AllocError, Global};
 
-/// Holds the args of the begin of a run by this version of the runner.
+/// Holds the args of the begin of a run.
 #[derive(Drop)]
 pub struct RunBeginArgs<'a> {
+    /// The version of the runner.
     pub version: &'a Version,
+    /// The id of the run.
     pub run_id: &'a ReportUuid,
+    /// The name of the profile that the run uses.
     pub profile: &'a str,
+    /// The command line of the run.
     pub cli_args: &'a Items<Text>,
+    /// What ends the stress run; `None` where the run is none.
     pub stress_condition: &'a Option<StressConditionSummary>,
 }
 
@@ -41,14 +46,19 @@ impl<'a> Args for RunBeginArgs<'a> {
     }
 }
 
-/// Holds the args of the end of a run by this version of the runner, under the profile that its start named.
-/// `time_taken` is how long the run took.
+/// Holds the args of the end of a run.
 #[derive(Drop)]
 pub struct RunEndArgs<'a> {
+    /// The version of the runner.
     pub version: &'a Version,
+    /// How long the run took.
     pub time_taken: &'a Duration,
+    /// The name of the profile that the last start of a run named.
     pub profile: &'a str,
+    /// The counts of the run.
     pub run_stats: &'a RunFinishedStats,
+    /// The outstanding tests that a rerun didn't come to, where there are any. Their number alone
+    /// is written.
     pub outstanding_not_seen: &'a Option<TestsNotSeenSummary>,
 }
 
@@ -105,6 +115,7 @@ impl<'a> Args for RunEndArgs<'a> {
 /// Holds the args of the begin of one of a stress run's runs.
 #[derive(Drop)]
 pub struct SubRunBeginArgs<'a> {
+    /// How far the stress run had got by then.
     pub progress: &'a StressProgress,
 }
 
@@ -121,11 +132,14 @@ impl<'a> Args for SubRunBeginArgs<'a> {
     }
 }
 
-/// Holds the args of the end of one of a stress run's runs. `time_taken` is how long it took.
+/// Holds the args of the end of one of a stress run's runs.
 #[derive(Drop)]
 pub struct SubRunEndArgs<'a> {
+    /// How far the stress run got, this sub-run included.
     pub progress: &'a StressProgress,
+    /// How long the sub-run took.
     pub time_taken: &'a Duration,
+    /// The counts of the sub-run.
     pub sub_stats: &'a RunStats,
 }
 

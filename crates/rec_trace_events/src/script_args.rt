@@ -11,8 +11,11 @@ use std::alloc::{AllocError, Global};
 /// Holds the args of the end of a setup script.
 #[derive(Drop)]
 pub struct ScriptEndArgs<'a, S: OutputSpec> {
+    /// The setup script.
     pub script_id: &'a ScriptId,
+    /// Which of a stress run's runs it belongs to.
     pub stress_index: &'a Option<StressIndexSummary>,
+    /// The run of the script.
     pub status: &'a SetupScriptExecuteStatus<S>,
 }
 
@@ -34,12 +37,16 @@ impl<'a, S: OutputSpec> Args for ScriptEndArgs<'a, S> {
     }
 }
 
-/// Holds the args of a slow setup script. `elapsed` is how long it has run.
+/// Holds the args of a slow setup script.
 #[derive(Drop)]
 pub struct SlowScriptArgs<'a> {
+    /// The setup script.
     pub script_id: &'a ScriptId,
+    /// Which of a stress run's runs it belongs to.
     pub stress_index: &'a Option<StressIndexSummary>,
+    /// How long the script has run.
     pub elapsed: &'a Duration,
+    /// Whether it is about to be stopped for its time.
     pub will_terminate: bool,
 }
 

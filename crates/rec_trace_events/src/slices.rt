@@ -38,7 +38,8 @@ fn slice_event<'a, A: Args>(
     event(alloc, &parts, args)
 }
 
-/// Makes the begin of a slice, at an instant in microseconds since the epoch.
+/// Makes the begin of a slice, at an instant in microseconds since the Unix epoch.
+/// `docs/FORMATS.md#spans-and-rows` says what a slice is called, and where it stands.
 ///
 /// # Errors
 ///
@@ -59,7 +60,7 @@ pub fn begin_event<A: Args>(
     slice_event(alloc, "B", name, category, row, at, args)
 }
 
-/// Makes the end of a slice, at an instant in microseconds since the epoch.
+/// Makes the end of a slice, at an instant in microseconds since the Unix epoch.
 ///
 /// # Errors
 ///

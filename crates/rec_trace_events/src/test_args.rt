@@ -10,7 +10,9 @@ use std::alloc::{AllocError, Global};
 /// Holds the args of the begin of a test's first attempt. A command line without a word is left out.
 #[derive(Drop)]
 pub struct TestBeginArgs<'a> {
+    /// The test.
     pub test: &'a OwnedTestInstanceId,
+    /// The program of the test, and its arguments.
     pub command_line: &'a Items<Text>,
 }
 
@@ -32,8 +34,11 @@ impl<'a> Args for TestBeginArgs<'a> {
 /// Holds the args of the begin of a further attempt. A command line without a word is left out.
 #[derive(Drop)]
 pub struct RetryBeginArgs<'a> {
+    /// The test.
     pub test: &'a OwnedTestInstanceId,
+    /// Which attempt it is, of how many.
     pub retry_data: &'a RetryData,
+    /// The program of the test, and its arguments.
     pub command_line: &'a Items<Text>,
 }
 
@@ -54,13 +59,18 @@ impl<'a> Args for RetryBeginArgs<'a> {
     }
 }
 
-/// Holds the args of a slow test. `elapsed` is how long its attempt has run.
+/// Holds the args of a slow test.
 #[derive(Drop)]
 pub struct SlowTestArgs<'a> {
+    /// The test.
     pub test: &'a OwnedTestInstanceId,
+    /// Which of a stress run's runs it belongs to.
     pub stress_index: &'a Option<StressIndexSummary>,
+    /// Which attempt it is, of how many.
     pub retry_data: &'a RetryData,
+    /// How long the attempt has run.
     pub elapsed: &'a Duration,
+    /// Whether it is about to be stopped for its time.
     pub will_terminate: bool,
 }
 

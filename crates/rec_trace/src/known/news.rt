@@ -19,7 +19,9 @@ use std::alloc::{AllocError, Global};
 /// Says what becomes of the arrow that is pending for a test.
 #[derive(Clone, Copy, Drop)]
 pub enum ArrowNews {
+    /// It stays, where there is one.
     Stays,
+    /// It finishes, and none is pending then.
     Finishes,
     /// An arrow of this number is pending.
     Starts(u64),
@@ -28,18 +30,22 @@ pub enum ArrowNews {
 /// Says what an event decides of a test.
 #[derive(Clone, Copy)]
 pub struct NewTest<'e> {
+    /// The test.
     pub test: &'e OwnedTestInstanceId,
     /// The group of the attempt that it starts; none where it ends one.
     pub group: Option<&'e TestGroup>,
+    /// What becomes of its arrow.
     pub arrow: ArrowNews,
 }
 
 /// Holds what an event decides of a test.
 #[derive(Drop)]
 pub struct TestNews {
+    /// The test.
     pub test: OwnedTestInstanceId,
     /// The group of the attempt that it starts; none where it ends one.
     pub group: Option<TestGroup>,
+    /// What becomes of its arrow.
     pub arrow: ArrowNews,
 }
 
@@ -52,6 +58,7 @@ pub struct News {
     pub running: Option<usize>,
     /// The run that it starts.
     pub run: Option<RunStart>,
+    /// What it decides of a test, if it is of one.
     pub test: Option<TestNews>,
 }
 

@@ -15,7 +15,9 @@ use std::collections::BTreeMap;
 /// Holds what is noted of a test.
 #[derive(Drop)]
 pub struct TestNotes {
+    /// The group in which its open attempt was started.
     pub group: Option<TestGroup>,
+    /// The number of its pending arrow.
     pub arrow: Option<u64>,
 }
 
@@ -63,6 +65,7 @@ impl Notes {
         ensures { IsCountOf test_eq (λ test. is_some (arrow_noted self.now test)) result }
     {
         let mut count = 0;
+        // that each test is counted once rests on the order of the map
         let _tests = self.tests.len();
         for notes in self.tests.values() {
             count += usize::from(notes.arrow.is_some());
