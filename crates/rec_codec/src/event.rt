@@ -49,8 +49,8 @@ fn write_members<S: OutputForm>(
     }
 }
 
-/// Writes an event at the end of `text`: an object with its times, the name of its kind and the members
-/// of that kind.
+/// Writes an event at the end of `text`: an object with its times, the name of its kind and the
+/// members of that kind, as `docs/FORMATS.md#events` lists them.
 ///
 /// # Errors
 ///

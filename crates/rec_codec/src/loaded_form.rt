@@ -19,19 +19,19 @@ use std::alloc::Global;
 
 /// Writes items that hold outputs as JSON, where these outputs are loaded, and reads them.
 pub trait LoadedForm: Sized {
-    // What holds of each item that a program has, if its outputs are loaded.
+    /// Says what holds of each item that a program has, if its outputs are loaded.
     ghost well_formed: { Self → Type 0 };
 
-    // Whether all its outputs are there to be written.
+    /// Says whether all its outputs are there to be written.
     ghost loaded: { Self → Bool };
 
-    // The value that an item is written as.
+    /// Names the value that an item is written as.
     ghost value_of: { Self → Data };
 
-    // The item for which a value stands, if any.
+    /// Names the item for which a value stands, if any.
     ghost form_of: { Data → Option Self };
 
-    // How deep the arrays and objects of a written value nest at most.
+    /// Says how deep the arrays and objects of a written value nest at most.
     ghost levels: { ℕ };
 
     /// Writes the item at the end of `text`. It is read as this item again.
@@ -54,14 +54,14 @@ pub trait LoadedForm: Sized {
     fn from_node(alloc: Global, node: &Node<'_>) -> Result<Self, FromValueError>
         ensures read { Gives result (form_of (view node.now)) };
 
-    // What was written is read back.
+    /// Says that what was written is read back.
     ghost reads_back: { (x : Self) → well_formed x → form_of (value_of x) ≡ Some x };
 
-    // What is read is well-formed.
+    /// Says that what is read is well-formed.
     ghost reads_well_formed: { GivesWellFormed well_formed form_of };
 
-    // What is written is no null, is given back by its text, has no float, and nests no deeper than
-    // `levels`.
+    /// Says that what is written is no null, is given back by its text, has no float, and nests no
+    /// deeper than `levels`.
     ghost writable: { (x : Self) → well_formed x → IsWritable levels (value_of x) };
 }
 

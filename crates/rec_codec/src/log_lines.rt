@@ -27,8 +27,8 @@ fn write_recorded(
     }
 }
 
-/// Makes the line of an event in a log: its compact JSON text and LF. The line is read as this event
-/// again.
+/// Makes the line of an event in a log: its compact JSON text and LF, as `docs/FORMATS.md#log`
+/// says. The line is read as this event again.
 ///
 /// # Errors
 ///

@@ -17,21 +17,22 @@ use rec_json::{JsonText, Node};
 use serde_json::Value;
 use std::alloc::Global;
 
-/// Writes the outputs of one form as JSON, and reads them.
+/// Writes the outputs of one form as JSON, and reads them: as captured or as in a store, the two
+/// forms of `docs/FORMATS.md#events`.
 pub trait OutputForm: OutputSpec {
-    // What holds of each output that a program has, if it is loaded.
+    /// Says what holds of each output that a program has, if it is loaded.
     ghost output_well_formed: { Self.ChildOutput → Type 0 };
 
-    // Whether an output is there to be written.
+    /// Says whether an output is there to be written.
     ghost loaded: { Self.ChildOutput → Bool };
 
-    // The value that an output is written as, where it is loaded.
+    /// Names the value that an output is written as, where it is loaded.
     ghost output_value: { Self.ChildOutput → Data };
 
-    // The output for which a value stands, if any.
+    /// Names the output for which a value stands, if any.
     ghost output_form: { Data → Option Self.ChildOutput };
 
-    // How deep the objects of a written value nest at most.
+    /// Says how deep the objects of a written value nest at most.
     ghost output_levels: { ℕ };
 
     /// Writes the output at the end of `text`. It is read as this output again.
@@ -93,21 +94,22 @@ pub trait OutputForm: OutputSpec {
         output
     }
 
-    // What was written is read back.
+    /// Says that what was written is read back.
     ghost output_reads_back: { (o : Self.ChildOutput)
         → output_well_formed o
         → output_form (output_value o) ≡ Some o };
 
-    // What is read is well-formed.
+    /// Says that what is read is well-formed.
     ghost output_reads_well_formed: { GivesWellFormed output_well_formed output_form };
 
-    // What is written is no null, is given back by its text, has no float, and nests no deeper than
-    // `output_levels`.
+    /// Says that what is written is no null, is given back by its text, has no float, and nests no
+    /// deeper than `output_levels`.
     ghost output_writable: { (o : Self.ChildOutput)
         → output_well_formed o
         → IsWritable output_levels (output_value o) };
 
-    // An output within an event, where it nests up to ten deeper, is no deeper than what is read as JSON.
+    /// Says that an output within an event, where it nests up to ten deeper, is no deeper than what
+    /// is read as JSON.
     ghost output_shallow: { output_levels + 10 ≤ max_depth };
 }
 

@@ -15,15 +15,24 @@ use rec_forms::{
 use rec_json::{JsonText, Node};
 use std::alloc::{AllocError, Global};
 
-/// Says which setup script it is: the one with `index` others before it, of `total`.
+/// Says which setup script it is.
 #[derive(Drop)]
 pub struct Place {
+    /// Which of a stress run's runs it belongs to.
     pub stress_index: Option<StressIndexSummary>,
+    /// How many setup scripts come before this one, from 0.
     pub index: usize,
+    /// How many setup scripts there are.
     pub total: usize,
 }
 
 impl Place {
+    /// Reads the place from the members of an event.
+    ///
+    /// # Errors
+    ///
+    /// - `NotAValue` if `index` or `total` is missing, or a member stands for no item.
+    /// - `OutOfMemory` if memory runs out.
     #[tactic(auto, unfolding(crate::specs::CoreKindForms::place_form))]
     pub fn read<'a>(alloc: Global, object: &[(&'a str, Node<'a>)]) -> Result<Place, FromValueError>
         ensures { Gives result (place_form (members_view object.now)) }
@@ -41,12 +50,21 @@ impl Place {
 /// Says what a setup script runs.
 #[derive(Drop)]
 pub struct Command {
+    /// The setup script.
     pub script_id: ScriptId,
+    /// The program that the script runs.
     pub program: Text,
+    /// The arguments of the program.
     pub args: Items<Text>,
 }
 
 impl Command {
+    /// Reads the command from the members of an event.
+    ///
+    /// # Errors
+    ///
+    /// - `NotAValue` if a member is missing or stands for no item.
+    /// - `OutOfMemory` if memory runs out.
     #[tactic(auto, unfolding(crate::specs::CoreKindForms::command_form))]
     pub fn read<'a>(
         alloc: Global,

@@ -35,8 +35,9 @@ impl From<AllocError> for PrefixError {
 }
 
 impl<'a> Container<'a> {
-    /// Reads whole entries from the left, up to the first place where none of a new name stands: what a writer
-    /// that was stopped has left. Names and contents aren't copied.
+    /// Reads whole entries from the left, up to the first place where none of a new name stands:
+    /// what a writer that was stopped has left. Names and contents aren't copied.
+    /// `docs/FORMATS.md#a-container-that-is-cut-off` says which entries these are.
     ///
     /// # Errors
     ///

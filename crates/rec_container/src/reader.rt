@@ -16,7 +16,7 @@ use std::marker::Model;
 use std::sync::ledger::Ledger;
 
 /// Lends the entries of a container, in its order. Names and contents are windows of the bytes that
-/// were parsed.
+/// were parsed, by the grammar of `docs/FORMATS.md#container`.
 #[derive(Drop)]
 pub struct Container<'a> {
     bytes: &'a [u8],

@@ -16,7 +16,7 @@ use indexmap::IndexMap;
 use std::alloc::{AllocError, Global};
 use std::marker::Model;
 
-/// Writes a container to a sink, entry by entry.
+/// Writes a container to a sink, entry by entry, by the grammar of `docs/FORMATS.md#container`.
 ///
 /// It keeps a copy of the entries, to know a name that is added again.
 #[derive(Drop)]

@@ -10,6 +10,6 @@ pub record Moment : Type 0 where
   pub nanos : ℕ
   pub offset : ℤ
 
--- the whole microseconds since the beginning of 1970
+-- the whole microseconds since the Unix epoch
 abbrev pub micros : Moment → ℤ
 micros s = s.secs *ℤ pos 1000000 +ℤ pos (s.nanos / 1000)

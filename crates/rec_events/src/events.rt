@@ -232,6 +232,7 @@ pub enum TestEventKindSummary<S: OutputSpec> {
 }
 
 /// Holds an event of a run: when it happened, how long after the run's start, and what it is.
+/// `docs/FORMATS.md#events` has the JSON of each kind.
 #[derive(Drop)]
 pub struct TestEventSummary<S: OutputSpec> {
     /// When it happened.
@@ -243,7 +244,8 @@ pub struct TestEventSummary<S: OutputSpec> {
 }
 
 impl<S: OutputSpec> TestEventSummary<S> {
-    /// Lets the event go, as `drop` does. A crate that lets one go by this call doesn't prove anew how each of its parts is let go.
+    /// Drops the event. It is a call so that this is proved once, here: where a crate drops an
+    /// event in place, its own proof goes over each part of the event again.
     pub fn discard(self) {
         drop(self);
     }

@@ -27,7 +27,7 @@ impl Model for RustBinaryId {
 }
 
 impl RustBinaryId {
-    /// Makes the binary of this name.
+    /// Makes the id of the binary of this name.
     pub fn new(text: String) -> RustBinaryId
         ensures { result ≡ string_bytes text }
     {
@@ -85,7 +85,7 @@ impl Model for TestCaseName {
 }
 
 impl TestCaseName {
-    /// Makes the test of this name.
+    /// Makes the name that this text is.
     pub fn new(text: String) -> TestCaseName
         ensures { result ≡ string_bytes text }
     {
@@ -133,7 +133,7 @@ impl Model for ScriptId {
 }
 
 impl ScriptId {
-    /// Makes the script of this name.
+    /// Makes the id of the script of this name.
     pub fn new(text: String) -> ScriptId
         ensures { result ≡ string_bytes text }
     {
@@ -176,7 +176,8 @@ impl Hash for ScriptId {
     }
 }
 
-/// Holds the number of a run. Contracts see its sixteen bytes.
+/// Holds the id of a run, a UUID (RFC 9562). Contracts see its sixteen bytes.
+/// `docs/FORMATS.md#rules-for-json` says in which forms it is read and written.
 #[derive(Clone, Copy, PartialEq, Eq, Drop)]
 pub struct ReportUuid {
     uuid: Uuid,
@@ -191,14 +192,14 @@ impl Model for ReportUuid {
 }
 
 impl ReportUuid {
-    /// Makes the run of this number.
+    /// Makes the id of the run that has this UUID.
     pub fn new(uuid: Uuid) -> ReportUuid
         ensures { result ≡ uuid }
     {
         ReportUuid { uuid }
     }
 
-    /// Returns the number itself.
+    /// Returns the UUID itself.
     pub fn uuid(&self) -> Uuid
         ensures { result ≡ self.now }
     {
@@ -206,7 +207,7 @@ impl ReportUuid {
     }
 }
 
-/// Writes the number hyphenated, in lower case.
+/// Writes the UUID hyphenated, in lower case.
 impl fmt::Display for ReportUuid {
     ghost use Rattle.std.specs.Prelude.{Some};
     ghost use Rattle.uuid.specs.Text.{lower, hyphenated_text};

@@ -44,7 +44,8 @@ impl OutputKind {
     }
 }
 
-/// Names a stored output by sixteen hexadecimal digits in lower case, and its kind.
+/// Names a stored output by sixteen hexadecimal digits in lower case, and its kind, as
+/// `docs/FORMATS.md#events` spells it.
 #[derive(Clone, Copy, PartialEq, Eq, Drop)]
 pub struct OutputFileName {
     number: u64,

@@ -68,6 +68,7 @@ impl TestNames {
         ensures rise { Rise self.now }
         ensures texts { AreTexts self.now }
     {
+        // that the names rise rests on the order of the set
         let _ordered = self.inner.len();
         &self.inner
     }

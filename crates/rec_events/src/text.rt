@@ -43,6 +43,7 @@ impl Text {
         let text = Text {
             inner: String::from_str(alloc, text)?,
         };
+        // that the text is UTF-8 rests on the string
         let _utf8 = text.as_str();
         Ok(text)
     }

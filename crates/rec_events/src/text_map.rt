@@ -68,6 +68,7 @@ impl<V> TextMap<V> {
         ensures rise { KeysRise self.now }
         ensures texts { AreTexts (keys self.now) }
     {
+        // that the keys rise rests on the order of the map
         let _ordered = self.inner.len();
         &self.inner
     }

@@ -6,6 +6,7 @@ ghost use Rattle.rec_events.specs.Times.{micros};
 use std::marker::Model;
 
 /// Holds a span of time: whole seconds, and nanoseconds below 1000000000.
+/// `docs/FORMATS.md#rules-for-json` has its JSON.
 #[derive(Clone, Copy, PartialEq, Eq, Drop)]
 pub struct Duration {
     /// Whole seconds.
@@ -48,11 +49,11 @@ impl Duration {
     }
 }
 
-/// Holds an instant: seconds and nanoseconds (below 1000000000) since the beginning of 1970 in UTC,
-/// and the offset of its clock's zone in seconds.
+/// Holds an instant: seconds and nanoseconds (below 1000000000) since the Unix epoch, and the
+/// offset of its clock's zone in seconds. `docs/FORMATS.md#rules-for-json` has its JSON.
 #[derive(Clone, Copy, PartialEq, Eq, Drop)]
 pub struct Stamp {
-    /// Whole seconds since the beginning of 1970 in UTC; below 0 before it.
+    /// Whole seconds since the Unix epoch; below 0 before it.
     pub secs: i64,
     /// Nanoseconds after them, from 0 to 999999999.
     pub nanos: u32,
@@ -91,8 +92,7 @@ impl Stamp {
         }
     }
 
-    /// Returns the whole microseconds since the beginning of 1970; `None` exactly where they are no
-    /// i64.
+    /// Returns the whole microseconds since the Unix epoch; `None` exactly where they are no i64.
     pub fn microseconds(&self) -> Option<i64>
         ensures some { IsSome result ↔ FitsSigned w64 (micros self.now) }
         ensures value { IfSome result (λ m. m ≡ micros self.now) }

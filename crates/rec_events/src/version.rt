@@ -73,6 +73,7 @@ impl Version {
         ensures utf8 { IfOk result (λ t. IsTrue (is_utf8 t)) }
     {
         let text = Text::new(self.inner.to_string(alloc)?);
+        // that the text is UTF-8 rests on the string
         let _utf8 = text.as_str();
         Ok(text)
     }

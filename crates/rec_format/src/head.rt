@@ -12,7 +12,8 @@ use rec_events::{
 };
 use std::alloc::{AllocError, Global};
 
-/// Describes a session: what is known of a run beside its events.
+/// Describes a session: what is known of a run beside its events. `docs/FORMATS.md#head` has its
+/// JSON.
 #[derive(Drop)]
 pub struct SessionHead {
     /// The id of the run.
@@ -80,7 +81,8 @@ impl SessionHead {
         })
     }
 
-    /// Lets the head go, as `drop` does. A crate that lets one go by this call doesn't prove anew how each of its parts is let go.
+    /// Drops the head. It is a call so that this is proved once, here: where a crate drops a head
+    /// in place, its own proof goes over each part of the head again.
     pub fn discard(self) {
         drop(self);
     }

@@ -9,6 +9,7 @@ use crate::{
 use std::alloc::{AllocError, Global};
 
 /// Describes a bundle, as its first entry: the bundle's version, and the metadata of its run.
+/// `docs/FORMATS.md#manifest` has its JSON.
 #[derive(Drop)]
 pub struct PortableManifest {
     /// The version of the bundle.
@@ -53,7 +54,8 @@ impl PortableManifest {
         )
     }
 
-    /// Lets the manifest go, as `drop` does. A crate that lets one go by this call doesn't prove anew how each of its parts is let go.
+    /// Drops the manifest. It is a call so that this is proved once, here: where a crate drops a
+    /// manifest in place, its own proof goes over each part of the manifest again.
     pub fn discard(self) {
         drop(self);
     }

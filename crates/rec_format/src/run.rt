@@ -37,7 +37,7 @@ pub struct RecordedRunInfo {
 }
 
 impl RecordedRunInfo {
-    /// Lets the information go, as `PortableManifest::discard` does with a manifest.
+    /// Drops the information, by a call for the same reason as `PortableManifest::discard`.
     pub fn discard(self) {
         drop(self);
     }

@@ -96,6 +96,7 @@ impl RerunSuites {
         ensures suites { suites_in result.now.entries ≡ self.now }
         ensures rise { SuitesRise self.now }
     {
+        // that the suites rise rests on the order of the map
         let _ordered = self.inner.len();
         &self.inner
     }

@@ -201,7 +201,8 @@ impl fmt::Display for PortableRecordingFormatMinorVersion {
     }
 }
 
-/// Names the version of the format that a store is written in, 3.1.
+/// Names the version of the format that a store is written in, 3.1. `docs/FORMATS.md#manifest` says
+/// how 3.1 differs from 3.0.
 pub const STORE_FORMAT_VERSION: StoreFormatVersion = StoreFormatVersion {
     major: StoreFormatMajorVersion { version: 3 },
     minor: StoreFormatMinorVersion { version: 1 },
@@ -225,7 +226,7 @@ impl StoreFormatVersion {
     }
 
     /// Checks that a program which supports a version reads a store of this one: exactly where the
-    /// majors are equal and this minor isn't newer.
+    /// majors are equal and this minor isn't newer, the rule of `docs/FORMATS.md#manifest`.
     ///
     /// # Errors
     ///
@@ -302,7 +303,7 @@ impl PortableRecordingFormatVersion {
     }
 
     /// Checks that a program which supports a version reads a bundle of this one: exactly where the
-    /// majors are equal and this minor isn't newer.
+    /// majors are equal and this minor isn't newer, the rule of `docs/FORMATS.md#manifest`.
     ///
     /// # Errors
     ///
@@ -344,7 +345,8 @@ impl fmt::Display for PortableRecordingFormatVersion {
     }
 }
 
-/// Names the version of the format that a run list is written in, 3.
+/// Names the version of the format that a run list is written in, 3. `docs/FORMATS.md#run-list`
+/// says which list is written back.
 pub const RUNS_JSON_FORMAT_VERSION: RunsJsonFormatVersion = RunsJsonFormatVersion { version: 3 };
 
 /// Numbers a version of the run list's format. A list of a newer one isn't written back.
@@ -391,6 +393,9 @@ impl fmt::Display for RunsJsonFormatVersion {
 
 impl StoreFormatMajorVersion {
     /// Returns what to do with a recording of this major version where it is too old to be read.
+    ///
+    /// The releases 0.9.130 and 0.9.149, the last ones whose recordings have major version 1 and 2,
+    /// are set by this program; `docs/CLI.md#where-to-look` says what they mean to a user.
     pub fn too_old_guidance(self) -> TooOldRecordingGuidance
         ensures { result ≡ guidance self }
     {

@@ -15,19 +15,20 @@ use rec_json::{JsonText, Node};
 use serde_json::Value;
 use std::alloc::{AllocError, Global};
 
-/// Writes the items of a type as JSON values, and reads them back.
+/// Writes the items of a type as JSON values, and reads them back, by
+/// `docs/FORMATS.md#rules-for-json`.
 pub trait Form: Sized {
-    // What holds of an item that can be written and read back: its numbers are in range, its texts are
-    // UTF-8.
+    /// Says what holds of an item that can be written and read back: its numbers are in range, its
+    /// texts are UTF-8.
     ghost well_formed: { Self → Type 0 };
 
-    // The value that an item is written as.
+    /// Names the value that an item is written as.
     ghost value_of: { Self → Data };
 
-    // The item for which a value stands, if any.
+    /// Names the item for which a value stands, if any.
     ghost form_of: { Data → Option Self };
 
-    // How deep the arrays and objects of a written value nest at most.
+    /// Says how deep the arrays and objects of a written value nest at most.
     ghost levels: { ℕ };
 
     /// Writes the item at the end of `text`.
@@ -78,28 +79,28 @@ pub trait Form: Sized {
         Self::from_node(alloc, &node)
     }
 
-    // What was written is read back.
+    /// Says that what was written is read back.
     ghost reads_back: { (x : Self) → well_formed x → form_of (value_of x) ≡ Some x };
 
-    // What is read is well-formed.
+    /// Says that what is read is well-formed.
     ghost reads_well_formed: { GivesWellFormed well_formed form_of };
 
-    // What is written is no null, is given back by its text, has no float, and nests no deeper than
-    // `levels`.
+    /// Says that what is written is no null, is given back by its text, has no float, and nests no
+    /// deeper than `levels`.
     ghost writable: { (x : Self) → well_formed x → IsWritable levels (value_of x) };
 
-    // What is written is no deeper than what is read as JSON.
+    /// Says that what is written is no deeper than what is read as JSON.
     ghost shallow: { levels ≤ max_depth };
 }
 
 /// Says of a type that its items can stand in a list, and such a list in a map.
 pub trait ItemForm: Form {
-    // Two levels more are no deeper than what is read as JSON.
+    /// Says that two levels more are no deeper than what is read as JSON.
     ghost nested: { suc (suc Self.levels) ≤ max_depth };
 }
 
 /// Says of a type that its items can be the values of a map.
 pub trait EntryForm: Form {
-    // One level more is no deeper than what is read as JSON.
+    /// Says that one level more is no deeper than what is read as JSON.
     ghost nested: { suc Self.levels ≤ max_depth };
 }

@@ -215,6 +215,7 @@ impl Form for Version {
 
 impl Held for Version {
     fn held(&self) {
+        // it was made from its text, so its text reads as it
         let _parsed = self.as_semver();
     }
 }

@@ -45,6 +45,7 @@ impl Form for u32 {
 
 impl Held for u32 {
     fn held(&self) {
+        // a number that is read is within its type
         let _number = *self;
     }
 }
@@ -86,6 +87,7 @@ impl Form for u64 {
 
 impl Held for u64 {
     fn held(&self) {
+        // a number that is read is within its type
         let _number = *self;
     }
 }
@@ -127,6 +129,7 @@ impl Form for usize {
 
 impl Held for usize {
     fn held(&self) {
+        // a number that is read is within its type
         let _number = *self;
     }
 }
@@ -168,6 +171,7 @@ impl Form for i64 {
 
 impl Held for i64 {
     fn held(&self) {
+        // a number that is read is within its type
         let _number = *self;
     }
 }
@@ -210,6 +214,7 @@ impl Form for i32 {
 
 impl Held for i32 {
     fn held(&self) {
+        // a number that is read is within its type
         let _number = *self;
     }
 }
@@ -285,6 +290,7 @@ impl Form for NonZeroCount {
 
 impl Held for NonZeroCount {
     fn held(&self) {
+        // a count that is read is above 0
         let _number = self.get();
     }
 }

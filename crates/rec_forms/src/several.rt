@@ -9,6 +9,11 @@ use rec_json::Node;
 use std::alloc::Global;
 
 /// Reads two fields that have to be there.
+///
+/// # Errors
+///
+/// - `NotAValue` if a key has no member, or its value stands for no item.
+/// - `OutOfMemory` if memory runs out.
 pub fn required_two<'a, A: Form + Drop, B: Form + Drop>(
     alloc: Global,
     object: &[(&'a str, Node<'a>)],
@@ -25,6 +30,11 @@ pub fn required_two<'a, A: Form + Drop, B: Form + Drop>(
 }
 
 /// Reads three fields that have to be there.
+///
+/// # Errors
+///
+/// - `NotAValue` if a key has no member, or its value stands for no item.
+/// - `OutOfMemory` if memory runs out.
 pub fn required_three<'a, A: Form + Drop, B: Form + Drop, C: Form + Drop>(
     alloc: Global,
     object: &[(&'a str, Node<'a>)],
@@ -43,6 +53,11 @@ pub fn required_three<'a, A: Form + Drop, B: Form + Drop, C: Form + Drop>(
 }
 
 /// Reads four fields that have to be there.
+///
+/// # Errors
+///
+/// - `NotAValue` if a key has no member, or its value stands for no item.
+/// - `OutOfMemory` if memory runs out.
 pub fn required_four<'a, A: Form + Drop, B: Form + Drop, C: Form + Drop, D: Form + Drop>(
     alloc: Global,
     object: &[(&'a str, Node<'a>)],
@@ -63,6 +78,11 @@ pub fn required_four<'a, A: Form + Drop, B: Form + Drop, C: Form + Drop, D: Form
 }
 
 /// Reads five fields that have to be there.
+///
+/// # Errors
+///
+/// - `NotAValue` if a key has no member, or its value stands for no item.
+/// - `OutOfMemory` if memory runs out.
 pub fn required_five<
     'a,
     A: Form + Drop,
@@ -94,6 +114,11 @@ pub fn required_five<
 }
 
 /// Reads two fields that may be missing or `null`.
+///
+/// # Errors
+///
+/// - `NotAValue` if there is a value other than `null` that stands for no item.
+/// - `OutOfMemory` if memory runs out.
 pub fn optional_two<'a, A: Form + Drop, B: Form + Drop>(
     alloc: Global,
     object: &[(&'a str, Node<'a>)],
@@ -109,7 +134,13 @@ pub fn optional_two<'a, A: Form + Drop, B: Form + Drop>(
     Ok((first, second))
 }
 
-/// Reads two fields, each of which is as given where its member is missing.
+/// Reads two fields, each of which is as given where its member is missing. A member that is `null`
+/// is not missing.
+///
+/// # Errors
+///
+/// - `NotAValue` if there is a value that stands for no item.
+/// - `OutOfMemory` if memory runs out.
 pub fn defaulted_two<'a, A: Form + Drop, B: Form + Drop>(
     alloc: Global,
     object: &[(&'a str, Node<'a>)],
@@ -125,7 +156,13 @@ pub fn defaulted_two<'a, A: Form + Drop, B: Form + Drop>(
     Ok((first, second))
 }
 
-/// Reads three fields, each of which is as given where its member is missing.
+/// Reads three fields, each of which is as given where its member is missing. A member that is
+/// `null` is not missing.
+///
+/// # Errors
+///
+/// - `NotAValue` if there is a value that stands for no item.
+/// - `OutOfMemory` if memory runs out.
 pub(crate) fn defaulted_three<'a, A: Form + Drop, B: Form + Drop, C: Form + Drop>(
     alloc: Global,
     object: &[(&'a str, Node<'a>)],

@@ -57,6 +57,7 @@ impl EntryForm for Text {
 
 impl Held for Text {
     fn held(&self) {
+        // its text is read from the string, so it is UTF-8
         let _text = self.as_str();
     }
 }

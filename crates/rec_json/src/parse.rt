@@ -13,12 +13,13 @@ use crate::{Node, ReadError};
 use json::{Reader, Scratch, Token};
 use std::alloc::Global;
 
-// How deep lists and objects may nest.
+// How deep lists and objects may nest. It is the limit of serde_json, which refuses the 128th
+// level.
 const MAX_DEPTH: usize = 127;
 
 impl<'a> Node<'a> {
-    /// Reads the value of a JSON text. `scratch` is where texts with escapes are put; it can be lent to one
-    /// read after another, and grows to the longest text.
+    /// Reads the value of a JSON text (RFC 8259). `scratch` is where texts with escapes are put; it
+    /// can be lent to one read after another, and grows to the longest text.
     ///
     /// # Errors
     ///

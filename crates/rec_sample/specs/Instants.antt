@@ -3,7 +3,7 @@ use Rattle.std.specs.Prelude.{ℕ, ◌+◌, ◌*◌, pos}
 use Rattle.rec_events.specs.Times.{Span, Moment}
 use Rattle.rec_sample.specs.Batches.{batch, slot, batch_count}
 
--- so many seconds and nanoseconds after the beginning of 1970
+-- so many seconds and nanoseconds since the Unix epoch
 abbrev pub instant : ℕ → ℕ → Moment
 instant secs nanos = record { secs = pos secs; nanos = nanos; offset = pos 0 }
 

@@ -13,7 +13,7 @@ use rec_events::{
 use rec_format::{BuildKind, RecordedBuildScope, RecordedRunStatus, SessionHead};
 use std::alloc::{AllocError, Global};
 
-/// When the head was last written, in seconds after the beginning of 1970.
+/// When the head was last written, in seconds since the Unix epoch.
 const LAST_WRITTEN: u64 = 1011;
 
 /// Makes the names of the tests in a binary: every fourth, in rising order.

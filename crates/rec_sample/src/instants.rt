@@ -5,13 +5,13 @@ ghost use Rattle.rec_sample.specs.Instants.{instant, run_start, test_start, test
 use crate::batches::{batch_count, batch_of, slot_of};
 use rec_events::{Duration, Stamp};
 
-/// When a run starts, in seconds after the beginning of 1970.
+/// When a run starts, in seconds since the Unix epoch.
 const RUN_START: u64 = 1000;
 
 /// How many seconds a batch takes.
 const BATCH_SECONDS: u64 = 4;
 
-/// Returns the instant at so many seconds and nanoseconds after the beginning of 1970.
+/// Returns the instant at so many seconds and nanoseconds since the Unix epoch.
 pub(crate) fn instant(secs: u64, nanos: u32) -> Stamp
     requires secs { secs ≤ 1000000000 }
     requires nanos { nanos < 1000000000 }

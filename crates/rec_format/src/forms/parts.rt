@@ -13,11 +13,17 @@ use std::alloc::Global;
 /// How the run was started, and how long it took.
 #[derive(Drop)]
 pub(crate) struct Invocation {
+    /// The command line of the run.
     pub cli_args: Items<Text>,
+    /// How long the run took, where that is known.
     pub duration: Option<Duration>,
+    /// The environment variables that were kept of the run, by their names.
     pub env_vars: TextMap<Text>,
+    /// When the recording was last written to.
     pub last_written_at: Stamp,
+    /// The version of the test runner.
     pub nextest_version: Version,
+    /// The run of which this one is a rerun.
     pub parent_run_id: Option<ReportUuid>,
 }
 
@@ -58,9 +64,13 @@ impl Invocation {
 /// Which run it is, when it began, how large its recording is and how it ended.
 #[derive(Drop)]
 pub(crate) struct Outcome {
+    /// The id of the run.
     pub run_id: ReportUuid,
+    /// The sizes of the run's event log and store.
     pub sizes: RecordedSizesFormat,
+    /// When the run began.
     pub started_at: Stamp,
+    /// How the run ended, if it did.
     pub status: RecordedRunStatusFormat,
 }
 
