@@ -10,7 +10,8 @@ use std::collections::BTreeMap;
 use std::marker::Model;
 use std::ops::Bound;
 
-/// Cuts a run's id after the shortest prefix that stands for it.
+/// Cuts a run's id after the shortest prefix that stands for it, as `docs/FORMATS.md#run-list`
+/// defines it.
 #[derive(Drop)]
 pub struct ShortestRunIdPrefix {
     /// The shortest prefix of the id that stands for the run.

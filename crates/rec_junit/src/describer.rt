@@ -11,13 +11,15 @@ use std::alloc::{AllocError, Global};
 /// Says what went wrong, shortly and at length.
 #[derive(Drop)]
 pub struct ErrorText {
+    /// What is said shortly.
     pub message: Text,
+    /// What is said at length.
     pub description: Text,
 }
 
 /// Says what went wrong in an attempt, from what came of starting its process.
 pub trait ErrorDescriber {
-    // What it says of an output, if anything.
+    /// Names what it says of an output, if anything.
     ghost text_of: { Self → Execution → Option ErrorText };
 
     /// Describes what went wrong; `None` where there is nothing to say.

@@ -14,7 +14,9 @@ use std::alloc::{AllocError, Global};
 /// Names what failed, and how.
 #[derive(Drop)]
 pub(crate) struct FailureKind {
+    /// Whether it failed, or something went wrong.
     pub kind: JunitKind,
+    /// How it failed, as `test failure with exit code 101`.
     pub type_text: Text,
 }
 

@@ -14,20 +14,25 @@ use rec_events::{
 };
 use std::alloc::Global;
 
-/// Says which outputs a report holds: of cases that did not fail, and of those that did and of reruns.
+/// Says which outputs a report holds.
 #[derive(Clone, Copy, Drop)]
 pub(crate) struct Storing {
+    /// Whether it holds those of cases that did not fail.
     pub success: bool,
+    /// Whether it holds those of cases that failed, and of reruns.
     pub failure: bool,
 }
 
 /// Makes the parts of a case.
 #[derive(Drop)]
 pub(crate) struct CaseMaker<'r, D: ErrorDescriber> {
+    /// Where memory comes from.
     pub alloc: Global,
     /// What the case is called where it fails: a test, a benchmark or a script.
     pub unit: &'r str,
+    /// What says what went wrong.
     pub describer: &'r D,
+    /// Which outputs the report holds.
     pub storing: Storing,
 }
 
@@ -87,7 +92,7 @@ impl<D: ErrorDescriber> CaseMaker<'_, D> {
     ///
     /// # Errors
     ///
-    /// - `SuccessAsFailure` exactly where it passed, and was not noticed to leave an output open.
+    /// - `SuccessAsFailure` exactly where its result is `Pass`, or a timeout that counts as a pass.
     /// - `OutOfMemory` if memory runs out.
     pub fn failure_of(
         &self,
@@ -114,8 +119,9 @@ impl<D: ErrorDescriber> CaseMaker<'_, D> {
     ///
     /// # Errors
     ///
-    /// - `SuccessAsFailure` exactly where it passed, and was not noticed to leave an output open.
-    /// - `NotLoadedOutput` exactly where it did not, and its output is stored and was not loaded.
+    /// - `SuccessAsFailure` exactly where its result is `Pass`, or a timeout that counts as a pass.
+    /// - `NotLoadedOutput` exactly where it is another one, and its output is stored and was not
+    ///   loaded.
     /// - `OutOfMemory` if memory runs out.
     fn rerun_of(&self, status: &ExecuteStatus<LiveSpec>) -> Result<JunitRerun, JunitError>
         ensures { Judges result

@@ -33,7 +33,8 @@ impl Word for Text {
     }
 }
 
-/// Joins words with spaces, so that a shell reads them as these words.
+/// Joins words with spaces, so that a shell reads them as these words, by the rules of quoting in
+/// POSIX (Shell Command Language, 2.2).
 ///
 /// A word of ASCII letters, digits and `_-./,:@+` stands as it is, unless it is empty. Any other stands
 /// between single quotes, and each single quote in it is written as `'\''`.

@@ -15,7 +15,9 @@ use std::alloc::{AllocError, Global};
 /// Holds what a case or a rerun wrote, where it is stored.
 #[derive(Drop)]
 pub(crate) struct StoredOutput {
+    /// What it wrote to stdout, or a note in its place.
     pub system_out: Option<Text>,
+    /// What it wrote to stderr, or a note in its place.
     pub system_err: Option<Text>,
 }
 

@@ -10,21 +10,27 @@ use std::alloc::{AllocError, Global};
 /// Says what a suite is of.
 #[derive(PartialEq, Eq, Hash, Drop)]
 pub(crate) enum SuiteSubject {
+    /// A setup script.
     Script(ScriptId),
+    /// A test binary.
     Binary(RustBinaryId),
 }
 
 /// Says which run of a stress run a suite is of, and of how many where that is known.
 #[derive(Clone, Copy, PartialEq, Eq, Hash, Drop)]
 pub(crate) struct StressKey {
+    /// How many sub-runs come before it.
     pub current: u32,
+    /// How many sub-runs there are to be, where that is known.
     pub total: Option<u32>,
 }
 
 /// Says what a suite is known by: a script or a binary, in one run of a stress run.
 #[derive(PartialEq, Eq, Hash, Drop)]
 pub(crate) struct SuiteKey {
+    /// What the suite is of.
     pub subject: SuiteSubject,
+    /// The sub-run that it is of; `None` outside a stress run.
     pub stress_index: Option<StressKey>,
 }
 

@@ -16,8 +16,11 @@ use std::mem;
 /// Holds what an event adds to a report: a case, and properties of its suite.
 #[derive(Drop)]
 pub(crate) struct Addition {
+    /// The key of the suite.
     pub key: SuiteKey,
+    /// The case.
     pub case: JunitCase,
+    /// What it says of the suite.
     pub properties: Items<JunitProperty>,
 }
 
@@ -102,6 +105,7 @@ fn add_suite(
         return Err(AllocError);
     };
     suites.push(suite).unwrap();
+    // the key is new, and there is room for it
     let _ = keys.insert(key).unwrap();
     Ok(())
 }

@@ -58,7 +58,8 @@ pub fn report_to_value(alloc: Global, report: &JunitReport) -> Result<Value, All
     value_of_text(alloc, &text)
 }
 
-/// Writes the compact JSON text of a report, which is that of `report_to_value`.
+/// Writes the compact JSON text of a report, which is that of `report_to_value`, as
+/// `docs/FORMATS.md#report` describes it.
 ///
 /// # Errors
 ///

@@ -10,7 +10,7 @@ use rec_events::{
 use std::alloc::{AllocError, Global};
 use uuid::Uuid;
 
-/// Seconds after the beginning of 1970.
+/// Seconds since the Unix epoch.
 fn instant(secs: i64) -> Stamp {
     Stamp {
         secs,

@@ -12,7 +12,7 @@ use rec_store::{bundle_length, write_bundle};
 use std::alloc::{AllocError, Global};
 
 /// Returns the bytes of the bundle of a manifest, a log and a store, in this order. The log and the
-/// store stand in it as they are.
+/// store stand in it as they are. `docs/FORMATS.md#bundle` describes a bundle.
 ///
 /// # Errors
 ///

@@ -231,8 +231,8 @@ impl PortableRecording {
         extract(alloc, &self.bytes, self.limit, file_name, out, check_limit)
     }
 
-    /// Lets the bundle go, as `drop` does. A crate that lets one go by this call doesn't prove anew how each part of its manifest is
-    /// let go.
+    /// Drops the bundle. It is a call so that this is proved once, here: where a crate drops a
+    /// bundle in place, its own proof goes over each part of the manifest again.
     pub fn discard(self) {
         drop(self);
     }

@@ -28,10 +28,11 @@ pub struct Upgraded {
     pub bundle_bytes: u64,
 }
 
-/// Reads a bundle from the source to its end, and writes its run anew: as it would be recorded today,
-/// with today's versions and in one spelling. The metadata goes first in the store, and outputs keep
-/// their names and their order. What was written is written again as it is, and so is what was recorded
-/// at these versions.
+/// Reads a bundle from the source to its end, and writes its run anew: as it would be recorded
+/// today, with today's versions and in one spelling. The metadata goes first in the store, and
+/// outputs keep their names and their order. What was written is written again as it is, and so is
+/// what was recorded at these versions. `docs/FORMATS.md#what-a-bundle-is-upgraded-to` says it
+/// exactly.
 ///
 /// At most `spool_limit` bytes are read. `read_limit` is the most bytes of the manifest, of the log
 /// and of an entry of the store, of what is read and of what is written. All memory is taken before the

@@ -36,9 +36,10 @@ impl From<AllocError> for WriteEventError {
 
 /// Shows the events of a run.
 ///
-/// A reporter means a count of faults and which outputs it wants. Where they are known, it also means
-/// the bytes that it has written, what it was last configured with, and whether it was finished.
-/// Headers and events have texts, which depend on the configuration alone; what isn't shown has none.
+/// Contracts see of a reporter a count of faults and which outputs it wants. Where they are known,
+/// also the bytes that it has written, what it was last configured with, and whether it was
+/// finished. Headers and events have texts, which depend on the configuration alone; what isn't
+/// shown has none.
 pub trait EventReporter: Drop {
     /// Names the outputs that it wants. No call changes it.
     ghost wants: { Self → OutputLoadDecider };

@@ -1,4 +1,4 @@
-//! The head of a replay.
+//! The header of a replay.
 ghost use Rattle.std.specs.Prelude.{IfOk, option_map};
 ghost use Rattle.rec_replay.specs.Headers.{IsHeaderOf};
 
@@ -6,14 +6,18 @@ use rec_events::{ReportUuid, Stamp};
 use rec_format::{RecordedRunInfo, RecordedRunStatus, RunIdIndex, ShortestRunIdPrefix};
 use std::alloc::{AllocError, Global};
 
-/// Says which run is replayed.
+/// Says which run is replayed. `docs/FORMATS.md#lines-of-a-replay` describes the line that is
+/// printed of it.
 #[derive(Drop)]
 pub struct ReplayHeader {
+    /// The id of the run.
     pub run_id: ReportUuid,
     /// The id, cut after the shortest prefix that stands for it among the known runs; `None` where
     /// these aren't known, or the run isn't one of them.
     pub unique_prefix: Option<ShortestRunIdPrefix>,
+    /// When the run began.
     pub started_at: Stamp,
+    /// How the run ended, if it did.
     pub status: RecordedRunStatus,
 }
 

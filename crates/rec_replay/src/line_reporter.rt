@@ -12,8 +12,9 @@ use rec_container::{Sink, write_all};
 use rec_events::{NextestRunMode, TestEvent};
 use std::alloc::Global;
 
-/// Writes a line to a sink for a header and for each event, whatever the settings are; events that only
-/// inform have none. It knows what it is configured with, and whether it was finished.
+/// Writes a line to a sink for a header and for each event, whatever the settings are; events that
+/// only inform have none. `docs/FORMATS.md#lines-of-a-replay` describes the lines. It knows what it
+/// is configured with, and whether it was finished.
 #[derive(Drop)]
 pub struct LineReporter<'k, K: Sink> {
     alloc: Global,

@@ -5,6 +5,7 @@ ghost use Rattle.rec_replay.specs.OutputLoads.{load_of};
 /// Says whether the outputs of an event are read as it is converted.
 #[derive(Clone, Copy, PartialEq, Eq, Debug)]
 pub enum LoadOutput {
+    /// They are read.
     Load,
     /// They are left out, and nothing is read.
     Skip,

@@ -37,10 +37,11 @@ pub struct Salvaged {
 /// Makes the bundle of what is left of a recording that was stopped at any moment: of its log, and of its store,
 /// which may both be cut off.
 ///
-/// The log's longest prefix of sound lines is kept as it stands. A line is sound where it ends in LF, is UTF-8, and is
-/// blank or an event whose outputs all stand whole in the store. The store that is made has the metadata, byte for
-/// byte, and the outputs that these events name. The manifest is that of `run` but for the sizes. Nothing that a
-/// recorder has accepted before it was stopped is lost.
+/// The log's longest prefix of sound lines is kept as it stands. A line is sound where it ends in
+/// LF, is UTF-8, and is blank or an event whose outputs all stand whole in the store. The store
+/// that is made has the metadata, byte for byte, and the outputs that these events name. The
+/// manifest is that of `run` but for the sizes. Nothing that a recorder has accepted before it was
+/// stopped is lost. `docs/FORMATS.md#a-log-and-a-store-that-are-cut-off` has these rules.
 ///
 /// # Errors
 ///

@@ -14,7 +14,9 @@ use std::fmt;
 /// Says how a run ended, and how long it took.
 #[derive(Clone, Copy)]
 pub struct RunFinishedInfo {
+    /// The counts of the run.
     pub stats: RunFinishedStats,
+    /// How long the run took.
     pub elapsed: Duration,
 }
 
@@ -71,6 +73,7 @@ impl fmt::Display for RecordFinalizeWarning {
 /// Says what was not done when a session was finalized, and what pruning answered.
 #[derive(PartialEq, Eq, Drop)]
 pub struct RecordFinalizeResult {
+    /// What was not done.
     pub warnings: Items<RecordFinalizeWarning>,
     /// What pruning answered, whose errors stand among the warnings.
     pub prune_result: Option<PruneResult>,

@@ -54,6 +54,7 @@ pub struct RecordRetentionPolicy {
 #[derive(PartialEq, Eq, Debug, Drop, Error)]
 #[error("{}", .message.as_str())]
 pub struct RecordPruneError {
+    /// Why it could not be removed.
     pub message: Text,
 }
 
@@ -70,9 +71,9 @@ pub struct PruneResult {
 
 /// Keeps recorded runs in a store, which one session at a time locks.
 ///
-/// A keeper means a count of faults. Where they are known, it also means its runs, whether it is
-/// locked, the number of its calls so far but `unlock`, and the numbers of the calls that fail.
-/// It answers `Failed` only where its count rises, and where the numbers are known exactly at such a
+/// Contracts see of a keeper a count of faults. Where they are known, also its runs, whether it is
+/// locked, the number of its calls so far but `unlock`, and the numbers of the calls that fail. It
+/// answers `Failed` only where its count rises, and where the numbers are known exactly at such a
 /// call. A call that answers an error changes no run and no lock.
 pub trait RunKeeper {
     /// Names the runs, the lock and the calls, where they are known.

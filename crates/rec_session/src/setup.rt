@@ -16,13 +16,21 @@ use thiserror::Error;
 /// Says what a session is to record.
 #[derive(Drop)]
 pub struct RecordSessionConfig<'a> {
+    /// The root of the workspace, by which the keeper finds the state's directory.
     pub workspace_root: &'a str,
+    /// The id of the run.
     pub run_id: ReportUuid,
+    /// The version of the run's store.
     pub store_format_version: StoreFormatVersion,
+    /// The version of the test runner.
     pub nextest_version: Version,
+    /// When the run began.
     pub started_at: Stamp,
+    /// The command line of the run.
     pub cli_args: Items<Text>,
+    /// What was built for the run.
     pub build_scope: RecordedBuildScope,
+    /// The environment variables that are kept of the run, by their names.
     pub env_vars: TextMap<Text>,
     /// The most bytes of an output that are kept.
     pub max_output_size: u64,
@@ -64,13 +72,16 @@ pub enum RecordSetupError {
 /// Holds a session that was set up, and the recorder of its run.
 #[derive(Drop)]
 pub struct RecordSessionSetup<'n, S: Sink, L: Sink, N: OutputNamer> {
+    /// The session.
     pub session: RecordSession,
+    /// The recorder of its run.
     pub recorder: RunRecorder<'n, S, L, N>,
 }
 
 /// Says why no session was set up, and hands the sinks back.
 #[derive(Drop)]
 pub struct RecordSetupFailed<S, L> {
+    /// Why no session was set up.
     pub error: RecordSetupError,
     /// The sink of the store.
     pub store: S,

@@ -32,7 +32,7 @@ const MARKER_START: &[u8] = b"\n\n... [truncated ";
 
 const MARKER_END: &[u8] = b" bytes] ...\n\n";
 
-/// Cuts an output to a limit of `max_size` bytes.
+/// Cuts an output to a limit of `max_size` bytes, as `docs/FORMATS.md#cut-outputs` says.
 ///
 /// An output of at most this many bytes is lent as it is. Of a longer one the prefix and the suffix
 /// are kept, and a marker between them that says by how many bytes the output exceeds the limit.

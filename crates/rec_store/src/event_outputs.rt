@@ -72,6 +72,7 @@ impl<'n, N: OutputNamer> OutputRules<'n, N> {
             statuses.statuses)
             (statuses_recorded (N.number self.now.namer.now) self.now.max_size statuses) result }
     {
+        // that at least one attempt is stored rests on the list, which isn't empty
         let _some = statuses.statuses.as_slice();
         let mut recorded = Vec::new(self.alloc);
         for status in statuses.statuses.into_vec() {

@@ -15,7 +15,7 @@ pub trait OutputNamer {
     fn name(&self, bytes: &[u8]) -> u64
         ensures { result ≡ number self.now bytes.now };
 
-    // The number of each byte string is a u64.
+    /// Says that the number of each byte string is a u64.
     ghost in_range: { (namer : Self) (bytes : List ℕ) → number namer bytes < 2 ^ 64 };
 }
 

@@ -15,10 +15,10 @@ use std::alloc::Global;
 
 /// Reads the parts of a store.
 ///
-/// A reader means a limit in bytes, a count of its failures and, where it knows them, the store's
+/// A reader has a limit in bytes, a count of its failures and, where it knows them, the store's
 /// entries. Where it knows them, each call answers the part that they have, or why they have none;
-/// `OpenArchive` and `ParseArchive` never come then. `DiskFault` comes only where the count rose. No
-/// call changes limit or entries.
+/// `OpenArchive` and `ParseArchive` never come then. `DiskFault` comes only where the count rose.
+/// No call changes limit or entries.
 pub trait StoreReader {
     /// The most bytes of an entry that is read.
     ghost limit: { Self → ℕ };
