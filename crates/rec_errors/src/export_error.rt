@@ -12,6 +12,9 @@ use thiserror::Error;
 /// Says why a session isn't exported. The source is judged first, then the session's length, the head, the
 /// lines from the first on, the sum of all sizes, each size, and then the trace from the first event
 /// on. Want of memory may come at any time before the first byte is written.
+///
+/// `line_number` is the number of a line of the session, and `event` that of an event, both from 1.
+/// `docs/CLI.md#of-record-and-sample-and-of-the-words` has the line and the status of each error.
 #[derive(Drop, Error)]
 pub enum RecordExportError {
     /// The source failed.
@@ -20,6 +23,7 @@ pub enum RecordExportError {
     /// The session has more than `limit` bytes.
     #[error("the session is longer than {limit} bytes")]
     SessionTooLarge {
+        /// The session limit, in bytes.
         limit: u64,
     },
     /// Line 1 is missing, isn't UTF-8, or is no head of a session.
@@ -54,6 +58,7 @@ pub enum RecordExportError {
         file_name: Text,
         /// Its length, in bytes.
         size: u64,
+        /// The read limit, in bytes.
         limit: u64,
     },
     /// The event finishes a test of which no attempt is open, or says that it failed or is slow. Events are

@@ -64,7 +64,7 @@ impl SessionTrace {
         }
     }
 
-    /// Lets the trace go, as [`PrintedTrace::discard`] does with its text.
+    /// Drops the trace, by a call for the same reason as [`PrintedTrace::discard`].
     pub fn discard(self) {
         let SessionTrace { trace, refusal } = self;
         trace.discard();

@@ -6,7 +6,7 @@ ghost use Rattle.rec_faults.specs.WritingFaults.{Writes, WritesFault};
 use crate::line::Line;
 use rec_container::Sink;
 
-/// Gives a refusal its line and its status.
+/// Gives a refusal its line and its status, as `docs/CLI.md#statuses-and-lines` lists them.
 ///
 /// The line is the name of the refusal, ` name=value` for each field in order of declaration, and LF. A value
 /// may be a refusal again: then its name stands there, and its fields follow.

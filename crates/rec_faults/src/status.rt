@@ -1,6 +1,6 @@
 //! The statuses that the program ends with.
 
-/// Means that all was done.
+/// Means that all was done. `docs/CLI.md#statuses-and-lines` lists all statuses.
 pub const SUCCESS: u8 = 0;
 /// Means that the words of the command line are faulty.
 pub const FAULTY_WORDS: u8 = 2;

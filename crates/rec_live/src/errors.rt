@@ -10,7 +10,7 @@ use thiserror::Error;
 #[derive(Debug, Drop, Error)]
 pub enum RecordingError {
     /// The words aren't one directory.
-    #[error("the word is the directory of the run")]
+    #[error("the one word has to be the directory of the run")]
     FaultyWords,
     /// The session isn't read to its end.
     #[error("{0}")]

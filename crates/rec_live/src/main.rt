@@ -1,9 +1,9 @@
 //! Records the run of a session into a directory, event by event, as a test runner does: it shows what is
 //! left where a recorder is stopped.
 //!
-//! The words are the directory, which has to be there. The session is read from standard input. As soon as
-//! the run's metadata is accepted, and after each event that is, a line on standard output says how many
-//! events were accepted so far. Nothing is written later that they need.
+//! The one word is the directory, which has to be there. The session is read from standard input.
+//! As soon as the run's metadata is accepted, and after each event that is, a line on standard
+//! output says how many events were accepted so far. Nothing is written later that they need.
 #![tactic(auto)]
 
 mod errors;

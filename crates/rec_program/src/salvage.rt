@@ -25,7 +25,9 @@ use std::alloc::Global;
 /// Holds what was salvaged of a bundle, and the line that counts it.
 #[derive(Drop)]
 pub struct CountedSalvage {
+    /// What was salvaged.
     pub salvaged: Salvaged,
+    /// The line that counts its events and outputs, with LF.
     pub line: String,
 }
 
@@ -114,6 +116,7 @@ fn find_log<'b>(
         → IsContainer bundle.now.bytes es
         → LendsFound (log_part bundle.now.limit es) result }
 {
+    // judges whether the log is there, and within the limit
     let _ = bundle.read_run_log(alloc)?;
     // It is there, as it was read.
     Ok(bundle.log_window().unwrap_or(b"".as_slice()))

@@ -12,15 +12,25 @@ use rec_trace::{ChromeTraceGroupBy, ChromeTraceMessageFormat};
 /// Names a command that takes options.
 #[derive(Clone, Copy)]
 pub enum CommandName {
+    /// `record`
     Record,
+    /// `trace`
     Trace,
+    /// `replay`
     Replay,
+    /// `report`
     Report,
+    /// `info`
     Info,
+    /// `slots`
     Slots,
+    /// `rerun`
     Rerun,
+    /// `sample`
     Sample,
+    /// `upgrade`
     Upgrade,
+    /// `salvage`
     Salvage,
 }
 
@@ -108,26 +118,39 @@ impl CommandName {
 /// Names an option by the setting that it sets.
 #[derive(Clone, Copy)]
 pub enum OptionName {
+    /// `--group-by`
     GroupBy,
+    /// `--message-format`
     MessageFormat,
+    /// `--max-output`
     MaxOutput,
+    /// `--read-limit`
     ReadLimit,
+    /// `--session-limit`
     SessionLimit,
+    /// `--output`
     Output,
 }
 
 /// Holds the values that options have. One is `None` until its option comes.
 #[derive(Clone, Copy)]
 pub struct OptionValues {
+    /// How the trace groups tests.
     pub group_by: Option<ChromeTraceGroupBy>,
+    /// How the trace is written.
     pub message_format: Option<ChromeTraceMessageFormat>,
+    /// The most bytes of an output that is kept whole.
     pub max_output: Option<u64>,
+    /// The most bytes of the manifest, the log or an entry of the store.
     pub read_limit: Option<u64>,
+    /// The most bytes of the session or the bundle.
     pub session_limit: Option<u64>,
+    /// Whether outputs are read.
     pub output: Option<LoadOutput>,
 }
 
 impl OptionValues {
+    /// Makes the values where no option came.
     fn none() -> OptionValues
         ensures { result ≡ no_values }
     {
@@ -228,6 +251,10 @@ pub fn read_settings(command: CommandName, words: &[String]) -> Result<Settings,
 }
 
 /// Reads options of a command and their values, up to the last word.
+///
+/// # Errors
+///
+/// Those of [`read_settings`].
 pub fn read_options(command: CommandName, words: &[String]) -> Result<OptionValues, WordsError>
     ensures { result ≡ values_from command no_values (options_at command) (texts words.now) }
 {

@@ -9,7 +9,8 @@ use rec_errors::WordsError;
 use rec_export::Settings;
 use rec_replay::LoadOutput;
 
-/// Says what the words ask for.
+/// Says what the words ask for. `bundle` is the path of the file that the bundle is written into,
+/// and `settings` are those that the options set.
 #[derive(Clone, Copy)]
 pub enum Command<'w> {
     /// Records the session on standard input into the file `bundle`.
@@ -21,7 +22,8 @@ pub enum Command<'w> {
     Trace {
         settings: Settings,
     },
-    /// Prints the events of the bundle on standard input, a line each.
+    /// Prints the events of the bundle on standard input, a line each. `output` says whether
+    /// outputs are read.
     Replay {
         output: LoadOutput,
         settings: Settings,
@@ -65,6 +67,7 @@ pub enum Command<'w> {
 }
 
 /// Reads the words, which don't hold the program's name. It takes no memory.
+/// `docs/CLI.md#the-command-line` lists the commands and their options.
 ///
 /// # Errors
 ///
