@@ -4,39 +4,29 @@ ghost use Rattle.rec_container.specs.declared.errors.ContainerError.TheVariants 
 ghost use Rattle.rec_container.specs.declared.errors.ContainerWriteError.TheVariants.{OutOfMemory};
 
 use std::alloc::{AllocError, AllocFailed};
-use std::fmt;
 use thiserror::Error;
 
 /// Says why a container was not written further.
 #[derive(Clone, Copy, Debug, Error)]
 pub enum ContainerWriteError {
     /// The sink failed at a call before this one.
+    #[error("the sink failed earlier, so nothing more is written")]
     Failed,
     /// The name has no byte, or more than 65535.
+    #[error("an entry's name must have 1 to 65535 bytes")]
     BadName,
     /// An entry of this name with other bytes is there.
+    #[error("an entry of this name with other bytes is there already")]
     NameCollision,
     /// With the entry the container would have 2^64 bytes or more.
+    #[error("the container would have 2^64 bytes or more")]
     CountOutOfRange,
     /// The sink failed. It took a proper prefix of what was to be written.
+    #[error("the sink failed")]
     SinkFault,
     /// Memory ran out. Nothing was written.
+    #[error("out of memory")]
     OutOfMemory,
-}
-
-impl fmt::Display for ContainerWriteError {
-    fn fmt<W: fmt::Write>(&self, f: &mut fmt::Formatter<W>) -> fmt::Result {
-        f.write_str(match self {
-            ContainerWriteError::Failed => "the sink failed earlier, so nothing more is written",
-            ContainerWriteError::BadName => "an entry's name must have 1 to 65535 bytes",
-            ContainerWriteError::NameCollision => {
-                "an entry of this name with other bytes is there already"
-            }
-            ContainerWriteError::CountOutOfRange => "the container would have 2^64 bytes or more",
-            ContainerWriteError::SinkFault => "the sink failed",
-            ContainerWriteError::OutOfMemory => "out of memory",
-        })
-    }
 }
 
 impl From<AllocError> for ContainerWriteError {
@@ -64,38 +54,26 @@ pub struct ContainerSizes {
 #[derive(Clone, Copy, Debug, PartialEq, Eq, Error)]
 pub enum ContainerError {
     /// The bytes don't begin with `nxtcont1`.
+    #[error("not a container: it doesn't begin with nxtcont1")]
     BadMagic,
     /// The tag, length, name or content that begins at `at` isn't there whole.
+    #[error("cut off in the field at byte {at}")]
     Truncated { at: usize },
     /// The byte at `at` is neither an entry's tag nor the end mark.
+    #[error("no tag at byte {at}")]
     BadTag { at: usize },
     /// The length at `at` is 0, or the name at `at` isn't UTF-8.
+    #[error("not a name at byte {at}")]
     BadName { at: usize },
     /// The name at `at` is that of an earlier entry.
+    #[error("a name seen before at byte {at}")]
     DuplicateName { at: usize },
     /// Bytes follow the end mark, from `at` on.
+    #[error("bytes after the end mark, from byte {at} on")]
     TrailingBytes { at: usize },
     /// Memory ran out.
+    #[error("out of memory")]
     OutOfMemory,
-}
-
-impl fmt::Display for ContainerError {
-    fn fmt<W: fmt::Write>(&self, f: &mut fmt::Formatter<W>) -> fmt::Result {
-        let (before, at, after) = match *self {
-            ContainerError::BadMagic => {
-                return f.write_str("not a container: it doesn't begin with nxtcont1");
-            }
-            ContainerError::Truncated { at } => ("cut off in the field at byte ", at, ""),
-            ContainerError::BadTag { at } => ("no tag at byte ", at, ""),
-            ContainerError::BadName { at } => ("not a name at byte ", at, ""),
-            ContainerError::DuplicateName { at } => ("a name seen before at byte ", at, ""),
-            ContainerError::TrailingBytes { at } => {
-                ("bytes after the end mark, from byte ", at, " on")
-            }
-            ContainerError::OutOfMemory => return f.write_str("out of memory"),
-        };
-        write!(f, "{before}{at}{after}")
-    }
 }
 
 impl From<AllocError> for ContainerError {

@@ -1,8 +1,8 @@
 //! What writers answer and write, and what is read of sources that fail.
 
 use rec_container::{
-    Container, ContainerWriteError, ContainerWriter, NamedContent, Source, container_length,
-    read_within, write_all_dyn, write_container,
+    Container, ContainerError, ContainerWriteError, ContainerWriter, NamedContent, Source,
+    container_length, read_within, write_all_dyn, write_container,
 };
 use rec_memory_streams::{EndlessSource, FailingSink, FailingSource, MemorySink};
 use std::alloc::{AllocError, Global};
@@ -29,8 +29,10 @@ enum Asked<'a> {
     EndlessWithin(u64),
     /// A sink without room for what is written.
     Full,
-    /// What this fault prints.
+    /// What this fault of a writer prints.
     Text(ContainerWriteError),
+    /// What this fault of bytes prints.
+    Fault(ContainerError),
 }
 
 /// The entry `a`, as it is given to a writer.
@@ -50,6 +52,7 @@ fn answer(alloc: Global, asked: Asked<'_>) -> Result<String, Fail> {
         Asked::EndlessWithin(limit) => Ok(endless_within(alloc, limit)?),
         Asked::Full => Ok(full(alloc)?),
         Asked::Text(fault) => Ok(format!(in alloc; "{fault}")?),
+        Asked::Fault(fault) => Ok(format!(in alloc; "{fault}")?),
     }
 }
 
@@ -289,6 +292,31 @@ const ANSWERS: &[(Asked<'static>, &str)] = &[
         Asked::Text(ContainerWriteError::OutOfMemory),
         "out of memory",
     ),
+    (
+        Asked::Fault(ContainerError::BadMagic),
+        "not a container: it doesn't begin with nxtcont1",
+    ),
+    (
+        Asked::Fault(ContainerError::Truncated { at: 8 }),
+        "cut off in the field at byte 8",
+    ),
+    (
+        Asked::Fault(ContainerError::BadTag { at: 9 }),
+        "no tag at byte 9",
+    ),
+    (
+        Asked::Fault(ContainerError::BadName { at: 10 }),
+        "not a name at byte 10",
+    ),
+    (
+        Asked::Fault(ContainerError::DuplicateName { at: 11 }),
+        "a name seen before at byte 11",
+    ),
+    (
+        Asked::Fault(ContainerError::TrailingBytes { at: 12 }),
+        "bytes after the end mark, from byte 12 on",
+    ),
+    (Asked::Fault(ContainerError::OutOfMemory), "out of memory"),
 ];
 
 #[test]

@@ -1,7 +1,6 @@
 pub mod Versions
 pub mod Incompatibility
 pub mod Paths
-pub mod EntryNames
 pub mod Sizes
 pub mod Status
 pub mod Suites

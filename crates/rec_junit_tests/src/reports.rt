@@ -191,12 +191,25 @@ fn the_first_refusal_is_answered(rt: HostRuntime) -> Result<(), Fail> {
     )
 }
 
+/// What each refusal prints.
+const TEXTS: &[(JunitError, &str)] = &[
+    (
+        JunitError::NotLoadedOutput,
+        "an output that the report holds was not loaded",
+    ),
+    (
+        JunitError::SuccessAsFailure,
+        "an attempt that passed stands where one that failed is reported",
+    ),
+    (JunitError::OutOfMemory, "out of memory"),
+];
+
 #[test]
-fn a_refusal_is_printed(rt: HostRuntime) -> Result<(), Fail> {
-    let refusal = JunitError::SuccessAsFailure;
-    let text = format!(in rt.alloc(); "{refusal}")?;
-    let expected = "an attempt that passed stands where one that failed is reported";
-    assert!(rt; text.as_str() == expected);
+fn refusals_are_printed(rt: HostRuntime) -> Result<(), Fail> {
+    for (refusal, expected) in TEXTS {
+        let text = format!(in rt.alloc(); "{refusal}")?;
+        assert!(rt; text.as_str() == *expected, "{text}");
+    }
     Ok(())
 }
 

@@ -6,11 +6,11 @@ ghost use Rattle.rec_replay.specs.declared.conversion_error.ReplayConversionErro
 use rec_events::{RustBinaryId, TestCaseName};
 use rec_store::RecordReadError;
 use std::alloc::AllocError;
-use std::error::Error;
 use std::fmt;
+use thiserror::Error;
 
 /// Says why a recorded event does not become a live one.
-#[derive(Debug, Drop)]
+#[derive(Debug, Drop, Error)]
 pub enum ReplayConversionError {
     /// The event names a test that isn't registered.
     TestNotFound {
@@ -24,8 +24,6 @@ pub enum ReplayConversionError {
     /// Memory ran out.
     OutOfMemory,
 }
-
-impl Error for ReplayConversionError {}
 
 impl fmt::Display for ReplayConversionError {
     ghost use Rattle.std.specs.Prelude.{Some};

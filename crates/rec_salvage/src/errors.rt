@@ -13,72 +13,41 @@ use thiserror::Error;
 #[derive(Drop, Error)]
 pub enum SalvageError {
     /// The store's bytes don't begin with `nxtcont1`.
+    #[error("the store doesn't begin with nxtcont1")]
     BadMagic,
     /// The store has no whole entry of this path.
+    #[error("the store has no entry {}", .file_name.as_str())]
     MissingMeta {
         /// The path.
         file_name: Text,
     },
     /// The entry's bytes stand for no item of its kind.
+    #[error("the entry {} stands for no item of its kind", .file_name.as_str())]
     BadMeta {
         /// The path.
         file_name: Text,
     },
     /// There is no store at this path.
+    #[error("there is no store at {}", .path.as_str())]
     OpenArchive {
         /// The path.
         path: Text,
     },
     /// There is no event log at this path.
+    #[error("there is no event log at {}", .path.as_str())]
     OpenRunLog {
         /// The path.
         path: Text,
     },
     /// The disk failed at this path.
+    #[error("the disk failed at {}", .path.as_str())]
     DiskFault {
         /// The path.
         path: Text,
     },
     /// Memory ran out.
+    #[error("out of memory")]
     OutOfMemory,
-}
-
-impl fmt::Display for SalvageError {
-    fn fmt<W: fmt::Write>(&self, f: &mut fmt::Formatter<W>) -> fmt::Result {
-        match self {
-            SalvageError::BadMagic | SalvageError::OutOfMemory => f.write_str(self.before()),
-            SalvageError::MissingMeta { file_name: name }
-            | SalvageError::BadMeta { file_name: name }
-            | SalvageError::OpenArchive { path: name }
-            | SalvageError::OpenRunLog { path: name }
-            | SalvageError::DiskFault { path: name } => {
-                write!(f, "{}{}{}", self.before(), name.as_str(), self.after())
-            }
-        }
-    }
-}
-
-impl SalvageError {
-    /// Returns what the message says before its name, if it has one.
-    fn before(&self) -> &'static str {
-        match self {
-            SalvageError::BadMagic => "the store doesn't begin with nxtcont1",
-            SalvageError::MissingMeta { .. } => "the store has no entry ",
-            SalvageError::BadMeta { .. } => "the entry ",
-            SalvageError::OpenArchive { .. } => "there is no store at ",
-            SalvageError::OpenRunLog { .. } => "there is no event log at ",
-            SalvageError::DiskFault { .. } => "the disk failed at ",
-            SalvageError::OutOfMemory => "out of memory",
-        }
-    }
-
-    /// Returns what it says after its name.
-    fn after(&self) -> &'static str {
-        match self {
-            SalvageError::BadMeta { .. } => " stands for no item of its kind",
-            _ => "",
-        }
-    }
 }
 
 /// Prints the error as `Display` does.

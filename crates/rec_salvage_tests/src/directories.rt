@@ -166,5 +166,6 @@ fn errors_of_a_store_are_printed(rt: HostRuntime) -> Result<(), Fail> {
     let file_name = Text::from_str(alloc, "meta/build-scope.json")?;
     let bad = "the entry meta/build-scope.json stands for no item of its kind";
     assert!(rt; prints(alloc, SalvageError::BadMeta { file_name }, bad)?);
+    assert!(rt; prints(alloc, SalvageError::OutOfMemory, "out of memory")?);
     Ok(())
 }

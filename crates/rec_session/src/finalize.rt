@@ -70,6 +70,13 @@ impl fmt::Display for RecordFinalizeWarning {
     }
 }
 
+/// Prints the warning as `Display` does.
+impl fmt::Debug for RecordFinalizeWarning {
+    fn fmt<W: fmt::Write>(&self, f: &mut fmt::Formatter<W>) -> fmt::Result {
+        fmt::Display::fmt(self, f)
+    }
+}
+
 /// Says what was not done when a session was finalized, and what pruning answered.
 #[derive(PartialEq, Eq, Drop)]
 pub struct RecordFinalizeResult {

@@ -11,6 +11,7 @@ use rec_format::{
     RecordedBuildScope, RecordedRunInfo, RerunInfo, ShortestRunIdPrefix, StoreFormatVersion,
 };
 use rec_store::{OutputNamer, RunRecorder, RunStoreError};
+use std::fmt;
 use thiserror::Error;
 
 /// Says what a session is to record.
@@ -79,7 +80,8 @@ pub struct RecordSessionSetup<'n, S: Sink, L: Sink, N: OutputNamer> {
 }
 
 /// Says why no session was set up, and hands the sinks back.
-#[derive(Drop)]
+#[derive(Drop, Error)]
+#[error("{error}")]
 pub struct RecordSetupFailed<S, L> {
     /// Why no session was set up.
     pub error: RecordSetupError,
@@ -87,6 +89,13 @@ pub struct RecordSetupFailed<S, L> {
     pub store: S,
     /// The sink of the log.
     pub log: L,
+}
+
+/// Prints the error as `Display` does, since sinks needn't have `Debug`.
+impl<S, L> fmt::Debug for RecordSetupFailed<S, L> {
+    fn fmt<W: fmt::Write>(&self, f: &mut fmt::Formatter<W>) -> fmt::Result {
+        fmt::Display::fmt(self, f)
+    }
 }
 
 /// Makes a keeper's error the refusal of its call, or want of memory.

@@ -7,7 +7,7 @@ use rec_events::{FinalRunStats, ReportUuid, Text};
 use rec_memory_streams::FailingSink;
 use rec_session::{
     MemoryKeeper, RecordFinalizeWarning, RecordPruneError, RecordRetentionPolicy, RecordSession,
-    RecordSessionSetup, RecordSetupFailed, RunKeeper,
+    RecordSessionSetup, RecordSetupError, RecordSetupFailed, RunKeeper,
 };
 use rec_store::Sha256Namer;
 use std::alloc::Global;
@@ -530,8 +530,22 @@ fn a_prune_error_is_printed(rt: HostRuntime) -> Result<(), Fail> {
     let alloc = rt.alloc();
     let message = Text::from_str(alloc, "run 7 is in use")?;
     let warning = RecordFinalizeWarning::PruneError(RecordPruneError { message });
-    let text = format!(in alloc; "{warning}");
+    let text = format!(in alloc; "{warning}, {warning:?}");
     drop(warning);
-    assert!(rt; text?.as_str() == "error during prune: run 7 is in use");
+    let printed = "error during prune: run 7 is in use, error during prune: run 7 is in use";
+    assert!(rt; text?.as_str() == printed);
+    Ok(())
+}
+
+#[test]
+fn a_refused_session_is_printed_by_its_error(rt: HostRuntime) -> Result<(), Fail> {
+    let failed = RecordSetupFailed {
+        error: RecordSetupError::StoreLock,
+        store: (),
+        log: (),
+    };
+    let text = format!(in rt.alloc(); "{failed}, {failed:?}");
+    drop(failed);
+    assert!(rt; text?.as_str() == "locking the store failed, locking the store failed");
     Ok(())
 }

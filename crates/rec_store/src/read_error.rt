@@ -5,25 +5,28 @@ ghost use Rattle.rec_store.specs.declared.read_error.RecordReadError.TheVariants
 use rec_container::ContainerError;
 use rec_events::Text;
 use std::alloc::{AllocError, AllocFailed};
-use std::error::Error;
 use std::fmt;
+use thiserror::Error;
 
 /// Says why a part of a recording was not read.
 ///
 /// A `file_name` is the whole path of an entry in the store, but in `UnknownOutputType`.
-#[derive(Drop)]
+#[derive(Drop, Error)]
 pub enum RecordReadError {
     /// There is no directory at this path.
+    #[error("there is no run at {}", .path.as_str())]
     RunNotFound {
         /// The path.
         path: Text,
     },
     /// There is no store at this path.
+    #[error("there is no store at {}", .path.as_str())]
     OpenArchive {
         /// The path.
         path: Text,
     },
     /// The store at this path is no container.
+    #[error("the store at {} is no container: {fault}", .path.as_str())]
     ParseArchive {
         /// The path.
         path: Text,
@@ -31,11 +34,13 @@ pub enum RecordReadError {
         fault: ContainerError,
     },
     /// The store has no entry of this path.
+    #[error("the store has no entry {}", .file_name.as_str())]
     FileNotFound {
         /// The path.
         file_name: Text,
     },
     /// The entry is longer than the limit.
+    #[error("the entry {} has {size} bytes, and the limit is {limit}", .file_name.as_str())]
     FileTooLarge {
         /// The path.
         file_name: Text,
@@ -45,130 +50,56 @@ pub enum RecordReadError {
         limit: u64,
     },
     /// The entry isn't UTF-8.
+    #[error("the entry {} isn't UTF-8", .file_name.as_str())]
     NotUtf8 {
         /// The path.
         file_name: Text,
     },
     /// The entry's bytes stand for no item of its kind.
+    #[error("the entry {} stands for no item of its kind", .file_name.as_str())]
     DeserializeMetadata {
         /// The path.
         file_name: Text,
     },
     /// The name says no kind of output.
+    #[error("the name {} says no kind of output", .file_name.as_str())]
     UnknownOutputType {
         /// The name that was handed in.
         file_name: Text,
     },
     /// The sink failed to which the entry was written. It took a proper prefix of the entry.
+    #[error("writing the entry {} failed", .store_path.as_str())]
     ExtractFile {
         /// The entry's path in the store.
         store_path: Text,
     },
     /// There is no event log at this path.
+    #[error("there is no event log at {}", .path.as_str())]
     OpenRunLog {
         /// The path.
         path: Text,
     },
     /// The disk failed at this path.
+    #[error("the disk failed at {}", .path.as_str())]
     DiskFault {
         /// The path.
         path: Text,
     },
     /// A line of the event log isn't UTF-8.
+    #[error("line {line_number} isn't UTF-8")]
     ReadRunLog {
         /// The number of the line, from 1.
         line_number: u64,
     },
     /// A line of the event log is neither blank nor an event.
+    #[error("line {line_number} is no event")]
     ParseEvent {
         /// The number of the line, from 1.
         line_number: u64,
     },
     /// Memory ran out.
+    #[error("out of memory")]
     OutOfMemory,
-}
-
-impl Error for RecordReadError {}
-
-impl fmt::Display for RecordReadError {
-    fn fmt<W: fmt::Write>(&self, f: &mut fmt::Formatter<W>) -> fmt::Result {
-        match self {
-            RecordReadError::RunNotFound { path: name }
-            | RecordReadError::OpenArchive { path: name }
-            | RecordReadError::FileNotFound { file_name: name }
-            | RecordReadError::NotUtf8 { file_name: name }
-            | RecordReadError::DeserializeMetadata { file_name: name }
-            | RecordReadError::UnknownOutputType { file_name: name }
-            | RecordReadError::ExtractFile { store_path: name }
-            | RecordReadError::OpenRunLog { path: name }
-            | RecordReadError::DiskFault { path: name } => {
-                write!(f, "{}{}{}", self.before(), name.as_str(), self.after())
-            }
-            RecordReadError::ParseArchive { path, fault } => {
-                write!(f, "the store at {} is no container: {fault}", path.as_str())
-            }
-            RecordReadError::FileTooLarge {
-                file_name,
-                size,
-                limit,
-            } => {
-                let name = file_name.as_str();
-                write!(
-                    f,
-                    "the entry {name} has {size} bytes, and the limit is {limit}"
-                )
-            }
-            RecordReadError::ReadRunLog { line_number }
-            | RecordReadError::ParseEvent { line_number } => {
-                write!(f, "line {line_number}{}", self.after())
-            }
-            RecordReadError::OutOfMemory => f.write_str("out of memory"),
-        }
-    }
-}
-
-impl RecordReadError {
-    /// Returns what the message says before its name.
-    fn before(&self) -> &'static str {
-        match self {
-            RecordReadError::RunNotFound { .. } => "there is no run at ",
-            RecordReadError::OpenArchive { .. } => "there is no store at ",
-            RecordReadError::FileNotFound { .. } => "the store has no entry ",
-            RecordReadError::NotUtf8 { .. } | RecordReadError::DeserializeMetadata { .. } => {
-                "the entry "
-            }
-            RecordReadError::UnknownOutputType { .. } => "the name ",
-            RecordReadError::ExtractFile { .. } => "writing the entry ",
-            RecordReadError::OpenRunLog { .. } => "there is no event log at ",
-            RecordReadError::DiskFault { .. } => "the disk failed at ",
-            RecordReadError::ParseArchive { .. }
-            | RecordReadError::FileTooLarge { .. }
-            | RecordReadError::ReadRunLog { .. }
-            | RecordReadError::ParseEvent { .. }
-            | RecordReadError::OutOfMemory => "",
-        }
-    }
-
-    /// Returns what the message says after its name or its number.
-    fn after(&self) -> &'static str {
-        match self {
-            RecordReadError::NotUtf8 { .. } | RecordReadError::ReadRunLog { .. } => {
-                " isn't UTF-8"
-            }
-            RecordReadError::DeserializeMetadata { .. } => " stands for no item of its kind",
-            RecordReadError::UnknownOutputType { .. } => " says no kind of output",
-            RecordReadError::ExtractFile { .. } => " failed",
-            RecordReadError::ParseEvent { .. } => " is no event",
-            RecordReadError::RunNotFound { .. }
-            | RecordReadError::OpenArchive { .. }
-            | RecordReadError::ParseArchive { .. }
-            | RecordReadError::FileNotFound { .. }
-            | RecordReadError::FileTooLarge { .. }
-            | RecordReadError::OpenRunLog { .. }
-            | RecordReadError::DiskFault { .. }
-            | RecordReadError::OutOfMemory => "",
-        }
-    }
 }
 
 /// Prints the error as `Display` does.

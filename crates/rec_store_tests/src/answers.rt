@@ -25,6 +25,8 @@ enum Asked<'a> {
     TooLarge,
     /// The error of a store that would be too long.
     CountOutOfRange,
+    /// The error of a recorder without memory.
+    OutOfMemory,
 }
 
 /// A container of the entry `out/1` with the content `hi`.
@@ -40,6 +42,7 @@ fn answer(alloc: Global, asked: Asked<'_>) -> Result<String, Fail> {
         Asked::Error(number) => Ok(printed(alloc, number)?),
         Asked::TooLarge => Ok(too_large(alloc)?),
         Asked::CountOutOfRange => Ok(format!(in alloc; "{}", RunStoreError::CountOutOfRange)?),
+        Asked::OutOfMemory => Ok(format!(in alloc; "{}", RunStoreError::OutOfMemory)?),
     }
 }
 
@@ -127,6 +130,7 @@ const ANSWERS: &[(Asked<'static>, &str)] = &[
         Asked::CountOutOfRange,
         "the store or the log would have 2^64 bytes or more",
     ),
+    (Asked::OutOfMemory, "out of memory"),
 ];
 
 #[test]

@@ -3,33 +3,24 @@ ghost use Rattle.std.specs.Prelude.{◌≡◌};
 ghost use Rattle.rec_trace.specs.Building.{build_error};
 
 use rec_spans::ChromeTraceError;
-use std::error::Error;
 use std::fmt;
+use thiserror::Error;
 
 /// Says why a builder didn't trace an event.
-#[derive(Drop)]
+#[derive(Drop, Error)]
 pub enum TraceBuildError {
     /// The target failed at an earlier event.
+    #[error("an earlier event was not taken")]
     Failed,
     /// The event is refused.
+    #[error(transparent)]
     Refused(ChromeTraceError),
     /// The target failed.
+    #[error("the event was not taken")]
     TargetFault,
     /// Memory ran out.
+    #[error("memory ran out")]
     OutOfMemory,
-}
-
-impl Error for TraceBuildError {}
-
-impl fmt::Display for TraceBuildError {
-    fn fmt<W: fmt::Write>(&self, f: &mut fmt::Formatter<W>) -> fmt::Result {
-        match self {
-            TraceBuildError::Failed => f.write_str("an earlier event was not taken"),
-            TraceBuildError::Refused(error) => fmt::Display::fmt(error, f),
-            TraceBuildError::TargetFault => f.write_str("the event was not taken"),
-            TraceBuildError::OutOfMemory => f.write_str("memory ran out"),
-        }
-    }
 }
 
 /// Prints the error as `Display` does.

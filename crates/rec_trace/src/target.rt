@@ -6,9 +6,11 @@ ghost use Rattle.rec_trace_events.specs.EventTexts.{event_value};
 ghost use Rattle.rec_trace.specs.Targets.{Stays, Takes};
 
 use rec_trace_events::TraceEvent;
+use thiserror::Error;
 
 /// Says that a target failed.
-#[derive(Clone, Copy, PartialEq, Eq, Debug, Drop)]
+#[derive(Clone, Copy, PartialEq, Eq, Debug, Drop, Error)]
+#[error("the target failed")]
 pub struct TargetFailed;
 
 /// Takes the events of a trace, one at a time.

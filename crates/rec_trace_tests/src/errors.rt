@@ -2,17 +2,21 @@
 
 use rec_codec::LineError;
 use rec_events::{OwnedTestInstanceId, RustBinaryId, ScriptId, TestCaseName};
-use rec_trace::{ChromeTraceError, ChromeTraceGroupBy, ChromeTraceMessageFormat, SpanKey};
+use rec_trace::{
+    ChromeTraceError, ChromeTraceGroupBy, ChromeTraceMessageFormat, SpanKey, TargetFailed,
+    TraceBuildError,
+};
 use std::alloc::{AllocError, Global};
+use std::error::Error;
 use std::fmt;
 use std::process::Abort;
 use std::test::Fail;
 
 /// Asserts that an error has this text, for its reader and for a developer.
-fn check_message(
+fn check_message<E: Error + Drop>(
     rt: &impl Abort,
     alloc: Global,
-    error: ChromeTraceError,
+    error: E,
     message: &str,
 ) -> Result<(), Fail> {
     let got = format!(in alloc; "{error}, {error:?}");
@@ -80,6 +84,22 @@ fn errors_of_a_line(rt: HostRuntime) -> Result<(), Fail> {
     check_message(&rt, alloc, error, message)?;
     let error = ChromeTraceError::from(LineError::OutOfMemory);
     check_message(&rt, alloc, error, "out of memory")
+}
+
+#[test]
+fn errors_of_a_builder(rt: HostRuntime) -> Result<(), Fail> {
+    let alloc = rt.alloc();
+    let error = TraceBuildError::Failed;
+    check_message(&rt, alloc, error, "an earlier event was not taken")?;
+    let busy = ChromeTraceError::SlotBusy { event: 2, slot: 0 };
+    let message = "event 2 starts on slot 0, on which another is running";
+    check_message(&rt, alloc, TraceBuildError::Refused(busy), message)?;
+    let error = TraceBuildError::TargetFault;
+    check_message(&rt, alloc, error, "the event was not taken")?;
+    check_message(&rt, alloc, TraceBuildError::OutOfMemory, "memory ran out")?;
+    let text = format!(in alloc; "{}", TargetFailed)?;
+    assert!(rt; text.as_str() == "the target failed");
+    Ok(())
 }
 
 #[test]
