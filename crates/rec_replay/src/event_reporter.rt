@@ -152,6 +152,8 @@ pub fn write_event_dyn(
         (known (configured reporter.old)) event.now) result }
     ensures wants { wants reporter.new ≡ wants reporter.old }
     ensures later { faults reporter.old ≤ faults reporter.new }
+    ensures configured { configured reporter.new ≡ configured reporter.old }
+    ensures finished { finished reporter.new ≡ finished reporter.old }
 {
     reporter.write_event(event)
 }
