@@ -123,6 +123,18 @@ impl<'n, S: Sink, L: Sink, N: OutputNamer> StructuredReporter<'n, S, L, N> {
             (λ old new. (⟦<dyn EventReporter as EventReporter>⟧ old.vtable).faults old.value
             ≤ (⟦<dyn EventReporter as EventReporter>⟧ new.vtable).faults new.value) self.old.libtest
             self.new.libtest }
+        ensures wants { LeavesSet
+            (λ old new. (⟦<dyn EventReporter as EventReporter>⟧ new.vtable).wants new.value
+            ≡ (⟦<dyn EventReporter as EventReporter>⟧ old.vtable).wants old.value) self.old.libtest
+            self.new.libtest }
+        ensures configured { LeavesSet
+            (λ old new. (⟦<dyn EventReporter as EventReporter>⟧ new.vtable).configured new.value
+            ≡ (⟦<dyn EventReporter as EventReporter>⟧ old.vtable).configured old.value)
+            self.old.libtest self.new.libtest }
+        ensures finished { LeavesSet
+            (λ old new. (⟦<dyn EventReporter as EventReporter>⟧ new.vtable).finished new.value
+            ≡ (⟦<dyn EventReporter as EventReporter>⟧ old.vtable).finished old.value)
+            self.old.libtest self.new.libtest }
         ensures recorded { OnOk result
             (LeavesSet
             (λ old. ReportsEvent S.taken S.faults L.taken L.faults N.number old event.now)
@@ -201,6 +213,10 @@ fn show(
         ((⟦<dyn EventReporter as EventReporter>⟧ old.vtable).event_text (known (configured old))
         event.now) result)) }
     ensures later { LeavesSet (λ old new. faults old ≤ faults new) libtest.old libtest.new }
+    ensures wants { LeavesSet (λ old new. wants new ≡ wants old) libtest.old libtest.new }
+    ensures configured { LeavesSet (λ old new. configured new ≡ configured old) libtest.old
+        libtest.new }
+    ensures finished { LeavesSet (λ old new. finished new ≡ finished old) libtest.old libtest.new }
 {
     match libtest {
         Some(libtest) => show_boxed(libtest, event),
@@ -223,6 +239,9 @@ fn show_boxed(
         ((⟦<dyn EventReporter as EventReporter>⟧ libtest.old.vtable).event_text
         (known (configured libtest.old)) event.now) result }
     ensures later { faults libtest.old ≤ faults libtest.new }
+    ensures wants { wants libtest.new ≡ wants libtest.old }
+    ensures configured { configured libtest.new ≡ configured libtest.old }
+    ensures finished { finished libtest.new ≡ finished libtest.old }
 {
     write_event_dyn(&mut **libtest, event)
 }

@@ -33,3 +33,24 @@ returns-clause-later g c =
     let new : Object g = (lent.result.now.0, c.write_event_dyn.new.reporter) in
     subst (λ (p : Object g). (goal.EventReporter-dyn g p).faults p.1 ≤ (goal.EventReporter-dyn g new).faults new.1)
     lent.ensures.value.1 c.write_event_dyn.ensures.later
+
+pub returns-clause-wants : goal.returns-clause-wants
+returns-clause-wants g c =
+    let lent = c.deref_box_mut-1 in
+    let new : Object g = (lent.result.now.0, c.write_event_dyn.new.reporter) in
+    subst (λ (p : Object g). (goal.EventReporter-dyn g new).wants new.1 ≡ (goal.EventReporter-dyn g p).wants p.1)
+    lent.ensures.value.1 c.write_event_dyn.ensures.wants
+
+pub returns-clause-configured : goal.returns-clause-configured
+returns-clause-configured g c =
+    let lent = c.deref_box_mut-1 in
+    let new : Object g = (lent.result.now.0, c.write_event_dyn.new.reporter) in
+    subst (λ (p : Object g). (goal.EventReporter-dyn g new).configured new.1 ≡ (goal.EventReporter-dyn g p).configured p.1)
+    lent.ensures.value.1 c.write_event_dyn.ensures.configured
+
+pub returns-clause-finished : goal.returns-clause-finished
+returns-clause-finished g c =
+    let lent = c.deref_box_mut-1 in
+    let new : Object g = (lent.result.now.0, c.write_event_dyn.new.reporter) in
+    subst (λ (p : Object g). (goal.EventReporter-dyn g new).finished new.1 ≡ (goal.EventReporter-dyn g p).finished p.1)
+    lent.ensures.value.1 c.write_event_dyn.ensures.finished
