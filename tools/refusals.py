@@ -21,7 +21,7 @@ VALUES = {
     "ScriptId": ('rec_events::ScriptId::new(String::from_str(alloc, "x")?)',),
     "SpanKey": ("rec_trace::SpanKey::Run",),
 }
-JUDGED = "    let prepared = prepare(alloc, settings, namer, &session)?;"
+JUDGED = "    let prepared = prepare(alloc, settings, namer, session)?;"
 EDIT = "file: src/export.rt\nold: {judged}\nnew: {judged} if prepared.exported.events < u64::MAX {{ return Err({refusal}); }}\n"
 
 

@@ -34,7 +34,7 @@ class Edits(unittest.TestCase):
         self.assertEqual(list(made), [
             "always_two_parts.edit", "always_count_out_of_range.edit", "always_count_out_of_range_2.edit",
         ])
-        judged = "    let prepared = prepare(alloc, settings, namer, &session)?;"
+        judged = "    let prepared = prepare(alloc, settings, namer, session)?;"
         refusal = 'RecordExportError::TwoParts { line_number: 1, file_name: rec_events::Text::from_str(alloc, "x")? }'
         self.assertEqual(
             made["always_two_parts.edit"],

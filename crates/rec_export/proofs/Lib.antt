@@ -1,6 +1,7 @@
 pub mod Bundles
 pub mod Complete
 pub mod Judging
+pub mod LineBlocks
 pub mod Recorded
 pub mod RecordedLines
 pub mod RecorderFaults

@@ -1,10 +1,8 @@
 -- What a recorder over sinks in memory leaves.
 use Rattle.std.proofs.Common.{◌≡◌, ℕ, ◌+◌, List, [], ◌∷◌, ◌++◌, length, Bool, true, false, true≢false, ◌||◌, Option, Some, None, Result, Ok, Err, OnOk, refl, sym, ap, subst, ◌∙◌, ◌⊎◌, inl, inr, append-nil, length-append}
-use Rattle.std.specs.Io.KnownBytes.{Appends}
 use Rattle.std.specs.List.{AllByRecursion}
 use Rattle.std.specs.Option.{option_map}
-use Rattle.rec_container.proofs.Spelling.{prefix-ending}
-use Rattle.rec_container.specs.Container.{AreFrom, ending, spell}
+use Rattle.rec_container.specs.Container.{AreFrom}
 use Rattle.rec_container.specs.Memory.{GrowingSinkState}
 use Rattle.rec_events.specs.declared.recording.RecordOpts.{RecordOpts}
 use Rattle.rec_events.specs.declared.recording.TestListSummary.{TestListSummary}
@@ -12,7 +10,7 @@ use Rattle.rec_format.specs.declared.head.SessionHead.{SessionHead}
 use Rattle.rec_format.specs.declared.rerun.RerunInfo.{RerunInfo}
 use Rattle.rec_format.specs.declared.scope.RecordedBuildScope.{RecordedBuildScope}
 use Rattle.rec_codec.specs.Event.{LiveEvent, IsLogged, event_line}
-use Rattle.rec_store.proofs.Adding.{AreNew, with_entries-new, entries_after, taken_after, sound_after}
+use Rattle.rec_store.proofs.Adding.{AreNew, with_entries-new, entries_after, sound_after}
 use Rattle.rec_store.proofs.Clashing.{clash_none, clash_found}
 use Rattle.rec_store.proofs.OutputLaws.{clash_outputs, clash_push, log_push, outputs_of_event, outputs_push, with_outputs}
 use Rattle.rec_store.specs.Bundle.{events_recorded, outputs_stored, run_log}

@@ -5,6 +5,7 @@ pub mod Reading
 pub mod Recorded
 pub mod RecorderFaults
 pub mod Session
+pub mod SessionLines
 pub mod SessionTraces
 pub mod Settings
 pub mod Sizes

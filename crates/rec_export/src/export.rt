@@ -94,7 +94,7 @@ fn export<S: Source, N: OutputNamer, B: Sink, T: Sink>(
         source.old source.new bundle.old bundle.new trace.old trace.new) }
 {
     let session = read_session(alloc, settings.session_limit, source)?;
-    let prepared = prepare(alloc, settings, namer, &session)?;
+    let prepared = prepare(alloc, settings, namer, session)?;
     deliver(&prepared, bundle, trace)?;
     Ok(prepared.exported)
 }

@@ -4,21 +4,19 @@ ghost use Rattle.std.specs.Prelude.{◌≡◌, ◌⊎◌, None, Some, IfOk, IfEr
 ghost use Rattle.rec_format.specs.HeadForms.{IsHead};
 ghost use Rattle.rec_errors.specs.declared.export_error.RecordExportError.TheVariants.{OutOfMemory, ParseHead};
 ghost use Rattle.rec_export.specs.Bundle.{head_in};
-ghost use Rattle.rec_export.specs.Session.{head_text, event_lines};
+ghost use Rattle.rec_export.specs.Session.{head_text};
 
-use rec_codec::Lines;
+use crate::session_lines::SessionLines;
 use rec_errors::RecordExportError;
 use rec_format::SessionHead;
 use rec_forms::{FromValueError, read_text};
 use std::alloc::Global;
 
-/// Takes the first line off, and returns it where it is a text.
-pub fn take_head<'a>(lines: &mut Lines<'a>) -> Option<&'a str>
-    ensures text { option_map (λ text. text.now) result ≡ head_text lines.old }
-    ensures others { lines.new ≡ event_lines lines.old }
+/// Returns the first line, where it is a text.
+pub fn head_line(lines: &SessionLines) -> Option<&str>
+    ensures { option_map (λ text. text.now) result ≡ head_text lines.now }
 {
-    let line = lines.next()?;
-    line.text()
+    lines.first()?.text()
 }
 
 /// Reads the head of a session from the text of its first line.

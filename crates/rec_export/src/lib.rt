@@ -14,6 +14,7 @@ pub mod laws;
 mod prepare;
 mod read;
 mod record;
+mod session_lines;
 mod settings;
 mod sizes;
 mod trace;

@@ -22,10 +22,10 @@ ghost use Rattle.rec_export.specs.Sizes.{AnswersRefusal};
 use crate::bundle::{JudgedManifest, judge_contents};
 use crate::counts::Exported;
 use crate::discarding::DiscardingSink;
-use crate::head::{read_head, take_head};
+use crate::head::{head_line, read_head};
 use crate::record::{RecordedInMemory, record_run};
+use crate::session_lines::SessionLines;
 use crate::settings::Settings;
-use rec_codec::Lines;
 use rec_container::{ContainerWriter, GrowingSink};
 use rec_errors::RecordExportError;
 use rec_format::{RecordedSizes, SessionHead};
@@ -57,18 +57,19 @@ pub fn prepare<N: OutputNamer>(
     alloc: Global,
     settings: &Settings,
     namer: &N,
-    session: &[u8],
+    session: Vec<u8>,
 ) -> Result<Prepared, RecordExportError>
     ensures texts { IfOk result (λ p.
-        AreOf (N.number namer.now) settings.now session.now (prepared_bundle p) p.trace.items) }
+        AreOf (N.number namer.now) settings.now session.items (prepared_bundle p) p.trace.items) }
     ensures counts { IfOk result
-        (λ p. CountsOf (N.number namer.now) settings.now.max_output session.now
+        (λ p. CountsOf (N.number namer.now) settings.now.max_output session.items
         (prepared_bundle p) p.trace.items p.exported) }
     ensures err { IfErr result (λ e. (e ≡ OutOfMemory)
-        ⊎ (session_refusal (N.number namer.now) settings.now session.now ≡ Some e)) }
+        ⊎ (session_refusal (N.number namer.now) settings.now session.items ≡ Some e)) }
 {
-    let mut lines = Lines::new(session, 1);
-    let head = read_head(alloc, take_head(&mut lines))?;
+    let mut lines = SessionLines::new(alloc, session)?;
+    let head = read_head(alloc, head_line(&lines))?;
+    lines.drop_first();
     let result = prepare_run(alloc, settings, namer, &head, lines);
     // By a call: in place, each part of the head would be a case of the proof.
     head.discard();
@@ -81,27 +82,27 @@ fn prepare_run<N: OutputNamer>(
     settings: &Settings,
     namer: &N,
     head: &SessionHead,
-    lines: Lines<'_>,
+    lines: SessionLines,
 ) -> Result<Prepared, RecordExportError>
     ensures bundle { IfOk result (λ p. prepared_bundle p
         ≡ run_bundle (N.number namer.now) settings.now.max_output head.now
-        (events_of lines.entry)) }
+        (events_of lines)) }
     ensures reads { IsHead head.now → IfOk result (λ p. IsReading (prepared_bundle p)
-        (recorded (N.number namer.now) settings.now.max_output head.now (events_of lines.entry))) }
+        (recorded (N.number namer.now) settings.now.max_output head.now (events_of lines))) }
     ensures trace { IfOk result (λ p. p.trace.items
-        ≡ run_trace settings.now head.now (events_of lines.entry)) }
+        ≡ run_trace settings.now head.now (events_of lines)) }
     ensures accepted { OnOk result
-        (events_refusal settings.now.group_by (map plain (events_of lines.entry)) ≡ None) }
+        (events_refusal settings.now.group_by (map plain (events_of lines)) ≡ None) }
     ensures valid { OnOk result
-        (refusal_after (N.number namer.now) settings.now (Some head.now) lines.entry ≡ None) }
-    ensures events { IfOk result (λ p. p.exported.events ≡ length (events_of lines.entry)) }
+        (refusal_after (N.number namer.now) settings.now (Some head.now) lines ≡ None) }
+    ensures events { IfOk result (λ p. p.exported.events ≡ length (events_of lines)) }
     ensures outputs { IfOk result (λ p. p.exported.outputs
         ≡ length
-        (outputs_stored (N.number namer.now) settings.now.max_output (events_of lines.entry))) }
+        (outputs_stored (N.number namer.now) settings.now.max_output (events_of lines))) }
     ensures bundle_bytes { IfOk result (λ p. p.exported.bundle_bytes ≡ length (prepared_bundle p)) }
     ensures trace_bytes { IfOk result (λ p. p.exported.trace_bytes ≡ length p.trace.items) }
     ensures err { IfErr result (λ e. (e ≡ OutOfMemory)
-        ⊎ (refusal_after (N.number namer.now) settings.now (Some head.now) lines.entry ≡ Some e)) }
+        ⊎ (refusal_after (N.number namer.now) settings.now (Some head.now) lines ≡ Some e)) }
 {
     let run = record_run(alloc, settings, namer, head, lines)?;
     let RecordedInMemory {

@@ -22,10 +22,11 @@ ghost use Rattle.rec_export.specs.SessionTraces.{IsTraceOf};
 ghost use Rattle.rec_export.specs.Sizes.{entries_refusal};
 
 use crate::discarding::DiscardingSink;
+use crate::session_lines::SessionLines;
 use crate::settings::Settings;
 use crate::sizes::first_too_large;
 use crate::trace::SessionTrace;
-use rec_codec::{Line, Lines, read_line};
+use rec_codec::{Line, read_line};
 use rec_container::{ContainerWriter, GrowingSink, Sink};
 use rec_errors::RecordExportError;
 use rec_events::{LiveSpec, TestEventSummary, TryClone};
@@ -63,21 +64,21 @@ pub fn record_run<N: OutputNamer>(
     settings: &Settings,
     namer: &N,
     head: &SessionHead,
-    lines: Lines<'_>,
+    lines: SessionLines,
 ) -> Result<RecordedInMemory, RecordExportError>
     ensures valid { OnOk result
-        (lines_refusal (N.number namer.now) settings.now.max_output [] lines.entry ≡ None) }
+        (lines_refusal (N.number namer.now) settings.now.max_output [] lines ≡ None) }
     ensures run { IfOk result
-        (λ r. IsRunOf (N.number namer.now) settings.now.max_output head.now (events_of lines.entry)
+        (λ r. IsRunOf (N.number namer.now) settings.now.max_output head.now (events_of lines)
         r.store.entries r.log.bytes r.sizes) }
     ensures too_large { IfOk result (λ r. r.too_large
         ≡ entries_refusal settings.now.read_limit
-        (run_store (N.number namer.now) settings.now.max_output head.now (events_of lines.entry))) }
+        (run_store (N.number namer.now) settings.now.max_output head.now (events_of lines))) }
     ensures traced { IfOk result
         (λ r. IsTraceOf settings.now.message_format settings.now.group_by head.now.nextest_version
-        (map plain (events_of lines.entry)) r.trace) }
+        (map plain (events_of lines)) r.trace) }
     ensures err { IfErr result (λ e. (e ≡ OutOfMemory)
-        ⊎ (lines_refusal (N.number namer.now) settings.now.max_output [] lines.entry ≡ Some e)) }
+        ⊎ (lines_refusal (N.number namer.now) settings.now.max_output [] lines ≡ Some e)) }
 {
     let mut trace = new_trace(alloc, settings, head)?;
     let mut recorder = RunRecorder::new(
@@ -156,7 +157,7 @@ fn end_run<N: OutputNamer>(
 /// Records the events of lines, and traces them.
 fn record_lines<N: OutputNamer>(
     alloc: Global,
-    lines: Lines<'_>,
+    mut lines: SessionLines,
     recorder: &mut MemoryRecorder<'_, N>,
     trace: &mut SessionTrace,
 ) -> Result<(), RecordExportError>
@@ -164,17 +165,18 @@ fn record_lines<N: OutputNamer>(
     ensures sound { OnOk result (has_failed recorder.new ≡ false) }
     ensures recorded { (head : SessionHead) (events : List LiveEvent)
         → HasRecorded N.number recorder.old.namer recorder.old.max_output head events recorder.old
-        → RecordsLines N.number recorder.old.namer recorder.old.max_output head events lines.entry
+        → RecordsLines N.number recorder.old.namer recorder.old.max_output head events lines
         recorder.new result }
     ensures traced { (format : ChromeTraceMessageFormat) (g : ChromeTraceGroupBy) (version : Parts)
         (before : List PlainEvent)
         → IsTraceOf format g version before trace.old
         → OnOk result
-        (IsTraceOf format g version (before ++ map plain (events_of lines.entry)) trace.new) }
+        (IsTraceOf format g version (before ++ map plain (events_of lines)) trace.new) }
 {
     let mut scratch = Scratch::new(alloc);
-    for line in lines {
+    while let Some(line) = lines.first() {
         record_line(alloc, line, &mut scratch, recorder, trace)?;
+        lines.drop_first();
     }
     Ok(())
 }

@@ -27,22 +27,22 @@ counted (Err e) f p q a v = tt
 
 pub returns-in_err-head-clause-err : goal.returns-in_err-head-clause-err
 returns-in_err-head-clause-err g c =
-    let text = c.take_head.ensures.text ∙ ap head_text c.new-lines.ensures in
-    let p = err_from_is_err_and c.from_residual.result c.from_residual.ensures.1 in
+    let text = c.head_line.ensures ∙ ap head_text c.in_ok-lines.ensures in
+    let p = err_from_is_err_and c.from_residual-in_err-head.result c.from_residual-in_err-head.ensures.1 in
     rw (p.1, p.2) (let r = c.in_err-head.ensures.err in elim r [
       | inl h ↦ inl h
-      | inr h ↦ inr (refused_head (g.N.OutputNamer.number c.args.namer.now) c.args.settings.now c.args.session.now (ap head_in (sym text) ∙ h.1) ∙ ap Some (sym h.0))
+      | inr h ↦ inr (refused_head (g.N.OutputNamer.number c.args.namer.now) c.args.settings.now c.args.session.items (ap head_in (sym text) ∙ h.1) ∙ ap Some (sym h.0))
     ])
 
 pub returns-clause-texts : goal.returns-clause-texts
 returns-clause-texts g c =
     let number = g.N.OutputNamer.number c.args.namer.now in
     let settings = c.args.settings.now in
-    let session = c.args.session.now in
+    let session = c.args.session.items in
     let head = c.in_ok-head.head in
-    let text = c.take_head.ensures.text ∙ ap head_text c.new-lines.ensures in
+    let text = c.head_line.ensures ∙ ap head_text c.in_ok-lines.ensures in
     let has_head = ap head_in (sym text) ∙ c.in_ok-head.ensures.head in
-    let lines = c.take_head.ensures.others ∙ ap event_lines c.new-lines.ensures in
+    let lines = c.drop_first.ensures ∙ ap event_lines c.in_ok-lines.ensures in
     let events = ap events_of lines ∙ events_after session in
     joined c.prepare_run-result.result (λ prepared spelled reads traced valid accepted. record {
       head = head;
@@ -59,8 +59,8 @@ pub returns-clause-counts : goal.returns-clause-counts
 returns-clause-counts g c =
     let number = g.N.OutputNamer.number c.args.namer.now in
     let m = c.args.settings.now.max_output in
-    let lines = c.take_head.ensures.others ∙ ap event_lines c.new-lines.ensures in
-    let events = ap events_of lines ∙ events_after c.args.session.now in
+    let lines = c.drop_first.ensures ∙ ap event_lines c.in_ok-lines.ensures in
+    let events = ap events_of lines ∙ events_after c.args.session.items in
     let made = c.prepare_run-result in
     counted made.result (λ p counted stored bundle trace. record {
       events = counted ∙ ap length events;
@@ -74,8 +74,8 @@ returns-clause-err g c =
     let number = g.N.OutputNamer.number c.args.namer.now in
     let settings = c.args.settings.now in
     let head = c.in_ok-head.head in
-    let text = c.take_head.ensures.text ∙ ap head_text c.new-lines.ensures in
+    let text = c.head_line.ensures ∙ ap head_text c.in_ok-lines.ensures in
     let has_head = ap head_in (sym text) ∙ c.in_ok-head.ensures.head in
-    let lines = c.take_head.ensures.others ∙ ap event_lines c.new-lines.ensures in
-    let same = ap (refusal_after number settings (Some head)) lines ∙ sym (after_head number settings c.args.session.now head has_head) in
+    let lines = c.drop_first.ensures ∙ ap event_lines c.in_ok-lines.ensures in
+    let same = ap (refusal_after number settings (Some head)) lines ∙ sym (after_head number settings c.args.session.items head has_head) in
     subst (λ (o : Option RecordExportError). IfErr c.prepare_run-result.result (λ e. (e ≡ OutOfMemory) ⊎ (o ≡ Some e))) same c.prepare_run-result.ensures.err

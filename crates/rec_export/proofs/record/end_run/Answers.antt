@@ -1,4 +1,4 @@
-use Rattle.std.proofs.Common.{◌≡◌, ap, sym, subst, ◌∙◌}
+use Rattle.std.proofs.Common.{ap, sym, subst, ◌∙◌}
 use Rattle.rec_container.specs.Memory.{GrowingSinkState}
 use Rattle.rec_container.specs.Writing.{Writing}
 use Rattle.rec_export.proofs.record.end_run.Goals as goal

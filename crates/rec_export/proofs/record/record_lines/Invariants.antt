@@ -1,4 +1,4 @@
-use Rattle.std.proofs.Common.{◌≡◌, false, List, ◌++◌, map, Result}
+use Rattle.std.proofs.Common.{◌≡◌, false, List, ◌++◌, length, map, Result}
 use Rattle.std.specs.Bool.{⊤}
 use Rattle.semver.specs.Parse.{Parts}
 use Rattle.rec_container.specs.Memory.{GrowingSinkState}
@@ -25,8 +25,11 @@ invariant-loop-line g l =
       sound : has_failed l.recorder ≡ false;
       recorded : (head : SessionHead) (events : List LiveEvent) → HasRecorded number namer m head events l.fn.recorder
           → (so_far : List LiveEvent) × HasRecorded number namer m head so_far l.recorder
-          × ((r : Result ⊤ RecordExportError) (new : Recording DiscardingSink GrowingSinkState _) → RecordsLines number namer m head so_far l.line-iterator new r → RecordsLines number namer m head events l.fn.lines new r);
+          × ((r : Result ⊤ RecordExportError) (new : Recording DiscardingSink GrowingSinkState _) → RecordsLines number namer m head so_far l.lines new r → RecordsLines number namer m head events l.fn.lines new r);
       traced : (format : ChromeTraceMessageFormat) (group : ChromeTraceGroupBy) (version : Parts) (before : List PlainEvent) → IsTraceOf format group version before l.fn.trace
           → (so_far : List PlainEvent) × IsTraceOf format group version so_far l.trace
-          × (before ++ map plain (events_of l.fn.lines) ≡ so_far ++ map plain (events_of l.line-iterator));
+          × (before ++ map plain (events_of l.fn.lines) ≡ so_far ++ map plain (events_of l.lines));
     }
+
+abbrev pub decreases-loop-line : goal.decreases-loop-line
+decreases-loop-line g l = length l.lines
