@@ -1,14 +1,17 @@
 -- How a test stands after one event more.
 use Rattle.std.proofs.Common.{◌≡◌, ℕ, zero, suc, ◌+◌, ◌<◌, Bool, true, false, ◌&&◌, nat_lt, List, [], ◌∷◌, ◌++◌, length, Option, Some, None, refl, sym, ap, ◌∙◌, arith, slice_get, take, take-suc, add-one, get_or, option_map, if◌then◌else◌, IfSome}
 use Rattle.std.proofs.lemmas.Bool.Decides.{nat_tests}
+use Rattle.std.proofs.lemmas.List.{map-append}
 use Rattle.std.specs.Option.{option_or}
 use Rattle.rec_events.specs.declared.instances.OwnedTestInstanceId.{OwnedTestInstanceId}
 use Rattle.rec_events.specs.Tests.{test_eq}
+use Rattle.rec_format.specs.declared.rerun.RerunInfo.{RerunInfo}
 use Rattle.rec_rerun.specs.Acts.Act.{Starts, Ends, Silent}
-use Rattle.rec_rerun.specs.Acts.{Act}
+use Rattle.rec_rerun.specs.Acts.{Act, act_of}
 use Rattle.rec_rerun.specs.declared.standings.Standing.TheVariants.{Started}
 use Rattle.rec_rerun.specs.Places.{last_at}
-use Rattle.rec_rerun.specs.Standings.{ended, ends, ends_well, has_passed, standing_after, standing_from, standing_of, starts}
+use Rattle.rec_rerun.specs.Selection.{HasTaken, known_in}
+use Rattle.rec_rerun.specs.Standings.{LogEvent, Tests, acts_of, at, ended, ends, ends_well, has_passed, standing_after, standing_from, standing_of, starts}
 
 abbrev zero_if : Bool → Option ℕ
 zero_if b = if b then Some 0 else None
@@ -98,6 +101,14 @@ standing-push acts act known test =
         one true = last_end acts (Ends t passed) known passed refl (last_at (starts test) acts) (last_at (ends test) acts) (last_within (starts test) acts)
         one false = same_from acts (Ends t passed) known (last_at (starts test) acts) (last_at (ends test) acts) (last_within (ends test) acts)
     by Silent = same_from acts Silent known (last_at (starts test) acts) (last_at (ends test) acts) (last_within (ends test) acts)
+
+-- each test stands as all events say, with one event more
+pub taken-more : (parent : Option RerunInfo) (events : List LogEvent) (event : LogEvent) (act : Act) (old new : Tests) → act ≡ act_of event.kind
+    → ((t : OwnedTestInstanceId) → at new t ≡ standing_after act t (at old t)) → HasTaken parent events old → HasTaken parent (events ++ event ∷ []) new
+taken-more parent events event act old new is takes has t =
+    takes t ∙ ap (λ a. standing_after a t (at old t)) is ∙ ap (standing_after (act_of event.kind) t) (has t)
+    ∙ sym (standing-push (acts_of events) (act_of event.kind) (known_in parent t) t)
+    ∙ ap (λ acts. standing_of acts (known_in parent t) t) (sym (map-append (λ (e : LogEvent). act_of e.kind) events (event ∷ [])))
 
 pub take_more : {A : Type 0} (ss : List A) (i : ℕ) (s : A) → i < length ss → s ≡ get_or ss i s → take (i + 1) ss ≡ take i ss ++ (s ∷ [])
 take_more ss i s h is = ap (λ n. take n ss) (add-one i) ∙ take-suc ss i s h ∙ ap (λ x. take i ss ++ (x ∷ [])) (sym is)

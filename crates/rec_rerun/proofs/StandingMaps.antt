@@ -5,16 +5,15 @@ use Rattle.std.proofs.lemmas.Slice.Eq.{bytes_eq-Decides}
 use Rattle.std.specs.BTreeMap.{BTreeMap, UpdatesBy, get_by_text}
 use Rattle.std.specs.Prelude.{ℕ, bytes_eq, if◌then◌else◌, not, is_some}
 use Rattle.rec_events.proofs.TestOrder.{test_eq-true}
-use Rattle.rec_events.specs.declared.events.TestEventSummary.{TestEventSummary}
 use Rattle.rec_events.specs.declared.instances.OwnedTestInstanceId.{OwnedTestInstanceId}
 use Rattle.rec_events.specs.Tests.{test_eq}
 use Rattle.rec_format.specs.declared.rerun.RerunInfo.{RerunInfo}
 use Rattle.rec_format.specs.declared.suites.RerunTestSuiteInfo.{RerunTestSuiteInfo}
 use Rattle.rec_rerun.specs.declared.standings.Standing.TheVariants.{Known, Started}
 use Rattle.rec_rerun.specs.declared.standings.Standing.{Standing}
-use Rattle.rec_rerun.specs.Selection.{IsSelection, is_passing, is_recorded, standing_in}
-use Rattle.rec_rerun.specs.Standings.{Puts, Tests, at, ended, in_binary}
-use Rattle.rec_rerun.specs.Suites.{AreSuitesOf, has_outstanding, has_passing, stands}
+use Rattle.rec_rerun.specs.Selection.{HasTaken, IsSelection, is_passing, is_recorded, standing_in}
+use Rattle.rec_rerun.specs.Standings.{LogEvent, Puts, Tests, at, ended, in_binary}
+use Rattle.rec_rerun.specs.Suites.{AreSuitesOf, has_outstanding, has_passing, is_so, stands}
 
 -- the tests of one binary are changed, and among them one test
 pub restood : (old new : Tests) (test : OwnedTestInstanceId) (w : Option (BTreeMap (String Global) Standing))
@@ -68,27 +67,31 @@ both_sets (Some (Known false)) = refl
 both_sets (Some (Started true)) = refl
 both_sets (Some (Started false)) = refl
 
-never_both : (a b : Bool) → (a && (b && not a)) ≡ false
-never_both true true = refl
-never_both true false = refl
-never_both false b = refl
+never_so : (p : Bool) → (is_so true p && is_so false p) ≡ false
+never_so true = refl
+never_so false = refl
 
-module _ {S O : Type 0} (events : List (TestEventSummary S O)) (parent : Option RerunInfo) (suites : List RerunTestSuiteInfo) where
-  pub selected : (tests : Tests) → ((t : OwnedTestInstanceId) → at tests t ≡ standing_in events parent t) → AreSuitesOf tests suites → IsSelection events parent suites
-  selected tests is h = record {
-    rise = h.rise;
-    full = h.full;
-    passing = λ t. h.held true t ∙ ap (stands true) (is t);
-    outstanding = λ t. h.held false t ∙ ap (stands false) (is t) ∙ others (standing_in events parent t);
-  }
+never_stands_both : (o : Option Standing) → (stands true o && stands false o) ≡ false
+never_stands_both None = refl
+never_stands_both (Some (Known p)) = never_so p
+never_stands_both (Some (Started p)) = never_so p
 
-  pub apart : IsSelection events parent suites → (t : OwnedTestInstanceId) → (has_passing suites t && has_outstanding suites t) ≡ false
-  apart h t = ap (λ b. b && has_outstanding suites t) (h.passing t) ∙ ap (λ b. is_passing events parent t && b) (h.outstanding t)
-      ∙ never_both (is_passing events parent t) (is_recorded events parent t)
+module _ (tests : Tests) (suites : List RerunTestSuiteInfo) (are : AreSuitesOf tests suites) where
+  pub apart : (t : OwnedTestInstanceId) → (has_passing suites t && has_outstanding suites t) ≡ false
+  apart t = ap (λ b. b && has_outstanding suites t) (are.held true t) ∙ ap (λ b. stands true (at tests t) && b) (are.held false t) ∙ never_stands_both (at tests t)
 
-  pub recorded : IsSelection events parent suites → (t : OwnedTestInstanceId) → (has_passing suites t || has_outstanding suites t) ≡ is_recorded events parent t
-  recorded h t = ap (λ b. b || has_outstanding suites t) (h.passing t) ∙ ap (λ b. is_passing events parent t || b) (h.outstanding t)
-      ∙ both_sets (standing_in events parent t)
+  module _ (parent : Option RerunInfo) (events : List LogEvent) (has : HasTaken parent events tests) where
+    pub selected : IsSelection events parent suites
+    selected = record {
+      rise = are.rise;
+      full = are.full;
+      passing = λ t. are.held true t ∙ ap (stands true) (has t);
+      outstanding = λ t. are.held false t ∙ ap (stands false) (has t) ∙ others (standing_in events parent t);
+    }
+
+    pub recorded : (t : OwnedTestInstanceId) → (has_passing suites t || has_outstanding suites t) ≡ is_recorded events parent t
+    recorded t = ap (λ b. b || has_outstanding suites t) (selected.passing t) ∙ ap (λ b. is_passing events parent t || b) (selected.outstanding t)
+        ∙ both_sets (standing_in events parent t)
 
 -- ---- a name put into a binary's tests
 

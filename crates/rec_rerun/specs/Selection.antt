@@ -9,7 +9,7 @@ use Rattle.rec_format.specs.declared.scope.RecordedBuildScope.{RecordedBuildScop
 use Rattle.rec_format.specs.declared.suites.RerunTestSuiteInfo.{RerunTestSuiteInfo}
 use Rattle.rec_format.specs.Suites.{SuitesRise}
 use Rattle.rec_rerun.specs.declared.standings.Standing.{Standing}
-use Rattle.rec_rerun.specs.Standings.{acts_of, standing_of}
+use Rattle.rec_rerun.specs.Standings.{LogEvent, Tests, acts_of, at, standing_of}
 use Rattle.rec_rerun.specs.Suites.{IsFull, has_outstanding, has_passing, stands}
 
 -- what a rerun knows of a test: that it had passed, or that it hadn't; or nothing
@@ -39,3 +39,7 @@ module _ {S O : Type 0} (events : List (TestEventSummary S O)) (parent : Option 
     pub full : AllByRecursion IsFull suites
     pub passing : (t : OwnedTestInstanceId) → has_passing suites t ≡ is_passing t
     pub outstanding : (t : OwnedTestInstanceId) → has_outstanding suites t ≡ (is_recorded t && not (is_passing t))
+
+-- each test stands as these events and the parent say
+abbrev pub HasTaken : Option RerunInfo → List LogEvent → Tests → Type 0
+HasTaken parent events tests = (t : OwnedTestInstanceId) → at tests t ≡ standing_in events parent t

@@ -4,12 +4,18 @@ use Rattle.std.specs.declared.alloc.Global.{Global}
 use Rattle.std.specs.Prelude.{◌≡◌, ℕ, Bool, false, ◌&&◌, nat_lt, List, map, slice_get, Option, Some, None, option_map, if◌then◌else◌, String}
 use Rattle.rec_events.specs.declared.events.TestEventSummary.{TestEventSummary}
 use Rattle.rec_events.specs.declared.instances.OwnedTestInstanceId.{OwnedTestInstanceId}
+use Rattle.rec_events.specs.declared.outputs.RecordingSpec.{RecordingSpec}
+use Rattle.rec_events.specs.declared.outputs.ZipStoreOutputDescription.{ZipStoreOutputDescription}
 use Rattle.rec_events.specs.Tests.{test_eq}
 use Rattle.rec_rerun.specs.Acts.Act.{Starts, Ends, Silent}
 use Rattle.rec_rerun.specs.Acts.{Act, act_of}
 use Rattle.rec_rerun.specs.declared.standings.Standing.TheVariants.{Known, Started}
 use Rattle.rec_rerun.specs.declared.standings.Standing.{Standing}
 use Rattle.rec_rerun.specs.Places.{last_at}
+
+-- an event of a log
+abbrev pub LogEvent : Type 0
+LogEvent = TestEventSummary RecordingSpec ZipStoreOutputDescription
 
 -- what each event of a log is
 abbrev pub acts_of : {S O : Type 0} → List (TestEventSummary S O) → List Act

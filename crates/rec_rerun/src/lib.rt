@@ -9,4 +9,4 @@ mod standings;
 mod suites;
 
 pub use plan::{RerunPlan, plan_rerun};
-pub use selection::select_rerun;
+pub use selection::{RerunSelector, select_rerun};

@@ -1,16 +1,18 @@
 //! Which tests are to run again after a run, and which have passed.
 ghost use Rattle.std.specs.Option.{option_copied, option_map};
-ghost use Rattle.std.specs.Prelude.{◌≡◌, ◌&&◌, ◌||◌, false, IfOk};
+ghost use Rattle.std.specs.Prelude.{◌≡◌, ◌++◌, ◌∷◌, [], ◌&&◌, ◌||◌, false, IfOk, List, OnOk, Option};
 ghost use Rattle.rec_events.specs.declared.instances.OwnedTestInstanceId.{OwnedTestInstanceId};
+ghost use Rattle.rec_format.specs.declared.rerun.RerunInfo.{RerunInfo};
 ghost use Rattle.rec_rerun.specs.declared.standings.Standing.TheVariants.{Known};
-ghost use Rattle.rec_rerun.specs.Selection.{IsSelection, is_recorded, known_in, root_of, standing_in};
-ghost use Rattle.rec_rerun.specs.Standings.{at};
-ghost use Rattle.rec_rerun.specs.Suites.{has_outstanding, has_passing};
+ghost use Rattle.rec_rerun.specs.Selection.{HasTaken, IsSelection, is_recorded, known_in, root_of};
+ghost use Rattle.rec_rerun.specs.Standings.{LogEvent, at};
+ghost use Rattle.rec_rerun.specs.Suites.{AreSuitesOf, has_outstanding, has_passing};
 
+use crate::acts::act_of;
 use crate::standings::Standings;
 use crate::suites::suites_of;
 use rec_events::{RecordingSpec, ReportUuid, TestEventSummary, TryClone};
-use rec_format::{RecordedBuildScope, RerunInfo, RerunRootInfo, RerunSuites};
+use rec_format::{RecordedBuildScope, RerunInfo, RerunRootInfo};
 use std::alloc::{AllocError, Global};
 
 /// Copies what was built.
@@ -53,33 +55,115 @@ fn known_standings(alloc: Global, parent: Option<&RerunInfo>) -> Result<Standing
     Ok(standings)
 }
 
-/// Takes down how each test stands after a run.
-fn standings_of(
-    alloc: Global,
-    events: &[TestEventSummary<RecordingSpec>],
-    parent: Option<&RerunInfo>,
-) -> Result<Standings, AllocError>
-    ensures { IfOk result (λ standings. (t : OwnedTestInstanceId) →
-        at standings.tests t ≡ standing_in events.now (option_copied parent.entry) t) }
-{
-    let mut standings = known_standings(alloc, parent)?;
-    let Ok(()) = standings.take_all(events) else {
-        drop(standings);
-        return Err(AllocError);
-    };
-    Ok(standings)
+/// Selects the tests that are to run again after a run, by the events of its log as they come. No event is
+/// kept.
+#[derive(Drop)]
+pub struct RerunSelector {
+    standings: Standings,
 }
 
-/// Selects the tests that have passed, and those that are to run again.
-fn select_suites(
+impl RerunSelector {
+    /// Makes the selector of a log without an event so far. `parent` describes what the run itself reran, if
+    /// it reran anything.
+    ///
+    /// # Errors
+    ///
+    /// `AllocError` means that there was not enough memory.
+    pub fn new(alloc: Global, parent: Option<&RerunInfo>) -> Result<RerunSelector, AllocError>
+        ensures { IfOk result
+            (λ selector. HasTaken (option_copied parent.entry) [] selector.standings.tests) }
+    {
+        let standings = known_standings(alloc, parent)?;
+        Ok(RerunSelector { standings })
+    }
+
+    /// Takes the next event of the log. The events may be any in any order.
+    ///
+    /// # Errors
+    ///
+    /// `AllocError` means that there was not enough memory. What is selected then is not said.
+    pub fn add_event(&mut self, event: &TestEventSummary<RecordingSpec>) -> Result<(), AllocError>
+        ensures { OnOk result ((parent : Option RerunInfo) (events : List LogEvent)
+            → HasTaken parent events self.old.standings.tests
+            → HasTaken parent (events ++ event.now ∷ []) self.new.standings.tests) }
+    {
+        self.standings.take(act_of(&event.kind))
+    }
+
+    /// Takes the events of a log.
+    fn add_events(&mut self, events: &[TestEventSummary<RecordingSpec>]) -> Result<(), AllocError>
+        ensures { OnOk result ((parent : Option RerunInfo)
+            → HasTaken parent [] self.old.standings.tests
+            → HasTaken parent events.now self.new.standings.tests) }
+    {
+        for event in events {
+            self.add_event(event)?;
+        }
+        Ok(())
+    }
+
+    /// Selects the tests that are to run again after a run of this id, whose log has the events so far, and
+    /// those that have passed, as [`select_rerun`] does. `parent` is what the selector was made with.
+    ///
+    /// # Errors
+    ///
+    /// `AllocError` means that there was not enough memory.
+    pub fn select(
+        self,
+        alloc: Global,
+        run_id: ReportUuid,
+        build_scope: &RecordedBuildScope,
+        parent: Option<&RerunInfo>,
+    ) -> Result<RerunInfo, AllocError>
+        ensures parent_run { IfOk result (λ info. info.parent_run_id ≡ run_id) }
+        ensures root { IfOk result
+            (λ info. info.root_info ≡ root_of run_id build_scope.now (option_copied parent.entry)) }
+        ensures selected { (known : Option RerunInfo) (events : List LogEvent)
+            → HasTaken known events self.standings.tests
+            → IfOk result (λ info. IsSelection events known info.test_suites) }
+        ensures apart { IfOk result (λ info. (t : OwnedTestInstanceId) →
+            (has_passing info.test_suites t && has_outstanding info.test_suites t) ≡ false) }
+        ensures recorded { (known : Option RerunInfo) (events : List LogEvent)
+            → HasTaken known events self.standings.tests
+            → IfOk result (λ info. (t : OwnedTestInstanceId) →
+            (has_passing info.test_suites t || has_outstanding info.test_suites t)
+            ≡ is_recorded events known t) }
+    {
+        make_info(alloc, self.standings, run_id, build_scope, parent)
+    }
+
+    /// Lets the selector go, as `drop` does. A crate that lets one go by this call doesn't prove anew how each
+    /// of its parts is let go.
+    pub fn discard(self) {
+        drop(self);
+    }
+}
+
+/// Describes what is to run again, by how the tests stand, which are let go.
+fn make_info(
     alloc: Global,
-    events: &[TestEventSummary<RecordingSpec>],
+    standings: Standings,
+    run_id: ReportUuid,
+    build_scope: &RecordedBuildScope,
     parent: Option<&RerunInfo>,
-) -> Result<RerunSuites, AllocError>
-    ensures { IfOk result (IsSelection events.now (option_copied parent.entry)) }
+) -> Result<RerunInfo, AllocError>
+    ensures parent_run { IfOk result (λ info. info.parent_run_id ≡ run_id) }
+    ensures root { IfOk result
+        (λ info. info.root_info ≡ root_of run_id build_scope.now (option_copied parent.entry)) }
+    ensures suites { IfOk result (λ info. AreSuitesOf standings.tests info.test_suites) }
 {
-    let standings = standings_of(alloc, events, parent)?;
-    suites_of(alloc, &standings)
+    let made = suites_of(alloc, &standings);
+    drop(standings);
+    let test_suites = made?;
+    let Ok(root_info) = root_of(alloc, run_id, build_scope, parent) else {
+        drop(test_suites);
+        return Err(AllocError);
+    };
+    Ok(RerunInfo {
+        parent_run_id: run_id,
+        test_suites,
+        root_info,
+    })
 }
 
 /// Selects the tests that are to run again after a run of this id, whose log has these events, and those
@@ -111,14 +195,10 @@ pub fn select_rerun(
         (has_passing info.test_suites t || has_outstanding info.test_suites t)
         ≡ is_recorded events.now (option_copied parent.entry) t) }
 {
-    let root_info = root_of(alloc, run_id, build_scope, parent)?;
-    let Ok(test_suites) = select_suites(alloc, events, parent) else {
-        drop(root_info);
+    let mut selector = RerunSelector::new(alloc, parent)?;
+    let Ok(()) = selector.add_events(events) else {
+        drop(selector);
         return Err(AllocError);
     };
-    Ok(RerunInfo {
-        parent_run_id: run_id,
-        test_suites,
-        root_info,
-    })
+    selector.select(alloc, run_id, build_scope, parent)
 }

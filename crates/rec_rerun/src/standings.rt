@@ -1,17 +1,16 @@
 //! How tests stand, by what was known before and by the events of a log.
 ghost use Rattle.std.specs.BTreeMap.{get_by_text};
-ghost use Rattle.std.specs.Option.{option_map};
-ghost use Rattle.std.specs.Prelude.{◌≡◌, Bool, None, Option, OnOk, Some, if◌then◌else◌};
+ghost use Rattle.std.specs.Prelude.{◌≡◌, None, OnOk, Some, if◌then◌else◌};
 ghost use Rattle.rec_events.specs.declared.instances.OwnedTestInstanceId.{OwnedTestInstanceId};
 ghost use Rattle.rec_events.specs.Tests.{is_named, test_eq, test_of};
 ghost use Rattle.rec_rerun.specs.declared.standings.Standing.TheVariants.{Known};
 ghost use Rattle.rec_rerun.specs.Seen.{seen};
-ghost use Rattle.rec_rerun.specs.Standings.{Puts, acts_of, at, ended, standing_after, standing_of};
+ghost use Rattle.rec_rerun.specs.Standings.{Puts, at, ended, standing_after};
 ghost use Rattle.rec_rerun.specs.Suites.{holds};
 
-use crate::acts::{Act, act_of};
+use crate::acts::Act;
 use crate::suites::names_of;
-use rec_events::{OwnedTestInstanceId, RecordingSpec, TestEventSummary, TestNames};
+use rec_events::{OwnedTestInstanceId, TestNames};
 use rec_format::RerunSuites;
 use std::alloc::{AllocError, Global};
 use std::collections::BTreeMap;
@@ -95,7 +94,7 @@ impl Standings {
     }
 
     /// Takes down an event.
-    fn take(&mut self, act: Act<'_>) -> Result<(), AllocError>
+    pub(crate) fn take(&mut self, act: Act<'_>) -> Result<(), AllocError>
         ensures ok { OnOk result ((t : OwnedTestInstanceId) →
             at self.new.tests t ≡ standing_after (seen act.entry) t (at self.old.tests t)) }
     {
@@ -108,22 +107,6 @@ impl Standings {
             Act::Ends { test, passed } => self.end(test, passed),
             Act::Silent => Ok(()),
         }
-    }
-
-    /// Takes down the events of a log.
-    pub(crate) fn take_all(
-        &mut self,
-        events: &[TestEventSummary<RecordingSpec>],
-    ) -> Result<(), AllocError>
-        ensures ok { OnOk result
-            ((t : OwnedTestInstanceId) (known : Option Bool)
-            → at self.old.tests t ≡ option_map Known known
-            → at self.new.tests t ≡ standing_of (acts_of events.now) known t) }
-    {
-        for event in events {
-            self.take(act_of(&event.kind))?;
-        }
-        Ok(())
     }
 
     /// Takes down the passing tests of all suites, or the outstanding ones.
