@@ -13,6 +13,7 @@ use Rattle.rec_format.specs.declared.scope.RecordedBuildScope.{RecordedBuildScop
 use Rattle.rec_format.specs.RerunForms.{rerun_info_value}
 use Rattle.rec_format.specs.ScopeForms.{recorded_scope_form}
 use Rattle.rec_codec.specs.Event.{RecordedEvent}
+use Rattle.rec_codec.specs.Lines.{NumberedLine}
 use Rattle.rec_store.specs.Entries.{build_scope_path}
 use Rattle.rec_store.specs.Parts.{metadata_part, rerun_info_part}
 use Rattle.rec_portable.specs.Judging.{judged}
@@ -23,7 +24,7 @@ use Rattle.rec_rerun.specs.Selection.{IsSelection, is_recorded, root_of}
 use Rattle.rec_rerun.specs.Suites.{has_outstanding, has_passing}
 use Rattle.rec_errors.specs.declared.reading_error.ReadingError.TheVariants.{OutOfMemory}
 use Rattle.rec_errors.specs.declared.reading_error.ReadingError.{ReadingError}
-use Rattle.rec_reading.specs.declared.rerun.OpenRerun.{OpenRerun}
+use Rattle.rec_reading.specs.declared.rerun.SelectedTests.{SelectedTests}
 use Rattle.rec_reading.specs.declared.rerun.Tested.{Tested}
 use Rattle.rec_reading.specs.LogEvents.{events_of}
 use Rattle.rec_reading.specs.LogLines.{log_lines}
@@ -64,15 +65,6 @@ parts_after limit es manifest = do
 abbrev pub rerun_parts_of : ℕ → List Entry → Result RerunParts ReadingError
 rerun_parts_of limit es = of_bundle (judged limit es) >>= parts_after limit es
 
--- the run that was read
-abbrev pub rerun_parts_in : OpenRerun → RerunParts
-rerun_parts_in run = record { run_id = run.run_id; tested = run.tested; events = run.events.items }
-
--- this run was read, or it is refused
-abbrev pub OpensRerun : Result RerunParts ReadingError → Result OpenRerun ReadingError → Type 0
-OpensRerun expected (Ok run) = expected ≡ Ok (rerun_parts_in run)
-OpensRerun expected (Err e) = (e ≡ OutOfMemory) ⊎ (expected ≡ Err e)
-
 -- ---- what is selected, and planned by it
 
 -- which tests of a run are to run again, and which have passed: each recorded test is in one of the two sets
@@ -91,6 +83,17 @@ pub record IsPlanOf (info : RerunInfo) (list : TestListSummary) (plan : RerunPla
   pub parted : (t : OwnedTestInstanceId) → (is_in plan.run t || is_in plan.skip t) ≡ is_listed list t
   pub apart : (t : OwnedTestInstanceId) → (is_in plan.run t && is_in plan.skip t) ≡ false
   pub kept : AreApart info.test_suites → (t : OwnedTestInstanceId) → has_outstanding info.test_suites t ≡ true → (is_in plan.run t || is_in plan.gone t) ≡ true
+
+-- what is to run again is selected by these lines; or one of them gives no event, or memory ran out
+abbrev pub SelectsBy : List ℕ → Tested → List NumberedLine → Result RerunInfo ReadingError → Type 0
+SelectsBy run_id tested lines (Ok info) =
+    (events : List RecordedEvent) × (events_of lines ≡ Ok events) × IsRerunOf (record { run_id = run_id; tested = tested; events = events }) info
+SelectsBy run_id tested lines (Err e) = (e ≡ OutOfMemory) ⊎ (events_of lines ≡ Err e)
+
+-- the same by the parts of a bundle, beside the tests of the run
+abbrev pub Selects : Result RerunParts ReadingError → Result SelectedTests ReadingError → Type 0
+Selects expected (Ok s) = (run : RerunParts) × (expected ≡ Ok run) × IsRerunOf run s.info × (s.tests ≡ run.tested.tests)
+Selects expected (Err e) = (e ≡ OutOfMemory) ⊎ (expected ≡ Err e)
 
 -- ---- the text
 

@@ -1,11 +1,14 @@
 //! Which tests are to run again after the run of a bundle.
-ghost use Rattle.std.specs.Prelude.{◌≡◌, ◌++◌, List, IfOk, OnOk};
+ghost use Rattle.std.specs.Prelude.{◌≡◌, ◌++◌, [], List, IfOk, OnOk, Option};
 ghost use Rattle.rec_container.specs.Container.{Entry, IsContainer};
+ghost use Rattle.rec_format.specs.declared.rerun.RerunInfo.{RerunInfo};
+ghost use Rattle.rec_rerun.specs.Selection.{HasTaken};
 ghost use Rattle.rec_reading.specs.Listing.{Makes};
-ghost use Rattle.rec_reading.specs.Reruns.{OpensRerun, PrintsPlan, PrintsRerun, PrintsSelection, build_scope_part, parent_part, plan_lines, rerun_parts_in, rerun_parts_of, selection_line, test_line, test_lines, tested_part};
+ghost use Rattle.rec_reading.specs.LogLines.{log_lines};
+ghost use Rattle.rec_reading.specs.Reruns.{PrintsPlan, PrintsRerun, Selects, SelectsBy, build_scope_part, parent_part, plan_lines, rerun_parts_of, selection_line, test_line, test_lines, tested_part};
 ghost use Rattle.rec_reading.specs.RunParts.{Answers};
 
-use crate::events::read_events;
+use crate::events::{EventTaker, take_lines};
 use crate::parts::read_tests;
 use rec_errors::ReadingError;
 use rec_events::{
@@ -13,8 +16,8 @@ use rec_events::{
 };
 use rec_format::{RecordedBuildScope, RerunInfo};
 use rec_forms::write_text;
-use rec_portable::{PortableRecording, PortableStoreReader};
-use rec_rerun::{RerunPlan, plan_rerun, select_rerun};
+use rec_portable::{PortableRecording, PortableRecordingRunLog, PortableStoreReader};
+use rec_rerun::{RerunPlan, RerunSelector, plan_rerun};
 use rec_store::StoreReader;
 use std::alloc::{AllocError, Global};
 
@@ -29,12 +32,11 @@ struct Tested {
     tests: TestListSummary,
 }
 
-/// Holds what a rerun is selected by.
+/// Holds which tests are to run again after a run, and the tests of the run.
 #[derive(Drop)]
-struct OpenRerun {
-    run_id: ReportUuid,
-    tested: Tested,
-    events: Vec<TestEventSummary<RecordingSpec>>,
+struct SelectedTests {
+    info: RerunInfo,
+    tests: TestListSummary,
 }
 
 /// Writes which tests are to run again after the run of a bundle: the selection as compact JSON and LF, then
@@ -54,37 +56,82 @@ pub fn rerun_text(alloc: Global, bundle: &PortableRecording) -> Result<Vec<u8>, 
         → IsContainer bundle.now.bytes es
         → Makes (PrintsRerun bundle.now.limit es) result }
 {
-    let run = OpenRerun::read(alloc, bundle)?;
-    let result = selection_text(alloc, &run);
-    // By a call: in place, each part of the run would be a case of the proof.
-    drop(run);
-    Ok(result?)
+    let selected = SelectedTests::read(alloc, bundle)?;
+    Ok(plan_text(alloc, selected)?)
 }
 
-impl OpenRerun {
-    /// Reads what a rerun is selected by.
-    fn read(alloc: Global, bundle: &PortableRecording) -> Result<OpenRerun, ReadingError>
+impl SelectedTests {
+    /// Selects which tests are to run again after the run of a bundle.
+    fn read(alloc: Global, bundle: &PortableRecording) -> Result<SelectedTests, ReadingError>
         ensures { (es : List Entry)
             → IsContainer bundle.now.bytes es
-            → OpensRerun (rerun_parts_of bundle.now.limit es) result }
+            → Selects (rerun_parts_of bundle.now.limit es) result }
     {
         let run_id = bundle.manifest().run.run_id;
         let log = bundle.read_run_log(alloc)?;
         let mut store = bundle.open_store(alloc)?;
         let tested = read_tested(alloc, &mut store)?;
-        let events = match read_events(alloc, log.events(alloc)) {
-            Ok(events) => events,
+        match select(alloc, run_id, &tested, &log) {
+            Ok(info) => Ok(SelectedTests {
+                info,
+                tests: tested.into_tests(),
+            }),
             Err(error) => {
-                // By a call, as in `rerun_text`.
+                // By a call: in place, each part of what was read would be a case of the proof.
                 drop(tested);
-                return Err(error);
+                Err(error)
             }
-        };
-        Ok(OpenRerun {
-            run_id,
-            tested,
-            events,
-        })
+        }
+    }
+}
+
+impl Tested {
+    /// Lets all go but the tests of the run.
+    fn into_tests(self) -> TestListSummary
+        ensures { result ≡ self.tests }
+    {
+        let Tested {
+            build_scope,
+            parent,
+            tests,
+        } = self;
+        drop((build_scope, parent));
+        tests
+    }
+}
+
+/// Selects which tests are to run again after a run, by the events of its log as they are read.
+fn select(
+    alloc: Global,
+    run_id: ReportUuid,
+    tested: &Tested,
+    log: &PortableRecordingRunLog<'_>,
+) -> Result<RerunInfo, ReadingError>
+    ensures { SelectsBy run_id tested.now (log_lines log.now) result }
+{
+    let mut selector = RerunSelector::new(alloc, tested.parent.as_ref())?;
+    if let Err(error) = take_lines(alloc, log.events(alloc), &mut selector) {
+        // By a call, as in `read`.
+        selector.discard();
+        return Err(error);
+    }
+    let info = selector.select(alloc, run_id, &tested.build_scope, tested.parent.as_ref())?;
+    Ok(info)
+}
+
+impl EventTaker for RerunSelector {
+    ghost takes = { λ old events new. (parent : Option RerunInfo)
+        → HasTaken parent [] old.standings.tests
+        → HasTaken parent events new.standings.tests };
+
+    ghost takes_none = { λ selector parent none. none };
+
+    fn take_event(
+        &mut self,
+        _alloc: Global,
+        event: &TestEventSummary<RecordingSpec>,
+    ) -> Result<(), AllocError> {
+        self.add_event(event)
     }
 }
 
@@ -101,7 +148,7 @@ fn read_tested(alloc: Global, store: &mut PortableStoreReader<'_>) -> Result<Tes
             tests,
         }),
         Err(error) => {
-            // By a call, as in `rerun_text`.
+            // By a call, as in `read`.
             drop(parent);
             Err(error)
         }
@@ -130,35 +177,21 @@ fn read_parent(
     Ok(store.read_rerun_info(alloc)?)
 }
 
-/// Writes which tests of a run are to run again, and what that means for the tests of its list.
-fn selection_text(alloc: Global, run: &OpenRerun) -> Result<Vec<u8>, AllocError>
-    ensures { IfOk result (λ text. PrintsSelection (rerun_parts_in run.now) text.items) }
+/// Writes which tests are to run again, and what that means for the tests of the run. What isn't needed any
+/// more is let go before the text is made.
+fn plan_text(alloc: Global, selected: SelectedTests) -> Result<Vec<u8>, AllocError>
+    ensures { IfOk result (λ text. PrintsPlan selected.info selected.tests text.items) }
 {
-    let info = select_rerun(
-        alloc,
-        &run.events,
-        run.run_id,
-        &run.tested.build_scope,
-        run.tested.parent.as_ref(),
-    )?;
-    let result = plan_text(alloc, &info, &run.tested.tests);
-    // By a call, as in `rerun_text`.
-    drop(info);
-    result
-}
-
-/// Writes a selection, and what it means for the tests of a list.
-fn plan_text(
-    alloc: Global,
-    info: &RerunInfo,
-    tests: &TestListSummary,
-) -> Result<Vec<u8>, AllocError>
-    ensures { IfOk result (λ text. PrintsPlan info.now tests.now text.items) }
-{
-    let plan = plan_rerun(alloc, info, tests)?;
-    let result = lines_text(alloc, info, &plan);
-    // By a call, as in `rerun_text`.
-    drop(plan);
+    let SelectedTests { info, tests } = selected;
+    let planned = plan_rerun(alloc, &info, &tests);
+    // By a call, as in `read`.
+    drop(tests);
+    let Ok(plan) = planned else {
+        drop(info);
+        return Err(AllocError);
+    };
+    let result = lines_text(alloc, &info, &plan);
+    drop((info, plan));
     result
 }
 
