@@ -24,7 +24,7 @@ import tempfile
 
 from command_line import command_line, demand_program, heed_signals
 from junit.cases import passed_report
-from real_runs import again, cuts, results, threads
+from real_runs import again, cuts, inner, results, threads
 from real_runs.running import LONGEST_WAIT, TOOL, TOP, Cargo, convert, convert_live, in_group, spelled, wait_for
 from real_runs.saying import (
     check_broken, check_failed, check_instants, check_outcomes, check_outputs, check_plain, failed, of_run, outcomes,
@@ -220,6 +220,7 @@ def main():
         try_parts(cargo)
         try_cut(cargo)
         again.try_again(cargo)
+        inner.try_inner(cargo)
         waited = threads.try_threads(cargo)
         if words.sessions:
             return

@@ -107,12 +107,13 @@ def running_binary(words):
 class Targets:
     """The targets that cargo has built, by its lines of JSON; without these, by what it says before it runs one.
 
-    Those in `waiting` are test binaries that cargo has built and hasn't run yet. Of the libraries of a name there are the packages
-    with their folders, in `packages` those that were built, and in `libraries` those of a manifest.
+    Those in `waiting` are test binaries that cargo has built and hasn't run yet, and those in `doubted` the files that a test has
+    announced, and cargo hasn't. Of the libraries of a name there are the packages with their folders, in `packages` those that
+    were built, and in `libraries` those of a manifest.
     """
 
     def __init__(self):
-        self.built, self.waiting, self.packages, self.named = {}, {}, {}, {}
+        self.built, self.waiting, self.packages, self.named, self.doubted = {}, {}, {}, {}, set()
         self.sources, self.libraries, self.documented = {}, {}, set()
 
     def ask(self, manifest_path, wanted):
@@ -162,6 +163,16 @@ class Targets:
         if target is None or text.strip() and not (self.built or self.packages) and running():
             return None
         return target, text
+
+    def put_back(self, waiting, documented):
+        """Takes back the announcements since a place at which these were waiting and documented."""
+        self.doubted |= waiting.keys() - self.waiting.keys()
+        self.waiting, self.documented = waiting, documented
+
+    def missed(self):
+        """The targets that a test has announced, and that cargo hasn't run by the end of its run."""
+        found, self.doubted = [self.waiting[name] for name in sorted(self.doubted) if name in self.waiting], set()
+        return found
 
     def folders(self, crate):
         """The packages that have a library of this name, with their folders; those of a registry where there is no other one."""

@@ -31,6 +31,11 @@ def suite_line(what, number):
     return {"type": "suite", "event": "ok", **({"failed": int(number)} if number.isdigit() else {})}
 
 
+def counted(passed, failed, ignored):
+    """The end of a suite with its numbers."""
+    return "=" + text({"type": "suite", "event": "ok", "passed": passed, "failed": failed, "ignored": ignored, "measured": 0})
+
+
 def result(form):
     """A result of an attempt in brief."""
     if not isinstance(form, dict) or "fail" not in form:
@@ -146,6 +151,35 @@ CASES = [
         "started a 0 > finished a passed > started b 0 > finished b passed > 2 of 2", 1,
     ),
     ("suite 1 > started x > ok x > failed x > end", "started x 0 > finished x failed > 1 of 1", 1),
+    # Of two ends the number of failures at the end of the suite may tell which one the test had.
+    ("suite 1 > started x > ok x > failed x > end 0", "started x 0 > finished x passed > 1 of 1", 2),
+    ("suite 1 > started x > failed x > ok x > end 1", "started x 0 > finished x failed > 1 of 1", 2),
+    ("suite 2 > started x > started y > ok y > failed y > failed x > end 1",
+     "started x 0 > started y 1 > finished y passed > finished x failed > 2 of 2", 2),
+    ("suite 2 > started x > started y > ok y > failed y > ok x > failed x > end 1",
+     "started x 0 > started y 1 > finished y failed > finished x failed > 2 of 2", 2),
+    # A test lets the lines of others go elsewhere for a while; the numbers at the end of the suite tell whether these passed.
+    (f"{INTEGRATION} > suite 3 > started a > started b > ok a > {counted(3, 0, 0)}",
+     "started a 0 > started b 1 > finished a passed > finished b passed > 2 of 2", 3),
+    (f"{INTEGRATION} > suite 3 > started a > started b > ok a > {counted(2, 1, 0)}",
+     "started a 0 > started b 1 > finished a passed > finished b failed > 2 of 3", 3),
+    (f"{INTEGRATION} > suite 2 > started a > started b > {counted(2, 0, 0)} > ok a > failed b > end 1",
+     "started a 0 > started b 1 > finished a passed > finished b failed > 2 of 2", 2),
+    (f"{INTEGRATION} > suite 2 > started a > ok a > started b > {counted(2, 0, 0)} > {FAILED}",
+     "started a 0 > finished a passed > started b 0 > finished b failed > 2 of 2", 3),
+    # A test runs cargo, which announces and says of other binaries what it says of those of this run.
+    (f"{INTEGRATION} > suite 2 > started a > {OTHER} > =running 1 test > ok a > started b > ok b > end",
+     "started a 0 > finished a passed > started b 0 > finished b passed > 2 of 2", 4),
+    (f"{INTEGRATION} > suite 1 > started a > {OTHER} > suite 1 > started x > failed x > end 1 > {FAILED} > ok a > end",
+     "started a 0 > finished a passed > 1 of 1", 8),
+    (f"{INTEGRATION} > suite 2 > started a > {OTHER} > =running 1 test > started b > ok b > ok a > end",
+     "started a 0 > started b 1 > finished b passed > finished a passed > 2 of 2", 4),
+    (f"{INTEGRATION} > suite 2 > started a > {OTHER} > =text > {INTEGRATION} > =text > failed a > started b > ok b > end 1",
+     "started a 0 > finished a failed > started b 0 > finished b passed > 2 of 2", 7),
+    (f"{OTHER} > suite 1 > started a > {INTEGRATION} > suite 1 > started a > ok a > end",
+     "started a 0 > finished a exit-0 > started a 0 > finished a passed > 2 of 2", 0),
+    (f"{OTHER} > suite 1 > started a > {INTEGRATION} > suite 1 > started b > ok a > ok b > end",
+     "started a 0 > finished a exit-0 > started b 0 > finished b passed > 2 of 2", 2),
     (f"{INTEGRATION} > suite 2 > started x > {FAILED} > ok x > started y > ok y > end",
      "started x 0 > finished x passed > started y 0 > finished y passed > 2 of 2", 2),
     (f"{DOC} > suite 1 > started x > {FAILED} > ok x > end", "started x 0 > finished x passed > 1 of 1", 2),
@@ -195,6 +229,27 @@ def try_cases(convert, options):
             values = convert(stream(words), options(clock + more), notes.append, itertools.count(10**18, 10**6).__next__)
             if len(notes) != said or clock and brief(values) != expected:
                 yield f"{words[:99]}: {brief(values)}, and said {[note[:99] for note in notes]}"
+
+
+def try_doubts(convert, options):
+    """A binary that a test has announced, and that cargo never runs, makes the run fail; one that runs later doesn't."""
+    built = f'{NAMED} > {artifact("path+file:///w/x#other-sums@0.1.0", "test", "t", "t-2123456789abcdef", True)}'
+    inner = f"{built} > {UNIT} > suite 1 > started x > {OTHER} > =running 1 test > ok x > end"
+    for words, expected in [
+        (inner, "started x 0 > finished x passed > started (run) 0 > finished (run) failed > 2 of 2"),
+        (f"{inner} > {OTHER} > suite 1 > started y > ok y > end",
+         "started x 0 > finished x passed > started y 0 > finished y passed > 2 of 2"),
+        (f"{built} > {UNIT} > suite 2 > started x > started z > {OTHER} > suite 1 > started y > ok z > ok y > end > ok x > end "
+         f"> {OTHER} > suite 1 > started y > failed y > end 1",
+         "started x 0 > started z 1 > finished z passed > finished x passed > started y 0 > finished y failed > 3 of 3"),
+    ]:
+        values = convert(stream(words), options(["--no-clock", "--status", "0"]), lambda _: None)
+        if brief(values) != expected:
+            yield f"a binary that a test announces: {brief(values)}"
+    crashed = f"{NAMED} > {INTEGRATION} > suite 1 > started x > {OTHER} > =running 1 test > {CRASHED}"
+    values = convert(stream(crashed), options(["--no-clock"]), lambda _: None)
+    if brief(values) != "started x 0 > finished x abort-11 > 1 of 1" or "running 1 test" not in errors_of(finished(values)[0][0])[-1]:
+        yield f"a test that announces a binary, and crashes: {values}"
 
 
 def try_names(convert, options):
@@ -433,7 +488,7 @@ def try_bytes(convert, options):
 def self_test(convert, options):
     """What is wrong with the tool, a line each."""
     tries = (
-        try_cases, try_names, try_doctests, try_cut, try_torn, try_long_lines, try_texts, try_clock, try_ends, try_interruption,
-        try_random_streams, try_bytes, try_example,
+        try_cases, try_doubts, try_names, try_doctests, try_cut, try_torn, try_long_lines, try_texts, try_clock, try_ends,
+        try_interruption, try_random_streams, try_bytes, try_example,
     )
     return [fault for attempt in tries for fault in attempt(convert, options)]

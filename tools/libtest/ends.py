@@ -5,7 +5,7 @@ import re
 
 from ansi import without_escapes
 from libtest.cargo import NOT_COMPILED, Target
-from libtest.runs import FAILED, Ending, Mark
+from libtest.runs import FAILED, Ending, Mark, TestRun
 
 PASSED = Ending(0, None, None, "exit status: 0")
 BUILD, RUN = "(build)", "(run)"
@@ -59,14 +59,48 @@ def drop_made_up(reader, binary, suite):
     """Takes back the tests that only a test's output has begun."""
     for run in made_up(suite):
         suite.runs.remove(run)
-        run.attempts.pop()
-        if not run.attempts:
-            reader.runs.remove(run)
-            del reader.latest[binary.id, run.name]
+        reader.take_back(run)
         reader.note(f"{binary.id} {run.name} is no test of its suite; another one printed its lines")
     surplus = len(suite.runs) - suite.count
     if surplus > 0:
         reader.note(f"{binary.id} has {surplus} tests more than its suite announced; which are made up can't be told")
+
+
+def settle_ends(reader, binary, suite):
+    """Gives the end that came before to tests that ended twice, where the number of failures at the suite's end says so."""
+    failed = [run for run in suite.runs if run.has_failed()]
+    surplus = len(failed) - suite.counted.get("failed", len(failed))
+    runs = failed if surplus > 0 else [run for run in suite.runs if not (run.skipped or run.is_open() or run.has_failed())]
+    others = {run: other_end(run.attempts[-1]) for run in runs} if surplus else {}
+    doubtful = [run for run, other in others.items() if other]
+    if surplus and len(doubtful) == abs(surplus):
+        for run in doubtful:
+            run.attempts[-1].take_end_of(others[run])
+            reader.note(f"{binary.id} {run.name}: its first end counts, by the number of failures at the end of the suite")
+
+
+def other_end(attempt):
+    """The last end of an attempt that says otherwise than its end does, None where there is none."""
+    passed = attempt.result == "passed"
+    return next((other for other in reversed(attempt.ends) if (other.result == "passed") != passed), None)
+
+
+def end_by_numbers(reader, binary):
+    """Ends a suite whose end came while tests of it seemed to run, where its numbers leave nothing for these but to have passed.
+
+    A test that lets its standard output go elsewhere for a while takes the lines of others with it.
+    """
+    suite = binary.suite
+    counted, lost = suite.last_counted or {}, suite.lost()
+    failed, skipped = (sum(map(is_so, suite.runs)) for is_so in (TestRun.has_failed, TestRun.is_skipped))
+    passed = len(suite.runs) - len(lost) - failed - skipped
+    left = counted.get("passed", 0) + counted.get("measured", 0) - passed
+    if (counted.get("failed"), counted.get("ignored"), left) != (failed, skipped, len(lost) + suite.unseen()):
+        return
+    for run in lost:
+        reader.close(run.attempts[-1], Mark(max(reader.clock.now, run.attempts[-1].start.time), reader.line), "passed", None)
+    suite.has_ended, suite.counted, suite.count = True, counted, len(suite.runs)
+    reader.note(f"{binary.id}: no line says that {left} of its tests ended; they passed, by the numbers at the end of its suite")
 
 
 def leave(reader, binary, silent):
@@ -75,8 +109,11 @@ def leave(reader, binary, silent):
         return
     binary.has_left = True
     reader.resolve(binary)
+    if binary.suite and not binary.failed_at and (reader.announces or silent == PASSED):
+        end_by_numbers(reader, binary)
     for suite in binary.suites:
         drop_made_up(reader, binary, suite)
+        settle_ends(reader, binary, suite)
     if reader.broken:
         if not binary.suites and not binary.failed_at:
             own_test(reader, binary)
@@ -138,9 +175,9 @@ def own_test(reader, binary, name=None):
 
 
 def end(reader, binary, run, result, ending, errors):
-    """Ends the last attempt of a test where cargo said that its binary failed, or else now."""
+    """Ends the last attempt of a test where cargo said that its binary failed, where another one was announced, or else now."""
     attempt = run.attempts[-1]
-    time, line = binary.failed_at or reader.now()
+    time, line = binary.failed_at or binary.left_at or reader.now()
     reader.close(attempt, Mark(max(time, attempt.start.time), line), result, None)
     attempt.ending, attempt.errors = ending, errors
 
@@ -160,8 +197,10 @@ def finish(reader, status):
     last = reader.binaries[-1] if reader.binaries else None
     if last and is_of_signal(status or 0) and not last.failed_at and (last.suite or not last.suites):
         reader.broken = reader.broken or ("interrupt" if status in (130, -2) else "signal")
+    reader.doubts.settle()
     if last:
         leave(reader, last, PASSED if status == 0 else FAILED)
+    reader.never_ran += reader.targets.missed()
     if reader.build_errors and not reader.broken and status != 0:
         fail_build(reader)
     fault = fault_of_run(reader, status)
@@ -171,6 +210,9 @@ def finish(reader, status):
 
 def fault_of_run(reader, status):
     """Why a run counts as failed in which no test did; None where it doesn't."""
+    if not status and reader.never_ran:
+        target = reader.never_ran[0]
+        return f"a line announced {target.id} within another binary, and it never ran after that"
     if status is not None:
         return f"cargo ended with status {status}, and no line says what failed" if status else None
     waiting = list(reader.targets.waiting.values()) if reader.announces else []

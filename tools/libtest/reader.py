@@ -5,6 +5,7 @@ import re
 
 from ansi import without_escapes
 from libtest import cargo, ends, instants, nextest, torn
+from libtest.doubts import Doubts
 from libtest.errors import errors_of
 from libtest.runs import (
     FAILED, MOST_SECONDS, SECOND, Attempt, BinaryRun, Mark, TestRun, clean, nanoseconds,
@@ -27,6 +28,7 @@ class Reader:
         self.nextest = self.announces = self.builds = self.is_cut = False
         self.first = self.broken = self.torn = None
         self.build_text, self.build_errors, self.other_text = [], [], []
+        self.doubts, self.is_said, self.never_ran = Doubts(self), False, []
 
     # ---- lines
 
@@ -48,15 +50,18 @@ class Reader:
         except UnicodeDecodeError:
             words = line.decode("utf-8", "replace")
             self.note("isn't UTF-8; read with replacement characters")
+        self.is_said = False
         if self.take(words):
             self.leave_torn()
         elif not self.take_torn(words):
             self.keep(words)
             self.is_cut = VALUE.match(words.lstrip()) is not None and words[-1] not in "}\n"
             self.hand_on(words)
+        self.doubts.keep(words, self.is_said)
 
     def hand_on(self, words):
         """Says a text that is no event."""
+        self.is_said = True
         if words.strip():
             self.unknown += 1
             self.say(words.rstrip("\r\n"))
@@ -119,18 +124,20 @@ class Reader:
         if not self.builds and not any(word in line for word in cargo.WORDS):
             return False
         words = without_escapes(line)
+        waiting, documented = dict(self.targets.waiting), set(self.targets.documented)
         announced = None if self.nextest else self.targets.announced(words, self.running)
         if announced:
             target, text = announced
             self.keep_before(text)
             self.announces = True
+            self.doubts.begin(waiting, documented)
             self.begin_binary(target)
             return True
         return self.take_failure(words) or self.take_build(words)
 
     def begin_binary(self, target=None):
-        """Leaves the binary that ran, and begins another one."""
-        if self.binaries:
+        """Leaves the binary that ran, unless that is in doubt, and begins another one."""
+        if self.binaries and not self.doubts.holds(self.binaries[-1]):
             ends.leave(self, self.binaries[-1], ends.PASSED if self.announces else FAILED)
         if target and any(binary.id == target.id for binary in self.binaries):
             self.note(f"{target.id} runs again; what failed is tried again, and other tests are started anew")
@@ -141,8 +148,10 @@ class Reader:
 
     def take_failure(self, words):
         """Takes what cargo says of a target that failed, and how its process ended; whether it says so."""
-        binary = self.binaries[-1] if self.binaries else None
         failure = cargo.FAILURE.fullmatch(words)
+        if failure:
+            self.doubts.take_failure(failure[2])
+        binary = self.binaries[-1] if self.binaries else None
         cause = cargo.CAUSE.fullmatch(words) if binary and binary.failed_at and not binary.ending else None
         if cause:
             binary.ending = cargo.ending_of(cause[1])
@@ -154,6 +163,7 @@ class Reader:
             self.keep(failure[1])
             binary.failed_at = binary.failed_at or self.now()
         if failure or cause:
+            self.is_said = True
             self.say(words.rstrip())
         return bool(failure or cause)
 
@@ -182,11 +192,13 @@ class Reader:
         if suite is None:
             self.note("a suite ends that isn't running")
             return self.nextest
+        counted = {key: value[key] for key in COUNTED if type(value.get(key)) is int}
+        is_inner = suite.depth > 0
         if binary.prefix is None and not self.nextest and not ends.is_suites_end(suite):
+            suite.last_counted = None if is_inner else counted
             return False
         self.time_out(suite)
-        suite.counted = {key: value[key] for key in COUNTED if type(value.get(key)) is int}
-        suite.has_ended = True
+        suite.counted, suite.has_ended = counted, True
         return True
 
     def start_suite(self, value, prefix, binary_id):
@@ -231,6 +243,8 @@ class Reader:
         if nextest.NAME.fullmatch(name) and not self.is_libtests():
             self.take_nextest(name, what, taken, value)
             return True
+        if self.binaries:
+            self.doubts.take_test(name, what)
         binary = self.binaries[-1] if self.binaries else None
         if binary is None or binary.suite is None:
             return False
@@ -243,6 +257,8 @@ class Reader:
             known = run is None and self.start_one(binary, name)
         else:
             known = run is not None and self.settle_one(run, what, taken, value)
+        if known:
+            binary.suite.last_counted = None
         if known and binary.failed_at:
             self.note(f"{binary.id} goes on, so that it hasn't failed yet")
             binary.failed_at = binary.ending = None
@@ -281,7 +297,7 @@ class Reader:
     def start_one(self, binary, name):
         """Starts a test of a suite. One that failed when its binary ran before is tried again."""
         run = self.latest.get((binary.id, name))
-        if run is not None and run.is_open():
+        if run is not None and run.is_open() and not self.doubts.settle_test(run):
             return False
         if run is not None and run.has_failed():
             binary.suite.add(run)
@@ -298,7 +314,7 @@ class Reader:
             return False
         if not run.is_open():
             self.note(f"{run.test_id['binary-id']} {run.name} ends twice; the later line counts")
-            run.attempts[-1].end = None
+            run.attempts[-1].reopen()
         self.settle(run, len(run.attempts), what, taken, value)
         return True
 
@@ -335,11 +351,20 @@ class Reader:
         """A run of the test after its last one, with its first attempt."""
         last = self.latest.get((binary.id, name))
         floor = (last.skipped or last.attempts[-1].end).time if last else begin - MOST_SECONDS * SECOND
-        run = self.latest[binary.id, name] = TestRun(binary.id, name, floor)
+        run = self.latest[binary.id, name] = TestRun(binary.id, name, floor, last)
         run.attempts.append(Attempt(self.mark(max(begin, floor))))
         self.runs.append(run)
         binary.suites[-1].add(run)
         return run
+
+    def take_back(self, run):
+        """Takes back the last attempt of a test, and the test where it has none left."""
+        run.attempts.pop()
+        if not run.attempts:
+            self.runs.remove(run)
+            self.latest.pop((run.test_id["binary-id"], run.name))
+            if run.before:
+                self.latest[run.test_id["binary-id"], run.name] = run.before
 
     def start(self, binary, name, number, run):
         """Starts an attempt; one of a test that runs is no start, unless it is the next one."""
@@ -403,8 +428,10 @@ class Reader:
         self.line += 1
         self.clock.tick()
         self.leave_torn()
+        self.doubts.settle()
         if self.binaries:
             ends.leave(self, self.binaries[-1], ends.FAILED if status else ends.PASSED)
+        self.never_ran += self.targets.missed()
 
     def finish(self, status=None):
         """Takes the end of the input with what cargo answered, if that is known, and says what is missing."""

@@ -1,6 +1,7 @@
 """What a stream has told so far: runs of test binaries, their suites, and the tests in these with their attempts."""
 
 import collections
+import copy
 import time
 
 SECOND = 10**9
@@ -16,19 +17,33 @@ FAILED = Ending(101, None, None, None)
 
 
 class Attempt:
-    """A try of a test, of which nothing but the start is known yet."""
+    """A try of a test, of which nothing but the start is known yet.
+
+    `ends` are copies of it with ends that came before its last one.
+    """
 
     def __init__(self, mark):
         self.start, self.slow, self.end, self.taken = mark, None, None, 0
         self.result, self.ending, self.output, self.errors = None, FAILED, None, []
+        self.ends = []
+
+    def reopen(self):
+        """Forgets the end, but for what it was."""
+        self.ends.append(copy.copy(self))
+        self.end = None
+
+    def take_end_of(self, other):
+        """Ends as a copy did, which came before."""
+        for name in ("start", "slow", "end", "taken", "result", "ending", "output", "errors"):
+            setattr(self, name, getattr(other, name))
 
 
 class TestRun:
-    """A test that was started or skipped, with its attempts; it can't have begun before the floor."""
+    """A test that was started or skipped, with its attempts; it can't have begun before the floor. `before` is its run before."""
 
-    def __init__(self, binary, name, floor):
+    def __init__(self, binary, name, floor, before=None):
         self.test_id = {"binary-id": binary, "test-name": name}
-        self.floor, self.attempts, self.skipped, self.reason = floor, [], None, None
+        self.floor, self.attempts, self.skipped, self.reason, self.before = floor, [], None, None, before
 
     @property
     def name(self):
@@ -36,6 +51,9 @@ class TestRun:
 
     def is_open(self):
         return self.skipped is None and self.attempts[-1].end is None
+
+    def is_skipped(self):
+        return self.skipped is not None
 
     def has_failed(self):
         return not self.is_open() and self.skipped is None and self.attempts[-1].result != "passed"
@@ -46,11 +64,14 @@ class TestRun:
 
 
 class Suite:
-    """A suite of tests, as its lines tell; `inner` are the tests that began in a suite which another one printed."""
+    """A suite of tests, as its lines tell; `inner` are the tests that began in a suite which another one printed.
+
+    `last_counted` are the numbers of an end that isn't believed yet, since tests of the suite run, where nothing of it came after.
+    """
 
     def __init__(self, count, is_sorted):
         self.count, self.is_sorted, self.runs, self.named = count, is_sorted, [], {}
-        self.has_ended, self.counted = False, {}
+        self.has_ended, self.counted, self.last_counted = False, {}, None
         self.depth, self.inner = 0, []
 
     def add(self, run):
@@ -67,14 +88,15 @@ class Suite:
 class BinaryRun:
     """One run of a test binary, or of the doctests of a crate; its id may come later than its start.
 
-    Cargo may say where it `failed_at`, and its `ending`; it `has_left` once it was judged.
+    Cargo may say where it `failed_at`, and its `ending`; it `has_left` once it was judged. It was `left_at` the place at which
+    another one was announced while its tests ran.
     """
 
     def __init__(self, mark, target=None):
         self.start, self.target, self.prefix = mark, target, None
         self.id = target.id if target else None
         self.suites, self.text = [], []
-        self.failed_at = self.ending = None
+        self.failed_at = self.ending = self.left_at = None
         self.has_left = False
 
     @property
