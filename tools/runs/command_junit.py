@@ -47,4 +47,6 @@ def beside(runs):
     """The folder for the XML where none is named."""
     if not runs.is_somewhere():
         raise Fault("no Cargo.toml is here or above, whose folder of runs could have the XML beside it: name a folder with --to")
-    return runs.folder.parent / FOLDER
+    # In `.` and `..` no word names the folder, so that nothing stands before it.
+    folder = runs.folder.resolve() if runs.folder.name in ("", "..") else runs.folder
+    return folder.parent / FOLDER

@@ -7,7 +7,7 @@ import time
 import unittest
 from unittest import mock
 
-from runs import store
+from runs import command_junit, store
 from runs.fault import Fault
 from runs.tests import made
 
@@ -153,6 +153,18 @@ class Folders(unittest.TestCase):
     def test_the_environment_says_it(self):
         os.environ["REZOVAMY_RUNS"] = "/some/where"
         self.assertEqual(store.runs_folder(), pathlib.Path("/some/where"))
+
+    def test_the_xml_stands_beside_it_whatever_its_name(self):
+        (self.folder / "runs").mkdir()
+        os.chdir(self.folder / "runs")
+        pathlib.Path("link").symlink_to(self.folder)
+        for words, folder in [
+            (".", self.folder), ("./", self.folder), ("..", self.folder.parent), ("../runs", pathlib.Path("..")),
+            ("inner", pathlib.Path(".")), ("inner/..", self.folder), (str(self.folder / "runs"), self.folder),
+            ("link", pathlib.Path(".")), ("link/..", self.folder.parent.parent),
+        ]:
+            os.environ["REZOVAMY_RUNS"] = words
+            self.assertEqual(command_junit.beside(store.here()), folder / "rezovamy-junit", words)
 
     def test_without_cargo_it_is_that_of_the_workspace_above(self):
         (self.folder / "member/src").mkdir(parents=True)
