@@ -84,9 +84,10 @@ def ending_of(cause):
     return Ending(number if abs(number) < 2**31 else FAILED.code, None, None, cause)
 
 
-def metadata(manifest_path):
-    """What cargo says of the packages of a manifest."""
-    words = ["cargo", "metadata", "--no-deps", "--offline", "--format-version", "1", "--manifest-path", manifest_path]
+def metadata(manifest_path=None):
+    """What cargo says of the packages of a manifest, or of that of the current folder."""
+    words = ["cargo", "metadata", "--no-deps", "--offline", "--format-version", "1"]
+    words += ["--manifest-path", manifest_path] if manifest_path else []
     return json.loads(subprocess.run(words, capture_output=True, check=True).stdout)["packages"]
 
 
@@ -109,12 +110,12 @@ class Targets:
 
     Those in `waiting` are test binaries that cargo has built and hasn't run yet, and those in `doubted` the files that a test has
     announced, and cargo hasn't. Of the libraries of a name there are the packages with their folders, in `packages` those that
-    were built, and in `libraries` those of a manifest.
+    were built, and in `libraries` those of a manifest. The folders of the packages of binaries stand by their ids in `folders_of`.
     """
 
     def __init__(self):
         self.built, self.waiting, self.packages, self.named, self.doubted = {}, {}, {}, {}, set()
-        self.sources, self.libraries, self.documented = {}, {}, set()
+        self.sources, self.libraries, self.documented, self.folders_of = {}, {}, set(), {}
 
     def ask(self, manifest_path, wanted):
         """Learns of a manifest's packages, or of the one that is wanted, which targets their sources are."""
@@ -142,6 +143,8 @@ class Targets:
         if isinstance(executable, str):
             file_name = re.split(r"[/\\]", executable)[-1].removesuffix(".exe")
             self.built[file_name] = target_of(package, kind, clean(name))
+            if isinstance(value.get("manifest_path"), str):
+                self.folders_of[self.built[file_name].id] = pathlib.Path(value["manifest_path"]).parent
             if isinstance(value.get("profile"), dict) and value["profile"].get("test") is True:
                 self.waiting[file_name] = self.built[file_name]
         if kind in LIBRARIES:

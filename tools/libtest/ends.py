@@ -4,6 +4,7 @@ import bisect
 import re
 
 from ansi import without_escapes
+from libtest import rerun
 from libtest.cargo import NOT_COMPILED, Target
 from libtest.runs import FAILED, Ending, Mark, TestRun
 
@@ -161,7 +162,8 @@ def faults_of(binary):
 
 def own_test(reader, binary, name=None):
     """Starts a test by the binary's own name, or by its whole id or that in brackets where a test of this name ran."""
-    names = [name or binary.id.rpartition("::")[2].rpartition("/")[2], binary.id, f"({binary.id})"]
+    names = rerun.own_names(binary.id)
+    names = [name or names[0], *names[1:]]
     taken = {run.name for run in binary.runs()}
     name = next((name for name in names if name not in taken), names[-1])
     last = reader.latest.get((binary.id, name))

@@ -15,7 +15,7 @@ VALUE = re.compile(r'\{\s*"(?:type|reason)"\s*:')
 MOST_TESTS = 2**32
 # An event ends its line, so that only the last begins of one in a line can be its own, or that of a value in it.
 MOST_PLACES = 16
-COUNTED = ("passed", "failed", "ignored", "measured")
+COUNTED = ("passed", "failed", "ignored", "measured", "filtered_out")
 
 
 class Reader:

@@ -20,13 +20,23 @@ class NoPlan(Exception):
 class Plan:
     """What is to be run again after a run: the information for the head of the next run, and the names of tests by binary.
 
-    The tests of the run's list are those of `run` and of `skip`; those of `gone` have not passed, and the list lacks them.
+    The tests of the run's list are those of `run` and of `skip`; those of `gone` have not passed, and the list lacks them. Those
+    of `forgotten` were taken out of `run`. Of a rerun that is the same build as the run before, `is_same_build` says so.
     """
 
     info: dict
     run: dict = dataclasses.field(default_factory=dict)
     skip: dict = dataclasses.field(default_factory=dict)
     gone: dict = dataclasses.field(default_factory=dict)
+    forgotten: dict = dataclasses.field(default_factory=dict)
+    is_same_build: bool = False
+
+    def forget(self, binary, names):
+        """Lets tests of a binary be run no more."""
+        if names:
+            self.forgotten.setdefault(binary, []).extend(names)
+            left = [name for name in self.run.pop(binary) if name not in set(names)]
+            self.run.update({binary: left} if left else {})
 
     def listed(self, suites):
         """The test list of the run together with these tests, by binary."""
@@ -82,10 +92,14 @@ def target_of(binary):
     return ["-p", found["package"], *words]
 
 
-def runs_whole(binary, names, skipped):
-    """Whether all of a binary runs: cargo can't be given the names of doctests, and a target without libtest has none."""
-    own = binary.rpartition("::")[2].rpartition("/")[2]
-    return "::doc/" in binary or names == [own] and not skipped
+def own_names(binary):
+    """The names that a test has by which a binary itself failed, the likeliest first."""
+    return [binary.rpartition("::")[2].rpartition("/")[2], binary, f"({binary})"]
+
+
+def runs_whole(binary, names):
+    """Whether all of a binary runs: cargo can't be given the names of doctests, and a binary that failed by itself runs as it did."""
+    return "::doc/" in binary or not set(names).isdisjoint(own_names(binary))
 
 
 def parts_of(names):
@@ -111,7 +125,7 @@ def selections(plan):
     found = []
     for binary, names in plan.run.items():
         target = target_of(binary)
-        if target and runs_whole(binary, names, plan.skip.get(binary)):
+        if target and runs_whole(binary, names):
             found.append(Selection(target, []))
         elif target:
             found += [Selection(target, exact(part)) for part in parts_of(names)]
@@ -127,7 +141,7 @@ def not_found(plan, suites):
     """A line for each binary with tests of a plan that a run of them lacks, of which cargo says nothing; `suites` are its tests."""
     found = []
     for binary, names in plan.run.items():
-        is_asked = target_of(binary) and not runs_whole(binary, names, plan.skip.get(binary))
+        is_asked = target_of(binary) and not runs_whole(binary, names)
         there = set(suites.get(binary, ()))
         lacking = [name for name in names if name not in there] if is_asked else []
         if lacking:
@@ -148,6 +162,8 @@ def remarks(plan):
             found.append(f"{binary} {names[0]}: cargo has no word for it alone; run all tests again")
         elif "::doc/" in binary and plan.skip.get(binary):
             found.append(f"{binary}: cargo can't be given the names of doctests, so that all of them run")
+        elif runs_whole(binary, names) and plan.skip.get(binary):
+            found.append(f"{binary}: it may have failed by its own name, so that all of its tests run")
     for binary, names in plan.gone.items():
         found.append(f"{binary} {first_of(names)}: the run's test list lacks it, so that it isn't run")
     return found

@@ -120,6 +120,14 @@ class BinaryRun:
     def unseen(self):
         return sum(suite.unseen() for suite in self.suites)
 
+    def has_told_all(self):
+        """Whether its suites have ended, with all that they announced."""
+        return bool(self.suites) and all(suite.has_ended and not suite.unseen() for suite in self.suites)
+
+    def number_of_tests(self):
+        """How many tests it has, with those that weren't asked for."""
+        return sum(suite.count + suite.counted.get("filtered_out", 0) for suite in self.suites)
+
 
 class Clock:
     """Tells the instant at which the last line came; without a source, one that follows from how long tests took."""

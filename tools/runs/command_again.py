@@ -2,7 +2,7 @@
 
 from command_line import say
 from libtest import rerun
-from runs import bundle, cargo_test, command_test, program, saying, store
+from runs import bundle, cargo_test, command_test, gone, program, saying, store
 from runs.fault import Fault
 
 SUMMARY = "run again what hasn't passed in a run, with the words after --, and record that"
@@ -20,21 +20,24 @@ def add_options(parser):
 
 def run(words):
     """Runs the tests again, records them, and answers their status; 0 where all have passed."""
-    runs = store.here(cargo_test.manifest_of(words.rest))
+    manifest = cargo_test.manifest_of(words.rest)
+    runs = store.here(manifest)
     path = runs.find(words.run)
     plan, before = plan_of(path), bundle.read_summary(path)
+    first = root_bundle(plan, before)
+    say_each([*rerun.remarks(plan), *gone.forget_targets(plan, manifest)])
     commands = [cargo_test.cargo_words(chosen.words(words.rest)) for chosen in rerun.selections(plan)]
-    nameless = never_started(root_bundle(plan, before))
-    say_each(rerun.remarks(plan))
+    nameless = never_started(first)
     if not commands:
         say_each(nameless)
         return nothing_to_run(plan, before, bool(nameless))
     command_test.prepare(runs, words)
+    plan.is_same_build = gone.is_same_build(first, words.rest)
     cli_args = ["rezovamy-runs", "again", before.id, *(["--", *words.rest] if words.rest else [])]
     session = command_test.run_cargo(commands, before.profile, cli_args, plan)
     status = command_test.keep(runs, session, words)
     lacking = nameless if status else [*nameless, *rerun.not_found(plan, session.suites)]
-    say_each(lacking)
+    say_each([*gone.lines(plan, session.suites), *lacking])
     return status or (NOT_ALL if lacking else 0)
 
 
@@ -72,8 +75,9 @@ def never_started(path):
 
 
 def nothing_to_run(plan, before, is_doubtful):
-    """Says that all tests have passed, and answers the status; a fault where that isn't so."""
-    if plan.run or plan.gone or is_doubtful:
+    """Says that all tests have passed that are still there, and answers the status; a fault where that isn't so."""
+    if plan.run or is_doubtful:
         raise Fault("nothing of this can be run again alone: run all again with `rezovamy-runs test`")
-    say(f"rezovamy-runs: all tests of run {before.id} have passed, so nothing is run again")
+    there = " that are still there" if plan.gone or plan.forgotten else ""
+    say(f"rezovamy-runs: all tests of run {before.id}{there} have passed, so nothing is run again")
     return 0

@@ -11,6 +11,7 @@ from libtest.cargo import Targets
 from libtest.reader import Reader
 from libtest.runs import SECOND, Clock, arrivals
 from make_session import text
+from runs import gone
 from runs.fault import Fault
 
 NEXTEST_VERSION = "0.9.111"
@@ -70,6 +71,8 @@ class Following:
         # Cargo answers 0 where a test ended its process with 0, and that test has failed.
         words = argparse.Namespace(status=status or None, profile=profile, nextest_version=NEXTEST_VERSION)
         run_id = str(uuid.uuid5(uuid.NAMESPACE_OID, self.digest.hexdigest()) if self.is_kept else uuid.uuid4())
+        if plan:
+            gone.forget_tests(plan, self.reader)
         head, started, *events = telling.session(self.reader, words, run_id)
         suites = head["test-list"]["suites"]
         head = {**head, "cli-args": cli_args, **(members_of_rerun(plan, suites) if plan else {})}

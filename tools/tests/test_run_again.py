@@ -56,7 +56,10 @@ class Lines(unittest.TestCase):
     def test_doctests_and_a_target_without_libtest_run_whole(self):
         self.assertEqual(self.lines("run a::doc/a src/lib.rs - x (line 3)\n"), ["cargo test -p a --doc"])
         self.assertEqual(self.lines("run a::plain plain\n"), ["cargo test -p a --test plain"])
-        self.assertEqual(self.lines("run a::plain plain\nskip a::plain x\n"), ["cargo test -p a --test plain -- --exact plain"])
+        for name in ("plain", "a::plain", "(a::plain)"):
+            done = run_it(f"{INFO}run a::plain {name}\nrun a::plain y\nskip a::plain x\n")
+            said = "run_again: a::plain: it may have failed by its own name, so that all of its tests run\n"
+            self.assertEqual((done.returncode, done.stdout, done.stderr), (0, "cargo test -p a --test plain\n", said))
         done = run_it(INFO + "run a::doc/a src/lib.rs - x (line 3)\nskip a::doc/a src/lib.rs - y (line 9)\n")
         said = "run_again: a::doc/a: cargo can't be given the names of doctests, so that all of them run\n"
         self.assertEqual((done.returncode, done.stdout, done.stderr), (0, "cargo test -p a --doc\n", said))
@@ -97,6 +100,13 @@ class Plans(unittest.TestCase):
         line, = rerun.not_found(plan, {"a": ["y"]})
         self.assertTrue(line.startswith("a x, and 1 more of it: no test of this name is there"), line)
         self.assertEqual(rerun.not_found(plan, {"a": ["z", "y", "x"]}), [])
+
+    def test_what_is_forgotten_is_not_listed(self):
+        plan = rerun.read(INFO + "run a x\nrun a y\nrun b z\nskip a w\n")
+        plan.forget("a", ["x"])
+        plan.forget("b", ["z"])
+        self.assertEqual((plan.run, plan.forgotten), ({"a": ["y"]}, {"a": ["x"], "b": ["z"]}))
+        self.assertEqual(plan.listed({"a": ["y"]}), {"a": ["y", "w"]})
 
     def test_the_list_has_what_ran_and_what_was_skipped(self):
         plan = rerun.read(INFO + "run a x\nrun b y\nskip a w\ngone c z\n")

@@ -30,20 +30,24 @@ elif sys.argv[1] == "record":
     pathlib.Path(sys.argv[2]).write_bytes(made.bundle_of(session))
 """
 # It keeps its words, and runs the tests after `--exact`: those whose names begin with `bad` fail, and one hangs; it has none
-# whose name begins with `gone`.
+# whose name begins with `gone`, and besides as many as the file `others` says.
 CARGO = f"""#!{sys.executable}
 import json, pathlib, sys, time
 folder = pathlib.Path(__file__).parent
+if sys.argv[1] == "metadata":
+    print((folder / "metadata").read_text())
+    sys.exit(0)
 with open(folder / "asked", "a") as asked:
     asked.write(json.dumps(sys.argv[1:]) + "\\n")
-names = [name for name in sys.argv[sys.argv.index("--exact") + 1:] if not name.startswith("gone")]
+asked_for = sys.argv[sys.argv.index("--exact") + 1:] if "--exact" in sys.argv else ["t0"]
+names = [name for name in asked_for if "gone" not in name]
 kind = sys.argv[sys.argv.index("-p") + 2]
 target = {{"kind": [kind.lstrip("-")], "name": sys.argv[sys.argv.index(kind) + 1] if kind != "--lib" else "alpha"}}
 say = lambda value: print(json.dumps(value) if isinstance(value, dict) else value, flush=True)
 file = f"target/debug/deps/{{target['name']}}-0123456789abcdef"
 say({{
     "reason": "compiler-artifact", "package_id": "path+file:///alpha#0.1.0", "target": target, "profile": {{"test": True}},
-    "executable": "/" + file,
+    "executable": "/" + file, "manifest_path": str(folder / "Cargo.toml"),
 }})
 say(f"     Running x.rs ({{file}})")
 say({{"type": "suite", "event": "started", "test_count": len(names)}})
@@ -58,7 +62,8 @@ for name in names:
         say(f"\\nCaused by:\\n  process didn't exit successfully: `{{file}}` (signal: 6, SIGABRT: process abort signal)")
         sys.exit(101)
     say({{"type": "test", "event": "failed" if name.startswith("bad") else "ok", "name": name, "exec_time": 0.5}})
-say({{"type": "suite", "event": "ok"}})
+others = folder / "others"
+say({{"type": "suite", "event": "ok", "filtered_out": int(others.read_text()) if others.exists() else 0}})
 sys.exit(101 if any(name.startswith("bad") for name in names) else 0)
 """
 
@@ -70,6 +75,7 @@ class Again(Case):
         for name, text in (("rezovamy", PROGRAM), ("cargo", CARGO)):
             (self.folder / name).write_text(text)
             (self.folder / name).chmod(0o755)
+        (self.folder / "metadata").write_text('{"packages": []}')
         self.environment["REZOVAMY"] = str(self.folder / "rezovamy")
         self.environment["PATH"] = f"{self.folder}:{self.environment['PATH']}"
 
@@ -142,6 +148,7 @@ class Again(Case):
         self.assertIn("beta t9: the run's test list lacks it, so that it isn't run\n", done.stderr)
 
     def test_tests_that_are_not_there_any_more_have_not_passed(self):
+        (self.folder / "others").write_text("9")
         self.plan("run alpha gone1", "run alpha t1", "run alpha gone2", "run alpha::it gone3")
         done = self.run_it("again")
         self.assertIn("1 passed", done.stdout)
@@ -151,6 +158,67 @@ class Again(Case):
         ]))
         self.plan("run alpha gone1", "run alpha bad")
         self.assertEqual(self.run_it("again").returncode, 101)
+
+    def first_run(self, *words):
+        """Lets the first run be one of `cargo test` with these words, of a package whose source is `src/lib.rs`."""
+        data = made.bundle(
+            made.run_started(), made.run_finished(1, 1), ended=made.completed(0, 0), run_id=made.ID,
+            **{"cli-args": ["cargo", "test", *words]},
+        )
+        (self.runs / f"{made.ID}.bundle").write_bytes(data)
+        (self.folder / "src").mkdir(exist_ok=True)
+        (self.folder / "src/lib.rs").write_text("#[test] fn t0() {} // goneness\n")
+        (self.folder / "others").write_text("1")
+
+    def test_tests_that_are_gone_from_the_source_are_not_asked_for_again(self):
+        self.first_run("--release", "--", "x")
+        self.plan("run alpha tests::gone1", "run alpha t1", "run alpha gone2", "skip alpha t0")
+        done = self.run_it("again", "--", "--release")
+        said = "tests::gone1, and 1 more of it: it is gone, since neither the binary nor a source has a test of this name"
+        self.assertEqual((done.returncode, done.stderr), (0, f"rezovamy-runs: alpha {said}\n"))
+        head = json.loads((self.folder / "session").read_text().splitlines()[0])
+        self.assertEqual(head["test-list"], {"suites": {"alpha": ["t1", "t0"]}})
+        self.plan("skip alpha t0", "skip alpha t1", "gone alpha gone1")
+        self.assertEqual(self.fault(0, "again", made.ID), [
+            "rezovamy-runs: alpha gone1: the run's test list lacks it, so that it isn't run",
+            f"rezovamy-runs: all tests of run {made.ID} that are still there have passed, so nothing is run again",
+        ])
+
+    def test_tests_that_may_be_there_under_other_names_or_words_are_not_gone(self):
+        self.first_run("--features", "x")
+        self.plan("run alpha gone1", "run alpha t1", "skip alpha t0")
+        for words, others, source, status in [
+            (["--features", "x"], "1", "", 0), ([], "1", "", 1), (["--features", "x"], "2", "", 1),
+            (["--features", "x"], "1", "fn gone1() {}", 1), (["-v", "--features", "x", "--", "-q"], "0", "fn gone11() {}", 0),
+        ]:
+            (self.folder / "others").write_text(others)
+            (self.folder / "src/more.rs").write_text(source)
+            done = self.run_it("again", made.ID, "--", *words)
+            self.assertEqual((done.returncode, "no test of this name is there" in done.stderr), (status, bool(status)), words)
+            suites = json.loads((self.folder / "session").read_text().splitlines()[0])["test-list"]["suites"]
+            self.assertEqual("gone1" in suites["alpha"], bool(status), words)
+
+    def test_a_binary_that_failed_by_its_own_name_runs_whole(self):
+        self.first_run()
+        self.plan("run alpha::it it", "skip alpha::it t0")
+        done = self.run_it("again")
+        self.assertEqual(done.returncode, 0, done.stderr)
+        self.assertNotIn("--exact", self.asked()[0])
+        self.assertEqual(done.stderr, "rezovamy-runs: alpha::it: it may have failed by its own name, so that all of its tests run\n")
+        head = json.loads((self.folder / "session").read_text().splitlines()[0])
+        self.assertEqual(head["test-list"], {"suites": {"alpha::it": ["t0"]}})
+
+    def test_a_target_that_is_gone_is_not_run(self):
+        targets = [{"name": "alpha", "kind": ["lib"]}, {"name": "it", "kind": ["test"]}]
+        (self.folder / "metadata").write_text(json.dumps({"packages": [{"name": "alpha", "targets": targets}]}))
+        self.plan("run alpha::old t1", "run alpha::old t2", "run alpha::it t3", "run alpha t1")
+        done = self.run_it("again")
+        said = "rezovamy-runs: alpha::old t1, and 1 more of it: alpha has no such target any more, so that it isn't run\n"
+        self.assertEqual((done.returncode, done.stderr, len(self.asked())), (0, said, 2))
+        self.plan("run alpha::old t1", "skip alpha t1")
+        self.assertEqual(self.fault(0, "again", made.ID)[1:], [
+            f"rezovamy-runs: all tests of run {made.ID} that are still there have passed, so nothing is run again",
+        ])
 
     def add_unseen(self, run_id, count, **more):
         """A run in which so many tests never started."""
