@@ -12,13 +12,15 @@ import sys
 import tempfile
 
 from command_line import print_out, whole
-from runs import bundle, store
+from runs import bundle, saying, store
 from runs.fault import Fault
 from runs.page_data import MOST_OUTPUT, Outputs, page_data
 from runs.slices import draw
 
 SUMMARY = "write a run as one HTML page: timeline, failures, outputs"
 PARTS = pathlib.Path(__file__).resolve().parent / "page"
+# How much of a profile's name stands in the title of a window, which shows no more anyway.
+LONGEST_PROFILE = 50
 # In the order in which they need one another.
 SCRIPTS = ("text", "data", "head", "list", "timeline", "drawing", "pointing", "details", "overview", "main")
 
@@ -62,7 +64,8 @@ def page_title(value):
     }
     passed = states.count("passed") + states.count("flaky")
     told = next((f"{count} {word}" for word, count in counts.items() if count), f"{passed} passed")
-    return f"{told} · {value['run']['profile']} · {value['run']['when']}"
+    profile = saying.name(value["run"]["profile"])
+    return f"{told} · {saying.cut(profile, LONGEST_PROFILE)} · {value['run']['when']}"
 
 
 def page_html(value):

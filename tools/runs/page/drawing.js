@@ -1,13 +1,14 @@
 // Draws the timeline on its canvas: pauses, slices, retries, the axis and the names of rows.
 
 const FONT = '11px system-ui, -apple-system, "Segoe UI", Roboto, "Liberation Sans", Arial, sans-serif';
-const COLOURS = ["panel", "ink", "muted", "faint", "line", "accent", "on-slice", "on-failed", "pause", "pause-line"];
+const COLOURS = ["panel", "ink", "muted", "faint", "line", "accent", "on-slice", "on-failed", "pause", "pause-line", "edge"];
 const KINDS = ["passed", "script", "flaky", "retried", "unfinished", "failed"];
 
 function read_colours() {
   const style = getComputedStyle(document.documentElement);
   const colour = (name) => style.getPropertyValue(`--${name}`).trim();
   paint = Object.fromEntries(KINDS.map((kind) => [kind, colour(`slice-${kind}`)]));
+  paint.edges = Object.fromEntries(KINDS.map((kind) => [kind, colour(`edge-${kind}`)]));
   for (const name of COLOURS) paint[name] = colour(name);
   paint.strong = colour("failed");
   paint.slow = colour("flaky");
@@ -94,19 +95,30 @@ function draw_row(context, row, top) {
 }
 
 function draw_attempt(context, attempt, top, least) {
-  context.fillStyle = paint[attempt.kind];
   const labelled = [];
   for (const [from, to] of attempt.slices) {
     const left = x_at(from), right = Math.max(x_at(to), left + least);
     if (right < gutter || left > width) continue;
     const begin = Math.max(left, gutter - 4), wide = Math.min(right, width + 4) - begin;
     const gap = wide > 4 ? 1 : 0;
-    if (wide > 5) fill_round(context, begin, top + 3, wide - gap, lane - 6, 2.5);
-    else context.fillRect(begin, top + 3, wide - gap, lane - 6);
+    draw_slice(context, attempt.kind, begin, top + 3, wide - gap);
     if (wide > 30) labelled.push([begin, wide]);
   }
   if (attempt.slow_at) draw_slow(context, attempt, top);
   for (const place of labelled) draw_label(context, attempt, place, top);
+}
+
+// A pale slice has a darker edge, which stands out from the ground; one without room for more is all edge.
+function draw_slice(context, kind, left, top, wide) {
+  const high = lane - 6;
+  context.fillStyle = paint.edges[kind];
+  if (wide <= 4) {
+    context.fillRect(left, top, wide, high);
+    return;
+  }
+  fill_round(context, left, top, wide, high, 2.5);
+  context.fillStyle = paint[kind];
+  fill_round(context, left + 1, top + 1, wide - 2, high - 2, 1.5);
 }
 
 function fill_round(context, left, top, wide, high, radius) {

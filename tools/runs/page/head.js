@@ -20,7 +20,7 @@ function draw_facts() {
   id.title = run.id;
   const status = run.status === "completed" ? "" : run.status, exit = run.exit ? `exit code ${run.exit}` : "";
   const told = [plural(TEST_COUNT - COUNTS.skipped, "test"), duration(run.seconds), status, exit, run.when, `profile ${run.profile}`];
-  facts.replaceChildren(...told.filter(Boolean).map((fact) => element("span", "", safe_nodes(fact))), id);
+  facts.replaceChildren(...told.filter(Boolean).map((fact) => titled(element("span", "", safe_nodes(fact)), fact)), id);
 }
 
 // A thin line that shows the shares of the states.
@@ -30,7 +30,7 @@ function draw_share() {
     if (!COUNTS[state]) continue;
     const part = element("i");
     part.style.flex = `${COUNTS[state]} 0 0`;
-    part.style.background = `var(--${state === "skipped" ? "line" : state})`;
+    part.style.background = `var(--${state})`;
     share.append(part);
   }
 }

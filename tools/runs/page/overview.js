@@ -18,6 +18,7 @@ function item(test, { reason = "", bar = false } = {}) {
   const button = element("button", "item");
   button.type = "button";
   const name = element("span", "name", safe_nodes(test.name), " ", element("span", "place", safe_nodes(test.place)));
+  titled(name, `${test.name} ${test.place}`);
   const tries = test.attempts.length > 1 ? `${test.attempts.length} attempts` : "";
   button.append(state_mark(test.end), name, element("span", "took", [tries, time_of(test)].filter(Boolean).join(", ")));
   if (reason) button.append(element("span", "why", safe_nodes(reason)));
@@ -41,7 +42,7 @@ function part(title, tests, options) {
 
 function line_of_binary(name, sum, states) {
   const cell = (state) => element("td", sum[state] ? (state === "failed" ? "is-failed" : "") : "zero", whole(sum[state]));
-  return element("tr", "", element("td", "", safe_nodes(name)), ...states.map(cell), element("td", "", duration(sum.seconds)));
+  return element("tr", "", element("td", "", titled(element("span", "cut", safe_nodes(name)), name)), ...states.map(cell), element("td", "", duration(sum.seconds)));
 }
 
 function table_of_binaries() {
@@ -75,8 +76,15 @@ function about_run() {
     ["Arguments", run.args.join(" ")], ["Paused", pauses.join(", ")], ["Bundle", run.bundle],
   ];
   const about = element("dl", "about");
-  for (const [name, value] of facts) if (value) about.append(element("dt", "", name), element("dd", "", safe_nodes(value)));
+  for (const [name, value] of facts) if (value) about.append(element("dt", "", name), fact_of_run(value));
   return element("section", "", element("h3", "", "This run"), about);
+}
+
+// What is too long for some lines is whole in a field that scrolls.
+function fact_of_run(value) {
+  const made = element("dd", "", safe_nodes(value));
+  if (value.length > 500) made.tabIndex = 0;
+  return made;
 }
 
 function draw_run() {

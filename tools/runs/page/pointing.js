@@ -34,14 +34,16 @@ function draw_overview() {
   const context = overview.getContext("2d");
   const most = Math.max(1, ...running), piece = (width - gutter) / running.length;
   context.clearRect(0, 0, width, STRIP);
-  context.fillStyle = paint.line;
   running.forEach((count, at) => {
-    const high = count / most * (STRIP - 8);
-    context.fillRect(gutter + at * piece, STRIP - 3 - high, piece + 0.5, high);
+    const high = count / most * (STRIP - 8), left = gutter + at * piece;
+    context.fillStyle = paint.line;
+    context.fillRect(left, STRIP - 3 - high, piece + 0.5, high);
+    context.fillStyle = paint.edge;
+    if (count) context.fillRect(left, STRIP - 3 - high, piece + 0.5, 1);
   });
   for (const attempt of ATTEMPTS) {
     if (!["failed", "retried", "unfinished"].includes(attempt.kind)) continue;
-    context.fillStyle = attempt.kind === "failed" ? paint.strong : paint[attempt.kind];
+    context.fillStyle = attempt.kind === "failed" ? paint.strong : paint.edges[attempt.kind];
     for (const [from, to] of attempt.slices) {
       context.fillRect(strip_x(from), STRIP - 8, Math.max(2, strip_x(to) - strip_x(from)), 5);
     }
@@ -216,7 +218,10 @@ function draw_legend() {
   if (PAUSES.length) items.push(["pause", "pause"]);
   document.getElementById("legend").replaceChildren(...items.map(([kind, word]) => {
     const swatch = element("i", `slice-${kind}`);
-    if (kind !== "pause") swatch.style.background = `var(--slice-${kind})`;
+    if (kind !== "pause") {
+      swatch.style.background = `var(--slice-${kind})`;
+      swatch.style.borderColor = `var(--edge-${kind})`;
+    }
     return element("li", "", swatch, word);
   }));
 }

@@ -57,6 +57,12 @@ function shown(text) {
   return text.replace(SPECIAL, (part) => spelled(part));
 }
 
+// An element that may show only a part of a text, which is whole in its title where it is long.
+function titled(made, text) {
+  if (text.length > 60) made.title = shown(text);
+  return made;
+}
+
 // The names of a style after the codes of a sequence that colours text. Backgrounds and colours of many bits are left out.
 function styled(style, codes) {
   const numbers = codes.split(";").map(Number);

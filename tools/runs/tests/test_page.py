@@ -229,6 +229,12 @@ class PageFile(unittest.TestCase):
         text, _ = page_of(nasty_session())
         self.assertRegex(text, r"<title>1 failed · ci · \d{4}-")
 
+    def test_the_profile_in_the_title_is_short_and_harmless(self):
+        run = {"profile": "a\u202eb\x1b" + "c" * 1000, "when": "now"}
+        title = page.page_title({"tests": [], "run": run})
+        self.assertRegex(title, r"^0 passed · a\\u\{202e\}b\\x1bc+ \.\. · now$")
+        self.assertLess(len(title), 90)
+
     def test_the_title_calls_no_broken_run_passed(self):
         def title(*states, **attempt):
             tests = [{"name": "t", "state": state, "attempts": [attempt]} for state in states]
@@ -292,6 +298,56 @@ class Command(unittest.TestCase):
         with self.assertRaises(Fault) as caught:
             self.command("--most-output", "-1")
         self.assertEqual(caught.exception.status, 2)
+
+
+def colours(block):
+    """The colours that a block of the style names."""
+    return dict(re.findall(r"--([\w-]+): (#[0-9a-f]{3,6})", block))
+
+
+def brightness(colour):
+    """The relative luminance of a colour, as accessibility guidelines have it."""
+    digits = colour[1:] if len(colour) == 7 else "".join(2 * digit for digit in colour[1:])
+    parts = [int(digits[at:at + 2], 16) / 255 for at in (0, 2, 4)]
+    red, green, blue = (part / 12.92 if part <= 0.03928 else ((part + 0.055) / 1.055) ** 2.4 for part in parts)
+    return 0.2126 * red + 0.7152 * green + 0.0722 * blue
+
+
+def contrast(one, other):
+    dark, bright = sorted(map(brightness, (one, other)))
+    return (bright + 0.05) / (dark + 0.05)
+
+
+class Contrasts(unittest.TestCase):
+    def setUp(self):
+        light, dark = re.findall(r"^:root[^{]*\{(.*?)^\}", page.part("style.css"), re.M | re.S)
+        self.themes = {"light": colours(light), "dark": {**colours(light), **colours(dark)}}
+
+    def demand(self, least, colour, *grounds):
+        for theme, named in self.themes.items():
+            for ground in grounds:
+                found = contrast(named[colour], named[ground])
+                self.assertGreaterEqual(found, least, f"{theme}: {colour} on {ground}")
+
+    def test_slices_stand_out_from_the_ground_and_from_pauses(self):
+        for kind in ("passed", "script", "flaky", "retried", "unfinished", "failed"):
+            self.demand(3, f"edge-{kind}", "panel", "pause")
+        for colour in ("pause-line", "edge"):
+            self.demand(3, colour, "panel")
+
+    def test_labels_can_be_read(self):
+        for colour, kinds in (
+            ("on-failed", ["failed"]), ("on-slice", ["passed", "script"]), ("ink", ["flaky", "retried", "unfinished"]),
+        ):
+            self.demand(4.5, colour, *(f"slice-{kind}" for kind in kinds))
+
+    def test_words_can_be_read_on_each_ground(self):
+        words = ["ink", "muted", "faint", "failed", "flaky", "passed", "skipped", "unfinished", "script"]
+        outputs = ["red", "green", "yellow", "blue", "magenta", "cyan", "gray"]
+        for colour in words + outputs:
+            self.demand(4.49, colour, "panel", "back", "hover", "code")
+        for colour in words:
+            self.demand(4.49, colour, "chosen")
 
 
 if __name__ == "__main__":

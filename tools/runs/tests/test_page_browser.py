@@ -211,6 +211,35 @@ class InBrowser(unittest.TestCase):
         self.assertLess(self.browser.evaluate("document.getElementById('tip').offsetHeight"), 120)
         self.assertTrue(self.browser.evaluate("document.documentElement.scrollHeight <= innerHeight"))
 
+    def test_very_long_names_take_some_lines_of_the_overview(self):
+        events, name = [], "x" * 5000
+        for at, result in enumerate((exit_code(), "pass")):
+            events += [started(at, f"{at}{name}", 0), finished(at + 1, f"{at}{name}", status(at, 1, result))]
+        for one in events:
+            one["test-instance"]["binary-id"] = name
+        begun = event("run-started", 0, profile_name=f"p{name}", cli_args=["cargo", name])
+        for wide in (1400, 400):
+            self.open(session_of([begun, *events]), wide=wide)
+            for place in (".item", "tr", ".about dd", ".facts"):
+                high = f"Math.max(...[...document.querySelectorAll('{place}')].map((one) => one.offsetHeight))"
+                self.assertLess(self.browser.evaluate(high), 200, place)
+            self.assertTrue(self.browser.evaluate(f"document.documentElement.scrollWidth <= {wide}"))
+            whole = "document.querySelector('{}').title.length > 5000"
+            self.assertTrue(self.browser.evaluate(whole.format(".item .name")))
+            self.assertTrue(self.browser.evaluate(whole.format(".facts [title^=profile]")))
+
+    def test_a_slice_has_an_edge(self):
+        self.open((EXAMPLES / "sums.session").read_text())
+        found = self.browser.evaluate("""(() => {
+            const canvas = document.getElementById("canvas"), context = canvas.getContext("2d"), found = new Set();
+            const { data } = context.getImageData(0, 0, canvas.width, canvas.height);
+            for (let at = 0; at < data.length; at += 4) found.add(data.slice(at, at + 3).join());
+            return [...found];
+        })()""")
+        # The edge and the slice of tests that passed.
+        for colour in ("77,142,111", "188,220,203"):
+            self.assertIn(colour, found)
+
     def test_an_arrow_within_the_first_row_is_whole(self):
         failing = status(0, 1, exit_code(), 1, 2)
         self.open(session_of([
