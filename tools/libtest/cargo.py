@@ -220,5 +220,10 @@ class Targets:
         self.named.setdefault(file_name, name if name not in taken else next(one for one in numbered if one not in taken))
         return Target(self.named[file_name], None, None)
 
+    def may_fail(self, hint):
+        """Whether cargo can say that the target of a hint failed: once it has named what it built, that is one of these."""
+        words = split(hint)[1]
+        return not self.built or words == ["--doc"] or any(target.words == words for target in self.built.values())
+
     def failed(self, hint):
         return next((target for target in self.built.values() if fits(target, hint)), None) or target_of_hint(hint)

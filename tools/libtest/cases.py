@@ -481,14 +481,40 @@ def try_example(convert, options):
 
 
 def try_bytes(convert, options):
-    values = convert([b'{"type":"test","event":"ok","name":"a::t$\xff"}'], options(["--no-clock"]), lambda _: None)
-    return [] if values[2]["test-instance"]["test-name"] == "\ufffd" else ["a line that isn't UTF-8"]
+    """Bytes that aren't UTF-8 are marked in a name, kept in an output, and spelled in what is said and in errors."""
+    said = []
+    values = convert([b'{"type":"test","event":"ok","name":"a::t$\xff"}'], options(["--no-clock"]), said.append)
+    if values[2]["test-instance"]["test-name"] != "\ufffd":
+        yield "a line that isn't UTF-8"
+    plain = [*stream(INTEGRATION), b"a\xffb\0\n", b"no end\xfe", *stream(f"{FAILED} > {CAUSE % 'exit status: 3'}")]
+    (_, status), = finished(convert(plain, options(["--no-clock"]), said.append))
+    if bytes.fromhex(status["output"]["output"]["output"]["combined"]) != b"a\xffb\0\nno end\xfe" or "a\\xffb\0" not in said:
+        yield f"an output that isn't UTF-8: {status}, and said {said}"
+    crash = [*stream(f"{INTEGRATION} > suite 1 > started x"), b"last \xff words\n", *stream(CRASHED)]
+    (event, _), = finished(convert(crash, options(["--no-clock"]), said.append))
+    if "last \\xff words" not in errors_of(event)[-1]:
+        yield f"a crash after bytes that aren't UTF-8: {errors_of(event)}"
+
+
+def try_printed(convert, options):
+    """What a target without libtest prints is its output, also where cargo could have printed it; of a crash both ends are told."""
+    lines = '{"reason":"build-finished","success":true}\n{"reason":"compiler-artifact"}\n'
+    foreign = "error: test failed, to rerun pass `-p zzz --test nix`\n"
+    words = [*stream(f"{NAMED} > {INTEGRATION}"), *(lines + foreign).encode().splitlines(keepends=True), *stream(OTHER)]
+    (_, status), *_ = finished(convert(words, options(["--no-clock"]), lambda _: None))
+    if bytes.fromhex(status["output"]["output"]["output"]["combined"]).decode() != lines + foreign or status["result"] != "pass":
+        yield f"a target that prints as cargo does: {status}"
+    crash = f"{INTEGRATION} > suite 1 > started x > =it panics > ={'z' * 9000} > =it ends > {CRASHED}"
+    (event, _), = finished(convert(stream(crash), options(["--no-clock"]), lambda _: None))
+    said = errors_of(event)[-1]
+    if "it panics" not in said or not said.endswith("it ends") or "characters are left out" not in said or len(said) > 4200:
+        yield f"a crash that prints much: {said}"
 
 
 def self_test(convert, options):
     """What is wrong with the tool, a line each."""
     tries = (
         try_cases, try_doubts, try_names, try_doctests, try_cut, try_torn, try_long_lines, try_texts, try_clock, try_ends,
-        try_interruption, try_random_streams, try_bytes, try_example,
+        try_interruption, try_random_streams, try_bytes, try_printed, try_example,
     )
     return [fault for attempt in tries for fault in attempt(convert, options)]

@@ -6,7 +6,7 @@ import re
 from ansi import without_escapes
 from libtest import rerun
 from libtest.cargo import NOT_COMPILED, Target
-from libtest.runs import FAILED, Ending, Mark, TestRun
+from libtest.runs import FAILED, Ending, Mark, TestRun, bytes_of, spelled
 
 PASSED = Ending(0, None, None, "exit status: 0")
 BUILD, RUN = "(build)", "(run)"
@@ -136,11 +136,18 @@ def lost_errors(binary, lost, run, ending):
     """What is said of a test that ran when its binary ended."""
     others = [other.name for other in lost if other is not run]
     beside = f"Beside it ran {', '.join(others[:9])}{' ..' * (len(others) > 9)}." if others else "No other test ran beside it."
-    printed = without_escapes("".join(binary.text)).strip()
+    printed = both_ends(without_escapes(spelled("".join(binary.text))).strip())
     how = ending.words or "no line says how"
     return [f"the test binary ended while this test ran: {how}", beside] + (
-        [f"What the binary printed outside of tests:\n{printed[-LONGEST:]}"] if printed else []
+        [f"What the binary printed outside of tests:\n{printed}"] if printed else []
     )
+
+
+def both_ends(text):
+    """The text, or its begin and its end where it is long: a crash says at its begin why it came, and at its end how."""
+    half = LONGEST // 2
+    left_out = len(text) - 2 * half
+    return text if left_out <= 0 else f"{text[:half]}\n.. {left_out} characters are left out ..\n{text[-half:]}"
 
 
 def faults_of(binary):
@@ -186,7 +193,7 @@ def end(reader, binary, run, result, ending, errors):
 
 def output_of(text):
     """What a binary printed, as a session has it; None where that is nothing."""
-    return "".join(text).encode().hex() or None
+    return bytes_of("".join(text)).hex() or None
 
 
 def is_of_signal(status):
@@ -229,7 +236,7 @@ def fail_build(reader):
     lines = [line for _, line in reader.build_errors]
     broken = [line for line in lines if NOT_COMPILED.fullmatch(line)]
     if broken or not reader.binaries:
-        text = without_escapes("".join(reader.build_text)).strip()
+        text = without_escapes(spelled("".join(reader.build_text))).strip()
         fail_run(reader, BUILD, reader.build_errors[0][0], [(broken or lines)[0], text[:LONGEST]], reader.build_text, 101)
 
 

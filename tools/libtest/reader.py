@@ -8,7 +8,7 @@ from libtest import cargo, ends, instants, nextest, torn
 from libtest.doubts import Doubts
 from libtest.errors import errors_of
 from libtest.runs import (
-    FAILED, MOST_SECONDS, SECOND, Attempt, BinaryRun, Mark, TestRun, clean, nanoseconds,
+    FAILED, MOST_SECONDS, SECOND, Attempt, BinaryRun, Mark, TestRun, bytes_of, clean, nanoseconds, spelled,
 )
 
 VALUE = re.compile(r'\{\s*"(?:type|reason)"\s*:')
@@ -48,8 +48,8 @@ class Reader:
         try:
             words = line.decode()
         except UnicodeDecodeError:
-            words = line.decode("utf-8", "replace")
-            self.note("isn't UTF-8; read with replacement characters")
+            words = line.decode("utf-8", "surrogateescape")
+            self.note("isn't UTF-8; its other bytes are told as \\xff")
         self.is_said = False
         if self.take(words):
             self.leave_torn()
@@ -64,7 +64,7 @@ class Reader:
         self.is_said = True
         if words.strip():
             self.unknown += 1
-            self.say(words.rstrip("\r\n"))
+            self.say(spelled(words.rstrip("\r\n")))
 
     def take(self, words):
         """Whether the line, or its end, says something of the run. What stands before its end is text."""
@@ -87,7 +87,7 @@ class Reader:
         """Keeps and says a text that has left its line open, so that an event or cargo's words stand after it."""
         self.keep(text)
         if text.strip():
-            self.say(text)
+            self.say(spelled(text))
 
     def take_value(self, words):
         try:
@@ -102,7 +102,8 @@ class Reader:
             return self.take_test(value)
         if str(value.get("reason")) in cargo.REASONS and self.is_at_rest():
             self.targets.learn(value)
-            return True
+            # A target without libtest may print such a line too.
+            return not (self.binaries and self.binaries[-1].may_print())
         return value.get("type") == "report" and bool(self.binaries and self.binaries[-1].suites)
 
     # ---- what cargo says
@@ -149,22 +150,25 @@ class Reader:
     def take_failure(self, words):
         """Takes what cargo says of a target that failed, and how its process ended; whether it says so."""
         failure = cargo.FAILURE.fullmatch(words)
+        hint = clean(failure[2]) if failure else ""
+        if failure and not self.targets.may_fail(hint):
+            return False
         if failure:
-            self.doubts.take_failure(failure[2])
+            self.doubts.take_failure(hint)
         binary = self.binaries[-1] if self.binaries else None
         cause = cargo.CAUSE.fullmatch(words) if binary and binary.failed_at and not binary.ending else None
         if cause:
-            binary.ending = cargo.ending_of(cause[1])
-        elif failure and (binary is None or binary.is_done() or not cargo.fits(binary.target, failure[2])):
+            binary.ending = cargo.ending_of(spelled(cause[1]))
+        elif failure and (binary is None or binary.is_done() or not cargo.fits(binary.target, hint)):
             if self.running():
                 return False
-            binary = self.begin_binary(self.targets.failed(failure[2]))
+            binary = self.begin_binary(self.targets.failed(hint))
         if failure:
             self.keep(failure[1])
             binary.failed_at = binary.failed_at or self.now()
         if failure or cause:
             self.is_said = True
-            self.say(words.rstrip())
+            self.say(spelled(words.rstrip()))
         return bool(failure or cause)
 
     def take_build(self, words):
@@ -172,7 +176,7 @@ class Reader:
         before_tests = not self.binaries and cargo.ERROR.fullmatch(words.rstrip())
         if before_tests or cargo.NOT_COMPILED.fullmatch(words.rstrip()) and self.is_at_rest():
             self.builds = True
-            self.build_errors.append((self.now(), words.strip()))
+            self.build_errors.append((self.now(), spelled(words.strip())))
         if self.builds:
             self.build_text.append(words)
         return False
@@ -385,9 +389,9 @@ class Reader:
         if what == "timeout":
             attempt.slow = self.mark(self.clock.warned(attempt.start.time, taken))
             return
-        output = clean(value["stdout"]) if isinstance(value.get("stdout"), str) else None
-        attempt.output = None if output is None else output.encode().hex()
-        attempt.errors = [] if what == "ok" else errors_of(output or "", message)
+        output = value["stdout"] if isinstance(value.get("stdout"), str) else None
+        attempt.output = None if output is None else bytes_of(output).hex()
+        attempt.errors = [] if what == "ok" else errors_of(spelled(output or ""), message)
         late = value.get("reason") == "time limit exceeded"
         result = "passed" if what == "ok" else "failed-timed-out" if late else "failed"
         self.close(attempt, self.mark(self.clock.ended(attempt.start.time, taken)), result, taken)

@@ -104,6 +104,10 @@ class BinaryRun:
         """The suite that is open, if one is."""
         return self.suites[-1] if self.suites and not self.suites[-1].has_ended else None
 
+    def may_print(self):
+        """Whether it is a target without libtest, as far as is known, which runs and prints what it likes."""
+        return not (self.suites or self.failed_at or self.has_left)
+
     def is_done(self):
         """Whether a binary that no line names has ended well, so that a failure is of another one."""
         return self.target is None and bool(self.suites) and not (self.suite or any(run.has_failed() for run in self.runs()))
@@ -157,8 +161,21 @@ def arrivals():
 
 
 def clean(name):
-    """The text without halves of surrogate pairs, which no session can hold."""
-    return name.encode("utf-8", "replace").decode()
+    """The text without halves of surrogate pairs, which no session can hold, and with a mark for bytes that aren't UTF-8."""
+    return bytes_of(name).decode("utf-8", "replace")
+
+
+def bytes_of(text):
+    """The bytes of a text that was read, with those that aren't UTF-8."""
+    try:
+        return text.encode("utf-8", "surrogateescape")
+    except UnicodeEncodeError:
+        return text.encode("utf-8", "replace")
+
+
+def spelled(text):
+    """The text with bytes that aren't UTF-8 spelled, as `\\xff`."""
+    return bytes_of(text).decode("utf-8", "backslashreplace")
 
 
 def nanoseconds(value):
