@@ -449,8 +449,8 @@ class Reader:
             self.resolve(binary)
             lost, unseen = binary.lost(), binary.unseen()
             missing = [
-                f"{len(lost)} tests never ended, the first is {lost[0].name}" if lost else "",
-                f"{unseen} announced tests never started" if unseen else "",
+                f"tests that never ended: {len(lost)}, the first is {lost[0].name}" if lost else "",
+                f"announced tests that never started: {unseen}" if unseen else "",
             ]
             if any(missing):
                 self.say(f"session_from_libtest: {binary.id}: " + ", ".join(filter(None, missing)))

@@ -11,10 +11,11 @@ STREAMS = {"stdout": "standard output", "stderr": "standard error", "combined": 
 NOTEWORTHY = ("fail", "flaky", "unfinished")
 SLOWEST = 5
 INDENT = "    "
+LONGEST_LINE = 2000
 
 
 class Printer:
-    """Makes lines of a run. Outputs longer than `most_lines` lose their middle, if that is given."""
+    """Makes lines of a run. Outputs longer than `most_lines` lose their middle, if that is given, and so do very long lines."""
 
     def __init__(self, paint, most_lines=None):
         self.paint, self.most_lines = paint, most_lines
@@ -82,6 +83,8 @@ class Printer:
             half = self.most_lines // 2
             left_out = f".. {len(lines) - 2 * half} lines are left out here, `rezovamy-runs show` has them .."
             lines = [*lines[:half], left_out, *lines[-half:]]
+        if self.most_lines:
+            lines = [cut_middle(line) for line in lines]
         return [(INDENT + line).rstrip() for line in lines]
 
     def slowest(self, run):
@@ -99,6 +102,15 @@ class Printer:
         parts += [self.paint("yellow", f"{counts.unseen} never ended")] if counts.unseen else []
         parts += [f"{counts.skipped} skipped"] if counts.skipped else []
         return f"{saying.count(counts.total, 'test')} in {saying.duration(run.elapsed)}: {', '.join(parts)}{ending_of(run)}"
+
+
+def cut_middle(line):
+    """The line, without its middle where it is longer than anybody reads."""
+    half = LONGEST_LINE // 2
+    left_out = len(line) - 2 * half
+    if left_out <= 0:
+        return line
+    return f"{line[:half]} .. {left_out} characters are left out here, `rezovamy-runs show` has them .. {line[-half:]}"
 
 
 def ending_of(run):

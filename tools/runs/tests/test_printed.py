@@ -63,6 +63,13 @@ class Tests(unittest.TestCase):
             "    1", "    2", "    .. 2 lines are left out here, `rezovamy-runs show` has them ..", "    5", "    6",
         ])
 
+    def test_very_long_lines_may_be_cut(self):
+        test = finished("t", Attempt(1, 1, 0.0, result="fail", combined=b"a" * 5000 + b"b" * 5000 + b"\nshort\n"))
+        first, second = self.lines(test, printer=Printer(Paint(False), 4))[2:]
+        note = " .. 8000 characters are left out here, `rezovamy-runs show` has them .. "
+        self.assertEqual((first, second), (f"    {'a' * 1000}{note}{'b' * 1000}", "    short"))
+        self.assertIn("a" * 5000 + "b" * 5000, self.lines(test)[2])
+
     def test_an_output_that_was_cut_says_so(self):
         test = finished("t", Attempt(1, 1, 0.0, result="fail", stdout=b"x", truncated={"stdout": 2048}))
         self.assertEqual(self.lines(test)[1], "  standard output, cut when it was recorded; it had 2.0 KiB")
