@@ -504,6 +504,14 @@ def try_printed(convert, options):
     (_, status), *_ = finished(convert(words, options(["--no-clock"]), lambda _: None))
     if bytes.fromhex(status["output"]["output"]["output"]["combined"]).decode() != lines + foreign or status["result"] != "pass":
         yield f"a target that prints as cargo does: {status}"
+    for said, is_told in (
+        ("error: unexpected argument '--report-time' found", True), ("Unrecognized option: 'Z'", True),
+        ("error: Found argument '-Z' which wasn't expected", True), ("an unknown flag, given --format json", True), ("no", False),
+    ):
+        refused = f"{INTEGRATION} > ={said} > {FAILED} > {CAUSE % 'exit status: 2'}"
+        (event, _), = finished(convert(stream(refused), options(["--no-clock"]), lambda _: None))
+        if any("refuses the words" in error for error in errors_of(event)) != is_told:
+            yield f"a target that says {said}: {errors_of(event)}"
     crash = f"{INTEGRATION} > suite 1 > started x > =it panics > ={'z' * 9000} > =it ends > {CRASHED}"
     (event, _), = finished(convert(stream(crash), options(["--no-clock"]), lambda _: None))
     said = errors_of(event)[-1]

@@ -13,6 +13,11 @@ BUILD, RUN = "(build)", "(run)"
 CARGO = Target("(cargo)", None, None)
 LONGEST = 4000
 SIGNALS = 64
+# What parsers of words say of one that they don't know, among those that ask libtest for events.
+REFUSES = re.compile(
+    r"\b(?:unexpected|unrecogni[sz]ed|unknown|invalid|found) (?:argument|option|flag)[^\n]*(?:\B-Z\b|'Z'|--report-time|--format|--show-output)",
+    re.I,
+)
 FOR_PEOPLE = re.compile(r"running \d+ tests?\s*")
 
 
@@ -164,6 +169,8 @@ def faults_of(binary):
         faults.append(f"the process ended with {binary.ending.words}")
     if binary.failed_at and not (failed or faults):
         faults.append("cargo says that the target failed")
+    if faults and not binary.suites and REFUSES.search(without_escapes("".join(binary.text))):
+        faults.append("it has no libtest, and refuses the words that ask libtest for events: run it apart, by `cargo test` alone")
     return faults
 
 
