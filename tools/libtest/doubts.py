@@ -50,10 +50,8 @@ class Doubts:
     def take_test(self, name, what):
         """Goes back to the binary of which a test's line shows that it runs still, if there is one."""
         last = self.reader.binaries[-1]
-        if not self.open or last.suite and (what == "started" or name in last.suite.named):
-            return
-        # What a test that runs prints is no sign, unless a binary that never comes again would be missed.
-        if last.lost() and not self.reader.targets.built:
+        # What a test that runs prints is no sign.
+        if not self.open or last.lost() or last.suite and (what == "started" or name in last.suite.named):
             return
         found = next((doubt for doubt in reversed(self.open) if is_of(doubt.binary.suite, name, what)), None)
         if found:
@@ -73,9 +71,8 @@ class Doubts:
         reader, binary = self.reader, doubt.binary
         place = reader.binaries.index(binary) + 1
         reader.note(f"{binary.id} goes on: what stands from line {doubt.mark.line} on, as if cargo said it, one of its tests printed")
-        for other in reader.binaries[place:]:
-            for run in other.runs():
-                reader.take_back(run)
+        for run in reversed([run for other in reader.binaries[place:] for run in other.runs()]):
+            reader.take_back(run)
         del reader.binaries[place:], reader.build_errors[doubt.build_errors:], reader.other_text[doubt.other_text:]
         reader.builds = False
         reader.targets.put_back(doubt.waiting, doubt.documented)
@@ -109,4 +106,4 @@ class Doubts:
 def is_of(suite, name, what):
     """Whether a suite that is open takes this line of a test: as the end of one that runs, or as the start of one that is to come."""
     run = suite.named.get(name)
-    return suite.unseen() > 0 if run is None and what == "started" else run is not None and run.is_open()
+    return run is None and suite.unseen() > 0 if what == "started" else run is not None and run.is_open()

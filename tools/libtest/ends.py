@@ -104,7 +104,8 @@ def end_by_numbers(reader, binary):
     if (counted.get("failed"), counted.get("ignored"), left) != (failed, skipped, len(lost) + suite.unseen()):
         return
     for run in lost:
-        reader.close(run.attempts[-1], Mark(max(reader.clock.now, run.attempts[-1].start.time), reader.line), "passed", None)
+        time, line = suite.counted_at
+        reader.close(run.attempts[-1], Mark(max(time, run.attempts[-1].start.time), line), "passed", None)
     suite.has_ended, suite.counted, suite.count = True, counted, len(suite.runs)
     reader.note(f"{binary.id}: no line says that {left} of its tests ended; they passed, by the numbers at the end of its suite")
 

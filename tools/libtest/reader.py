@@ -199,7 +199,7 @@ class Reader:
         counted = {key: value[key] for key in COUNTED if type(value.get(key)) is int}
         is_inner = suite.depth > 0
         if binary.prefix is None and not self.nextest and not ends.is_suites_end(suite):
-            suite.last_counted = None if is_inner else counted
+            suite.last_counted, suite.counted_at = None if is_inner else counted, self.now()
             return False
         self.time_out(suite)
         suite.counted, suite.has_ended = counted, True
@@ -364,11 +364,13 @@ class Reader:
     def take_back(self, run):
         """Takes back the last attempt of a test, and the test where it has none left."""
         run.attempts.pop()
-        if not run.attempts:
-            self.runs.remove(run)
-            self.latest.pop((run.test_id["binary-id"], run.name))
-            if run.before:
-                self.latest[run.test_id["binary-id"], run.name] = run.before
+        if run.attempts:
+            return
+        self.runs.remove(run)
+        key = run.test_id["binary-id"], run.name
+        if self.latest.get(key) is run:
+            del self.latest[key]
+            self.latest.update({key: run.before} if run.before else {})
 
     def start(self, binary, name, number, run):
         """Starts an attempt; one of a test that runs is no start, unless it is the next one."""

@@ -66,12 +66,13 @@ class TestRun:
 class Suite:
     """A suite of tests, as its lines tell; `inner` are the tests that began in a suite which another one printed.
 
-    `last_counted` are the numbers of an end that isn't believed yet, since tests of the suite run, where nothing of it came after.
+    `last_counted` are the numbers of an end that isn't believed yet, since tests of the suite run, where nothing of it came after;
+    they were `counted_at` a place.
     """
 
     def __init__(self, count, is_sorted):
         self.count, self.is_sorted, self.runs, self.named = count, is_sorted, [], {}
-        self.has_ended, self.counted, self.last_counted = False, {}, None
+        self.has_ended, self.counted, self.last_counted, self.counted_at = False, {}, None, None
         self.depth, self.inner = 0, []
 
     def add(self, run):
