@@ -47,6 +47,10 @@ class Doubts:
     def holds(self, binary):
         return any(doubt.binary is binary for doubt in self.open)
 
+    def tests(self):
+        """The tests that ran in the binaries in doubt."""
+        return [run for doubt in self.open for run in doubt.binary.lost()]
+
     def take_test(self, name, what):
         """Goes back to the binary of which a test's line shows that it runs still, if there is one."""
         last = self.reader.binaries[-1]

@@ -67,7 +67,9 @@ class Progress:
 
 def progress_line(reader):
     """A line of how far the run is."""
-    running = [run for run in reader.runs if run.is_open()]
+    # Of a binary after which another one was announced no test seems to run any more.
+    left = set(reader.doubts.tests())
+    running = [run for run in reader.runs if run.is_open() and run not in left]
     failed = sum(run.has_failed() for run in reader.runs)
     known = len(reader.runs) + sum(binary.unseen() for binary in reader.binaries)
     parts = [f"{len(reader.runs) - len(running)} of {saying.count(known, 'test')} ended, {failed} failed"]

@@ -128,6 +128,18 @@ class Shown(unittest.TestCase):
         progress.finish()
         self.assertEqual(stream.text, line + "\r\x1b[KCompiling\n")
 
+    def test_what_ran_before_another_binary_does_not_seem_to_run(self):
+        stream, following = Stream(), Following(lambda line: None, 1000)
+        progress = Progress(stream, lambda: self.now)
+        progress.reader = following.reader
+        announced = b"     Running tests/%s.rs (target/debug/deps/%s-0123456789abcdef)\n"
+        for line in (announced % (b"x", b"x"), *lines_of(SUITE, test_line("a", "started")), announced % (b"y", b"y"),
+                     *lines_of(SUITE, test_line("b", "started"))):
+            following.read(line)
+        self.now = 10.0
+        progress.refresh()
+        self.assertEqual(stream.text, "1 of 6 tests ended, 0 failed; running: b 0.000s\n")
+
     def test_before_the_first_test_nothing_is_drawn(self):
         stream = Stream()
         progress = self.progress(stream)
