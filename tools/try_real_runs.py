@@ -5,11 +5,12 @@
     tools/try_real_runs.py --sessions
 
 The packages have tests that crash, exit, abort, are killed, hang, print what confuses, print much, let standard output go
-elsewhere, run cargo themselves, wait for a thread, or pass at the second run. Each session is held against `examples/mishaps/outcomes.txt`, against the targets that cargo says failed, and
-against the outcomes that `cargo test` prints for people. The lines of `tools/run_again.py` run the tests that are named, and no
-others. PROGRAM, `crates/rezovamy/out/rezovamy` unless it is named, then records the sessions, and the JUnit XML of their reports
-is held against them; with `--sessions` it isn't needed. Only what is wrong is printed, and that something isn't there: without
-cargo no run is tried. No package is fetched, and all is built in a temporary folder. Before that, each tool is tried with words
+elsewhere, run cargo themselves, wait for a thread, or pass at the second run. Each session is held against
+`examples/mishaps/outcomes.txt`, against the targets that cargo says failed, and against the outcomes that `cargo test` prints
+for people. The lines of `tools/run_again.py` run the tests that are named, and no others. PROGRAM,
+`crates/rezovamy/out/rezovamy` unless it is named, then records the sessions, and the JUnit XML of their reports is held
+against them; with `--sessions` it isn't needed. Only what is wrong is printed, and that something isn't there: without cargo
+no run is tried. No package is fetched, and all is built in a temporary folder. Before that, each tool is tried with words
 that it doesn't know, with streams that are closed or full, and with a folder whose name is no text.
 """
 
