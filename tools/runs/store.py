@@ -17,6 +17,8 @@ from runs.fault import Fault
 FOLDER, ENDING, ASIDE = "rezovamy-runs", ".bundle", ".aside"
 RUN_ID = re.compile(r"[0-9a-f]{8}(?:-[0-9a-f]{4}){3}-[0-9a-f]{12}")
 WORKSPACE = re.compile(r"^\s*\[workspace", re.M)
+# What marks a folder as one of files that can be made anew.
+TAG_FILE, TAG = "CACHEDIR.TAG", "Signature: 8a477f597d28d172789f06886806bc55\n# The target directory of cargo, which can be made anew.\n"
 # A file that was written aside and has no writer any more; no recording takes that long.
 ABANDONED_AFTER = 24 * 3600
 
@@ -207,6 +209,15 @@ class Here(Store):
             return self.folder is not None
         except Fault:
             return False
+
+    def prepare(self):
+        """Makes the folder, and where cargo would have made the target directory, marks that as cargo does: no backup has it then."""
+        target = self.folder.parent
+        is_cargos = not os.environ.get("REZOVAMY_RUNS") and not target.exists()
+        super().prepare()
+        if is_cargos:
+            with self.writable():
+                (target / TAG_FILE).write_text(TAG)
 
 
 def here(manifest=None):

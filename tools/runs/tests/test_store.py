@@ -176,6 +176,19 @@ class Folders(unittest.TestCase):
         self.assertEqual(store.runs_folder(), self.folder / "member/target/rezovamy-runs")
         self.assertEqual(store.runs_folder(self.folder / "Cargo.toml"), self.folder / "target/rezovamy-runs")
 
+    def test_a_target_directory_that_is_made_is_marked_as_cargo_does(self):
+        (self.folder / "Cargo.toml").write_text("[package]\n")
+        os.chdir(self.folder)
+        store.here().prepare()
+        tag = self.folder / "target/CACHEDIR.TAG"
+        self.assertTrue(tag.read_text().startswith("Signature: 8a477f597d28d172789f06886806bc55\n"))
+        tag.unlink()
+        store.here().prepare()
+        self.assertFalse(tag.exists())
+        os.environ["REZOVAMY_RUNS"] = "new/runs"
+        store.here().prepare()
+        self.assertEqual(os.listdir("new"), ["runs"])
+
     def test_outside_of_workspaces_it_is_a_fault(self):
         os.chdir(self.folder)
         with self.assertRaisesRegex(Fault, "REZOVAMY_RUNS"):
