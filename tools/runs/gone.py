@@ -4,6 +4,7 @@ A test that a binary lacks may have been deleted; it may also have another name 
 where the build was asked for with the same words, no source of its package has its name, and the binary has no test that is new.
 """
 
+import os
 import pathlib
 import re
 import subprocess
@@ -15,6 +16,8 @@ from runs.fault import Fault
 # The words of cargo that decide what is built, those with a value apart.
 FLAGS = {"--all-features", "--no-default-features", "--release", "-r"}
 VALUES = ("--features", "-F", "--profile", "--target", "--config", "-Z", "--manifest-path")
+# The file of a target directory by which cargo knows its compiler again.
+BUILT_MARK = ".rustc_info.json"
 
 
 def build_words(words):
@@ -90,8 +93,14 @@ def is_gone(plan, reader, run, name, lacking):
 def is_named(folder, name):
     """Whether a source in a package's folder has the last part of a test's name as a word."""
     word = re.compile(rf"\b{re.escape(name.rpartition('::')[2])}\b")
-    sources = (path for path in pathlib.Path(folder).rglob("*.rs") if "target" not in path.relative_to(folder).parts[:-1])
-    return any(word.search(read(path)) for path in sources)
+    return any(word.search(read(path)) for path in sources(folder))
+
+
+def sources(folder):
+    """The sources below a folder, without those in what cargo has built."""
+    for place, folders, names in os.walk(folder):
+        folders[:] = [one for one in folders if not os.path.exists(os.path.join(place, one, BUILT_MARK))]
+        yield from (pathlib.Path(place, one) for one in names if one.endswith(".rs"))
 
 
 def read(path):

@@ -168,6 +168,9 @@ class Again(Case):
         (self.runs / f"{made.ID}.bundle").write_bytes(data)
         (self.folder / "src").mkdir(exist_ok=True)
         (self.folder / "src/lib.rs").write_text("#[test] fn t0() {} // goneness\n")
+        (self.folder / "target").mkdir(exist_ok=True)
+        (self.folder / "target/.rustc_info.json").touch()
+        (self.folder / "target/built.rs").write_text("fn gone1() {} fn gone2() {}")
         (self.folder / "others").write_text("1")
 
     def test_tests_that_are_gone_from_the_source_are_not_asked_for_again(self):
