@@ -164,6 +164,15 @@ def remarks(plan):
             found.append(f"{binary}: cargo can't be given the names of doctests, so that all of them run")
         elif runs_whole(binary, names) and plan.skip.get(binary):
             found.append(f"{binary}: it may have failed by its own name, so that all of its tests run")
-    for binary, names in plan.gone.items():
+    for binary, names in gone_tests(plan).items():
         found.append(f"{binary} {first_of(names)}: the run's test list lacks it, so that it isn't run")
     return found
+
+
+def gone_tests(plan):
+    """Those of the tests that are gone which were more than a binary's own failure: one that has run well since is listed with its tests."""
+    listed = {*plan.run, *plan.skip}
+    found = {
+        binary: [name for name in names if binary not in listed or name not in own_names(binary)] for binary, names in plan.gone.items()
+    }
+    return {binary: names for binary, names in found.items() if names}

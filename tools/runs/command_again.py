@@ -78,6 +78,6 @@ def nothing_to_run(plan, before, is_doubtful):
     """Says that all tests have passed that are still there, and answers the status; a fault where that isn't so."""
     if plan.run or is_doubtful:
         raise Fault("nothing of this can be run again alone: run all again with `rezovamy-runs test`")
-    there = " that are still there" if plan.gone or plan.forgotten else ""
+    there = " that are still there" if rerun.gone_tests(plan) or plan.forgotten else ""
     say(f"rezovamy-runs: all tests of run {before.id}{there} have passed, so nothing is run again")
     return 0

@@ -83,6 +83,11 @@ class Faults(unittest.TestCase):
         said = "run_again: a x, and 1 more of it: the run's test list lacks it, so that it isn't run\n"
         self.assertEqual((done.returncode, done.stdout, done.stderr), (0, "", said))
 
+    def test_a_failure_of_a_binary_itself_is_gone_once_it_ran_well(self):
+        done = run_it(INFO + "skip a::t x\ngone a::t t\ngone a::u u\n")
+        said = "run_again: a::u u: the run's test list lacks it, so that it isn't run\n"
+        self.assertEqual((done.returncode, done.stdout, done.stderr), (0, "", said))
+
     def test_what_is_no_plan(self):
         for text, said in (
             ("", "line 1 has no rerun information"), ("{}\n", "line 1 has no rerun information"),
