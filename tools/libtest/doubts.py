@@ -74,7 +74,7 @@ class Doubts:
         """Takes back all that came since a doubt began: a test of its binary has printed it."""
         reader, binary = self.reader, doubt.binary
         place = reader.binaries.index(binary) + 1
-        reader.note(f"{binary.id} goes on: what stands from line {doubt.mark.line} on, as if cargo said it, one of its tests printed")
+        reader.note(f"{binary.id} goes on: one of its tests printed what stands from line {doubt.mark.line} on as if cargo said it")
         for run in reversed([run for other in reader.binaries[place:] for run in other.runs()]):
             reader.take_back(run)
         del reader.binaries[place:], reader.build_errors[doubt.build_errors:], reader.other_text[doubt.other_text:]
@@ -108,6 +108,6 @@ class Doubts:
 
 
 def is_of(suite, name, what):
-    """Whether a suite that is open takes this line of a test: as the end of one that runs, or as the start of one that is to come."""
+    """Whether a suite takes this line of a test: as the end of one that runs, or as the start of one that is to come."""
     run = suite.named.get(name)
     return run is None and suite.unseen() > 0 if what == "started" else run is not None and run.is_open()

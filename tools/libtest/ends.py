@@ -15,7 +15,8 @@ LONGEST = 4000
 SIGNALS = 64
 # What parsers of words say of one that they don't know, among those that ask libtest for events.
 REFUSES = re.compile(
-    r"\b(?:unexpected|unrecogni[sz]ed|unknown|invalid|found) (?:argument|option|flag)[^\n]*(?:\B-Z\b|'Z'|--report-time|--format|--show-output)",
+    r"\b(?:unexpected|unrecogni[sz]ed|unknown|invalid|found) (?:argument|option|flag)[^\n]*"
+    r"(?:\B-Z\b|'Z'|--report-time|--format|--show-output)",
     re.I,
 )
 FOR_PEOPLE = re.compile(r"running \d+ tests?\s*")

@@ -98,7 +98,7 @@ def own_names(binary):
 
 
 def runs_whole(binary, names):
-    """Whether all of a binary runs: cargo can't be given the names of doctests, and a binary that failed by itself runs as it did."""
+    """Whether all of a binary runs: cargo takes no names of doctests, and a binary that failed by itself runs as it did."""
     return "::doc/" in binary or not set(names).isdisjoint(own_names(binary))
 
 
@@ -170,9 +170,9 @@ def remarks(plan):
 
 
 def gone_tests(plan):
-    """Those of the tests that are gone which were more than a binary's own failure: one that has run well since is listed with its tests."""
-    listed = {*plan.run, *plan.skip}
-    found = {
-        binary: [name for name in names if binary not in listed or name not in own_names(binary)] for binary, names in plan.gone.items()
-    }
+    """The tests that are gone, without the failures of binaries themselves that have run well since: these list their tests."""
+    found = {}
+    for binary, names in plan.gone.items():
+        own = own_names(binary) if binary in plan.run or binary in plan.skip else []
+        found[binary] = [name for name in names if name not in own]
     return {binary: names for binary, names in found.items() if names}

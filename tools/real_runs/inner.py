@@ -7,7 +7,7 @@ from try_commands import demand
 OTHERS = ["it", "plain_fails", "plain_passes", "aborts", "exits_late"]
 TOLD = {("ends::plain_fails", "plain_fails", "exit 3"), ("ends::plain_passes", "plain_passes", "passed")}
 PASSED, FAILED = "passed", "exit 101"
-# The tests that a name filters, and how each ends. Nothing tells one that redirects for ever from one that ends its process with 0.
+# The tests that a name filters, and how each ends. One that redirects for ever looks like one that ends its process with 0.
 CARGO = {
     "runs_another_binary": {"runs_another_binary": PASSED},
     "runs_failing_binaries": {"runs_failing_binaries": PASSED},

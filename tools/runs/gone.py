@@ -53,8 +53,9 @@ def forget_targets(plan, manifest):
     for binary in list(plan.run):
         package = binary.partition("::")[0]
         if package in ids and rerun.target_of(binary) and binary not in ids[package]:
-            found.append(f"{binary} {rerun.first_of(plan.run[binary])}: {package} has no such target any more, so that it isn't run")
-            plan.forget(binary, plan.run[binary])
+            names = plan.run[binary]
+            found.append(f"{binary} {rerun.first_of(names)}: {package} has no such target any more, so that it isn't run")
+            plan.forget(binary, names)
     return found
 
 
@@ -117,5 +118,6 @@ def lines(plan, suites):
     for binary, names in plan.forgotten.items():
         named = [name for name in names if name not in rerun.own_names(binary)]
         if named and binary in suites:
-            found.append(f"{binary} {rerun.first_of(named)}: it is gone, since neither the binary nor a source has a test of this name")
+            said = "it is gone, since neither the binary nor a source has a test of this name"
+            found.append(f"{binary} {rerun.first_of(named)}: {said}")
     return found

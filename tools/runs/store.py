@@ -18,7 +18,8 @@ FOLDER, ENDING, ASIDE = "rezovamy-runs", ".bundle", ".aside"
 RUN_ID = re.compile(r"[0-9a-f]{8}(?:-[0-9a-f]{4}){3}-[0-9a-f]{12}")
 WORKSPACE = re.compile(r"^\s*\[workspace", re.M)
 # What marks a folder as one of files that can be made anew.
-TAG_FILE, TAG = "CACHEDIR.TAG", "Signature: 8a477f597d28d172789f06886806bc55\n# The target directory of cargo, which can be made anew.\n"
+TAG_FILE = "CACHEDIR.TAG"
+TAG = "Signature: 8a477f597d28d172789f06886806bc55\n# The target directory of cargo, which can be made anew.\n"
 # A file that was written aside and has no writer any more; no recording takes that long.
 ABANDONED_AFTER = 24 * 3600
 
@@ -211,7 +212,7 @@ class Here(Store):
             return False
 
     def prepare(self):
-        """Makes the folder, and where cargo would have made the target directory, marks that as cargo does: no backup has it then."""
+        """Makes the folder. A target directory that is made with it is marked as cargo marks its own: no backup has it then."""
         target = self.folder.parent
         is_cargos = not os.environ.get("REZOVAMY_RUNS") and not target.exists()
         super().prepare()

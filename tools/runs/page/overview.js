@@ -42,7 +42,8 @@ function part(title, tests, options) {
 
 function line_of_binary(name, sum, states) {
   const cell = (state) => element("td", sum[state] ? (state === "failed" ? "is-failed" : "") : "zero", whole(sum[state]));
-  return element("tr", "", element("td", "", titled(element("span", "cut", safe_nodes(name)), name)), ...states.map(cell), element("td", "", duration(sum.seconds)));
+  const named = titled(element("span", "cut", safe_nodes(name)), name);
+  return element("tr", "", element("td", "", named), ...states.map(cell), element("td", "", duration(sum.seconds)));
 }
 
 function table_of_binaries() {
