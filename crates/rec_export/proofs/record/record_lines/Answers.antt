@@ -87,4 +87,4 @@ returns-in_err-record_line-clause-recorded g c = λ head events had.
     (c.in_err-record_line.ensures.recorded head before.0 (made_with number namer m head before.0 old before.1)) in
     let p = err_from_is_err_and c.from_residual.result c.from_residual.ensures.1 in
     rw (p.1, p.2) (before.2 (Err e) new (subst (λ (ls : List NumberedLine). RecordsLines number namer m head before.0 ls new (Err e)) (sym all)
-        (refused_here number namer m head before.0 line rest new e here)))
+    (refused_here number namer m head before.0 line rest new e here)))

@@ -1,8 +1,8 @@
 use Rattle.std.proofs.Common.{◌+◌, ◌∙◌, ◌∷◌, ℕ, List, length, take, sym, ap, arith}
 use Rattle.rec_codec.proofs.LineLemmas.{lines_found, lines_missing}
+use Rattle.rec_codec.specs.Lines.{lines}
 use Rattle.rec_export.proofs.LineBlocks.{found_inside, slice_from}
 use Rattle.rec_export.proofs.session_lines.first_line.Goals as goal
-use Rattle.rec_codec.specs.Lines.{lines}
 
 pub returns-in-Some : goal.returns-in-Some
 returns-in-Some c =

@@ -1,7 +1,7 @@
 use Rattle.std.proofs.Common.{ℕ, List, subst}
-use Rattle.rec_export.specs.SessionLines.{BeginsLastBlock}
 use Rattle.rec_export.proofs.LineBlocks.{block_added}
 use Rattle.rec_export.proofs.session_lines.SessionLines.new.Goals as goal
+use Rattle.rec_export.specs.SessionLines.{BeginsLastBlock}
 
 pub loop-start-preserved : goal.loop-start-preserved
 loop-start-preserved c =
