@@ -1,8 +1,9 @@
 """The lines of sessions and logs: a head, blank lines and events, and which fault of a line is answered."""
 
 from cases.case import SOME, Case
+from cases.hostile import BUNDLE, SESSION
 from cases.made import logged_bundle, session
-from cases.texts import BAD_HEAD, HEAD, RUN_STARTED, attempt_with, end_after, finished, session_of
+from cases.texts import BAD_HEAD, HEAD, PAUSE_ALONE, RUN_STARTED, attempt_with, end_after, finished, session_of
 
 # What stands before the head, what stands after it, and the line that refuses it, none where it is recorded.
 AROUND_HEAD = [
@@ -62,6 +63,9 @@ MIXED_TEXTS = [
     (b"\n".join([RUN_STARTED, b"", b"", b"{}"]), b"ParseEvent", 4),
 ]
 
+# More lines than one block of a session has, which is 1 MiB and the rest of a line: each is a byte, or some thousands.
+MANY_BLANKS = [(b"\n", 3_000_000), (b" " * 4999 + b"\n", 700)]
+
 
 def around_head(before, after, line):
     """A case of a head between these bytes."""
@@ -87,6 +91,17 @@ def of_session(text, fault, number):
     return Case(f"{text}, recorded", ("record", "b"), session() + text, 5, err=at_line(fault, number + 1) + b"\n")
 
 
+def with_blanks(line, count):
+    """Cases of a session that has so many blank lines after its head, and of one with a line after them that is no event."""
+    head, events = SESSION.split(b"\n", 1)
+    blanks = line * count
+    name = f"{count} lines of {len(line)} bytes"
+    yield Case(f"{name} after the head", ("record", "b"), head + b"\n" + blanks + events, out=PAUSE_ALONE, file=BUNDLE)
+    yield Case(f"{name} at the end", ("record", "b"), SESSION + blanks, out=PAUSE_ALONE, file=BUNDLE)
+    number = b"ParseEvent line_number=%d\n" % (count + 2)
+    yield Case(f"{name}, and no event", ("record", "b"), head + b"\n" + blanks + b"{}\n" + events, 5, err=number)
+
+
 CASES = [
     *[around_head(*case) for case in AROUND_HEAD],
     Case("nothing", ("record", "b"), b"", 5, err=b"ParseHead\n"),
@@ -106,6 +121,7 @@ CASES = [
     *(of_log(f"{line} as fourth line", b"\n\n\n" + line, fault) for line, fault in FOURTH_LINES),
     *(of_log(f"{text}", text, at_line(fault, number)) for text, fault, number in TEXTS + MIXED_TEXTS),
     *(of_session(*row) for row in TEXTS + MIXED_TEXTS),
+    *(case for blanks in MANY_BLANKS for case in with_blanks(*blanks)),
     of_log("no line", b"", None),
     of_log("captured output", b"\n".join(MIXED[:4] + MIXED[5:]), b"ParseEvent line_number=5"),
 ]
