@@ -1,0 +1,48 @@
+"""What the tests of Python here have in common: what each needs of the machine, and what is done where that is missing.
+
+A test that is marked `program`, `cargo` or `browser` needs the built program, cargo or Chromium. Where it is missing the
+test is skipped; with REZOVAMY_TEST_ALL=1, as in the gate, it fails.
+"""
+
+from __future__ import annotations
+
+import os
+import pathlib
+import shutil
+from typing import NoReturn
+
+import pytest
+
+TOP = pathlib.Path(__file__).resolve().parent
+BUILT = TOP / "crates/rezovamy/out/rezovamy"
+BROWSERS = ("chromium", "chromium-browser", "google-chrome")
+
+
+def program_path() -> pathlib.Path | None:
+    """Return the program that REZOVAMY names, or the one that was built in this clone."""
+    named = os.environ.get("REZOVAMY")
+    path = pathlib.Path(named).resolve() if named else BUILT
+    return path if os.access(path, os.X_OK) else None
+
+
+def leave_out(missing: str) -> NoReturn:
+    """Skip the test that runs, or fail it where all tests are asked for."""
+    if os.environ.get("REZOVAMY_TEST_ALL"):
+        pytest.fail(f"{missing} is missing", pytrace=False)
+    pytest.skip(f"{missing} is missing")
+
+
+def pytest_runtest_setup(item: pytest.Item) -> None:
+    """Leave out a test whose marks name something that isn't here."""
+    if item.get_closest_marker("program") and program_path() is None:
+        leave_out("the built program")
+    if item.get_closest_marker("cargo") and shutil.which("cargo") is None:
+        leave_out("cargo")
+    if item.get_closest_marker("browser") and not any(map(shutil.which, BROWSERS)):
+        leave_out("Chromium")
+
+
+@pytest.fixture
+def program() -> pathlib.Path:
+    """The path of the built program."""
+    return program_path() or leave_out("the built program")

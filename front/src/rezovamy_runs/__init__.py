@@ -1,0 +1,1 @@
+"""The front end of Rezovamy: records test runs, and shows what was recorded."""

@@ -1,0 +1,8 @@
+"""Runs the front end by `python3 -m rezovamy_runs`."""
+
+import sys
+
+from rezovamy_runs.cli import main
+
+if __name__ == "__main__":
+    sys.exit(main())

@@ -1,0 +1,1 @@
+"""What bundles hold: containers, the manifest, the log and the outputs."""

@@ -1,0 +1,1 @@
+"""Faults: what is wrong, in a line, and what to do about it."""

@@ -1,0 +1,1 @@
+"""What became of each test over several runs."""

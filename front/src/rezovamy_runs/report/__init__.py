@@ -1,0 +1,1 @@
+"""Reports of a run: as text, as tables, and as JUnit XML."""

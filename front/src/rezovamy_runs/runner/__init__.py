@@ -1,0 +1,1 @@
+"""Runs of cargo: what is run, how far it is, and the session that comes of it."""

@@ -1,0 +1,65 @@
+"""The JSON of a session: its head, its events, and what they have in common."""
+
+import json
+
+RUN_ID = "550e8400-e29b-41d4-a716-446655440000"
+COUNTS = [
+    "initial-run-count",
+    "finished-count",
+    "setup-scripts-initial-count",
+    "setup-scripts-finished-count",
+    "setup-scripts-passed",
+    "setup-scripts-failed",
+    "setup-scripts-exec-failed",
+    "setup-scripts-timed-out",
+    "passed",
+    "passed-slow",
+    "passed-timed-out",
+    "flaky",
+    "failed",
+    "failed-slow",
+    "failed-timed-out",
+    "leaky",
+    "leaky-failed",
+    "exec-failed",
+    "skipped",
+]
+
+
+def text(value):
+    """The compact text of a value, its keys in order."""
+    return json.dumps(value, separators=(",", ":"), sort_keys=True)
+
+
+def instant(seconds, nanoseconds=0):
+    return {"secs": seconds, "nanos": nanoseconds, "offset": 0}
+
+
+def span(seconds):
+    return {"secs": seconds, "nanos": 0}
+
+
+def stats(count):
+    return {**dict.fromkeys(COUNTS, 0), "initial-run-count": count}
+
+
+def head(count, binaries=4):
+    suites = {}
+    for i in range(count):
+        suites.setdefault(f"bin-{i % binaries}", []).append(f"t{i}")
+    return {
+        "run-id": RUN_ID,
+        "nextest-version": "0.9.111",
+        "started-at": instant(1000),
+        "last-written-at": instant(1011),
+        "status": {"status": "incomplete"},
+        "cargo-metadata": "{}",
+        "test-list": {"suites": suites},
+        "record-opts": {"run-mode": "test"},
+        "build-scope": {"build-kind": "cargo", "scope": {}},
+    }
+
+
+def event(kind, at, **fields):
+    members = {name.replace("_", "-"): value for name, value in fields.items()}
+    return {"timestamp": at, "elapsed": span(0), "kind": kind, **members}

@@ -1,0 +1,14 @@
+"""What checks this repository: cases, edits, sweeps, costs and pages.
+
+Each module with a `main` runs from the top of a clone as `python3 -m workshop.NAME`.
+"""
+
+import pathlib
+import sys
+
+TOP = pathlib.Path(__file__).resolve().parent.parent
+PROGRAM = TOP / "crates/rezovamy/out/rezovamy"
+FRONT = TOP / "front"
+
+# The front end needn't be installed.
+sys.path[:0] = [str(FRONT / "src")]

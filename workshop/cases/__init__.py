@@ -1,0 +1,4 @@
+"""Cases for the built program, a module for each idea; `python3 -m workshop.try_cases` runs them. docs/CONTRIBUTING.md lists the modules.
+
+`case`, `texts`, `made`, `line_cases` and `outlines` have no cases: they hold what several of the others need.
+"""

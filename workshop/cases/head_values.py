@@ -1,0 +1,605 @@
+"""Values of heads and manifests as they are read, and as `info` prints them or the store holds them."""
+
+from workshop.cases.case import SOME, Case, Holds, entry_is, has
+from workshop.cases.line_cases import REFUSED, RUN_IDS, TEXTS
+from workshop.cases.made import ONE_TEST, bundle, session, store
+from workshop.cases.texts import BUILD_SCOPE, COUNTED_MANIFEST, HEAD, HEADER, OLDER_STORE
+from rezovamy_runs.bundles.container import container, entries
+
+# The head and the manifest as texts, and the parts of a build scope with their defaults.
+HEAD_TEXT, MANIFEST_TEXT, SCOPE = HEAD.decode(), COUNTED_MANIFEST.decode(), BUILD_SCOPE.decode()
+NONE_NAMED = '{"all":false,"names":[]}'
+NO_FEATURES = '{"all-features":false,"features":[],"no-default-features":false}'
+NO_PACKAGES = '{"exclude":[],"specs":[],"workspace":false}'
+NO_TARGETS = (
+    '{"all-targets":false,"benches":{"all":false,"names":[]},"bins":{"all":false,"names":[]},'
+    '"examples":{"all":false,"names":[]},"lib":false,"tests":{"all":false,"names":[]}}'
+)
+DEFAULTS = '{"features":%s,"packages":%s,"targets":%s}' % (NO_FEATURES, NO_PACKAGES, NO_TARGETS)
+
+# A part of the manifest, what stands in its place, with VALUE for what is tried, and texts with what they are written as.
+OF_MANIFESTS = [
+    (
+        "u32",
+        '"status":{"status":"incomplete"}',
+        '"status":{"exit-code":0,"failed-count":0,"status":"stress-completed","success-count":VALUE}',
+        [
+            ("0", "0"),
+            (" \t7\r\n", "7"),
+            ("4294967295", "4294967295"),
+            ("4294967296", REFUSED),
+            ("-1", REFUSED),
+            ("-0", REFUSED),
+            ("1.0", REFUSED),
+            ("1e2", REFUSED),
+            ("01", REFUSED),
+            ('"1"', REFUSED),
+            ("null", REFUSED),
+            ("true", REFUSED),
+            ("[1]", REFUSED),
+            ("{}", REFUSED),
+            ("7 8", REFUSED),
+            ("\xa07", REFUSED),
+            ("", REFUSED),
+        ],
+    ),
+    (
+        "u64",
+        '"compressed":4',
+        '"compressed":VALUE',
+        [
+            ("9223372036854775808", "9223372036854775808"),
+            ("18446744073709551615", "18446744073709551615"),
+            ("18446744073709551616", REFUSED),
+        ],
+    ),
+    (
+        "i64",
+        '"started-at":{"nanos":0,"offset":0,"secs":1000}',
+        '"started-at":{"nanos":0,"offset":0,"secs":VALUE}',
+        [
+            ("0", "0"),
+            ("-1", "-1"),
+            ("-9223372036854775808", "-9223372036854775808"),
+            ("-9223372036854775809", REFUSED),
+            ("9223372036854775807", "9223372036854775807"),
+            ("9223372036854775808", REFUSED),
+        ],
+    ),
+    (
+        "i32",
+        '"started-at":{"nanos":0,"offset":0,"secs":1000}',
+        '"started-at":{"nanos":0,"offset":VALUE,"secs":1000}',
+        [
+            ("-2147483648", "-2147483648"),
+            ("-2147483649", REFUSED),
+            ("2147483647", "2147483647"),
+            ("2147483648", REFUSED),
+        ],
+    ),
+    (
+        "u32 above 0",
+        '"status":{"status":"incomplete"}',
+        '"status":{"exit-code":0,"failed-count":0,"initial-iteration-count":VALUE,"status":"stress-completed","success-count":0}',
+        [
+            ("1", "1"),
+            ("4294967295", "4294967295"),
+            ("0", REFUSED),
+            ("4294967296", REFUSED),
+            ("-1", REFUSED),
+            ("1.0", REFUSED),
+        ],
+    ),
+    (
+        "text",
+        '"cli-args":[]',
+        '"cli-args":[VALUE]',
+        TEXTS,
+    ),
+    (
+        "escaped text",
+        '"cli-args":[]',
+        '"cli-args":[VALUE]',
+        [
+            ('"a b/c"', '"a b/c"'),
+            ('"\\"\\\\\\/"', '"\\"\\\\/"'),
+            ('"\\n\\r\\t\\b\\f"', '"\\n\\r\\t\\b\\f"'),
+            ('"\\u0041\\u00e9"', '"Aé"'),
+            ('"\\u0000\\u001b\\u001f"', '"\\u0000\\u001b\\u001f"'),
+            ('"\\u007f\\ud83e\\udd80"', '"\x7f\U0001f980"'),
+            ('"\\udd80\\ud83e"', REFUSED),
+            ('"\\x41"', REFUSED),
+            ('"\\u41"', REFUSED),
+            ('"\n"', REFUSED),
+            ('"\0"', REFUSED),
+            ('"open', REFUSED),
+        ],
+    ),
+    (
+        "list",
+        '"cli-args":[]',
+        '"cli-args":VALUE',
+        [('["b", "a", "b"]', '["b","a","b"]'), ('["b",null]', REFUSED), ("{}", REFUSED)],
+    ),
+    (
+        "run id",
+        '"550e8400-e29b-41d4-a716-446655440000"',
+        "VALUE",
+        RUN_IDS,
+    ),
+    (
+        "version",
+        '"0.9.111"',
+        "VALUE",
+        [
+            ('"1.0.0-rc.1+build.01"', '"1.0.0-rc.1+build.01"'),
+            ('"01.0.0"', REFUSED),
+            ('"1.0"', REFUSED),
+            ('"18446744073709551616.0.0"', REFUSED),
+            ("1", REFUSED),
+            ('""', REFUSED),
+            ('"1.0.0 "', REFUSED),
+        ],
+    ),
+    (
+        "instant",
+        '"started-at":{"nanos":0,"offset":0,"secs":1000}',
+        '"started-at":VALUE',
+        [
+            (
+                '{"secs":-1,"nanos":999999999,"offset":-60}',
+                '{"nanos":999999999,"offset":-60,"secs":-1}',
+            ),
+            ('{"secs":0,"nanos":1000000000,"offset":0}', REFUSED),
+            ('{"secs":0,"nanos":0}', REFUSED),
+            ('{"secs":0.5,"nanos":0,"offset":0}', REFUSED),
+            ('{"secs":null,"nanos":0,"offset":0}', REFUSED),
+        ],
+    ),
+    (
+        "duration",
+        '"env-vars":{}',
+        '"duration":VALUE,"env-vars":{}',
+        [
+            ('{"nanos":1,"secs":2,"secs":3}', '{"nanos":1,"secs":3}'),
+            ('{"nanos":1,"secs":null,"secs":3}', '{"nanos":1,"secs":3}'),
+            ('{"nan\\u006fs":1,"secs":2,"secs-":3,"sec":4}', '{"nanos":1,"secs":2}'),
+            ('{"nanos":1,"secs":2,"secs":null}', REFUSED),
+            ('{"nanos":1,"":2}', REFUSED),
+            ('{"nanos":1,"x":{"secs":2}}', REFUSED),
+            ("{}", REFUSED),
+            ('{"nanos":1000000000,"secs":2}', REFUSED),
+            ('{"nanos":1,"secs":-1}', REFUSED),
+            ("[2,1]", REFUSED),
+        ],
+    ),
+    (
+        "map",
+        '"env-vars":{}',
+        '"env-vars":VALUE',
+        [
+            ('{"b":"1","a":"2","b":"3"}', '{"a":"2","b":"3"}'),
+            ('{"b":"1","":"2","a":"3","b":"4"}', '{"":"2","a":"3","b":"4"}'),
+            (
+                '{"a_b":"1","ab":"2","a":"3","a-b":"4","a1":"5","B":"6","\\n":""}',
+                '{"\\n":"","B":"6","a":"3","a-b":"4","a1":"5","a_b":"1","ab":"2"}',
+            ),
+            (
+                '{"\uff5e":"1","\\ud800\\udc00":"2","z":"3"}',
+                '{"z":"3","\uff5e":"1","\U00010000":"2"}',
+            ),
+            ('{"a":null,"b":"1","a":"3"}', '{"a":"3","b":"1"}'),
+            ('{"a":"3","b":"1","a":null}', REFUSED),
+            ('{"a":null}', REFUSED),
+            ("[]", REFUSED),
+        ],
+    ),
+    (
+        "status",
+        '"status":{"status":"incomplete"}',
+        '"status":VALUE',
+        [
+            (
+                '{"status":"completed","initial-run-count":3,"passed":2,"failed":1,"exit-code":-100}',
+                '{"exit-code":-100,"failed":1,"initial-run-count":3,"passed":2,"status":"completed"}',
+            ),
+            (
+                '{"status":"cancelled","initial-run-count":3,"passed":0,"failed":0,"exit-code":4}',
+                '{"exit-code":4,"failed":0,"initial-run-count":3,"passed":0,"status":"cancelled"}',
+            ),
+            (
+                '{"status":"stress-completed","initial-iteration-count":5,"success-count":4,"failed-count":1,"exit-code":0}',
+                '{"exit-code":0,"failed-count":1,"initial-iteration-count":5,"status":"stress-completed","success-count":4}',
+            ),
+            (
+                '{"status":"stress-cancelled","initial-iteration-count":null,"success-count":0,"failed-count":0,"exit-code":0}',
+                '{"exit-code":0,"failed-count":0,"status":"stress-cancelled","success-count":0}',
+            ),
+            ('{"status":"Completed","passed":true}', '{"status":"unknown"}'),
+            ('{"status":"unknown"}', '{"status":"unknown"}'),
+            ('{"status":null}', REFUSED),
+            ('"incomplete"', REFUSED),
+            ('{"status":"completed"}', REFUSED),
+        ],
+    ),
+]
+
+# The same of a head, with the entry of the store that is made of it, and how that stands there.
+OF_HEADS = [
+    (
+        "test names",
+        '"run-id":',
+        '"rerun-info":{"parent-run-id":"650e8400-e29b-41d4-a716-446655440000",'
+        '"root-info":{"build-scope":{"build-kind":"cargo","scope":{}},"run-id":"650e8400-e29b-41d4-a716-446655440000"},'
+        '"test-suites":[{"binary_id":"b","outstanding":[],"passing":VALUE}]},"run-id":',
+        "meta/rerun-info.json",
+        '{"parent-run-id":"650e8400-e29b-41d4-a716-446655440000","root-info":{"build-scope":'
+        + SCOPE
+        + ',"run-id":"650e8400-e29b-41d4-a716-446655440000"},"test-suites":[{"binary_id":"b","outstanding":[],"passing":VALUE}]}',
+        [
+            ("[]", "[]"),
+            ('["b","a","b","B"]', '["B","a","b"]'),
+            ('["b","a","é","b","z"]', '["a","b","z","é"]'),
+            ('["é","z",""]', '["","z","é"]'),
+            ('["a",1]', REFUSED),
+            ("{}", REFUSED),
+        ],
+    ),
+    (
+        "build scope of a rerun's root",
+        '"run-id":',
+        '"rerun-info":{"parent-run-id":"650e8400-e29b-41d4-a716-446655440000",'
+        '"root-info":{"build-scope":VALUE,"run-id":"750e8400-e29b-41d4-a716-446655440000"},"test-suites":[]},"run-id":',
+        "meta/rerun-info.json",
+        '{"parent-run-id":"650e8400-e29b-41d4-a716-446655440000","root-info":{"build-scope":VALUE,'
+        '"run-id":"750e8400-e29b-41d4-a716-446655440000"},"test-suites":[]}',
+        [
+            (
+                '{"build-kind":"cargo","scope":{"packages":{"specs":["p"],"exclude":["q"]},"targets":{"lib":true,'
+                '"bins":{"names":["b"]}},"features":{"features":["f"]}}}',
+                '{"build-kind":"cargo","scope":{"features":{"all-features":false,"features":["f"],"no-default-features":false},'
+                '"packages":{"exclude":["q"],"specs":["p"],"workspace":false},"targets":{"all-targets":false,'
+                '"benches":{"all":false,"names":[]},"bins":{"all":false,"names":["b"]},"examples":{"all":false,"names":[]},'
+                '"lib":true,"tests":{"all":false,"names":[]}}}}',
+            ),
+            ('{"scope":{}}', REFUSED),
+            ('{"build-kind":"cargo"}', REFUSED),
+            ("{}", REFUSED),
+            ('{"build-kind":"bazel","scope":{}}', REFUSED),
+        ],
+    ),
+    (
+        "test list",
+        '"test-list":{"suites":{}}',
+        '"test-list":VALUE',
+        "meta/test-list.json",
+        "VALUE",
+        [
+            ('{"suites":{}}', '{"suites":{}}'),
+            (
+                '{"suites":{"b":["t2","t1","t2"],"a":[]},"x":0}',
+                '{"suites":{"a":[],"b":["t2","t1","t2"]}}',
+            ),
+            ("{}", REFUSED),
+            ('{"suites":null}', REFUSED),
+        ],
+    ),
+    (
+        "run mode",
+        '{"run-mode":"test"}',
+        '{"run-mode":VALUE}',
+        "meta/record-opts.json",
+        '{"run-mode":VALUE}',
+        [('"benchmark"', '"benchmark"'), ('"Test"', REFUSED), ('{"test":null}', REFUSED)],
+    ),
+    (
+        "record options",
+        '{"run-mode":"test"}',
+        "VALUE",
+        "meta/record-opts.json",
+        "VALUE",
+        [
+            ('{"run-mode":"test"}', '{"run-mode":"test"}'),
+            ('{"run-mode":"test","x":[-0,1.5]}', '{"run-mode":"test"}'),
+            ('{"run-mode":"test","run-mode":"benchmark"}', '{"run-mode":"benchmark"}'),
+            ('{"run-mode":"test","x":1e400}', REFUSED),
+            ('{"run-mode":"test","x":"\\ud800"}', REFUSED),
+            ('{"run_mode":"test"}', REFUSED),
+            ("{}", REFUSED),
+        ],
+    ),
+    (
+        "named targets",
+        '"scope":{}}}',
+        '"scope":{"targets":{"bins":VALUE}}}}',
+        "meta/build-scope.json",
+        SCOPE.replace('"bins":' + NONE_NAMED, '"bins":VALUE'),
+        [
+            ("{}", NONE_NAMED),
+            ('{"names":["b","a","b"]}', '{"all":false,"names":["b","a","b"]}'),
+            ('{"all":true,"x":0}', '{"all":true,"names":[]}'),
+            ('{"names":null}', REFUSED),
+            ('{"all":null}', REFUSED),
+            ('{"all":0}', REFUSED),
+        ],
+    ),
+    (
+        "packages",
+        '"scope":{}}}',
+        '"scope":{"packages":VALUE}}}',
+        "meta/build-scope.json",
+        SCOPE.replace(NO_PACKAGES, "VALUE"),
+        [
+            ("{}", NO_PACKAGES),
+            (
+                '{"workspace":true,"exclude":["a"],"specs":["b"]}',
+                '{"exclude":["a"],"specs":["b"],"workspace":true}',
+            ),
+            ('{"workspace":null}', REFUSED),
+            ('{"workspace":1}', REFUSED),
+            ('{"exclude":"a"}', REFUSED),
+            ('{"specs":[null]}', REFUSED),
+            ("[]", REFUSED),
+        ],
+    ),
+    (
+        "targets",
+        '"scope":{}}}',
+        '"scope":{"targets":VALUE}}}',
+        "meta/build-scope.json",
+        SCOPE.replace(NO_TARGETS, "VALUE"),
+        [
+            ("{}", NO_TARGETS),
+            (
+                '{"all-targets":true,"lib":true,"tests":{"all":true},"bins":{"names":["a"]}}',
+                '{"all-targets":true,"benches":{"all":false,"names":[]},"bins":{"all":false,"names":["a"]},'
+                '"examples":{"all":false,"names":[]},"lib":true,"tests":{"all":true,"names":[]}}',
+            ),
+            ('{"all_targets":true}', NO_TARGETS),
+            ('{"benches":[]}', REFUSED),
+            ('{"all-targets":null}', REFUSED),
+            ('{"tests":{"names":[1]}}', REFUSED),
+            ("null", REFUSED),
+        ],
+    ),
+    (
+        "features",
+        '"scope":{}}}',
+        '"scope":{"features":VALUE}}}',
+        "meta/build-scope.json",
+        SCOPE.replace(NO_FEATURES, "VALUE"),
+        [
+            ("{}", NO_FEATURES),
+            (
+                '{"features":["f"],"all-features":true,"no-default-features":true}',
+                '{"all-features":true,"features":["f"],"no-default-features":true}',
+            ),
+            ('{"features":[0]}', REFUSED),
+            ('{"all-features":null}', REFUSED),
+            ('{"no-default-features":"false"}', REFUSED),
+            ("[]", REFUSED),
+        ],
+    ),
+    (
+        "build scope",
+        '"scope":{}}}',
+        '"scope":VALUE}}',
+        "meta/build-scope.json",
+        '{"build-kind":"cargo","scope":VALUE}',
+        [
+            ("{}", DEFAULTS),
+            (DEFAULTS, DEFAULTS),
+            ('{"packages":{},"targets":{"x":1}}', DEFAULTS),
+            ('{"packages":null}', REFUSED),
+            ('{"targets":{"lib":1}}', REFUSED),
+            ("[]", REFUSED),
+        ],
+    ),
+]
+
+# A part of the head, and what stands in its place in a text that is no head.
+NO_HEADS = [
+    ('"run-id"', '"run_id"'),
+    ("550e8400-e29b", "550e8400-e29"),
+    ('"0.9.111"', '"0.9"'),
+    ('"started-at":', '"x":'),
+    ("1000,", "1000.0,"),
+    ('"status":{', '"cli-args":null,"status":{'),
+    ('"status":{', '"env-vars":[],"status":{'),
+    ('"status":{', '"duration":{"secs":1},"status":{'),
+    ('"{}"', "{}"),
+    ('"suites"', '"suite"'),
+    ('"cargo"', '"other"'),
+    (',"scope":{}', ""),
+    ('"status":{', '"rerun-info":{},"status":{'),
+    (
+        '"status":{',
+        '"rerun-info":{"parent-run-id":"650e8400-e29b-41d4-a716-446655440000",'
+        '"root-info":{"run-id":"750e8400-e29b-41d4-a716-446655440000","build-scope":{"build-kind":"reused","scope":{}}},'
+        '"test-suites":[{"binary_id":"a","passing":[],"outstanding":[]},{"binary_id":"a","passing":["t"],'
+        '"outstanding":[]}]},"status":{',
+    ),
+    (
+        '"status":{',
+        '"rerun-info":{"parent-run-id":"650e8400-e29b-41d4-a716-446655440000",'
+        '"root-info":{"run-id":"750e8400-e29b-41d4-a716-446655440000","build-scope":{"build-kind":"reused","scope":{}}},'
+        '"test-suites":[{"binary-id":"a","passing":[],"outstanding":[]}]},"status":{',
+    ),
+    (
+        '"status":{',
+        '"rerun-info":{"parent-run-id":"650e8400-e29b-41d4-a716-446655440000",'
+        '"root-info":{"run-id":"750e8400-e29b-41d4-a716-446655440000","build-scope":{"build-kind":"reused","scope":{}}},'
+        '"test-suites":{"a":{"passing":[],"outstanding":[]}}},"status":{',
+    ),
+    (
+        '"status":{',
+        '"rerun-info":{"parent-run-id":"650e8400-e29b-41d4-a716-446655440000",'
+        '"root-info":{"run-id":"750e8400-e29b-41d4-a716-446655440000","build-scope":{"build-kind":"reused","scope":{}}},'
+        '"test-suites":[{"binary_id":"a","passing":null,"outstanding":[]}]},"status":{',
+    ),
+]
+
+# Members before the status of a head, and the manifest's part of them.
+FIELDS = (
+    '"duration":{"secs":11,"nanos":5},"cli-args":["b","a"],"env-vars":{"Z":"2","A":"1"},'
+    '"parent-run-id":"650E8400E29B41D4A716446655440000","ignored":1e2,"status":'
+)
+
+# Members in the place of `"status":{` in a head, and the entry of the store that is made of them.
+RERUN = (
+    '"rerun-info":{"parent-run-id":"650e8400-e29b-41d4-a716-446655440000",'
+    '"root-info":{"run-id":"750e8400-e29b-41d4-a716-446655440000","build-scope":{"build-kind":"reused","scope":{}}},'
+    '"test-suites":[{"binary_id":"b","passing":[],"outstanding":["t"]},{"binary_id":"a","passing":["u","t","u"],'
+    '"outstanding":[]}]},"status":{'
+)
+STORED_RERUN = (
+    '{"parent-run-id":"650e8400-e29b-41d4-a716-446655440000","root-info":{"build-scope":{"build-kind":"reused","scope":'
+    + DEFAULTS
+    + '},"run-id":"750e8400-e29b-41d4-a716-446655440000"},"test-suites":[{"binary_id":"a","outstanding":[],"passing":["t","u"]},'
+    '{"binary_id":"b","outstanding":["t"],"passing":[]}]}'
+)
+
+# A manifest of an older store without the members that have defaults.
+SHORT_MANIFEST = (
+    '{"format-version":{"major":1,"minor":0},"run":{"last-written-at":{"nanos":0,"offset":0,"secs":1011},'
+    '"nextest-version":"0.9.111","run-id":"550e8400-e29b-41d4-a716-446655440000","sizes":{"log":{"compressed":1,'
+    '"uncompressed":2},"store":{"compressed":4,"entries":6,"uncompressed":5}},"started-at":{"nanos":0,"offset":0,"secs":1000},'
+    '"status":{"status":"incomplete"},"store-format-version":2}}'
+)
+
+
+def manifest_of(run):
+    """What is printed of a bundle with this manifest alone."""
+    return container([(b"manifest.json", run)])
+
+
+def printed(name, part, place, rows):
+    """The cases of texts in a manifest, which `info` prints anew."""
+    for text, wanted in rows:
+        manifest = MANIFEST_TEXT.replace(part, place.replace("VALUE", text), 1).encode()
+        if wanted is REFUSED:
+            yield Case(
+                f"{name} {text}", ("info",), manifest_of(manifest), 12, err=b"ParseManifest\n"
+            )
+        else:
+            out = MANIFEST_TEXT.replace(part, place.replace("VALUE", wanted), 1).encode() + b"\n"
+            yield Case(f"{name} {text}", ("info",), manifest_of(manifest), out=out)
+
+
+def store_has(entry, wanted):
+    return Holds(
+        f"a bundle with {entry} {wanted}",
+        lambda data: entries(entries(data)[b"store.zip"])[entry] == wanted,
+    )
+
+
+def stored(name, part, place, entry, content, rows):
+    """The cases of texts in a head, of which an entry of the store is made."""
+    for text, wanted in rows:
+        head = HEAD_TEXT.replace(part, place.replace("VALUE", text), 1)
+        if wanted is REFUSED:
+            yield Case(f"{name} {text}", ("record", "b"), session(head=head), 5, err=b"ParseHead\n")
+        else:
+            file = store_has(entry.encode(), content.replace("VALUE", wanted).encode())
+            yield Case(f"{name} {text}", ("record", "b"), session(head=head), out=SOME, file=file)
+
+
+def status_of_head(text, wanted):
+    head = HEAD_TEXT.replace('{"status":"incomplete"}', text)
+    if wanted is REFUSED:
+        return Case(
+            f"status of a head {text}", ("record", "b"), session(head=head), 5, err=b"ParseHead\n"
+        )
+    file = entry_is(b"manifest.json", has(b'"status":' + wanted.encode()))
+    return Case(
+        f"status of a head {text}", ("record", "b"), session(head=head), out=SOME, file=file
+    )
+
+
+def of_options(options):
+    """A bundle with these record options."""
+    return bundle(b"", store(options.encode(), ONE_TEST), COUNTED_MANIFEST)
+
+
+def nested(depth, opening="[", closing="]"):
+    """Record options with this many arrays, or objects, in one another."""
+    return '{"run-mode":"test","x":' + opening * depth + "0" + closing * depth + "}"
+
+
+STATUSES = OF_MANIFESTS[-1][-1]
+WITH_FIELDS = has(
+    b'"run":{"cli-args":["b","a"],"duration":{"nanos":5,"secs":11},"env-vars":{"A":"1","Z":"2"},'
+    b'"last-written-at":{"nanos":0,"offset":0,"secs":1011},"nextest-version":"0.9.111",'
+    b'"parent-run-id":"650e8400-e29b-41d4-a716-446655440000","run-id":"550e8400-e29b-41d4-a716-446655440000",',
+    b'"started-at":{"nanos":0,"offset":0,"secs":1000},"status":{"status":"incomplete"}',
+)
+READ_SHORT_MANIFEST = (
+    b'{"format-version":{"major":1,"minor":0},"run":{"cli-args":[],"env-vars":{},'
+    b'"last-written-at":{"nanos":0,"offset":0,"secs":1011},"nextest-version":"0.9.111",'
+    b'"run-id":"550e8400-e29b-41d4-a716-446655440000","sizes":{"log":{"compressed":1,"entries":0,"uncompressed":2},'
+    b'"store":{"compressed":4,"entries":6,"uncompressed":5}},"started-at":{"nanos":0,"offset":0,"secs":1000},'
+    b'"status":{"status":"incomplete"},"store-format-minor-version":0,"store-format-version":3}}\n'
+)
+NO_TEXT = COUNTED_MANIFEST.replace(b'"cli-args":[]', b'"cli-args":["\xff"]')
+UNREADABLE_OPTIONS = b"DeserializeMetadata file_name=meta/record-opts.json\n"
+NESTED_HEAD = HEAD_TEXT.replace('{"run-mode":"test"}', nested(125))
+NESTED_OPTIONS = store_has(b"meta/record-opts.json", b'{"run-mode":"test"}')
+DEEPER_HEAD = HEAD_TEXT.replace('{"run-mode":"test"}', nested(126))
+CASES = [
+    *(case for row in OF_MANIFESTS for case in printed(*row)),
+    *(case for row in OF_HEADS for case in stored(*row)),
+    *(status_of_head(text, wanted) for text, wanted in STATUSES),
+    *(
+        Case(
+            f"{part} as {other}",
+            ("record", "b"),
+            session(head=HEAD_TEXT.replace(part, other, 1)),
+            5,
+            err=b"ParseHead\n",
+        )
+        for part, other in NO_HEADS
+    ),
+    Case(
+        "members of a run",
+        ("record", "b"),
+        session(head=HEAD_TEXT.replace('"status":', FIELDS, 1)),
+        out=SOME,
+        file=entry_is(b"manifest.json", WITH_FIELDS),
+    ),
+    Case(
+        "rerun",
+        ("record", "b"),
+        session(head=HEAD_TEXT.replace('"status":{', RERUN, 1)),
+        out=SOME,
+        file=store_has(b"meta/rerun-info.json", STORED_RERUN.encode()),
+    ),
+    Case("manifest", ("info",), manifest_of(COUNTED_MANIFEST), out=COUNTED_MANIFEST + b"\n"),
+    Case("text that isn't UTF-8", ("info",), manifest_of(NO_TEXT), 12, err=b"ParseManifest\n"),
+    Case("older store", ("info",), manifest_of(SHORT_MANIFEST.encode()), 12, err=OLDER_STORE),
+    Case(
+        "defaults",
+        ("info",),
+        manifest_of(
+            SHORT_MANIFEST.replace('"store-format-version":2', '"store-format-version":3').encode()
+        ),
+        out=READ_SHORT_MANIFEST,
+    ),
+    Case(
+        "125 arrays in a head",
+        ("record", "b"),
+        session(head=NESTED_HEAD),
+        out=SOME,
+        file=NESTED_OPTIONS,
+    ),
+    Case("126 arrays in a head", ("record", "b"), session(head=DEEPER_HEAD), 5, err=b"ParseHead\n"),
+    Case("126 arrays", ("replay",), of_options(nested(126)), out=HEADER),
+    Case("127 arrays", ("replay",), of_options(nested(127)), 12, err=UNREADABLE_OPTIONS),
+    Case("126 objects", ("replay",), of_options(nested(126, '{"a":', "}")), out=HEADER),
+    Case(
+        "127 objects",
+        ("replay",),
+        of_options(nested(127, '{"a":', "}")),
+        12,
+        err=UNREADABLE_OPTIONS,
+    ),
+]

@@ -1,0 +1,265 @@
+"""Hostile input, and what comes of it: cut, overlong and endless bytes, entries that clash or are missing, failing devices.
+
+Beside these, proved tests show what no input of the built program brings about. `python3 -m workshop.check_pages` looks whether they are
+there.
+
+- A source and sinks that take single bytes: `rec_program_tests`: `single_bytes_change_nothing`.
+- A source in pieces, of which a read fails: `rec_program_tests`: `faults_of_sources`;
+  `rec_portable_tests`: `refusals_are_printed`.
+- Sinks in pieces, of which a write fails: `rec_program_tests`: `faults_of_the_bundle_leave_no_trace`,
+  `faults_of_the_trace_leave_the_bundle_whole`, `faults_of_standard_output`, `faults_of_other_sinks`.
+- Names that don't tell the outputs of two tests apart: `rec_faults_tests`: `outputs_clash`.
+"""
+
+from workshop.cases.case import SOME, Case
+from workshop.cases.made import (
+    ONE_TEST,
+    bundle,
+    end,
+    go_on,
+    log_of,
+    pause,
+    run,
+    run_end,
+    start,
+    store,
+)
+from workshop.cases.outlines import GROUPINGS, printed
+from workshop.cases.recorded_bundles import outputs_are
+from workshop.cases.texts import (
+    LOGGED_PAUSE,
+    LOG_LINES,
+    MANIFEST,
+    METADATA,
+    NO_SIZES,
+    PAUSE_ALONE,
+    RUN_PAUSED,
+    SMALL_TRACE,
+    TEST_STARTED,
+    finished,
+    replaced,
+    session_of,
+)
+from workshop.cases.trace_slices import RUN, marks, of_test
+from rezovamy_runs.bundles.container import container
+
+RECORD, INFO = ("record", "b"), ("info",)
+
+# The session of a pause alone, 479 bytes, and its bundle, 1194 bytes.
+SESSION = session_of(RUN_PAUSED)
+PAUSE_SIZES = b'"sizes":{"log":{"compressed":138,"entries":1,"uncompressed":138},"store":{"compressed":515,"entries":4,"uncompressed":377}}'
+BUNDLE = container(
+    [
+        (b"manifest.json", replaced(MANIFEST, NO_SIZES, PAUSE_SIZES)),
+        (b"run.log.zst", LOGGED_PAUSE),
+        (b"store.zip", container(METADATA)),
+    ]
+)
+# Where its parts begin after the magic: tag, length of the name, name, length of the content and content of each entry, and the
+# end mark.
+PARTS = (8, 9, 11, 24, 32, 498, 499, 501, 512, 520, 658, 659, 661, 670, 678, 1193)
+
+# A bundle whose log names an output that its store lacks.
+WITHOUT_OUTPUT = bundle(log_of(*LOG_LINES), store(tests=ONE_TEST))
+REPLAYED = b"""\
+header 550e8400-e29b-41d4-a716-446655440000 incomplete
+1000.000000000 run-started
+1001.000000000 test-started alpha::a t1
+1002.000000000 test-finished alpha::a t1 not-loaded
+"""
+
+# Two tests with one output, which is stored once.
+ONE_OUTPUT = session_of(
+    *(line.replace(b"t1", name) for name in (b"t1", b"t2") for line in (TEST_STARTED, finished()))
+)
+STORED_ONCE = outputs_are([(b"out/ba7816bf8f01cfea-stdout", b"abc")])
+
+# A run, and tests on three slots: one goes on after a pause, one ends in it, and one starts in a pause that is the last. The run
+# ends in a pause, twice; and pauses and continuations come twice.
+PAUSES = [
+    run(1000),
+    start(1000, 1, 0),
+    start(1000, 2, 1),
+    pause(1001, 0),
+    pause(1002, 0),
+    end(1002, 2, 0),
+    run_end(1002),
+    run_end(1003),
+    go_on(1003, 0),
+    go_on(1004, 0),
+    end(1005, 1, 0),
+    pause(1006, 0),
+    start(1007, 3, 2),
+]
+FIRST, SECOND, THIRD = of_test(1, 2, 10000), of_test(2, 2, 10001), of_test(3, 3, 10002)
+SLICES = [
+    ("B", RUN, 1000),
+    ("B", FIRST, 1000),
+    ("B", SECOND, 1000),
+    ("E", RUN, 1001),
+    ("E", FIRST, 1001),
+    ("E", SECOND, 1001),
+    ("B", SECOND, 1002),
+    ("E", SECOND, 1002),
+    ("B", RUN, 1002),
+    ("E", RUN, 1002),
+    ("B", FIRST, 1003),
+    ("E", FIRST, 1005),
+    ("B", THIRD, 1007),
+    ("E", THIRD, 1007),
+]
+
+
+def cut(length):
+    """The case of the first bytes of the bundle."""
+    fault = (
+        b"BadMagic"
+        if length < 8
+        else b"Truncated at=%d" % max(part for part in PARTS if part <= length)
+    )
+    return Case(
+        f"the first {length} bytes of a bundle",
+        INFO,
+        BUNDLE[:length],
+        12,
+        err=b"ReadArchive fault=%s\n" % fault,
+    )
+
+
+# The name, the words, the input, the status, the line, what is printed, and what the file is then.
+HOSTILE = [
+    ("nothing hostile", RECORD, SESSION, 0, b"", PAUSE_ALONE, BUNDLE),
+    (
+        "the greatest limit",
+        (*RECORD, "--session-limit", "18446744073709551615"),
+        SESSION,
+        0,
+        b"",
+        PAUSE_ALONE,
+        BUNDLE,
+    ),
+    ("one output of two tests", RECORD, ONE_OUTPUT, 0, b"", SOME, STORED_ONCE),
+    ("a full device", ("record", "/dev/full"), SESSION, 10, b"BundleFault\n", b"", None),
+    (
+        "a line of 128 nested arrays",
+        RECORD,
+        session_of(b"[" * 128 + b"]" * 128),
+        5,
+        b"ParseEvent line_number=2\n",
+        b"",
+        None,
+    ),
+    (
+        "a line of 100000 nested arrays",
+        RECORD,
+        session_of(b"[" * 100000),
+        5,
+        b"ParseEvent line_number=2\n",
+        b"",
+        None,
+    ),
+    (
+        "a byte more than a bundle",
+        INFO,
+        BUNDLE + b"\0",
+        12,
+        b"ReadArchive fault=TrailingBytes at=1194\n",
+        b"",
+        None,
+    ),
+    (
+        "a content of the greatest length",
+        INFO,
+        b"nxtcont1\1\0\1a" + b"\xff" * 8,
+        12,
+        b"ReadArchive fault=Truncated at=20\n",
+        b"",
+        None,
+    ),
+    (
+        "a name without bytes",
+        INFO,
+        b"nxtcont1\1\0\0",
+        12,
+        b"ReadArchive fault=BadName at=9\n",
+        b"",
+        None,
+    ),
+    (
+        "two manifests",
+        INFO,
+        container([(b"manifest.json", MANIFEST)] * 2),
+        12,
+        b"ReadArchive fault=DuplicateName at=497\n",
+        b"",
+        None,
+    ),
+    (
+        "no byte for a limit of none",
+        (*INFO, "--session-limit", "0"),
+        b"",
+        12,
+        b"ReadArchive fault=BadMagic\n",
+        b"",
+        None,
+    ),
+    (
+        "a byte for a limit of none",
+        (*INFO, "--session-limit", "0"),
+        b"n",
+        4,
+        b"SpoolTooLarge limit=0\n",
+        b"",
+        None,
+    ),
+    ("the trace without an output", ("trace",), WITHOUT_OUTPUT, 0, b"", SMALL_TRACE, None),
+    (
+        "replay that loads a missing output",
+        ("replay", "--output", "load"),
+        WITHOUT_OUTPUT,
+        13,
+        b"RecordRead FileNotFound file_name=out/ba7816bf8f01cfea-stdout\n",
+        b"",
+        None,
+    ),
+    (
+        "replay that skips a missing output",
+        ("replay", "--output", "skip"),
+        WITHOUT_OUTPUT,
+        0,
+        b"",
+        REPLAYED,
+        None,
+    ),
+    (
+        "replay of a whole bundle",
+        ("replay",),
+        BUNDLE,
+        0,
+        b"",
+        b"header 550e8400-e29b-41d4-a716-446655440000 incomplete\n1002.000000000 run-paused\n",
+        None,
+    ),
+]
+
+CASES = [
+    Case(name, words, given, status, out, line, file)
+    for name, words, given, status, line, out, file in HOSTILE
+]
+CASES += [Case("no bytes, and nowhere to say so", RECORD, b"", 5, device="/dev/full")]
+CASES += [
+    Case(
+        "a pause, and nowhere to say so",
+        RECORD,
+        SESSION,
+        out=PAUSE_ALONE,
+        file=SOME,
+        device="/dev/full",
+    )
+]
+CASES += [cut(length) for length in range(len(BUNDLE))]
+CASES += [
+    case
+    for group_by in GROUPINGS
+    for case in printed("pauses on all rows", PAUSES, marks(group_by, SLICES), group_by)
+]

@@ -1,0 +1,649 @@
+"""What `replay` and `report` print of a run, and of which bundles and events they print nothing."""
+
+from workshop.cases.case import SOME, Case, Recorded, ends, has
+from workshop.cases.made import (
+    BENCHMARK,
+    CANCEL,
+    CONTINUATION,
+    EXIT_CODE,
+    NO_RUNS,
+    NO_TESTS,
+    ONE_TEST,
+    OPTIONS,
+    PAUSE,
+    RETRY_STARTED,
+    RUN_FINISHED,
+    SCRIPT_SLOW,
+    SCRIPT_STARTED,
+    START_ERROR,
+    TEST_SLOW,
+    attempt,
+    attempt_failed,
+    bundle,
+    captured,
+    duration,
+    held,
+    line,
+    log,
+    log_of,
+    run_bundle,
+    run_started,
+    script_finished,
+    standard_output,
+    stats,
+    store,
+    sub_run_finished,
+    sub_run_started,
+    test_finished,
+    test_skipped,
+    test_started,
+)
+from workshop.cases.texts import (
+    HEAD,
+    HEADER,
+    MANIFEST_3_0,
+    RUN_PAUSED,
+    RUN_STARTED,
+    TEST_STARTED,
+    finished,
+    replaced,
+    session_of,
+)
+from rezovamy_runs.bundles.container import container
+
+# The words of the two commands: those of `replay` with outputs and without.
+LOADED, SKIPPED, REPORTED = ("replay",), ("replay", "--output", "skip"), ("report",)
+PRINTS = (LOADED, SKIPPED, REPORTED)
+
+TWO_TESTS = b'{"suites":{"bin-0":["t0","t1"]}}'
+OUTPUTS = (
+    (b"out/0000000000000001-stdout", b"nine byte"),
+    (b"out/0000000000000002-combined", b"hello"),
+    (b"out/0000000000000003-stdout", b"x" * 10_000),
+)
+
+
+def stored(options=OPTIONS, tests=TWO_TESTS):
+    return store(options, tests, OUTPUTS)
+
+
+def asked(name, words):
+    return f"{name}: {' '.join(words)}"
+
+
+def refused(name, bundle, status, line, *options):
+    """A bundle of which none of the commands prints anything, for the same reason."""
+    return [
+        Case(asked(name, words), (*words, *options), bundle, status, err=line) for words in PRINTS
+    ]
+
+
+# A run of every kind of event.
+
+KINDS = (
+    run_started(**{"stress-condition": {"count": 2}}),
+    sub_run_started(0),
+    SCRIPT_STARTED,
+    SCRIPT_SLOW,
+    # The script wrote to both streams at once, and set a variable.
+    {
+        **script_finished("0000000000000002-combined", **{"env-map": {"X": "y"}}),
+        "args": ["a b", "c"],
+    },
+    test_started(),
+    TEST_SLOW,
+    # A first attempt that could not be started.
+    attempt_failed(attempt(START_ERROR, "exec-fail")),
+    RETRY_STARTED,
+    # The test passed at its second attempt, and wrote to both streams.
+    test_finished(
+        attempt(START_ERROR, "exec-fail"),
+        attempt(
+            captured({"split": {"stdout": {"full": "0000000000000001-stdout"}, "stderr": "empty"}}),
+            "pass",
+            2,
+            start=1001,
+            taken=2,
+        ),
+        counts=stats(finished_count=1, passed=1, flaky=1),
+    ),
+    test_skipped("t1", "partition", "all"),
+    CANCEL,
+    PAUSE,
+    CONTINUATION,
+    sub_run_finished(
+        {"time": {"total": duration(9), "elapsed": duration(0), "completed": 1}},
+        duration(1),
+        stats(finished_count=1, passed=1),
+    ),
+    RUN_FINISHED,
+)
+WITH_OUTPUTS = b"""\
+header 550e8400-e29b-41d4-a716-446655440000 incomplete
+1002.000000005 run-started
+1002.000000005 stress-sub-run-started
+1002.000000005 setup-script-started db
+1002.000000005 setup-script-slow db
+1002.000000005 setup-script-finished db combined=5
+1002.000000005 test-started bin-0 t0
+1002.000000005 test-slow bin-0 t0
+1002.000000005 test-attempt-failed-will-retry bin-0 t0 start-error
+1002.000000005 test-retry-started bin-0 t0
+1002.000000005 test-finished bin-0 t0 stdout=9 stderr=0
+1002.000000005 test-skipped bin-0 t1
+1002.000000005 run-begin-cancel
+1002.000000005 run-paused
+1002.000000005 run-continued
+1002.000000005 stress-sub-run-finished
+1002.000000005 run-finished
+"""
+
+WITHOUT_OUTPUTS = replaced(
+    replaced(WITH_OUTPUTS, b"combined=5", b"not-loaded"), b"stdout=9 stderr=0", b"not-loaded"
+)
+
+# A suite of a script, and one of a binary, whose cases are a test that passed at its second attempt and one that didn't run.
+REPORT = (
+    b'{"name":"nextest-run","run-id":"550e8400-e29b-41d4-a716-446655440000","suites":[{"cases":[{"classname":"@setup-script:db",'
+    b'"name":"db","status":{"success":[]},"time":{"nanos":0,"secs":1},"timestamp":{"nanos":0,"offset":0,"secs":1000}}],'
+    b'"name":"@setup-script:db","properties":[{"name":"command","value":"./db.sh"},{"name":"args","value":"\'a b\' c"},'
+    b'{"name":"output-env:X","value":"y"}]},{"cases":[{"classname":"bin-0","name":"t0","status":{"success":[{"description":'
+    b'"no such file","kind":"error","message":"no such file","system-err":"(process failed to start)","system-out":'
+    b'"(process failed to start)","time":{"nanos":0,"secs":1},"timestamp":{"nanos":0,"offset":0,"secs":1000},"type-text":'
+    b'"execution failure"}]},"system-err":"","system-out":"nine byte","time":{"nanos":0,"secs":2},"timestamp":{"nanos":0,'
+    b'"offset":0,"secs":1001}},{"classname":"bin-0","name":"t1","status":{"skipped":"Skipped: test is in a different partition"},'
+    b'"time":{"nanos":0,"secs":0}}],"name":"bin-0","properties":[]}],"time":{"nanos":0,"secs":9},"timestamp":{"nanos":0,'
+    b'"offset":0,"secs":7}}\n'
+)
+
+EACH_KIND = run_bundle(log(KINDS), stored())
+
+# Parts that are missing or faulty. The log isn't UTF-8, or has two blank lines before a line that is no event.
+
+UNREADABLE = b"\xFF"
+NO_EVENT = b"\n\n{}\n\xFF"
+
+PARTS = (
+    ("no log and no store", None, None, b"MissingFile file_name=run.log.zst\n"),
+    (
+        "no log, and a store that is no container",
+        None,
+        b"PK",
+        b"MissingFile file_name=run.log.zst\n",
+    ),
+    ("no store", UNREADABLE, None, b"MissingFile file_name=store.zip\n"),
+    ("a store that is no container", UNREADABLE, b"PK", b"ReadArchive fault=BadMagic\n"),
+    (
+        "no options and no test list",
+        UNREADABLE,
+        stored(None, None),
+        b"FileNotFound file_name=meta/record-opts.json\n",
+    ),
+    (
+        "options without a mode",
+        UNREADABLE,
+        stored(b"{}", None),
+        b"DeserializeMetadata file_name=meta/record-opts.json\n",
+    ),
+    (
+        "no test list",
+        UNREADABLE,
+        stored(tests=None),
+        b"FileNotFound file_name=meta/test-list.json\n",
+    ),
+    (
+        "a test list without suites",
+        UNREADABLE,
+        stored(tests=b"[]"),
+        b"DeserializeMetadata file_name=meta/test-list.json\n",
+    ),
+)
+
+# Other bundles of which no event is printed, by what is wrong with them, and the status and the line of each command.
+
+UNKNOWN_T1 = b"TestNotFound binary_id=alpha::a test_name=t1\n"
+STRESS_OF_NONE = replaced(
+    RUN_STARTED, b'"cli-args":[]', b'"cli-args":[],"stress-condition":{"count":0}'
+)
+OTHER_TEST = replaced(
+    TEST_STARTED, b'{"binary-id":"alpha::a","test-name":"t1"}', b'{"binary-id":"a","test-name":"t"}'
+)
+
+REFUSED = [
+    ("no log", bundle(None, store()), 12, b"MissingFile file_name=run.log.zst\n"),
+    ("no store", bundle(b"x", None), 12, b"MissingFile file_name=store.zip\n"),
+    ("a store of other bytes", bundle(b"", b"PK"), 12, b"ReadArchive fault=BadMagic\n"),
+    ("a store that is cut", bundle(b"", b"nxtcont1"), 12, b"ReadArchive fault=Truncated at=8\n"),
+    (
+        "neither options nor tests",
+        bundle(b"", store(None, None)),
+        12,
+        b"FileNotFound file_name=meta/record-opts.json\n",
+    ),
+    (
+        "another mode",
+        bundle(b"", store(b'{"run-mode":"x"}')),
+        12,
+        b"DeserializeMetadata file_name=meta/record-opts.json\n",
+    ),
+    (
+        "no tests",
+        bundle(b"", store(OPTIONS, None)),
+        12,
+        b"FileNotFound file_name=meta/test-list.json\n",
+    ),
+    (
+        "tests without suites",
+        bundle(b"", store(OPTIONS, b"{}")),
+        12,
+        b"DeserializeMetadata file_name=meta/test-list.json\n",
+    ),
+    (
+        "tests that are no JSON",
+        bundle(b"{}", store(OPTIONS, b"x")),
+        12,
+        b"DeserializeMetadata file_name=meta/test-list.json\n",
+    ),
+    ("no event after blank lines", bundle(b"\n\n{}", store()), 5, b"ParseEvent line_number=3\n"),
+    ("no event in line 4", bundle(b"\n\n\n{}", store()), 5, b"ParseEvent line_number=4\n"),
+    ("no event in the first line", bundle(b"x\n{}", store()), 5, b"ParseEvent line_number=1\n"),
+    ("neither an event nor a store", bundle(b"x", b""), 12, b"ReadArchive fault=BadMagic\n"),
+    ("an unknown test first", bundle(log_of(TEST_STARTED, b"{}"), store()), 13, UNKNOWN_T1),
+    (
+        "an unknown test after the run",
+        bundle(log_of(RUN_STARTED, TEST_STARTED), store()),
+        13,
+        UNKNOWN_T1,
+    ),
+    (
+        "another unknown test",
+        bundle(log_of(OTHER_TEST), store()),
+        13,
+        b"TestNotFound binary_id=a test_name=t\n",
+    ),
+    (
+        "no event before an unknown test",
+        bundle(log_of(b"{}", TEST_STARTED), store()),
+        5,
+        b"ParseEvent line_number=1\n",
+    ),
+    (
+        "a stress run of no runs",
+        bundle(log_of(RUN_STARTED, STRESS_OF_NONE), store()),
+        13,
+        b"InvalidStressCount\n",
+    ),
+    ("a line that is no text", bundle(b"\n\xff\n{}", store()), 5, b"ReadRunLog line_number=2\n"),
+    ("line 3 that is no text", bundle(b"\n\n\xff\n", store()), 5, b"ReadRunLog line_number=3\n"),
+    ("no entries", b"nxtcont1\0", 12, b"NotAWrapperArchive file_count=0 zip_count=0\n"),
+]
+
+# What `replay` says of stores. The record options are read first, and then the test list.
+
+OF_BENCHMARK = b"meta/record-opts.json", BENCHMARK
+
+
+def of_store(*contents):
+    """The bundle of an empty log, and a store of these contents."""
+    return bundle(b"", container(contents), MANIFEST_3_0)
+
+
+STORES = (
+    (
+        "no store",
+        held((b"manifest.json", MANIFEST_3_0), (b"run.log.zst", b"kept")),
+        12,
+        b"MissingFile file_name=store.zip\n",
+    ),
+    (
+        "a store that is cut off",
+        bundle(b"", b"nxtcont1\x01\x00", MANIFEST_3_0),
+        12,
+        b"ReadArchive fault=Truncated at=9\n",
+    ),
+    ("a store without entries", of_store(), 12, b"FileNotFound file_name=meta/record-opts.json\n"),
+    ("no options", of_store((b"x", b"")), 12, b"FileNotFound file_name=meta/record-opts.json\n"),
+    (
+        "no test list",
+        of_store((b"x", b""), OF_BENCHMARK),
+        12,
+        b"FileNotFound file_name=meta/test-list.json\n",
+    ),
+    (
+        "a long test list",
+        of_store((b"meta/test-list.json", b" " * 1001), OF_BENCHMARK),
+        7,
+        b"FileTooLarge file_name=meta/test-list.json size=1001 limit=1000\n",
+    ),
+    (
+        "a blank test list",
+        of_store((b"meta/test-list.json", b" " * 1000), OF_BENCHMARK),
+        12,
+        b"DeserializeMetadata file_name=meta/test-list.json\n",
+    ),
+)
+
+# Parts of a length, with blanks after their texts.
+
+
+def of_log(length):
+    return run_bundle(b"\n".ljust(length), stored())
+
+
+def of_options(length):
+    return run_bundle(b"\n", stored(options=OPTIONS.ljust(length)))
+
+
+def of_tests(length):
+    return run_bundle(b"\n", stored(tests=TWO_TESTS.ljust(length)))
+
+
+LIMIT_900 = ("--read-limit", "900")
+
+# Logs of two lines, of which one can't be read, or is of an event that isn't printed. An entry may have 9000 bytes.
+
+LIMIT_9000 = ("--read-limit", "9000")
+
+
+def ended(output, result):
+    """An attempt that began at second 1000 and took one second."""
+    return {"output": output, "result": result, **attempt(output, result)}
+
+
+def passed(name):
+    """The end of the test `t0`, which passed and wrote the output of this name."""
+    return line(test_finished(ended(standard_output(name), "pass")))
+
+
+PAUSED = line(PAUSE)
+UNKNOWN_TEST = line(test_skipped("t9", "ignored", "ignored"))
+NO_RUNS_LINE = line(NO_RUNS)
+MISSING_OUTPUT = passed("0000000000000009-stdout")
+LONG_OUTPUT = passed("0000000000000003-stdout")
+FAILED_AFTER_SUCCESS = line(
+    test_finished(
+        ended(standard_output("0000000000000001-stdout"), "pass"),
+        ended(standard_output("0000000000000001-stdout"), EXIT_CODE),
+    )
+)
+BLANK = b""
+
+
+def of_lines(first, second):
+    return run_bundle(first + b"\n" + second + b"\n", stored())
+
+
+NOT_FOUND = 13, b"TestNotFound binary_id=bin-0 test_name=t9\n"
+NO_COUNT = 13, b"InvalidStressCount\n"
+UNREADABLE_1 = 5, b"ReadRunLog line_number=1\n"
+UNREADABLE_2 = 5, b"ReadRunLog line_number=2\n"
+NO_EVENT_1 = 5, b"ParseEvent line_number=1\n"
+NO_EVENT_2 = 5, b"ParseEvent line_number=2\n"
+MISSING = 13, b"RecordRead FileNotFound file_name=out/0000000000000009-stdout\n"
+TOO_LONG = (
+    13,
+    b"RecordRead FileTooLarge file_name=out/0000000000000003-stdout size=10000 limit=9000\n",
+)
+SUCCESS = 13, b"SuccessAsFailure\n"
+
+REFUSED_LINES = (
+    ("an unknown test before bytes", UNKNOWN_TEST, UNREADABLE, NOT_FOUND),
+    ("an unknown test after a pause", PAUSED, UNKNOWN_TEST, NOT_FOUND),
+    ("no runs before an unknown test", NO_RUNS_LINE, UNKNOWN_TEST, NO_COUNT),
+    ("bytes before no runs", UNREADABLE, NO_RUNS_LINE, UNREADABLE_1),
+    ("bytes after a blank line", BLANK, UNREADABLE, UNREADABLE_2),
+    ("no event before bytes", b"{}", UNREADABLE, NO_EVENT_1),
+    ("no event after a pause", PAUSED, b"{}", NO_EVENT_2),
+    ("no event before a missing output", b"{}", MISSING_OUTPUT, NO_EVENT_1),
+    ("an unknown test before a success that fails", UNKNOWN_TEST, FAILED_AFTER_SUCCESS, NOT_FOUND),
+)
+NOT_LOADED = HEADER + b"1002.000000005 test-finished bin-0 t0 not-loaded\n"
+NOT_LOADED_TWICE = NOT_LOADED + b"1002.000000005 test-finished bin-0 t0 not-loaded\n"
+NINE_BYTES = HEADER + b"1002.000000005 test-finished bin-0 t0 stdout=9 stderr=-\n"
+
+# What is replayed with outputs and without, and reported: a text, or a status and a line.
+LINES = (
+    ("a missing output", MISSING_OUTPUT, BLANK, MISSING, NOT_LOADED, MISSING),
+    ("a long output", LONG_OUTPUT, BLANK, TOO_LONG, NOT_LOADED, TOO_LONG),
+    ("a missing output before bytes", MISSING_OUTPUT, UNREADABLE, MISSING, UNREADABLE_2, MISSING),
+    (
+        "a long output before a missing one",
+        LONG_OUTPUT,
+        MISSING_OUTPUT,
+        TOO_LONG,
+        NOT_LOADED_TWICE,
+        TOO_LONG,
+    ),
+    ("a success before a failure", FAILED_AFTER_SUCCESS, BLANK, NINE_BYTES, NOT_LOADED, SUCCESS),
+    (
+        "a success before a failure, and bytes",
+        FAILED_AFTER_SUCCESS,
+        UNREADABLE,
+        UNREADABLE_2,
+        UNREADABLE_2,
+        SUCCESS,
+    ),
+)
+
+
+def printed(name, first, second, *results):
+    """What each of the commands prints of a log of two lines."""
+    for words, result in zip(PRINTS, results):
+        status, out, err = (
+            (0, result, b"") if isinstance(result, bytes) else (result[0], b"", result[1])
+        )
+        yield Case(
+            asked(name, words), (*words, *LIMIT_9000), of_lines(first, second), status, out, err
+        )
+
+
+# Typed ends of a test.
+
+# The end of a test that passed, which names an output.
+PASSED = finished(b'{"split":{"stdout":{"full":"0000000000000001-stdout"}}}')
+
+
+def bundle_of_test(line, output):
+    """A bundle of the end of a test, with the output that it names."""
+    return bundle(line, store(OPTIONS, ONE_TEST, [(b"out/0000000000000001-stdout", output)]))
+
+
+WITHOUT_OUTPUT = bundle_of_test(PASSED, None)
+MISSING_1 = b"RecordRead FileNotFound file_name=out/0000000000000001-stdout\n"
+WITH_OUTPUT = bundle_of_test(PASSED, b"hello")
+LOADED_LINE = b"1002.000000000 test-finished alpha::a t1 stdout=5 stderr=-\n"
+SKIPPED_LINE = b"1002.000000000 test-finished alpha::a t1 not-loaded\n"
+OUTPUT_OF_3000 = bundle_of_test(PASSED, b"0123456789" * 300)
+PAST_2999 = b"RecordRead FileTooLarge file_name=out/0000000000000001-stdout size=3000 limit=2999\n"
+
+# Record options of 500 bytes.
+LONG_OPTIONS = bundle(b"", store(OPTIONS + b" " * 481, NO_TESTS))
+LONG_OPTIONS_LINE = b"FileTooLarge file_name=meta/record-opts.json size=500 limit=499\n"
+
+# The end of a test whose first attempt passed and whose second failed.
+PASSED_THEN_FAILED = replaced(
+    replaced(
+        PASSED,
+        b'"statuses":[',
+        b'"statuses":[{"retry-data":{"attempt":1,"total-attempts":2},"output":{"start-error":"x"},"result":"pass",'
+        b'"start-time":{"secs":1001,"nanos":0,"offset":0},"time-taken":{"secs":1,"nanos":0},"is-slow":false,'
+        b'"delay-before-start":{"secs":0,"nanos":0}},',
+    ),
+    b'"result":"pass","start-time":{"secs":1001,"nanos":0,"offset":0},"time-taken":{"secs":1,"nanos":0},"is-slow":false,'
+    b'"delay-before-start":{"secs":0,"nanos":0}}],',
+    b'"result":{"fail":{"failure":{"exit-code":1},"leaked":false}},"start-time":{"secs":1001,"nanos":0,"offset":0},'
+    b'"time-taken":{"secs":1,"nanos":0},"is-slow":false,"delay-before-start":{"secs":0,"nanos":0}}],',
+)
+SUCCESS_FIRST = bundle_of_test(PASSED_THEN_FAILED, b"hello")
+
+# Runs and their reports.
+
+
+def of_skipped(name):
+    """The report of the run of a test that was skipped."""
+    return (
+        b'{"name":"nextest-run","run-id":"550e8400-e29b-41d4-a716-446655440000","suites":[{"cases":[{"classname":"bin-0",'
+        b'"name":"'
+        + name
+        + b'","status":{"skipped":"Skipped: test does not match the run-ignored option"},'
+        b'"time":{"nanos":0,"secs":0}}],"name":"bin-0","properties":[]}],"time":{"nanos":0,"secs":9},'
+        b'"timestamp":{"nanos":0,"offset":0,"secs":7}}\n'
+    )
+
+
+T0_SKIPPED = test_skipped("t0", "ignored", "ignored")
+T1_SKIPPED = test_skipped("t1", "ignored", "ignored")
+TWO_RUNS = run_bundle(
+    log([T0_SKIPPED, RUN_FINISHED, T1_SKIPPED, RUN_FINISHED, T0_SKIPPED]), stored()
+)
+NO_END = run_bundle(log([T0_SKIPPED]), stored())
+
+# A test that was stopped for its time, and the end of its run.
+STOPPED = log([test_finished(ended({"start-error": "none"}, {"timeout": "fail"})), RUN_FINISHED])
+
+CASES = [
+    Case("each kind, replayed with outputs", LOADED, EACH_KIND, out=WITH_OUTPUTS),
+    Case("each kind, replayed without", SKIPPED, EACH_KIND, out=WITHOUT_OUTPUTS),
+    Case("each kind, reported", REPORTED, EACH_KIND, out=REPORT),
+    *[
+        case
+        for name, log, store, line in PARTS
+        for case in refused(name, run_bundle(log, store), 12, line)
+    ],
+    *refused("a log that isn't UTF-8", run_bundle(UNREADABLE, stored()), *UNREADABLE_1),
+    *refused(
+        "a line that is no event", run_bundle(NO_EVENT, stored()), 5, b"ParseEvent line_number=3\n"
+    ),
+    *refused(
+        "a long log",
+        of_log(901),
+        7,
+        b"FileTooLarge file_name=run.log.zst size=901 limit=900\n",
+        *LIMIT_900,
+    ),
+    *refused(
+        "long options",
+        of_options(901),
+        7,
+        b"FileTooLarge file_name=meta/record-opts.json size=901 limit=900\n",
+        *LIMIT_900,
+    ),
+    *refused(
+        "a long list",
+        of_tests(901),
+        7,
+        b"FileTooLarge file_name=meta/test-list.json size=901 limit=900\n",
+        *LIMIT_900,
+    ),
+    Case("options of the limit, replayed", (*LOADED, *LIMIT_900), of_options(900), out=HEADER),
+    Case("options of the limit, reported", (*REPORTED, *LIMIT_900), of_options(900)),
+    Case("a test list of the limit, replayed", (*LOADED, *LIMIT_900), of_tests(900), out=HEADER),
+    Case("a test list of the limit, reported", (*REPORTED, *LIMIT_900), of_tests(900)),
+    *[
+        case
+        for name, first, second, why in REFUSED_LINES
+        for case in refused(name, of_lines(first, second), *why, *LIMIT_9000)
+    ],
+    *[case for row in LINES for case in printed(*row)],
+    Case(
+        "each run has a report of its own",
+        REPORTED,
+        TWO_RUNS,
+        out=of_skipped(b"t0") + of_skipped(b"t1"),
+    ),
+    Case("a run without an end has no report", REPORTED, NO_END),
+    Case(
+        "a test that was stopped",
+        REPORTED,
+        run_bundle(STOPPED, stored()),
+        out=has(b'"test timeout"'),
+    ),
+    Case(
+        "a benchmark that was stopped",
+        REPORTED,
+        run_bundle(STOPPED, stored(BENCHMARK)),
+        out=has(b'"benchmark timeout"'),
+    ),
+    *[
+        Case(f"{' '.join(words)} of {what}", words, source, status, err=line)
+        for what, source, status, line in REFUSED
+        for words in PRINTS
+    ],
+    # What `replay` and `report` say of it without options is among the words.
+    Case(
+        "replay of a session without outputs",
+        SKIPPED,
+        HEAD,
+        12,
+        err=b"ReadArchive fault=BadMagic\n",
+    ),
+    Case(
+        "a pause is replayed",
+        ("replay",),
+        Recorded(session_of(RUN_PAUSED)),
+        out=HEADER + b"1002.000000000 run-paused\n",
+    ),
+    Case("replay without an output", ("replay",), WITHOUT_OUTPUT, 13, err=MISSING_1),
+    Case("report without an output", ("report",), WITHOUT_OUTPUT, 13, err=MISSING_1),
+    Case(
+        "replay that skips a missing output",
+        ("replay", "--output", "skip"),
+        WITHOUT_OUTPUT,
+        out=SOME,
+    ),
+    Case(
+        "replay that loads an output",
+        ("replay", "--output", "load"),
+        WITH_OUTPUT,
+        out=ends(LOADED_LINE),
+    ),
+    Case(
+        "replay that skips an output",
+        ("replay", "--output", "skip"),
+        WITH_OUTPUT,
+        out=ends(SKIPPED_LINE),
+    ),
+    Case(
+        "an output past the read limit",
+        ("replay", "--read-limit", "2999"),
+        OUTPUT_OF_3000,
+        13,
+        err=PAST_2999,
+    ),
+    Case("an output at the read limit", ("report", "--read-limit", "3000"), OUTPUT_OF_3000),
+    Case(
+        "replay of options past the limit",
+        ("replay", "--read-limit", "499"),
+        LONG_OPTIONS,
+        7,
+        err=LONG_OPTIONS_LINE,
+    ),
+    Case(
+        "report of options past the limit",
+        ("report", "--read-limit", "499"),
+        LONG_OPTIONS,
+        7,
+        err=LONG_OPTIONS_LINE,
+    ),
+    Case(
+        "replay of options at the limit", ("replay", "--read-limit", "500"), LONG_OPTIONS, out=SOME
+    ),
+    Case(
+        "report of a success before a failure",
+        ("report",),
+        SUCCESS_FIRST,
+        13,
+        err=b"SuccessAsFailure\n",
+    ),
+    Case("replay of a success before a failure", ("replay",), SUCCESS_FIRST, out=SOME),
+    *[
+        Case(
+            f"replay under a limit: {name}",
+            ("replay", "--read-limit", "1000"),
+            data,
+            status,
+            err=line,
+        )
+        for name, data, status, line in STORES
+    ],
+]

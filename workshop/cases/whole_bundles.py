@@ -1,0 +1,120 @@
+"""Bundles of a run, with the sizes that docs/FORMATS.md gives them, and of what is whole in them."""
+
+from workshop.cases.made import (
+    RUNNING,
+    attempt_failed,
+    bundle,
+    compact,
+    counts_of,
+    course,
+    duration,
+    end,
+    go_on,
+    instant,
+    numbered,
+    of_number,
+    pause,
+    retry,
+    run,
+    run_end,
+    standard_output,
+    start,
+    status,
+    test_finished,
+    traced_log,
+)
+from workshop.cases.texts import LOGGED_PAUSE, MANIFEST, METADATA, NO_SIZES, replaced
+from rezovamy_runs.bundles.container import container, entries
+
+# The versions of the formats, as a manifest has them.
+FORMAT_1_0, FORMAT_1_1 = (
+    b'"format-version":{"major":1,"minor":0}',
+    b'"format-version":{"major":1,"minor":1}',
+)
+STORE_3_0, STORE_3_1 = b'"store-format-minor-version":0', b'"store-format-minor-version":1'
+
+
+def sizes(log, stored):
+    """The sizes of a log and a store."""
+    contents = entries(stored).values()
+    events = sum(line.strip() != b"" for line in log.split(b"\n"))
+    return {
+        "log": {"compressed": len(log), "entries": events, "uncompressed": len(log)},
+        "store": {
+            "compressed": len(stored),
+            "entries": len(contents),
+            "uncompressed": sum(map(len, contents)),
+        },
+    }
+
+
+def manifest_of(log, stored, store_version=STORE_3_1):
+    """The manifest of a run with this log and this store."""
+    sized = replaced(MANIFEST, NO_SIZES, b'"sizes":' + compact(sizes(log, stored)))
+    return replaced(sized, STORE_3_1, store_version)
+
+
+def whole(log, outputs=(), metadata=METADATA, store_version=STORE_3_1):
+    """The bundle of a run with this log, this metadata and these outputs."""
+    stored = container([*metadata, *outputs])
+    return bundle(log, stored, manifest_of(log, stored, store_version))
+
+
+def older(written):
+    """A bundle, but for the versions of its formats: 1.0, and 3.0 of its store."""
+    return replaced(replaced(written, FORMAT_1_1, FORMAT_1_0), STORE_3_1, STORE_3_0)
+
+
+PAUSED = whole(LOGGED_PAUSE)
+
+# A run with two slots, a pause and a retry, and two outputs: of the first test, and of an attempt that failed.
+
+FIRST = (b"out/ba7816bf8f01cfea-stdout", b"abc")
+SECOND = (b"out/2cf24dba5fb0a30e-stdout", b"hello")
+OUTPUTS = [FIRST, SECOND]
+
+
+def wrote(output, result):
+    """How an attempt went that wrote this output."""
+    name = output[0].decode().removeprefix("out/")
+    return course(standard_output(name), result, instant(1001), duration(1))
+
+
+def passed(secs, number, output):
+    """A test passed and wrote this."""
+    attempt = status(1, 1, wrote(output, "pass"))
+    return of_number(
+        secs,
+        number,
+        -1,
+        test_finished(attempt, of=numbered(number), counts=counts_of(0), running=RUNNING),
+    )
+
+
+def failed(secs, number, output):
+    """An attempt of a test failed and wrote this."""
+    return of_number(
+        secs,
+        number,
+        -1,
+        attempt_failed(status(1, 3, wrote(output, "exec-fail")), numbered(number), running=RUNNING),
+    )
+
+
+TWO_SLOTS = [
+    run(1000),
+    start(1000, 1, 0),
+    start(1001, 2, 1),
+    passed(1002, 1, FIRST),
+    start(1002, 3, 0),
+    pause(1003, 0),
+    go_on(1006, 0),
+    failed(1007, 2, SECOND),
+    retry(1008, 2, 1),
+    end(1009, 3, 0),
+    end(1010, 2, 0),
+    start(1010, 4, 1),
+    end(1011, 4, 0),
+    run_end(1011),
+]
+TWO_SLOTS_LOG = traced_log(TWO_SLOTS)

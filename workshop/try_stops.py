@@ -1,0 +1,430 @@
+#!/usr/bin/env python3
+"""Stops a recorder at random moments, and prints what is lost of the events that it had accepted.
+
+    python3 -m workshop.try_stops [--tries N] [--seed N] [--summary] [RECORDER PROGRAM]
+
+The recorder is `crates/rec_live/out/rec_live`, which writes the log and the store of a run as it goes, and prints how many events
+were accepted so far. It is killed when both files have a random length, or after a random time; or its files may not be longer
+than a random length, or lie on a file system with room for so much. The run's directory is then packed as it is, with a manifest
+that is made of the session's head, and `crates/rezovamy/out/rezovamy salvage` makes a bundle of it. This bundle has to have each
+event that was accepted, and at most one more, as `record` logs it, with its outputs byte for byte; and `replay` and `trace` have
+to read it. Where the recorder had not accepted the run's metadata, `salvage` may refuse.
+
+Of 100 tries, or those of `--tries`, the seed decides session, way and length; the moment is the machine's. A small file system
+needs rights and Linux; where there are none it is left out, which is said on standard error. Nothing is printed where all is
+well, but for `--summary`: a line that says what was tried.
+"""
+
+import collections
+import concurrent.futures
+import dataclasses
+import functools
+import hashlib
+import json
+import os
+import pathlib
+import random
+import subprocess
+import sys
+import tempfile
+import time
+
+from rezovamy_runs.command_line import (
+    command_line,
+    demand_program,
+    heed_signals,
+    print_out,
+    say,
+    whole,
+)
+from rezovamy_runs.bundles.container import container, entries
+
+from workshop import TOP
+
+CRATES = TOP / "crates"
+LOG, STORE, MANIFEST = "run.log.zst", "store.zip", "manifest.json"
+RUN_MEMBERS = (
+    "run-id",
+    "nextest-version",
+    "started-at",
+    "last-written-at",
+    "duration",
+    "cli-args",
+    "env-vars",
+    "parent-run-id",
+    "status",
+)
+NO_SIZES = {"compressed": 0, "uncompressed": 0, "entries": 0}
+# Sessions whose log grows fast, whose store does, and which has events of each kind.
+MAKERS = (
+    ("many events", ["make_session", "250", "--ends"]),
+    ("long outputs", ["make_session", "40", "--distinct", "30000", "--ends"]),
+    ("each kind", ["make_kinds.py"]),
+)
+KILLED_AT_LENGTH, KILLED_AFTER_TIME, LIMITED, FULL = WAYS = (
+    "killed at a length",
+    "killed after a time",
+    "a limit of length",
+    "a full file system",
+)
+# How a recorder may end: by the signal, with a fault of a write, or whole before it is stopped.
+ENDS = {KILLED_AT_LENGTH: (-9, 0), KILLED_AFTER_TIME: (-9, 0), LIMITED: (1, 0), FULL: (1, 0)}
+SMALL = 'mount -t tmpfs -o size="$1" none run && { "$2" run; s=$?; cp run/* left/; exit $s; }'
+PAGE = 4096
+PAUSE = 0.0002
+LONGEST_RUN = 120
+WITHOUT_METADATA = 15
+
+
+@dataclasses.dataclass(frozen=True)
+class Session:
+    """A session, and what comes of it where nothing stops: the lines of its log, both lengths, and the seconds that it takes."""
+
+    name: str
+    text: bytes
+    lines: tuple
+    lengths: tuple = (0, 0)
+    seconds: float = 0
+
+    @functools.cached_property
+    def manifest(self):
+        """The manifest of a run with this head, of which no sizes are known."""
+        head = json.loads(self.text.splitlines()[0])
+        run = {name: head[name] for name in RUN_MEMBERS if name in head}
+        run |= {
+            "store-format-version": 3,
+            "store-format-minor-version": 1,
+            "sizes": {"log": NO_SIZES, "store": NO_SIZES},
+        }
+        return json.dumps({"format-version": {"major": 1, "minor": 1}, "run": run}).encode()
+
+    @functools.cached_property
+    def outputs(self):
+        """The outputs of each event, each as the path and the content of its entry in the store."""
+        return [list(outputs_of(json.loads(line))) for line in self.text.splitlines()[1:]]
+
+
+def outputs_of(value):
+    """The outputs in an event, as a store holds them. One without bytes has no entry."""
+    if isinstance(value, list):
+        for item in value:
+            yield from outputs_of(item)
+    elif isinstance(value, dict):
+        for name, item in value.items():
+            if name in ("stdout", "stderr", "combined") and isinstance(item, str) and item:
+                content = bytes.fromhex(item)
+                number = hashlib.sha256(content).digest()[:8].hex()
+                yield f"out/{number}-{name}".encode(), content
+            else:
+                yield from outputs_of(item)
+
+
+@dataclasses.dataclass(frozen=True)
+class Stop:
+    """How a recording is stopped: the way, and at which part of the whole."""
+
+    way: str
+    part: float
+
+    def of(self, total):
+        """The part of so many bytes, at least one."""
+        return max(1, int(self.part * total))
+
+
+@dataclasses.dataclass(frozen=True)
+class Left:
+    """What a recorder left: its status, how many events it said were accepted, if it said so, and its files."""
+
+    status: int
+    accepted: object
+    log: bytes
+    store: bytes
+
+    def bundle(self, manifest):
+        return container(
+            [(MANIFEST.encode(), manifest), (LOG.encode(), self.log), (STORE.encode(), self.store)]
+        )
+
+
+class Lost(Exception):
+    """Something that was accepted isn't there, or what comes of it can't be read."""
+
+
+def demand(condition, what):
+    if not condition:
+        raise Lost(what)
+
+
+def accepted_of(printed):
+    """How many events the printed lines say were accepted; the last line may be cut off."""
+    lines = printed.split(b"\n")[:-1]
+    demand(
+        lines == [str(count).encode() for count in range(len(lines))],
+        f"the recorder prints {lines[:3]!r} ..",
+    )
+    return len(lines) - 1 if lines else None
+
+
+class Recorder:
+    """The recorder, run in a folder of its own for each try."""
+
+    def __init__(self, path):
+        self.path = os.path.abspath(path)
+
+    def stopped(self, session, stop):
+        """What is left of a recording that is stopped, or that comes to its end where there is no stop."""
+        with tempfile.TemporaryDirectory() as name:
+            folder = pathlib.Path(name)
+            for part in ("run", "left"):
+                (folder / part).mkdir()
+            (folder / "session").write_bytes(session.text)
+            with open(folder / "session", "rb") as source:
+                # Where writes beyond a limit fail, the signal of it has to be ignored, as Python does.
+                child = subprocess.Popen(
+                    self.words(session, stop),
+                    cwd=folder,
+                    stdin=source,
+                    stdout=subprocess.PIPE,
+                    stderr=subprocess.DEVNULL,
+                    restore_signals=False,
+                )
+            # What is printed is less than a pipe holds.
+            with child.stdout:
+                status = ended(child, session, stop, folder / "run")
+                accepted = accepted_of(child.stdout.read())
+            files = folder / ("left" if stop and stop.way == FULL else "run")
+            return Left(status, accepted, *(content(files / file) for file in (LOG, STORE)))
+
+    def words(self, session, stop):
+        if stop and stop.way == LIMITED:
+            return ["prlimit", f"--fsize={stop.of(max(session.lengths))}", self.path, "run"]
+        if stop and stop.way == FULL:
+            room = max(PAGE, stop.of(sum(session.lengths)))
+            return [
+                "unshare",
+                "--map-root-user",
+                "--mount",
+                "sh",
+                "-c",
+                SMALL,
+                "sh",
+                str(room),
+                self.path,
+            ]
+        return [self.path, "run"]
+
+
+def ended(child, session, stop, run):
+    """Waits until the recorder has ended, or is to be killed, and returns its status."""
+    if stop and stop.way == KILLED_AT_LENGTH:
+        wanted = stop.of(sum(session.lengths))
+        while child.poll() is None and sum(length(run / file) for file in (LOG, STORE)) < wanted:
+            time.sleep(PAUSE)
+        child.kill()
+    elif stop and stop.way == KILLED_AFTER_TIME:
+        time.sleep(stop.part * session.seconds)
+        child.kill()
+    return child.wait(LONGEST_RUN)
+
+
+def length(path):
+    return path.stat().st_size if path.exists() else 0
+
+
+def content(path):
+    return path.read_bytes() if path.exists() else b""
+
+
+class Program:
+    """The built program."""
+
+    def __init__(self, path):
+        self.path = os.path.abspath(path)
+
+    def run(self, words, source, folder):
+        """Status, standard output, and the file `b` where it is there."""
+        done = subprocess.run(
+            [self.path, *words], cwd=folder, input=source, capture_output=True, timeout=LONGEST_RUN
+        )
+        return done.returncode, done.stdout, content(pathlib.Path(folder, "b"))
+
+    def sound(self, words, source, folder):
+        """What a command prints that has to succeed, and the file `b`."""
+        status, out, bundle = self.run(words, source, folder)
+        demand(status == 0, f"{words[0]} ends with status {status}")
+        return out, bundle
+
+
+def made(recorder, program, name, words):
+    """The session that a tool makes, and what comes of it."""
+    text = subprocess.run(
+        [sys.executable, "-m", f"workshop.{words[0]}", *words[1:]],
+        cwd=TOP,
+        capture_output=True,
+        check=True,
+    ).stdout
+    with tempfile.TemporaryDirectory() as folder:
+        log = entries(program.sound(["record", "b"], text, folder)[1])[LOG.encode()]
+    session = Session(name, text, tuple(log.splitlines(keepends=True)))
+    begun = time.monotonic()
+    left = recorder.stopped(session, None)
+    demand(
+        left.status == 0 and left.log == log,
+        f"{name}: the recorder ends with status {left.status}, or logs something else",
+    )
+    return dataclasses.replace(
+        session, lengths=(len(log), len(left.store)), seconds=time.monotonic() - begun
+    )
+
+
+def check(program, session, left):
+    """Holds what is salvaged against what was accepted, and returns how many events that are."""
+    with tempfile.TemporaryDirectory() as folder:
+        status, out, bundle = program.run(["salvage", "b"], left.bundle(session.manifest), folder)
+        if left.accepted is None and status == WITHOUT_METADATA:
+            return None
+        demand(status == 0, f"salvage ends with status {status}")
+        parts = entries(bundle)
+        log, store = parts[LOG.encode()], entries(parts[STORE.encode()])
+        lines = tuple(log.splitlines(keepends=True))
+        accepted = left.accepted or 0
+        demand(
+            accepted <= len(lines) <= accepted + 1,
+            f"{len(lines)} events are salvaged, {accepted} were accepted",
+        )
+        demand(lines == session.lines[: len(lines)], "another log is salvaged")
+        kept = [output for event in session.outputs[: len(lines)] for output in event]
+        demand(
+            all(store.get(path) == content for path, content in kept),
+            "an output isn't salvaged as it was",
+        )
+        named = len({path for path, _ in kept})
+        demand(out == f"events={len(lines)} outputs={named}\n".encode(), f"salvage prints {out!r}")
+        replayed, _ = program.sound(["replay"], bundle, folder)
+        demand(replayed.count(b"\n") == 1 + len(lines), "a replay has not a line for each event")
+        json.loads(program.sound(["trace"], bundle, folder)[0])
+        return len(lines)
+
+
+def is_allowed():
+    """Whether a small file system can be made."""
+    with tempfile.TemporaryDirectory() as folder:
+        words = [
+            "unshare",
+            "--map-root-user",
+            "--mount",
+            "mount",
+            "-t",
+            "tmpfs",
+            "-o",
+            "size=4k",
+            "none",
+            folder,
+        ]
+        try:
+            return (
+                subprocess.run(words, stdin=subprocess.DEVNULL, capture_output=True).returncode == 0
+            )
+        except FileNotFoundError:
+            return False
+
+
+def plan(seed, tries, sessions, ways):
+    """What is tried, by the seed."""
+    chance = random.Random(seed)
+    for number in range(tries):
+        yield chance.choice(sessions), Stop(ways[number % len(ways)], chance.random())
+
+
+class Summary:
+    """What was tried."""
+
+    def __init__(self):
+        self.counts, self.accepted, self.salvaged = collections.Counter(), 0, 0
+
+    def add(self, session, stop, left, salvaged):
+        self.counts[stop.way] += 1
+        self.counts["early"] += left.accepted is None
+        self.counts["whole"] += left.accepted == len(session.lines)
+        self.counts["in a line"] += not left.log.endswith(b"\n") and left.log != b""
+        self.counts["in an entry"] += ends_in_entry(left.store)
+        self.accepted += left.accepted or 0
+        self.salvaged += salvaged or 0
+
+    def text(self, seed):
+        ways = ", ".join(f"{self.counts[way]} {way}" for way in WAYS)
+        places = f"{self.counts['in a line']} in a line of the log, {self.counts['in an entry']} in an entry of the store"
+        ends = f"{self.counts['early']} before the metadata was accepted, {self.counts['whole']} after the last event"
+        tries = sum(self.counts[way] for way in WAYS)
+        events = f"{self.accepted} events accepted, {self.salvaged} salvaged"
+        return f"{tries} tries with seed {seed}: {ways}; {places}; {ends}; {events}\n"
+
+
+def ends_in_entry(store):
+    """Whether a store is cut off within its magic or an entry."""
+    spelled = container(entries(store).items())
+    return len(store) > 0 and store not in (spelled, spelled[:-1])
+
+
+def tried(recorder, program, session, stop):
+    """What a try left, how many events are salvaged of it, and what is wrong."""
+    try:
+        left = recorder.stopped(session, stop)
+        demand(left.status in ENDS[stop.way], f"the recorder ends with status {left.status}")
+        return left, check(program, session, left), None
+    except (Lost, subprocess.TimeoutExpired) as fault:
+        return None, None, f"{session.name}, {stop.way}, {stop.part:.6f}: {fault}"
+
+
+def try_all(recorder, program, asked):
+    """Prints what is wrong, and returns whether anything is."""
+    sessions = [made(recorder, program, *maker) for maker in MAKERS]
+    ways = WAYS if is_allowed() else WAYS[:-1]
+    if ways != WAYS:
+        say(f"left out, since there are no rights for it: {FULL}")
+    tries = list(plan(asked.seed, asked.tries, sessions, ways))
+    with concurrent.futures.ThreadPoolExecutor(os.cpu_count()) as pool:
+        found = list(pool.map(lambda one: tried(recorder, program, *one), tries))
+    summary, wrong = Summary(), False
+    for (session, stop), (left, salvaged, fault) in zip(tries, found):
+        if fault:
+            print_out(f"FAULT: {fault}\n")
+            wrong = True
+        else:
+            summary.add(session, stop, left, salvaged)
+    if asked.summary:
+        print_out(summary.text(asked.seed))
+    return wrong
+
+
+def main():
+    heed_signals()
+    parser = command_line(__doc__)
+    parser.add_argument(
+        "programs", nargs="*", metavar="RECORDER PROGRAM", help="the two built programs"
+    )
+    parser.add_argument(
+        "--tries",
+        type=whole(1, 10**6),
+        default=100,
+        metavar="N",
+        help="how often it is stopped (100)",
+    )
+    parser.add_argument(
+        "--seed", type=whole(0, 10**9), default=1, metavar="N", help="what decides where (1)"
+    )
+    parser.add_argument("--summary", action="store_true", help="print what was tried")
+    asked = parser.parse_args()
+    paths = asked.programs or [CRATES / "rec_live/out/rec_live", CRATES / "rezovamy/out/rezovamy"]
+    if len(paths) != 2:
+        parser.error("the programs are two, or none is named")
+    for path in paths:
+        demand_program(parser, path)
+    try:
+        sys.exit(1 if try_all(Recorder(paths[0]), Program(paths[1]), asked) else 0)
+    except Lost as fault:
+        sys.exit(f"FAULT: {fault}")
+
+
+if __name__ == "__main__":
+    main()
