@@ -13,6 +13,8 @@ const STATES = {
   script: { mark: "◆", word: "setup script", short: "setup", rank: 5 },
 };
 
+const STATES_OF_TESTS = Object.keys(STATES).filter((state) => state !== "script");
+
 // What an attempt is drawn as: by its own end, and by what came after it.
 function kind_of(test, attempt, is_last) {
   if (attempt.result === "unfinished") return "unfinished";
@@ -29,7 +31,9 @@ function prepare_attempt(test, attempt, at) {
   attempt.kind = kind_of(test, attempt, at === test.attempts.length - 1);
   const times = attempt.slices ?? [];
   attempt.slices = [];
-  for (let place = 0; place < times.length; place += 2) attempt.slices.push([times[place] / 1e6, times[place + 1] / 1e6]);
+  for (let place = 0; place < times.length; place += 2) {
+    attempt.slices.push([times[place] / 1e6, times[place + 1] / 1e6]);
+  }
   attempt.begin = attempt.slices[0]?.[0];
   attempt.end = attempt.slices.at(-1)?.[1];
 }
@@ -43,7 +47,8 @@ function prepare_test(test, index) {
   // A setup script is in a state of its own, whether it failed or not.
   test.end = test.state === "script" ? test.attempts[0]?.kind ?? "script" : test.state;
   test.seconds = test.attempts.reduce((sum, attempt) => sum + (attempt.seconds ?? 0), 0);
-  test.start = Math.min(Infinity, ...test.attempts.filter((one) => one.slices.length).map((one) => one.begin));
+  const drawn = test.attempts.filter((one) => one.slices.length);
+  test.start = Math.min(Infinity, ...drawn.map((one) => one.begin));
   test.shown = shown(test.name);
   test.sought = `${test.place}::${test.name} ${test.place}`.toLowerCase();
   return test;
@@ -51,13 +56,17 @@ function prepare_test(test, index) {
 
 const TESTS = RUN.tests.map(prepare_test);
 const ATTEMPTS = TESTS.flatMap((test) => test.attempts).filter((attempt) => attempt.slices.length);
-const RETRIED = TESTS.filter((test) => test.attempts.filter((attempt) => attempt.slices.length).length > 1);
-// Not by `Math.max(...)`: so many arguments have no room on the stack.
-const LONGEST = TESTS.reduce((most, test) => (test.state === "script" ? most : Math.max(most, test.seconds)), 1e-9);
+const RETRIED = TESTS.filter(
+  (test) => test.attempts.filter((attempt) => attempt.slices.length).length > 1,
+);
+// Not by `Math.max(...)`: a stack has no room for very many arguments.
+const LONGEST = TESTS.filter((test) => test.state !== "script")
+  .reduce((most, test) => Math.max(most, test.seconds), 1e-9);
 
 // How long a test took, where that is known.
 function time_of(test) {
-  return test.attempts.some((attempt) => attempt.seconds !== undefined) ? duration(test.seconds) : "";
+  const is_known = test.attempts.some((attempt) => attempt.seconds !== undefined);
+  return is_known ? duration(test.seconds) : "";
 }
 
 // How many tests are in each state; scripts are no tests.
@@ -65,11 +74,15 @@ const COUNTS = Object.fromEntries(Object.keys(STATES).map((state) => [state, 0])
 TESTS.forEach((test) => COUNTS[test.state]++);
 const TEST_COUNT = TESTS.length - COUNTS.script;
 
-// Whether a text stands in the outputs or errors of a test. Outputs are put into lower case once, when they are first searched.
+// An output in lower case, in which it is put once, when it is first searched.
 const low_outputs = [];
+function low_output(at) {
+  low_outputs[at] ??= OUTPUTS[at].text.toLowerCase();
+  return low_outputs[at];
+}
+
+// Whether a text stands in the outputs or errors of a test.
 function has_said(test, wanted) {
-  return test.attempts.some((attempt) => attempt.error?.toLowerCase().includes(wanted) || attempt.outputs.some(([, at]) => {
-    low_outputs[at] ??= OUTPUTS[at].text.toLowerCase();
-    return low_outputs[at].includes(wanted);
-  }));
+  return test.attempts.some(({ error, outputs }) => error?.toLowerCase().includes(wanted)
+    || outputs.some(([, at]) => low_output(at).includes(wanted)));
 }

@@ -1,15 +1,17 @@
-// What is known of the test that is chosen: its attempts in their order, with what each one printed.
+// What is known of the test that is chosen: its attempts in their order, with what each printed.
 
 const details = document.getElementById("details");
 const MOST_SHOWN = 40_000;
 
 const ENDINGS = {
-  pass: "passed", leak: "passed, with a leak", "leak-fail": "failed for a leak", fail: "failed", abort: "aborted",
-  timeout: "timed out", "timeout-pass": "passed at its timeout", "exec-fail": "could not be started", unfinished: "never ended",
+  pass: "passed", leak: "passed, with a leak", "leak-fail": "failed for a leak", fail: "failed",
+  abort: "aborted", timeout: "timed out", "timeout-pass": "passed at its timeout",
+  "exec-fail": "could not be started", unfinished: "never ended",
 };
 
 function ending_of(attempt) {
-  return (ENDINGS[attempt.result] ?? attempt.result) + (attempt.detail ? `, ${attempt.detail}` : "");
+  const ending = ENDINGS[attempt.result] ?? attempt.result;
+  return attempt.detail ? `${ending}, ${attempt.detail}` : ending;
 }
 
 function tries_of(attempt) {
@@ -24,7 +26,8 @@ function result_state({ kind }) {
 // Of several slices a pause cut the attempt: the time between them isn't part of it.
 function times_of(attempt) {
   if (!attempt.slices.length) return "";
-  const gaps = attempt.slices.slice(1).reduce((sum, [from], at) => sum + from - attempt.slices[at][1], 0);
+  const [, ...later] = attempt.slices;
+  const gaps = later.reduce((sum, [from], at) => sum + from - attempt.slices[at][1], 0);
   return `from ${duration(attempt.begin)}${gaps > 0 ? `, without ${duration(gaps)} of pause` : ""}`;
 }
 
@@ -33,16 +36,20 @@ function attempt_card(attempt) {
   card.id = `attempt-${attempt.at}`;
   const title = tries_of(attempt) || (attempt.is_script ? "its run" : "attempt");
   const also = [
-    attempt.seconds === undefined ? "" : duration(attempt.seconds), times_of(attempt),
-    attempt.slot === undefined || attempt.is_script ? "" : `slot ${attempt.slot}`, attempt.slow ? "slow" : "",
+    attempt.seconds === undefined ? "" : duration(attempt.seconds),
+    times_of(attempt),
+    attempt.slot === undefined || attempt.is_script ? "" : `slot ${attempt.slot}`,
+    attempt.slow ? "slow" : "",
   ];
   card.append(element("header", "",
     element("h3", "", title[0].toUpperCase() + title.slice(1)),
     element("span", `result is-${result_state(attempt)}`, ending_of(attempt)),
     ...also.filter(Boolean).map((one) => element("span", "also", one)),
   ));
-  if (attempt.error) card.append(element("div", "error mono", safe_nodes(attempt.error, sought_in_outputs())));
-  for (const [stream, at] of attempt.outputs) card.append(output_part(stream, OUTPUTS[at], attempt));
+  if (attempt.error) {
+    card.append(element("div", "error mono", safe_nodes(attempt.error, sought_in_outputs())));
+  }
+  for (const [stream, at] of attempt.outputs) card.append(output_part(stream, OUTPUTS[at]));
   const silence = silence_of(attempt);
   if (silence) card.append(element("p", "none", silence));
   return card;
@@ -81,12 +88,14 @@ function output_part(stream, output) {
 
 // A long text is drawn from its begin and its end, until all of it is asked for.
 function shown_nodes(text) {
-  if (text.length <= MOST_SHOWN) return [safe_nodes(text, sought_in_outputs())];
-  const begin = character_before(text, MOST_SHOWN / 2), end = character_before(text, text.length - MOST_SHOWN / 2);
+  const nodes = (part) => safe_nodes(part, sought_in_outputs());
+  if (text.length <= MOST_SHOWN) return [nodes(text)];
+  const begin = character_before(text, MOST_SHOWN / 2);
+  const end = character_before(text, text.length - MOST_SHOWN / 2);
   const button = element("button", "quiet all", `Show ${whole(end - begin)} characters more`);
   button.type = "button";
-  button.addEventListener("click", () => button.parentElement.replaceChildren(safe_nodes(text, sought_in_outputs())));
-  return [safe_nodes(text.slice(0, begin), sought_in_outputs()), button, safe_nodes(text.slice(end), sought_in_outputs())];
+  button.addEventListener("click", () => button.parentElement.replaceChildren(nodes(text)));
+  return [nodes(text.slice(0, begin)), button, nodes(text.slice(end))];
 }
 
 // The place, or the one before it where a pair of surrogates stands across it.
@@ -99,8 +108,8 @@ function copy_button(text) {
   button.type = "button";
   button.addEventListener("click", async (event) => {
     event.preventDefault();
-    const clean = text.replace(SPECIAL, (part, colour) => (colour === undefined ? spelled(part) : ""));
-    button.textContent = await copied(clean) ? "Copied" : "Not copied";
+    const clean = (part, colour) => (colour === undefined ? spelled(part) : "");
+    button.textContent = await copied(text.replace(SPECIAL, clean)) ? "Copied" : "Not copied";
     setTimeout(() => { button.textContent = "Copy"; }, 1500);
   });
   return button;
@@ -116,8 +125,9 @@ async function copied(text) {
 }
 
 function back_button() {
-  const words = [element("span", "only-narrow", "← Tests"), element("span", "only-wide", "← Overview")];
-  const button = element("button", "quiet back", ...words);
+  const narrow = element("span", "only-narrow", "← Tests");
+  const wide = element("span", "only-wide", "← Overview");
+  const button = element("button", "quiet back", narrow, wide);
   button.type = "button";
   button.addEventListener("click", back_to_run);
   return button;
@@ -129,8 +139,8 @@ function draw_test(test) {
     test.place, STATES[test.end === "script" ? "passed" : test.end].word, time_of(test),
     test.flaky_fails ? "passing at a later attempt counts as a failure" : "", test.command ?? "",
   ];
-  const under = element("p", "under", ...facts.filter(Boolean).map((one) => element("span", "", safe_nodes(one))));
-  const parts = [back_button(), head, under];
+  const spans = facts.filter(Boolean).map((one) => element("span", "", safe_nodes(one)));
+  const parts = [back_button(), head, element("p", "under", ...spans)];
   if (test.reason) parts.push(element("p", "under", `Skipped: ${test.reason}.`));
   details.replaceChildren(...parts, ...test.attempts.map((one) => attempt_card(one)));
   details.scrollTop = 0;

@@ -1,7 +1,13 @@
 // Draws the timeline on its canvas: pauses, slices, retries, the axis and the names of rows.
 
-const FONT = '11px system-ui, -apple-system, "Segoe UI", Roboto, "Liberation Sans", Arial, sans-serif';
-const COLOURS = ["panel", "ink", "muted", "faint", "line", "accent", "on-slice", "on-failed", "pause", "pause-line", "edge"];
+const FAMILIES = [
+  "system-ui", "-apple-system", '"Segoe UI"', "Roboto", '"Liberation Sans"', "Arial", "sans-serif",
+];
+const FONT = `11px ${FAMILIES.join(", ")}`;
+const COLOURS = [
+  "panel", "ink", "muted", "faint", "line", "accent", "on-slice", "on-failed", "pause",
+  "pause-line", "edge",
+];
 const KINDS = ["passed", "script", "flaky", "retried", "unfinished", "failed"];
 
 function read_colours() {
@@ -36,6 +42,11 @@ function hatching() {
   return pattern;
 }
 
+// Where a row begins on the canvas.
+function top_of(row) {
+  return AXIS + row * lane - lanes.scrollTop;
+}
+
 function draw_lanes() {
   if (!width) return;
   const context = canvas.getContext("2d");
@@ -51,7 +62,7 @@ function draw_lanes() {
   draw_grid(context, first, end);
   draw_pauses(context);
   draw_retries(context, false);
-  for (let at = first; at < end; at++) draw_row(context, rows[at], AXIS + at * lane - lanes.scrollTop);
+  for (let at = first; at < end; at++) draw_row(context, rows[at], top_of(at));
   draw_retries(context, true);
   draw_chosen(context);
   draw_marks(context);
@@ -64,7 +75,7 @@ function draw_grid(context, first, end) {
   context.fillStyle = paint.line;
   for (const time of ticks()) context.fillRect(Math.round(x_at(time)), AXIS, 1, height);
   for (let at = first; at < end; at++) {
-    const top = Math.round(AXIS + at * lane - lanes.scrollTop);
+    const top = Math.round(top_of(at));
     if (rows_by === "binary" && rows[at].first && at) context.fillRect(gutter, top, width, 1);
   }
 }
@@ -76,9 +87,10 @@ function draw_pauses(context) {
     context.fillStyle = paint.hatch;
     context.fillRect(left, AXIS, Math.max(1, right - left), height);
     const label = `paused ${duration(to - from)}`;
-    const begin = Math.max(left, gutter), room = Math.min(right, width) - begin, needs = context.measureText(label).width + 10;
+    const begin = Math.max(left, gutter), room = Math.min(right, width) - begin;
+    const needs = context.measureText(label).width + 10;
     if (room < needs) continue;
-    const bottom = Math.min(height, AXIS + rows.length * lane - lanes.scrollTop);
+    const bottom = Math.min(height, top_of(rows.length));
     context.fillStyle = paint.panel;
     context.fillRect(begin + (room - needs) / 2, (AXIS + bottom) / 2 - 8, needs, 16);
     context.fillStyle = paint.muted;
@@ -108,7 +120,8 @@ function draw_attempt(context, attempt, top, least) {
   for (const place of labelled) draw_label(context, attempt, place, top);
 }
 
-// A pale slice has a darker edge, which stands out from the ground; one without room for more is all edge.
+// A pale slice has a darker edge, which stands out from the ground; one without room for more is
+// all edge.
 function draw_slice(context, kind, left, top, wide) {
   const high = lane - 6;
   context.fillStyle = paint.edges[kind];
@@ -130,11 +143,12 @@ function fill_round(context, left, top, wide, high, radius) {
 // A label starts where the slice can be seen, and ends before the slice does.
 function draw_label(context, attempt, [left, wide], top) {
   const begin = Math.max(left, gutter) + 5, room = left + wide - begin - 5;
-  const text = attempt.at || attempt.kind === "retried" ? `${attempt.test.shown} (${attempt.number})` : attempt.test.shown;
+  const { test: { shown: name }, kind } = attempt;
+  const text = attempt.at || kind === "retried" ? `${name} (${attempt.number})` : name;
   const label = fitted(context, text, room);
   if (!label) return;
-  context.fillStyle = attempt.kind === "failed" ? paint["on-failed"] : paint["on-slice"];
-  if (attempt.kind === "retried" || attempt.kind === "unfinished" || attempt.kind === "flaky") context.fillStyle = paint.ink;
+  context.fillStyle = kind === "failed" ? paint["on-failed"] : paint["on-slice"];
+  if (["retried", "unfinished", "flaky"].includes(kind)) context.fillStyle = paint.ink;
   context.fillText(label, begin, top + lane / 2 + 0.5);
 }
 
@@ -164,15 +178,17 @@ function draw_slow(context, attempt, top) {
   }
 }
 
-// An arrow leads from a failed attempt to the one by which it is tried again: behind the slices, or before them where it is loud.
-// Where very many are in sight they would hide one another, and only the loud ones are drawn.
+// An arrow leads from a failed attempt to the one by which it is tried again: behind the slices, or
+// before them where it is loud. Where very many are in sight they would hide one another, and only
+// the loud ones are drawn.
 function draw_retries(context, loud) {
-  const tests = RETRIED.filter((one) => (one === chosen || one === hovered?.test) === loud && may_be_seen(one));
+  const is_loud = (one) => one === chosen || one === hovered?.test;
+  const tests = RETRIED.filter((one) => is_loud(one) === loud && may_be_seen(one));
   if (tests.length > 400) return;
   for (const test of tests) {
     context.strokeStyle = context.fillStyle = loud ? paint.ink : paint.muted;
     context.lineWidth = loud ? 1.6 : 1;
-    for (let at = 1; at < test.attempts.length; at++) draw_arrow(context, test.attempts[at - 1], test.attempts[at]);
+    test.attempts.slice(1).forEach((to, at) => draw_arrow(context, test.attempts[at], to));
   }
 }
 
@@ -181,12 +197,15 @@ function may_be_seen({ attempts, start }) {
 }
 
 function draw_arrow(context, from, to) {
-  if (!from.slices.length || !to.slices.length || to.begin < view.from || from.end > view.to) return;
-  // It runs between the rows, so that it strikes no label through. Above the first row the axis would hide it.
+  if (!from.slices.length || !to.slices.length) return;
+  if (to.begin < view.from || from.end > view.to) return;
+  // It runs between the rows, so that it strikes no label through. Above the first row the axis
+  // would hide it.
   const same = from.row === to.row, down = to.row > from.row || (same && from.row === 0);
-  const top = (attempt) => AXIS + attempt.row * lane - lanes.scrollTop;
-  const left = x_at(from.end) - 2, right = x_at(to.begin), bend = Math.max(10, Math.abs(right - left) / 2);
-  const begin = top(from) + (down ? lane - 2 : 2), end = top(to) + (same === down ? lane - 4 : 4);
+  const left = x_at(from.end) - 2, right = x_at(to.begin);
+  const bend = Math.max(10, Math.abs(right - left) / 2);
+  const begin = top_of(from.row) + (down ? lane - 2 : 2);
+  const end = top_of(to.row) + (same === down ? lane - 4 : 4);
   const lift = same ? lane * (down ? -0.4 : 0.4) : 0;
   context.beginPath();
   context.moveTo(left, begin);
@@ -208,7 +227,7 @@ function draw_chosen(context) {
     context.strokeStyle = test === chosen ? paint.accent : paint.muted;
     context.lineWidth = test === chosen ? 2 : 1;
     for (const attempt of test.attempts) {
-      const top = AXIS + attempt.row * lane - lanes.scrollTop;
+      const top = top_of(attempt.row);
       for (const [from, to] of attempt.slices) {
         const left = Math.max(x_at(from), gutter - 6), right = Math.min(x_at(to), width + 6);
         context.beginPath();
@@ -255,7 +274,7 @@ function draw_names(context, first, end) {
   context.rect(0, AXIS, gutter - 4, height);
   context.clip();
   for (let at = first; at < end; at++) {
-    const row = rows[at], middle = AXIS + (at + 0.5) * lane - lanes.scrollTop + 0.5;
+    const row = rows[at], middle = top_of(at + 0.5) + 0.5;
     context.fillStyle = row.first || rows_by === "slot" ? paint.muted : paint.faint;
     const room = gutter - 22 - (row.under ? 24 : 0);
     context.fillText(fitted(context, row.label, room), 16, middle);
@@ -269,13 +288,17 @@ function draw_names(context, first, end) {
   context.fillRect(gutter - 1, 0, 1, height);
 }
 
+// Lengths of time in seconds that people take for round.
+const ROUND = [1, 2, 5, 10, 15, 30, 60, 120, 300, 600, 900, 1800, 3600, 7200, 14400, 43200];
+const DAY = 86400;
+
 // Round times, about a hundred pixels from one to the next.
 function ticks() {
   const rough = (view.to - view.from) / Math.max(2, (width - gutter) / 100);
-  const steps = [1, 2, 5, 10, 15, 30, 60, 120, 300, 600, 900, 1800, 3600, 7200, 14400, 43200, 86400];
   const tens = 10 ** Math.floor(Math.log10(rough));
   const small = [1, 2, 5, 10].map((one) => one * tens).find((one) => one >= rough * 0.999);
-  const step = rough > 1 ? steps.find((one) => one >= rough) ?? Math.ceil(rough / 86400) * 86400 : small;
+  const large = ROUND.find((one) => one >= rough) ?? Math.ceil(rough / DAY) * DAY;
+  const step = rough > 1 ? large : small;
   const first = Math.ceil(view.from / step), found = [];
   for (let at = first; at * step <= view.to; at++) found.push(at * step);
   return found;
@@ -289,10 +312,16 @@ function tick_label(time, step) {
     const rest = `${two(Math.floor(whole_seconds / 60) % 60)}:${two(whole_seconds % 60)}`;
     return hours ? `${hours}:${rest}` : rest.replace(/^0/, "");
   }
+  const [times, unit] = unit_of_ticks(step, time);
+  const digits = Math.max(0, Math.ceil(-Math.log10(step * times) - 1e-9));
+  return `${(time * times).toFixed(digits)} ${unit}`;
+}
+
+// How often the unit of a tick stands in a second, and what it is called.
+function unit_of_ticks(step, time) {
   const is_fine = step < 0.1 && time < 60;
-  const unit = is_fine && step >= 1e-4 && view.to < 10 ? [1e3, "ms"] : is_fine && view.to < 0.01 ? [1e6, "µs"] : [1, "s"];
-  const digits = Math.max(0, Math.ceil(-Math.log10(step * unit[0]) - 1e-9));
-  return `${(time * unit[0]).toFixed(digits)} ${unit[1]}`;
+  if (is_fine && step >= 1e-4 && view.to < 10) return [1e3, "ms"];
+  return is_fine && view.to < 0.01 ? [1e6, "µs"] : [1, "s"];
 }
 
 function draw_axis(context) {

@@ -1,7 +1,7 @@
 // The top of the page: how the run ended, in a line, and whose it is.
 
 function draw_headline() {
-  const parts = ["failed", "unfinished", "flaky", "passed", "skipped"].filter((state) => COUNTS[state]);
+  const parts = STATES_OF_TESTS.filter((state) => COUNTS[state]);
   const headline = document.getElementById("headline");
   headline.replaceChildren();
   parts.forEach((state, at) => {
@@ -18,15 +18,22 @@ function draw_facts() {
   const facts = document.getElementById("facts");
   const id = element("span", "mono", run.id.slice(0, 8));
   id.title = run.id;
-  const status = run.status === "completed" ? "" : run.status, exit = run.exit ? `exit code ${run.exit}` : "";
-  const told = [plural(TEST_COUNT - COUNTS.skipped, "test"), duration(run.seconds), status, exit, run.when, `profile ${run.profile}`];
-  facts.replaceChildren(...told.filter(Boolean).map((fact) => titled(element("span", "", safe_nodes(fact)), fact)), id);
+  const told = [
+    plural(TEST_COUNT - COUNTS.skipped, "test"),
+    duration(run.seconds),
+    run.status === "completed" ? "" : run.status,
+    run.exit ? `exit code ${run.exit}` : "",
+    run.when,
+    `profile ${run.profile}`,
+  ];
+  const span = (fact) => titled(element("span", "", safe_nodes(fact)), fact);
+  facts.replaceChildren(...told.filter(Boolean).map(span), id);
 }
 
 // A thin line that shows the shares of the states.
 function draw_share() {
   const share = document.getElementById("share");
-  for (const state of ["failed", "unfinished", "flaky", "passed", "skipped"]) {
+  for (const state of STATES_OF_TESTS) {
     if (!COUNTS[state]) continue;
     const part = element("i");
     part.style.flex = `${COUNTS[state]} 0 0`;

@@ -21,7 +21,8 @@ const ORDERS = {
   failures: (one, other) => STATES[one.end].rank - STATES[other.end].rank || by_start(one, other),
   slowest: (one, other) => other.seconds - one.seconds || one.index - other.index,
   start: by_start,
-  name: (one, other) => compare(one.place, other.place) || compare(one.name, other.name) || one.index - other.index,
+  name: (one, other) => compare(one.place, other.place) || compare(one.name, other.name)
+    || one.index - other.index,
 };
 
 function row_height() {
@@ -32,7 +33,8 @@ function sought() {
   return search.value.trim().toLowerCase();
 }
 
-// A test is found where each of the words stands in its name or its binary, or all of them as they are in an output.
+// A test is found where each of the words stands in its name or its binary, or all of them as they
+// are in an output.
 function is_found(test, wanted, words) {
   if (!wanted || words.every((word) => test.sought.includes(word))) return true;
   return in_outputs.checked && has_said(test, wanted);
@@ -40,8 +42,8 @@ function is_found(test, wanted, words) {
 
 function refresh_list() {
   const wanted = sought(), words = wanted.split(/\s+/);
-  const order = ORDERS[sort.value];
-  listed = TESTS.filter((test) => shown_states.has(test.state) && is_found(test, wanted, words)).sort(order);
+  const is_wanted = (test) => shown_states.has(test.state) && is_found(test, wanted, words);
+  listed = TESTS.filter(is_wanted).sort(ORDERS[sort.value]);
   listed.forEach((test, at) => { test.listed_at = at; });
   list.scrollTop = 0;
   draw_rows();
@@ -49,9 +51,13 @@ function refresh_list() {
 }
 
 function say_found(count) {
-  const none = "No test is found. Try fewer letters, or more states.";
-  const some = listed.length ? `${whole(count)} of ${whole(TEST_COUNT)} shown` : none;
-  document.getElementById("found").textContent = listed.length === TESTS.length ? `All ${whole(TEST_COUNT)} shown` : some;
+  document.getElementById("found").textContent = words_for_found(count);
+}
+
+function words_for_found(count) {
+  if (listed.length === TESTS.length) return `All ${whole(TEST_COUNT)} shown`;
+  if (listed.length) return `${whole(count)} of ${whole(TEST_COUNT)} shown`;
+  return "No test is found. Try fewer letters, or more states.";
 }
 
 function row_of(test, at, height, wanted) {
@@ -65,8 +71,9 @@ function row_of(test, at, height, wanted) {
   const name = element("span", "name", marked_safely(test.name, wanted));
   name.title = test.shown;
   const place = element("span", "place", marked_safely(test.place, wanted));
-  const tries = test.attempts.length > 1 ? element("span", "tries", `${test.attempts.length}×`) : null;
-  if (tries) tries.setAttribute("aria-label", `${test.attempts.length} attempts`);
+  const count = test.attempts.length;
+  const tries = count > 1 ? element("span", "tries", `${count}×`) : null;
+  if (tries) tries.setAttribute("aria-label", `${count} attempts`);
   const bar = element("i");
   bar.style.width = `${Math.min(100, 100 * test.seconds / LONGEST)}%`;
   const long = element("span", "long", bar);
@@ -78,7 +85,8 @@ function row_of(test, at, height, wanted) {
 }
 
 function marked_safely(text, wanted) {
-  const words = wanted ? wanted.split(/\s+/).filter((word) => text.toLowerCase().includes(word)) : [];
+  const low = text.toLowerCase();
+  const words = wanted ? wanted.split(/\s+/).filter((word) => low.includes(word)) : [];
   return safe_nodes(text, words.sort((one, other) => other.length - one.length)[0] ?? "");
 }
 
@@ -102,20 +110,24 @@ function is_listed(test) {
 
 function reveal_row(test) {
   if (!is_listed(test)) return;
-  const height = row_height(), top = test.listed_at * height;
+  const top = test.listed_at * row_height(), bottom = top + row_height();
   if (top < list.scrollTop) list.scrollTop = top;
-  else if (top + height > list.scrollTop + list.clientHeight) list.scrollTop = top + height - list.clientHeight;
+  else if (bottom > list.scrollTop + list.clientHeight) list.scrollTop = bottom - list.clientHeight;
 }
 
 function step_list(steps) {
   if (!listed.length) return;
   const from = is_listed(chosen) ? chosen.listed_at : steps > 0 ? -1 : listed.length;
-  choose(listed[Math.max(0, Math.min(listed.length - 1, from + steps))], { from: "list", quiet: true });
+  const at = Math.max(0, Math.min(listed.length - 1, from + steps));
+  choose(listed[at], { from: "list", quiet: true });
 }
 
 function list_key(event) {
   const page = Math.max(1, Math.floor(list.clientHeight / row_height()) - 1);
-  const steps = { ArrowDown: 1, ArrowUp: -1, PageDown: page, PageUp: -page, Home: -listed.length, End: listed.length }[event.key];
+  const whole_list = listed.length;
+  const steps = {
+    ArrowDown: 1, ArrowUp: -1, PageDown: page, PageUp: -page, Home: -whole_list, End: whole_list,
+  }[event.key];
   if (event.altKey || event.ctrlKey || event.metaKey) return;
   if (steps) step_list(steps);
   else if (event.key === "Enter" && chosen) open_details();
@@ -126,7 +138,8 @@ function list_key(event) {
 function draw_states() {
   const buttons = Object.keys(STATES).filter((state) => COUNTS[state]).map((state) => {
     const word = STATES[state].short ?? STATES[state].word;
-    const button = element("button", "", state_mark(state, true), element("b", "", whole(COUNTS[state])), word);
+    const count = element("b", "", whole(COUNTS[state]));
+    const button = element("button", "", state_mark(state, true), count, word);
     button.type = "button";
     button.dataset.state = state;
     button.setAttribute("aria-pressed", "true");
@@ -136,7 +149,8 @@ function draw_states() {
   document.getElementById("states").replaceChildren(...buttons);
 }
 
-// A first click shows that state alone, as one means it; further clicks add others. With none left all are shown.
+// A first click shows that state alone, as one means it; further clicks add others. With none left
+// all are shown.
 function toggle_state(state) {
   const there = Object.keys(STATES).filter((one) => COUNTS[one]);
   if (there.every((one) => shown_states.has(one))) {

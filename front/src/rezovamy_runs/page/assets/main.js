@@ -11,7 +11,8 @@ function is_narrow() {
   return matchMedia("(max-width: 760px)").matches;
 }
 
-// Shows a test, or the whole run. `from` says where it was chosen, and `quiet` that the keyboard stays there.
+// Shows a test, or the whole run. `from` says where it was chosen, and `quiet` that the keyboard
+// stays there.
 function choose(test, { from = "", attempt = null, quiet = false } = {}) {
   chosen = test;
   if (test) draw_test(test);
@@ -26,7 +27,9 @@ function choose(test, { from = "", attempt = null, quiet = false } = {}) {
   } else redraw();
   if (!test) cursor = null;
   if (is_narrow() && test && !quiet) open_details();
-  if (attempt?.at) document.getElementById(`attempt-${attempt.at}`).scrollIntoView({ block: "nearest" });
+  if (attempt?.at) {
+    document.getElementById(`attempt-${attempt.at}`).scrollIntoView({ block: "nearest" });
+  }
   // A key that is held chooses faster than browsers let an address change.
   clearTimeout(waiting_address);
   if (quiet) waiting_address = setTimeout(() => keep_in_address(test), 200);
@@ -40,11 +43,13 @@ function open_details() {
   if (is_narrow()) scrollTo(0, 0);
 }
 
-// So that the address leads to the test again. A slash stands between its binary and its name, since either may have `::`.
+// So that the address leads to the test again. A slash stands between its binary and its name,
+// since either may have `::`.
 function keep_in_address(test) {
   try {
-    const place = test ? `#${[test.place, test.name].map(encodeURIComponent).join("/")}` : location.pathname + location.search;
-    history.replaceState(null, "", place);
+    history.replaceState(null, "", test
+      ? `#${[test.place, test.name].map(encodeURIComponent).join("/")}`
+      : location.pathname + location.search);
   } catch {
     // Some browsers refuse that for files; the page works without.
   }

@@ -1,6 +1,8 @@
-// What is told of the run where no test is chosen: failures first, then what was tried again, the slowest tests, and binaries.
+// What is told of the run where no test is chosen: failures first, then what was tried again, the
+// slowest tests, and binaries.
 
-const FAILURES = TESTS.filter((test) => test.end === "failed" || test.end === "unfinished").sort(ORDERS.failures);
+const FAILURES = TESTS.filter((test) => test.end === "failed" || test.end === "unfinished")
+  .sort(ORDERS.failures);
 const MOST_ITEMS = 50;
 
 function first_line(text) {
@@ -8,7 +10,9 @@ function first_line(text) {
 }
 
 function why(test) {
-  if (test.state === "failed" && !test.attempts.at(-1).bad) return "it passed at a later attempt, which counts as a failure";
+  if (test.state === "failed" && !test.attempts.at(-1).bad) {
+    return "it passed at a later attempt, which counts as a failure";
+  }
   const last = test.attempts.findLast((attempt) => attempt.bad || attempt.result === "unfinished");
   if (!last) return "";
   return last.error ? first_line(last.error) : ending_of(last);
@@ -17,10 +21,12 @@ function why(test) {
 function item(test, { reason = "", bar = false } = {}) {
   const button = element("button", "item");
   button.type = "button";
-  const name = element("span", "name", safe_nodes(test.name), " ", element("span", "place", safe_nodes(test.place)));
+  const place = element("span", "place", safe_nodes(test.place));
+  const name = element("span", "name", safe_nodes(test.name), " ", place);
   titled(name, `${test.name} ${test.place}`);
   const tries = test.attempts.length > 1 ? `${test.attempts.length} attempts` : "";
-  button.append(state_mark(test.end), name, element("span", "took", [tries, time_of(test)].filter(Boolean).join(", ")));
+  const took = [tries, time_of(test)].filter(Boolean).join(", ");
+  button.append(state_mark(test.end), name, element("span", "took", took));
   if (reason) button.append(element("span", "why", safe_nodes(reason)));
   if (bar) {
     const part = element("i");
@@ -35,49 +41,74 @@ function item(test, { reason = "", bar = false } = {}) {
 
 function part(title, tests, options) {
   if (!tests.length) return "";
-  const items = element("ul", "items", ...tests.slice(0, MOST_ITEMS).map((test) => item(test, options(test))));
-  if (tests.length > MOST_ITEMS) items.append(element("li", "more", `${whole(tests.length - MOST_ITEMS)} more are in the list`));
+  const shown_items = tests.slice(0, MOST_ITEMS).map((test) => item(test, options(test)));
+  const items = element("ul", "items", ...shown_items);
+  const left = tests.length - MOST_ITEMS;
+  if (left > 0) items.append(element("li", "more", `${whole(left)} more are in the list`));
   return element("section", "", element("h3", "", title), items);
 }
 
 function line_of_binary(name, sum, states) {
-  const cell = (state) => element("td", sum[state] ? (state === "failed" ? "is-failed" : "") : "zero", whole(sum[state]));
+  const style = (state) => (!sum[state] ? "zero" : state === "failed" ? "is-failed" : "");
+  const cells = states.map((state) => element("td", style(state), whole(sum[state])));
   const named = titled(element("span", "cut", safe_nodes(name)), name);
-  return element("tr", "", element("td", "", named), ...states.map(cell), element("td", "", duration(sum.seconds)));
+  const time = element("td", "", duration(sum.seconds));
+  return element("tr", "", element("td", "", named), ...cells, time);
 }
 
-function table_of_binaries() {
+// How many tests of each binary are in each state, and how long they took.
+function sums_of_binaries() {
   const sums = new Map();
   for (const test of TESTS.filter((one) => one.state !== "script")) {
-    if (!sums.has(test.binary)) sums.set(test.binary, { failed: 0, flaky: 0, passed: 0, skipped: 0, unfinished: 0, seconds: 0 });
+    if (!sums.has(test.binary)) {
+      const none = STATES_OF_TESTS.map((state) => [state, 0]);
+      sums.set(test.binary, { ...Object.fromEntries(none), seconds: 0 });
+    }
     const sum = sums.get(test.binary);
     sum[test.state]++;
     sum.seconds += test.seconds;
   }
-  const states = ["failed", "unfinished", "flaky", "passed", "skipped"].filter((state) => COUNTS[state]);
-  const head = element("tr", "", ...["Binary", ...states.map((state) => STATES[state].word), "time"].map((word) => {
-    const cell = element("th", "", word);
-    cell.scope = "col";
-    return cell;
-  }));
-  const worst = [...sums].sort(([, one], [, other]) => other.failed - one.failed || other.seconds - one.seconds);
-  const body = worst.slice(0, MOST_ITEMS).map(([binary, sum]) => line_of_binary(BINARIES[binary], sum, states));
-  const table = element("table", "", element("thead", "", head), element("tbody", "", ...body));
+  return sums;
+}
+
+function head_of_column(word) {
+  const cell = element("th", "", word);
+  cell.scope = "col";
+  return cell;
+}
+
+function table_of_binaries() {
+  const sums = sums_of_binaries();
+  if (!sums.size) return "";
+  const states = STATES_OF_TESTS.filter((state) => COUNTS[state]);
+  const words = ["Binary", ...states.map((state) => STATES[state].word), "time"];
+  const head = element("thead", "", element("tr", "", ...words.map(head_of_column)));
+  const worst = [...sums].sort(
+    ([, one], [, other]) => other.failed - one.failed || other.seconds - one.seconds,
+  );
+  const body = worst.slice(0, MOST_ITEMS)
+    .map(([binary, sum]) => line_of_binary(BINARIES[binary], sum, states));
+  const table = element("table", "", head, element("tbody", "", ...body));
   const left = worst.length - body.length;
-  const more = left ? element("p", "more", `${plural(left, "binary", "binaries")} more aren't shown`) : "";
-  return sums.size ? element("section", "", element("h3", "", "Binaries"), element("div", "wide-table", table), more) : "";
+  const told = `${plural(left, "binary", "binaries")} more aren't shown`;
+  return element("section", "", element("h3", "", "Binaries"), element("div", "wide-table", table),
+    left ? element("p", "more", told) : "");
 }
 
 function about_run() {
   const { run } = RUN;
-  const pauses = PAUSES.slice(0, 5).map(([from, to]) => `${duration(to - from)} at ${duration(from)}`);
+  const told = ([from, to]) => `${duration(to - from)} at ${duration(from)}`;
+  const pauses = PAUSES.slice(0, 5).map(told);
   if (PAUSES.length > 5) pauses.push(`and ${plural(PAUSES.length - 5, "time")} more`);
   const facts = [
-    ["Run", run.id], ["Started", run.when], ["Took", duration(run.seconds)], ["Ended", run.ended], ["Profile", run.profile],
-    ["Arguments", run.args.join(" ")], ["Paused", pauses.join(", ")], ["Bundle", run.bundle],
+    ["Run", run.id], ["Started", run.when], ["Took", duration(run.seconds)], ["Ended", run.ended],
+    ["Profile", run.profile], ["Arguments", run.args.join(" ")], ["Paused", pauses.join(", ")],
+    ["Bundle", run.bundle],
   ];
   const about = element("dl", "about");
-  for (const [name, value] of facts) if (value) about.append(element("dt", "", name), fact_of_run(value));
+  for (const [name, value] of facts) {
+    if (value) about.append(element("dt", "", name), fact_of_run(value));
+  }
   return element("section", "", element("h3", "", "This run"), about);
 }
 
@@ -95,9 +126,12 @@ function draw_run() {
   const warnings = RUN.notes.map((note) => element("p", "warning", note));
   const with_reason = (test) => ({ reason: why(test) });
   details.replaceChildren(
-    ...warnings, part("Failures", FAILURES, with_reason), part("Passed when tried again", flaky, with_reason),
+    ...warnings,
+    part("Failures", FAILURES, with_reason),
+    part("Passed when tried again", flaky, with_reason),
     element("div", "pair",
-      part("Slowest tests", slowest, () => ({ bar: true })), element("div", "", table_of_binaries(), about_run())),
+      part("Slowest tests", slowest, () => ({ bar: true })),
+      element("div", "", table_of_binaries(), about_run())),
   );
   const first = details.querySelector("h3");
   if (first && !warnings.length) first.style.marginTop = "0";

@@ -10,9 +10,11 @@ function count_running(pieces) {
   const sums = new Float64Array(pieces + 1), length = WHOLE / pieces;
   for (const attempt of ATTEMPTS) {
     for (const [from, to] of attempt.slices) {
-      const first = Math.max(0, Math.floor(from / length)), last = Math.min(pieces - 1, Math.floor(to / length));
+      const first = Math.max(0, Math.floor(from / length));
+      const last = Math.min(pieces - 1, Math.floor(to / length));
       for (let at = first; at <= last; at++) {
-        sums[at] += Math.max(0, Math.min(to, (at + 1) * length) - Math.max(from, at * length)) / length;
+        const shared = Math.min(to, (at + 1) * length) - Math.max(from, at * length);
+        sums[at] += Math.max(0, shared) / length;
       }
     }
   }
@@ -72,7 +74,8 @@ function show_tip(attempt, x, y) {
   const { test } = attempt;
   const cut = attempt.slices.length > 1 ? "cut by a pause" : "";
   const told = [test.place, ending_of(attempt), duration(attempt.seconds), tries_of(attempt), cut];
-  tip.replaceChildren(element("b", "", test.shown), element("span", "", safe_nodes(told.filter(Boolean).join(" · "))));
+  const under = element("span", "", safe_nodes(told.filter(Boolean).join(" · ")));
+  tip.replaceChildren(element("b", "", test.shown), under);
   const room = lanes.parentElement.clientWidth, top = lanes.offsetTop + y + 18;
   tip.style.left = `${Math.max(4, Math.min(x + 12, room - tip.offsetWidth - 8))}px`;
   tip.style.top = `${top}px`;
@@ -142,11 +145,13 @@ function wheel(event) {
 }
 
 function nothing_scrolls() {
-  return lanes.scrollHeight <= lanes.clientHeight + 1 && document.documentElement.scrollHeight <= innerHeight;
+  const page = document.documentElement;
+  return lanes.scrollHeight <= lanes.clientHeight + 1 && page.scrollHeight <= innerHeight;
 }
 
 function strip_move(event) {
-  const [x] = place_in(event, overview), middle = (x - gutter) / (width - gutter) * WHOLE, half = (view.to - view.from) / 2;
+  const [x] = place_in(event, overview);
+  const middle = (x - gutter) / (width - gutter) * WHOLE, half = (view.to - view.from) / 2;
   look(middle - half, middle + half);
 }
 
@@ -163,21 +168,25 @@ function beside(key) {
   return other.attempts[Math.min(first_after(other.attempts, middle), other.attempts.length - 1)];
 }
 
+// Moves to the attempt beside the one with the cursor, and tells what it is.
+function step_lanes(key) {
+  const next = beside(key);
+  if (!next) return;
+  cursor = next;
+  choose(next.test, { from: "timeline", attempt: next, quiet: true });
+  reveal_attempt(next);
+  const { label, under } = rows[next.row];
+  const place = `${next.test.shown}, ${shown(next.test.place)}`;
+  announce(`${place}, ${ending_of(next)}, ${duration(next.seconds)}, ${label} ${under}`);
+}
+
 function lanes_key(event) {
   if (event.altKey || event.ctrlKey || event.metaKey) return;
   if (event.key === "+" || event.key === "=") zoom(0.6);
   else if (event.key === "-" || event.key === "_") zoom(1 / 0.6);
   else if (event.key === "0" || event.key === "Home") look(0, WHOLE);
-  else if (event.key.startsWith("Arrow")) {
-    const next = beside(event.key);
-    if (next) {
-      cursor = next;
-      choose(next.test, { from: "timeline", attempt: next, quiet: true });
-      reveal_attempt(next);
-      const { label, under } = rows[next.row];
-      announce(`${next.test.shown}, ${shown(next.test.place)}, ${ending_of(next)}, ${duration(next.seconds)}, ${label} ${under}`);
-    }
-  } else if (event.key === "Enter" && chosen) open_details();
+  else if (event.key.startsWith("Arrow")) step_lanes(event.key);
+  else if (event.key === "Enter" && chosen) open_details();
   else return;
   event.preventDefault();
 }
@@ -195,25 +204,38 @@ function start_timeline() {
   canvas.addEventListener("pointerdown", drag_from);
   canvas.addEventListener("dblclick", (event) => {
     const found = attempt_at(...place_in(event, canvas));
-    if (found) look(found.begin - (found.end - found.begin) * 0.25, found.end + (found.end - found.begin) * 0.25);
+    const beside = found ? (found.end - found.begin) * 0.25 : 0;
+    if (found) look(found.begin - beside, found.end + beside);
   });
   canvas.addEventListener("wheel", wheel, { passive: false });
-  overview.addEventListener("pointerdown", (event) => { overview.setPointerCapture(event.pointerId); strip_move(event); });
+  overview.addEventListener("pointerdown", (event) => {
+    overview.setPointerCapture(event.pointerId);
+    strip_move(event);
+  });
   overview.addEventListener("pointermove", (event) => { if (event.buttons) strip_move(event); });
   lanes.addEventListener("keydown", lanes_key);
-  for (const button of row_buttons) button.addEventListener("click", () => set_rows(button.dataset.rows));
-  const zooms = { in: () => zoom(0.5), out: () => zoom(2), fit: () => look(0, WHOLE) };
-  for (const button of document.querySelectorAll("[data-zoom]")) button.addEventListener("click", zooms[button.dataset.zoom]);
+  start_buttons();
   draw_legend();
   set_rows("slot");
 }
 
+function start_buttons() {
+  for (const button of row_buttons) {
+    button.addEventListener("click", () => set_rows(button.dataset.rows));
+  }
+  const zooms = { in: () => zoom(0.5), out: () => zoom(2), fit: () => look(0, WHOLE) };
+  for (const button of document.querySelectorAll("[data-zoom]")) {
+    button.addEventListener("click", zooms[button.dataset.zoom]);
+  }
+}
+
 function draw_legend() {
   const words = {
-    failed: "failed", retried: "failed, tried again", flaky: "passed when tried again", passed: "passed",
-    unfinished: "never ended", script: "setup script",
+    failed: "failed", retried: "failed, tried again", flaky: "passed when tried again",
+    passed: "passed", unfinished: "never ended", script: "setup script",
   };
-  const used = Object.keys(words).filter((kind) => ATTEMPTS.some((attempt) => attempt.kind === kind));
+  const there = new Set(ATTEMPTS.map((attempt) => attempt.kind));
+  const used = Object.keys(words).filter((kind) => there.has(kind));
   const items = used.map((kind) => [kind, words[kind]]);
   if (PAUSES.length) items.push(["pause", "pause"]);
   document.getElementById("legend").replaceChildren(...items.map(([kind, word]) => {

@@ -21,7 +21,8 @@ function duration(seconds) {
   if (size === 0) return "0 s";
   if (size < 0.5e-6) return "< 1 µs";
   if (size < 0.0009995) return `${sign}${(size * 1e6).toFixed(0)} µs`;
-  if (size < 0.9995) return `${sign}${(size * 1e3).toPrecision(size < 0.00995 ? 2 : 3).replace(/\.0+$/, "")} ms`;
+  const digits = size < 0.00995 ? 2 : 3;
+  if (size < 0.9995) return `${sign}${(size * 1e3).toPrecision(digits).replace(/\.0+$/, "")} ms`;
   if (size < 9.995) return `${sign}${size.toFixed(2)} s`;
   if (size < 59.95) return `${sign}${size.toFixed(1)} s`;
   const all = Math.round(size), hours = Math.floor(all / 3600), minutes = Math.floor(all / 60) % 60;
@@ -35,12 +36,13 @@ function bytes(size) {
   return `${number.toFixed(digits)} ${["", "kB", "MB", "GB"][step]}`;
 }
 
-// Sequences that colour text; then runs of bytes that aren't UTF-8 (Python's surrogates of them), of control
-// characters, and of characters that turn the direction of text or can't be seen.
+// Sequences that colour text; then runs of bytes that aren't UTF-8 (Python's surrogates of them),
+// of control characters, and of characters that turn the direction of text or can't be seen.
 const CONTROLS = String.raw`\0-\x08\x0b\x0c\x0e-\x1a\x1c-\x1f\x7f-\x9f`;
 const UNSEEN = String.raw`\xad\u061c\u200b-\u200f\u2028-\u202e\u2060-\u206f\ufeff\ufff9-\ufffb`;
+const SPELLED = String.raw`\r(?!\n)|[${CONTROLS}${UNSEEN}]|\x1b(?!\[[0-9;]*m)`;
 const SPECIAL = new RegExp(
-  String.raw`\x1b\[([0-9;]*)m|[\udc80-\udcff]+|(?:\r(?!\n)|[${CONTROLS}${UNSEEN}]|\x1b(?!\[[0-9;]*m))+`, "gu",
+  String.raw`\x1b\[([0-9;]*)m|[\udc80-\udcff]+|(?:${SPELLED})+`, "gu",
 );
 
 function spelled(text) {
@@ -63,7 +65,12 @@ function titled(made, text) {
   return made;
 }
 
-// The names of a style after the codes of a sequence that colours text. Backgrounds and colours of many bits are left out.
+function is_colour(code) {
+  return (code >= 30 && code <= 37) || (code >= 90 && code <= 97);
+}
+
+// The names of a style after the codes of a sequence that colours text. Backgrounds and colours of
+// many bits are left out.
 function styled(style, codes) {
   const numbers = codes.split(";").map(Number);
   const styles = { 1: "s-bold", 2: "s-dim", 3: "s-italic", 4: "s-underline" };
@@ -72,7 +79,7 @@ function styled(style, codes) {
     if (code === 0) style = [];
     else if (styles[code]) style = [...style, styles[code]];
     else if (code === 22) style = style.filter((one) => one !== "s-bold" && one !== "s-dim");
-    else if ((code >= 30 && code <= 37) || (code >= 90 && code <= 97)) style = [...colourless(style), `s-${code % 10}`];
+    else if (is_colour(code)) style = [...colourless(style), `s-${code % 10}`];
     else if (code === 39) style = colourless(style);
     else if (code === 38 || code === 48) at += numbers[at + 1] === 5 ? 2 : 4;
   }
@@ -107,19 +114,31 @@ function safe_nodes(text, sought = "") {
   return nodes;
 }
 
-// A text as nodes in which what is sought is marked, at most a thousand times.
+const MOST_MARKS = 1000;
+
+// A text as nodes in which what is sought is marked, up to so many times.
 function marked(text, sought) {
   const nodes = document.createDocumentFragment();
-  const low = sought ? text.toLowerCase() : "";
-  let from = 0, count = 0;
-  if (low.length === text.length) {
-    for (let at = low.indexOf(sought); sought && at >= 0 && count < 1000; at = low.indexOf(sought, from), count++) {
-      nodes.append(text.slice(from, at), element("mark", "", text.slice(at, at + sought.length)));
-      from = at + sought.length;
-    }
+  let from = 0;
+  for (const at of places_of(sought, text)) {
+    nodes.append(text.slice(from, at), element("mark", "", text.slice(at, at + sought.length)));
+    from = at + sought.length;
   }
   nodes.append(text.slice(from));
   return nodes;
+}
+
+// Where what is sought stands in a text, whose letters may be in upper case.
+function places_of(sought, text) {
+  const low = sought ? text.toLowerCase() : "", found = [];
+  // Some letters become two in lower case, after which places are others.
+  if (!sought || low.length !== text.length) return found;
+  let at = low.indexOf(sought);
+  while (at >= 0 && found.length < MOST_MARKS) {
+    found.push(at);
+    at = low.indexOf(sought, at + sought.length);
+  }
+  return found;
 }
 
 // The mark of a state, which a screen reader hears as a word.

@@ -1,4 +1,5 @@
-// The timeline's rows and what of them is in sight: by slot, or by binary and slot as the trace has them.
+// The timeline's rows and what of them is in sight: by slot, or by binary and slot as the trace has
+// them.
 
 const lanes = document.getElementById("lanes");
 const lanes_space = document.getElementById("lanes-space");
@@ -8,8 +9,8 @@ const AXIS = 22, NEAREST = 20e-6;
 const PAUSES = RUN.pauses.map(([from, to]) => [from / 1e6, to / 1e6]);
 const WHOLE = Math.max(1e-3, RUN.end / 1e6, ...PAUSES.map(([, to]) => to)) * 1.004;
 const view = { from: 0, to: WHOLE };
-let rows_by = "slot", rows = [], lane = 22, gutter = 64, hovered = null, cursor = null, waiting_frame = 0;
-let width = 0, height = 0, paint = {};
+let rows_by = "slot", rows = [], hovered = null, cursor = null, waiting_frame = 0;
+let lane = 22, gutter = 64, width = 0, height = 0, paint = {};
 
 for (const attempt of ATTEMPTS) attempt.end = Math.max(attempt.end, attempt.begin);
 
@@ -21,7 +22,9 @@ function make_rows() {
     return found.get(key);
   };
   const by_start = [...ATTEMPTS].sort((one, other) => one.begin - other.begin);
-  by_start.filter((one) => one.is_script).forEach((one) => row_for(`script ${one.slot}`, one.test.shown, "").attempts.push(one));
+  for (const one of by_start.filter((each) => each.is_script)) {
+    row_for(`script ${one.slot}`, one.test.shown, "").attempts.push(one);
+  }
   const of_tests = by_start.filter((one) => !one.is_script);
   if (rows_by === "slot") {
     const slots = [...new Set(of_tests.map((one) => one.slot))].sort((one, other) => one - other);
@@ -34,7 +37,9 @@ function make_rows() {
 
 function rows_of_binaries(attempts, row_for) {
   const slots = new Map();
-  for (const { test, slot } of attempts) slots.set(test.binary, (slots.get(test.binary) ?? new Set()).add(slot));
+  for (const { test, slot } of attempts) {
+    slots.set(test.binary, (slots.get(test.binary) ?? new Set()).add(slot));
+  }
   for (const [binary, used] of slots) {
     [...used].sort((one, other) => one - other).forEach((slot, at) => {
       const row = row_for(`${binary} ${slot}`, at ? "" : shown(BINARIES[binary]), `${slot}`);
@@ -79,20 +84,27 @@ function first_after(attempts, time) {
 
 // The attempts of a row that may be seen between two times.
 function between(attempts, from, to) {
-  const found = [];
-  for (let at = first_after(attempts, from); at < attempts.length && attempts[at].begin <= to; at++) found.push(attempts[at]);
-  return found;
+  const first = first_after(attempts, from);
+  let end = first;
+  while (end < attempts.length && attempts[end].begin <= to) end++;
+  return attempts.slice(first, end);
 }
 
 const LOUD = { failed: 3, unfinished: 2, retried: 2, flaky: 1 };
 
-// The attempt at a place of the canvas, or the one next to it within three pixels; of several the loudest.
+// Whether an attempt runs between two times, or at one of them.
+function runs_between(attempt, from, to) {
+  return attempt.slices.some(([begin, end]) => begin <= to && from <= end);
+}
+
+// The attempt at a place of the canvas, or the one next to it within three pixels; of several the
+// loudest.
 function attempt_at(x, y) {
   const row = rows[Math.floor((y - AXIS + lanes.scrollTop) / lane)];
   if (!row || y < AXIS || x < gutter) return null;
   const from = time_at(x - 3), to = time_at(x + 3), at = time_at(x);
-  const worth = (one) => (LOUD[one.kind] ?? 0) + (one.slices.some(([begin, end]) => begin <= at && at <= end) ? 4 : 0);
-  const near = between(row.attempts, from, to).filter((one) => one.slices.some(([begin, end]) => begin <= to && from <= end));
+  const worth = (one) => (LOUD[one.kind] ?? 0) + (runs_between(one, at, at) ? 4 : 0);
+  const near = between(row.attempts, from, to).filter((one) => runs_between(one, from, to));
   return near.reduce((best, one) => (best && worth(best) >= worth(one) ? best : one), null);
 }
 
@@ -151,16 +163,20 @@ function gutter_width(narrow) {
   const context = canvas.getContext("2d");
   context.font = FONT;
   const most = narrow ? 92 : 200;
-  const widest = Math.max(0, ...rows.slice(0, 500).map((row) => context.measureText(row.label).width + (row.under ? 26 : 0)));
+  const room_for = (row) => context.measureText(row.label).width + (row.under ? 26 : 0);
+  const widest = Math.max(0, ...rows.slice(0, 500).map(room_for));
   return Math.ceil(Math.min(most, Math.max(narrow ? 50 : 70, widest + 26)));
 }
 
 function set_rows(by) {
   rows_by = by;
-  for (const button of row_buttons) button.setAttribute("aria-pressed", String(button.dataset.rows === by));
+  for (const button of row_buttons) {
+    button.setAttribute("aria-pressed", String(button.dataset.rows === by));
+  }
   make_rows();
   const pauses = PAUSES.length ? `, with ${plural(PAUSES.length, "pause")}` : "";
-  const told = `${plural(ATTEMPTS.length, "attempt")} in ${plural(rows.length, "row")} by ${by}, over ${duration(WHOLE / 1.004)}`;
+  const counts = `${plural(ATTEMPTS.length, "attempt")} in ${plural(rows.length, "row")}`;
+  const told = `${counts} by ${by}, over ${duration(WHOLE / 1.004)}`;
   lanes.setAttribute("aria-label", told + pauses);
   resize_lanes();
   if (chosen) reveal_test(chosen);
