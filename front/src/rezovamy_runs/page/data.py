@@ -1,33 +1,111 @@
 """What a page knows of a run, as the JSON value that its script reads.
 
-Instants are whole microseconds since the run's begin. Each different output stands in it once; bytes that aren't UTF-8 are halves
-of surrogate pairs in its text (`surrogateescape`), which the page spells.
+Instants are whole microseconds since the run's begin. Each different output stands in it once;
+bytes that aren't UTF-8 are halves of surrogate pairs in its text (`surrogateescape`), which the
+page spells. A member that has nothing to say is left out.
 """
 
+from __future__ import annotations
+
 import json
+from collections.abc import Iterable
+from typing import Literal, NotRequired, TypeAlias, TypedDict
 
 from rezovamy_runs import formatting
+from rezovamy_runs.bundles.slices import Drawing, Span
+from rezovamy_runs.model import Attempt, Run, Script, Test
 
-STATES = {
+State: TypeAlias = Literal["failed", "unfinished", "flaky", "passed", "skipped", "script"]
+Names: TypeAlias = tuple[str, str]
+
+
+class OutputValue(TypedDict):
+    """An output: its size as it was printed, and the text that the page has of it."""
+
+    size: int
+    text: str
+    note: NotRequired[str]
+
+
+class AttemptValue(TypedDict):
+    """An attempt of a test, or the run of a setup script.
+
+    `outputs` has streams with the places of their outputs, and `slices` begins and ends in turn.
+    """
+
+    number: int
+    total: int
+    result: str
+    detail: NotRequired[str]
+    slow: NotRequired[bool]
+    bad: NotRequired[bool]
+    error: NotRequired[str]
+    outputs: NotRequired[list[tuple[str, int]]]
+    slot: NotRequired[int]
+    seconds: NotRequired[float]
+    slices: NotRequired[list[int]]
+    slow_at: NotRequired[list[int]]
+
+
+class TestValue(TypedDict):
+    """A test, or a setup script, which has a command and no binary."""
+
+    name: str
+    state: State
+    command: NotRequired[str]
+    binary: NotRequired[int]
+    reason: NotRequired[str]
+    stress: NotRequired[int]
+    flaky_fails: NotRequired[bool]
+    attempts: NotRequired[list[AttemptValue]]
+
+
+class RunValue(TypedDict):
+    """A run without its tests."""
+
+    id: str
+    profile: str
+    when: str
+    seconds: float
+    status: str
+    exit: int | None
+    ended: str
+    args: list[str]
+    bundle: str
+
+
+class PageValue(TypedDict):
+    """All that a page knows; `marks` are instants with what is written at them."""
+
+    run: RunValue
+    binaries: list[str]
+    tests: list[TestValue]
+    outputs: list[OutputValue]
+    notes: list[str]
+    pauses: list[tuple[int, int]]
+    marks: list[tuple[int, str]]
+    end: int
+
+
+STATES: dict[str, State] = {
     "fail": "failed",
     "unfinished": "unfinished",
     "flaky": "flaky",
     "pass": "passed",
     "skip": "skipped",
 }
-STREAMS = ("stdout", "stderr", "combined")
 # The most bytes of an output, of all of them as JSON, and the most characters of an error.
 MOST_OUTPUT, MOST_OUTPUTS, MOST_ERROR, LEAST_ERROR = 200_000, 20_000_000, 20_000, 500
 # The bytes of a character of UTF-8 after its first one.
 CONTINUATION = bytes(range(0x80, 0xC0))
 # The order in which outputs may take the room that there is.
-URGENCY = ("failed", "unfinished", "flaky", "script", "passed", "skipped")
+URGENCY: tuple[State, ...] = ("failed", "unfinished", "flaky", "script", "passed", "skipped")
 
 
-def cut_middle(data, most):
-    """At most so many bytes of an output, from its begin and its end, and how many were left out between them.
+def cut_middle(data: bytes, most: int) -> tuple[bytes, bytes, int]:
+    """Return the begin and the end of an output, and how many bytes are left out between them.
 
-    A character of UTF-8 is left out whole.
+    Both together have at most so many bytes. A character of UTF-8 is left out whole.
     """
     if len(data) <= most:
         return data, b"", 0
@@ -38,8 +116,8 @@ def cut_middle(data, most):
     return begin, end, len(data) - len(begin) - len(end)
 
 
-def begun_character(data):
-    """How many bytes at the end begin a character of UTF-8 without ending it."""
+def begun_character(data: bytes) -> int:
+    """Return how many bytes at the end begin a character of UTF-8 without ending it."""
     for length in range(1, min(4, len(data) + 1)):
         lead = data[-length]
         if lead >= 0xC0:
@@ -52,140 +130,197 @@ def begun_character(data):
 class Outputs:
     """The outputs of a page, each different one once, as long as there is room."""
 
-    def __init__(self, most_each=MOST_OUTPUT, most_all=MOST_OUTPUTS):
-        self.most_each, self.room = most_each, most_all
-        self.kept, self.places = [], {}
+    def __init__(self, most_each: int = MOST_OUTPUT, most_all: int = MOST_OUTPUTS) -> None:
+        self.most_each = most_each
+        self.room = most_all
+        self.kept: list[OutputValue] = []
         self.left_out = 0
+        self.places: dict[tuple[bytes, int | None], int] = {}
 
-    def place(self, data, recorded_size=None):
-        """The place of an output; `recorded_size` is what it had before the recording cut it."""
+    def place(self, data: bytes, recorded_size: int | None = None) -> int:
+        """Return the place of an output; one that the recording cut had `recorded_size` before."""
         key = data, recorded_size
         if key not in self.places:
             self.places[key] = len(self.kept)
-            self.kept.append(self.form(data, recorded_size))
+            self.kept.append(self.value(data, recorded_size))
         return self.places[key]
 
-    def form(self, data, recorded_size):
+    def value(self, data: bytes, recorded_size: int | None) -> OutputValue:
+        """Return what the page has of an output, for which some of the room is taken."""
         most = min(self.most_each, max(0, self.room))
-        made = {"size": len(data) if recorded_size is None else recorded_size}
-        notes = []
+        text, notes = "", []
         if recorded_size is not None:
-            notes.append(
-                f"It was cut in the recording: of {recorded_size:,} bytes {len(data):,} were kept."
-            )
+            kept = f"of {recorded_size:,} bytes {len(data):,} were kept"
+            notes.append(f"It was cut in the recording: {kept}.")
         if data and most < min(len(data), 100):
-            made["text"] = ""
             self.left_out += 1
             notes.append("This page has no more room for outputs. `rezovamy-runs show` prints it.")
         else:
-            made["text"], missing = self.text(data, most)
+            text, missing = self.text(data, most)
             if missing:
-                notes.append(
-                    f"{missing:,} bytes in the middle are left out here. `rezovamy-runs show` prints them."
-                )
+                left_out = f"{missing:,} bytes in the middle are left out here"
+                notes.append(f"{left_out}. `rezovamy-runs show` prints them.")
+        size = len(data) if recorded_size is None else recorded_size
+        made: OutputValue = {"size": size, "text": text}
         if notes:
             made["note"] = " ".join(notes)
         return made
 
-    def text(self, data, most):
+    def text(self, data: bytes, most: int) -> tuple[str, int]:
+        """Return the text of an output, and how many bytes are left out of it."""
         begin, end, missing = cut_middle(data, most)
         between = f"\n\n... [{missing} bytes are left out] ...\n\n" if missing else ""
-        text = (
-            begin.decode("utf-8", "surrogateescape")
-            + between
-            + end.decode("utf-8", "surrogateescape")
-        )
+        begin_text = begin.decode("utf-8", "surrogateescape")
+        text = begin_text + between + end.decode("utf-8", "surrogateescape")
         self.room -= len(json.dumps(text))
         return text, missing
 
-    def error(self, text):
-        """What is shown of an attempt's errors."""
+    def error(self, text: str) -> str:
+        """Return what is shown of an attempt's errors."""
         most = MOST_ERROR if self.room > 0 else LEAST_ERROR
         self.room -= min(len(text), most)
-        return (
-            text
-            if len(text) <= most
-            else f"{text[:most]}\n... [{len(text) - most} characters are left out] ..."
-        )
+        if len(text) <= most:
+            return text
+        return f"{text[:most]}\n... [{len(text) - most} characters are left out] ..."
 
 
-def without_nothing(**members):
-    """An object of those members that say something."""
-    return {name: value for name, value in members.items() if value or type(value) in (int, float)}
-
-
-def attempt_form(attempt, span, drawing, outputs):
-    """An attempt, with the slices of its span, if it has one."""
-    placed = [
-        [stream, outputs.place(getattr(attempt, stream), attempt.truncated.get(stream))]
-        for stream in STREAMS
-        if getattr(attempt, stream) is not None
-    ]
-    error = outputs.error(attempt.errors) if attempt.errors else None
-    return without_nothing(
-        number=attempt.number,
-        total=attempt.total,
-        result=attempt.result,
-        detail=attempt.detail,
-        slow=attempt.is_slow,
-        bad=not attempt.passed and attempt.result != "unfinished",
-        error=error,
-        outputs=placed,
-        slot=span.slot if span else attempt.slot,
-        seconds=None if attempt.result == "unfinished" else round(attempt.seconds, 9),
-        slices=[time - drawing.begin for piece in span.slices for time in piece] if span else None,
-        slow_at=[time - drawing.begin for time in span.slow] if span else None,
-    )
-
-
-def spans_of(test, queues):
-    """The spans of the test's attempts by their numbers, taken from those that a drawing has of its name."""
-    queue = queues.get((test.binary, test.name))
-    return {span.number: span for span in queue.pop(0)} if queue and test.attempts else {}
-
-
-def test_forms(run, drawing, outputs, binaries):
-    """The tests of a run, of which those that matter more have the first go at the room for outputs."""
-    queues = {names: list(times) for names, times in drawing.tests.items()}
-    matched = [(test, STATES[test.verdict], spans_of(test, queues)) for test in run.tests]
-    forms = [None] * len(matched)
-    for place in sorted(range(len(matched)), key=lambda place: URGENCY.index(matched[place][1])):
-        test, state, spans = matched[place]
-        forms[place] = {"name": test.name, "state": state} | without_nothing(
-            binary=binaries.setdefault(test.binary, len(binaries)),
-            reason=test.reason,
-            stress=test.stress,
-            flaky_fails=test.flaky_fails,
-            attempts=[
-                attempt_form(attempt, spans.get(attempt.number), drawing, outputs)
-                for attempt in test.attempts
-            ],
-        )
-    return forms
-
-
-def script_forms(run, drawing, outputs):
-    """The setup scripts of a run."""
+def placed_outputs(attempt: Attempt, outputs: Outputs) -> list[tuple[str, int]]:
+    """Return the streams of an attempt with the places of what was captured of them."""
+    captured = {
+        "stdout": attempt.stdout,
+        "stderr": attempt.stderr,
+        "combined": attempt.combined,
+    }
     return [
-        {"name": script.id, "state": "script", "command": " ".join([script.program, *script.args])}
-        | without_nothing(
-            stress=script.stress, attempts=[attempt_form(script.attempt, span, drawing, outputs)]
-        )
-        for script, span in zip(run.scripts, drawing.scripts)
+        (stream, outputs.place(data, attempt.truncated.get(stream)))
+        for stream, data in captured.items()
+        if data is not None
     ]
 
 
-def notes_of(run, outputs):
-    """What a reader has to know before all else."""
+def attempt_value(
+    attempt: Attempt, span: Span | None, drawing: Drawing, outputs: Outputs
+) -> AttemptValue:
+    """Return an attempt, with the slices of its span, if it has one."""
+    has_ended = attempt.result != "unfinished"
+    placed = placed_outputs(attempt, outputs)
+    made: AttemptValue = {
+        "number": attempt.number,
+        "total": attempt.total,
+        "result": attempt.result,
+    }
+    if attempt.detail:
+        made["detail"] = attempt.detail
+    if attempt.is_slow:
+        made["slow"] = True
+    if has_ended and not attempt.passed:
+        made["bad"] = True
+    if attempt.errors:
+        made["error"] = outputs.error(attempt.errors)
+    if placed:
+        made["outputs"] = placed
+    slot = span.slot if span else attempt.slot
+    if slot is not None:
+        made["slot"] = slot
+    if has_ended:
+        made["seconds"] = round(attempt.seconds, 9)
+    if span:
+        add_times(made, span, drawing)
+    return made
+
+
+def add_times(made: AttemptValue, span: Span, drawing: Drawing) -> None:
+    """Add to an attempt when it ran, and when it was said to be slow."""
+    if span.slices:
+        made["slices"] = [time - drawing.begin for piece in span.slices for time in piece]
+    if span.slow:
+        made["slow_at"] = [time - drawing.begin for time in span.slow]
+
+
+class SpanQueues:
+    """The spans of a drawing, of which each test takes those of its attempts in their order."""
+
+    def __init__(self, drawing: Drawing) -> None:
+        self.queues: dict[Names, list[list[Span]]] = {
+            names: list(times) for names, times in drawing.tests.items()
+        }
+
+    def take(self, test: Test) -> dict[int, Span]:
+        """Return the spans of a test's attempts by their numbers."""
+        queue = self.queues.get((test.binary, test.name))
+        return {span.number: span for span in queue.pop(0)} if queue and test.attempts else {}
+
+
+class Binaries:
+    """The binaries of a page, each of which has a place."""
+
+    def __init__(self) -> None:
+        self.places: dict[str, int] = {}
+
+    def place(self, binary: str) -> int:
+        """Return the place of a binary."""
+        return self.places.setdefault(binary, len(self.places))
+
+
+def test_value(
+    test: Test, spans: dict[int, Span], drawing: Drawing, outputs: Outputs, binaries: Binaries
+) -> TestValue:
+    """Return a test with its attempts, of which spans are known by their numbers."""
+    made: TestValue = {"name": test.name, "state": STATES[test.verdict]}
+    made["binary"] = binaries.place(test.binary)
+    if test.reason:
+        made["reason"] = test.reason
+    if test.stress is not None:
+        made["stress"] = test.stress
+    if test.flaky_fails:
+        made["flaky_fails"] = True
+    attempts = [
+        attempt_value(attempt, spans.get(attempt.number), drawing, outputs)
+        for attempt in test.attempts
+    ]
+    if attempts:
+        made["attempts"] = attempts
+    return made
+
+
+def test_values(
+    tests: Iterable[Test], drawing: Drawing, outputs: Outputs, binaries: Binaries
+) -> list[TestValue]:
+    """Return the tests; those that matter more have the first go at the room for outputs."""
+    queues = SpanQueues(drawing)
+    matched = [(test, queues.take(test)) for test in tests]
+    by_urgency = sorted(
+        range(len(matched)), key=lambda place: URGENCY.index(STATES[matched[place][0].verdict])
+    )
+    made = {place: test_value(*matched[place], drawing, outputs, binaries) for place in by_urgency}
+    return [made[place] for place in range(len(matched))]
+
+
+def script_value(script: Script, span: Span, drawing: Drawing, outputs: Outputs) -> TestValue:
+    """Return a setup script."""
+    made: TestValue = {
+        "name": script.id,
+        "state": "script",
+        "command": " ".join([script.program, *script.args]),
+    }
+    if script.stress is not None:
+        made["stress"] = script.stress
+    made["attempts"] = [attempt_value(script.attempt, span, drawing, outputs)]
+    return made
+
+
+def notes_of(run: Run, outputs: Outputs) -> list[str]:
+    """Return what a reader has to know before all else."""
     notes = []
     unnamed = run.counts.unseen - sum(test.verdict == "unfinished" for test in run.tests)
     if run.status == "incomplete":
         notes.append("The run was broken off, or the recording of it was: it has no end.")
     if run.cancelled_for:
-        notes.append(f"The run was cancelled: {run.cancelled_for.replace('-', ' ')}.")
+        notes.append(f"The run was cancelled: {reason_text(run.cancelled_for)}.")
     if unnamed > 0:
+        were = "was" if unnamed == 1 else "were"
         notes.append(
-            f"{formatting.count(unnamed, 'test')} more {'was' if unnamed == 1 else 'were'} announced, and never started."
+            f"{formatting.count(unnamed, 'test')} more {were} announced, and never started."
         )
     if outputs.left_out:
         left_out = formatting.count(outputs.left_out, "different output")
@@ -194,8 +329,13 @@ def notes_of(run, outputs):
     return notes
 
 
-def run_form(run):
-    """What is known of a run without its tests."""
+def reason_text(reason: str) -> str:
+    """Return why a run was cancelled in words."""
+    return reason.replace("-", " ")
+
+
+def run_value(run: Run) -> RunValue:
+    """Return what is known of a run without its tests."""
     ended = run.status if run.exit_code is None else f"{run.status}, exit code {run.exit_code}"
     return {
         "id": run.id,
@@ -205,24 +345,28 @@ def run_form(run):
         "status": run.status,
         "exit": run.exit_code,
         "ended": ended,
-        "args": run.cli_args,
+        "args": list(run.cli_args),
         "bundle": run.bundle.name,
     }
 
 
-def page_data(run, drawing, outputs):
-    """All that a page knows of a run."""
-    binaries = {}
-    tests = script_forms(run, drawing, outputs) + test_forms(run, drawing, outputs, binaries)
+def page_data(run: Run, drawing: Drawing, outputs: Outputs) -> PageValue:
+    """Return all that a page knows of a run."""
+    binaries = Binaries()
+    scripts = [
+        script_value(script, span, drawing, outputs)
+        for script, span in zip(run.scripts, drawing.scripts)
+    ]
+    tests = scripts + test_values(run.tests, drawing, outputs, binaries)
     return {
-        "run": run_form(run),
-        "binaries": list(binaries),
+        "run": run_value(run),
+        "binaries": list(binaries.places),
         "tests": tests,
         "outputs": outputs.kept,
         "notes": notes_of(run, outputs),
-        "pauses": [[begin - drawing.begin, end - drawing.begin] for begin, end in drawing.pauses],
+        "pauses": [(begin - drawing.begin, end - drawing.begin) for begin, end in drawing.pauses],
         "marks": [
-            [time - drawing.begin, f"cancelled: {reason.replace('-', ' ')}"]
+            (time - drawing.begin, f"cancelled: {reason_text(reason)}")
             for time, reason in drawing.cancellations
         ],
         "end": drawing.end - drawing.begin,

@@ -1,5 +1,7 @@
 """The page of a run as one HTML file that asks for nothing outside of itself."""
 
+from __future__ import annotations
+
 import base64
 import contextlib
 import hashlib
@@ -14,7 +16,7 @@ from rezovamy_runs import formatting, terminal
 from rezovamy_runs.bundles import bundle
 from rezovamy_runs.bundles.slices import draw
 from rezovamy_runs.faults.fault import Fault
-from rezovamy_runs.page.data import MOST_OUTPUT, Outputs, page_data
+from rezovamy_runs.page.data import MOST_OUTPUT, Outputs, PageValue, page_data
 from rezovamy_runs.store import run_folder
 
 PARTS = pathlib.Path(__file__).resolve().parent / "assets"
@@ -33,37 +35,58 @@ SCRIPTS = (
     "overview",
     "main",
 )
+PLACE_IN_TEMPLATE = re.compile(r"\{\{(\w+)\}\}")
 
 
-def embedded_json(value):
-    """JSON that may stand in a script of a page: ASCII, without a character by which a tag or a comment begins."""
+def embedded_json(value: object) -> str:
+    """Return JSON that may stand in a script of a page.
+
+    It is ASCII, without a character by which a tag or a comment begins.
+    """
     text = json.dumps(value, ensure_ascii=True, separators=(",", ":"))
     return text.replace("<", "\\u003c").replace(">", "\\u003e").replace("&", "\\u0026")
 
 
-def part(name):
+def part(name: str) -> str:
+    """Return the text of a file of which pages are made."""
     return (PARTS / name).read_text(encoding="utf-8")
 
 
-def policy_hash(text):
-    """What a policy of contents calls a text."""
+def policy_hash(text: str) -> str:
+    """Return what a policy of contents calls a text."""
     return f"'sha256-{base64.b64encode(hashlib.sha256(text.encode()).digest()).decode()}'"
 
 
-def page_title(value):
-    """The name of the page's window: how many tests failed or never ended, if any, or passed."""
+def content_policy(script: str, style: str) -> str:
+    """Return a policy that lets no script run but this one, and nothing be fetched."""
+    directives = (
+        "default-src 'none'",
+        f"script-src {policy_hash(script)}",
+        f"style-src {policy_hash(style)}",
+        "img-src data:",
+        "base-uri 'none'",
+        "form-action 'none'",
+    )
+    return "; ".join(directives)
+
+
+def page_title(value: PageValue) -> str:
+    """Return the name of the page's window.
+
+    It says how many tests failed or never ended, if any, or passed.
+    """
     states = [test["state"] for test in value["tests"]]
-    scripts = [
+    runs_of_scripts = [
         attempt
         for test in value["tests"]
         if test["state"] == "script"
-        for attempt in test["attempts"]
+        for attempt in test.get("attempts", [])
     ]
+    unfinished = sum(attempt["result"] == "unfinished" for attempt in runs_of_scripts)
     counts = {
         "failed": states.count("failed"),
-        "setup failed": sum("bad" in attempt for attempt in scripts),
-        "unfinished": states.count("unfinished")
-        + sum(attempt["result"] == "unfinished" for attempt in scripts),
+        "setup failed": sum("bad" in attempt for attempt in runs_of_scripts),
+        "unfinished": states.count("unfinished") + unfinished,
     }
     passed = states.count("passed") + states.count("flaky")
     told = next((f"{count} {word}" for word, count in counts.items() if count), f"{passed} passed")
@@ -71,42 +94,44 @@ def page_title(value):
     return f"{told} · {terminal.cut(profile, LONGEST_PROFILE)} · {value['run']['when']}"
 
 
-def page_html(value):
-    """The page of a value that `page_data` made. Its policy lets no script run but its own, and nothing be fetched."""
-    style = part("style.css")
-    script = (
-        '(() => {\n"use strict";\n' + "\n".join(part(f"{name}.js") for name in SCRIPTS) + "})();\n"
-    )
-    policy = (
-        f"default-src 'none'; script-src {policy_hash(script)}; style-src {policy_hash(style)}; img-src data:; "
-        "base-uri 'none'; form-action 'none'"
-    )
+def page_script() -> str:
+    """Return the script of all pages, whose parts share their names and hide them from others."""
+    parts = "\n".join(part(f"{name}.js") for name in SCRIPTS)
+    return f'(() => {{\n"use strict";\n{parts}}})();\n'
+
+
+def page_html(value: PageValue) -> str:
+    """Return the page of a value that `page_data` made."""
+    style, script = part("style.css"), page_script()
     parts = {
         "title": html.escape(page_title(value)),
-        "policy": html.escape(policy, quote=False),
+        "policy": html.escape(content_policy(script, style), quote=False),
         "style": style,
         "script": script,
         "data": embedded_json(value),
     }
-    return re.sub(r"\{\{(\w+)\}\}", lambda match: parts[match[1]], part("page.html"))
+    return PLACE_IN_TEMPLATE.sub(lambda match: parts[match[1]], part("page.html"))
 
 
-def page_of(path, most_output=MOST_OUTPUT):
-    """The page of the bundle at a path."""
+def page_of(path: pathlib.Path, most_output: int = MOST_OUTPUT) -> str:
+    """Return the page of the bundle at a path."""
 
-    def ask(opened):
+    def value_of(opened: bundle.Bundle) -> PageValue:
         return page_data(opened.run(True), draw(opened.lines()), Outputs(most_output))
 
-    return page_html(bundle.read(path, ask))
+    return page_html(bundle.read(path, value_of))
 
 
-def bytes_of(text):
-    """A page as UTF-8, which halves of pairs are spelled in."""
+def bytes_of(text: str) -> bytes:
+    """Return a page as UTF-8, which halves of pairs are spelled in."""
     return text.encode("utf-8", "backslashreplace")
 
 
-def write_whole(path, text):
-    """Writes a file aside and renames it, so that it is there whole or as it was; a pipe or a device is written to."""
+def write_whole(path: pathlib.Path, text: str) -> None:
+    """Write a file aside and rename it, so that it is there whole or as it was.
+
+    A pipe or a device is written to.
+    """
     data = bytes_of(text)
     if path.exists() and not path.is_file():
         path.write_bytes(data)
@@ -123,17 +148,18 @@ def write_whole(path, text):
             os.unlink(aside)
 
 
-def beside(path):
-    """Where the page of a bundle goes if no other file is named."""
+def beside(path: pathlib.Path) -> pathlib.Path:
+    """Return where the page of a bundle goes if no other file is named."""
     return path.with_suffix(".html")
 
 
-def written(text, target):
-    """Writes a page, and returns where it is."""
+def written(text: str, target: pathlib.Path) -> pathlib.Path:
+    """Write a page, and return where it is."""
     try:
         write_whole(target, text)
     except OSError as error:
         raise Fault(
-            f"the page can't be written to {target}: {error.strerror}; name another file with --to"
+            f"the page can't be written to {target}: {error.strerror}; "
+            "name another file with --to"
         ) from error
     return target
