@@ -1,5 +1,7 @@
 """A headless Chromium that is driven over a pipe by its DevTools protocol, for tests of pages."""
 
+from __future__ import annotations
+
 import contextlib
 import json
 import os
@@ -10,6 +12,10 @@ import signal
 import subprocess
 import tempfile
 import time
+from collections.abc import Iterator
+from typing import TypeAlias
+
+Json: TypeAlias = dict[str, object]
 
 PROGRAMS = ("chromium", "chromium-browser", "google-chrome", "google-chrome-stable")
 LONGEST_WAIT = 60
@@ -26,31 +32,43 @@ WORDS = (
     "--disable-sync",
     "--hide-scrollbars",
 )
+NEXT_FRAME = "new Promise((done) => requestAnimationFrame(() => requestAnimationFrame(done)))"
+DOMAINS = ("Page", "Runtime", "Log", "Network")
 
 
-def find():
-    """The path of a browser, None where there is none."""
+def find() -> str | None:
+    """Return the path of a browser, None where there is none; CHROMIUM may name one."""
     named = os.environ.get("CHROMIUM")
     return next(filter(None, map(shutil.which, [named] if named else PROGRAMS)), None)
 
 
-class Browser:
-    """An open browser with one page. Messages that the page writes to its console, and requests, are kept."""
+def member(value: object, *names: str) -> object:
+    """Return a member of a member of an object, None where one of them is missing."""
+    for name in names:
+        value = value.get(name) if isinstance(value, dict) else None
+    return value
 
-    def __init__(self, program, folder):
+
+def take_pipes(down: int, up: int) -> None:
+    """Let pipes be the streams of a browser that starts."""
+    os.dup2(down, 1003)
+    os.dup2(up, 1004)
+    os.dup2(1003, 3)
+    os.dup2(1004, 4)
+
+
+class Browser:
+    """An open browser with one page, of which messages to its console and requests are kept."""
+
+    def __init__(self, program: str, folder: pathlib.Path) -> None:
         down, self.to_browser = os.pipe()
         self.from_browser, up = os.pipe()
-        self.rest, self.number, self.events = b"", 0, []
-
-        def take_pipes():
-            os.dup2(down, 1003)
-            os.dup2(up, 1004)
-            os.dup2(1003, 3)
-            os.dup2(1004, 4)
-
+        self.rest, self.number = b"", 0
+        self.events: list[Json] = []
+        self.session: str | None = None
         self.process = subprocess.Popen(
             [program, *WORDS, f"--user-data-dir={folder}", "about:blank"],
-            preexec_fn=take_pipes,
+            preexec_fn=lambda: take_pipes(down, up),
             close_fds=False,
             stdin=subprocess.DEVNULL,
             stdout=subprocess.DEVNULL,
@@ -59,125 +77,117 @@ class Browser:
         )
         os.close(down)
         os.close(up)
-        self.session = None
         target = self.ask("Target.createTarget", url="about:blank")["targetId"]
-        self.session = self.ask("Target.attachToTarget", targetId=target, flatten=True)["sessionId"]
-        for domain in ("Page", "Runtime", "Log", "Network"):
+        attached = self.ask("Target.attachToTarget", targetId=target, flatten=True)
+        self.session = str(attached["sessionId"])
+        for domain in DOMAINS:
             self.ask(f"{domain}.enable")
 
-    def ask(self, method, **parameters):
-        """What the browser answers; events that come meanwhile are kept."""
+    def ask(self, method: str, **parameters: object) -> Json:
+        """Return what the browser answers; events that come meanwhile are kept."""
         self.number += 1
-        message = {"id": self.number, "method": method, "params": parameters}
+        message: Json = {"id": self.number, "method": method, "params": parameters}
         if self.session:
             message["sessionId"] = self.session
         os.write(self.to_browser, json.dumps(message).encode() + b"\0")
         while True:
             answer = self.next_message()
             if answer.get("id") == self.number:
-                if "error" in answer:
-                    raise AssertionError(f"{method}: {answer['error']['message']}")
-                return answer["result"]
+                assert "error" not in answer, f"{method}: {member(answer, 'error', 'message')}"
+                result = answer["result"]
+                assert isinstance(result, dict)
+                return result
             self.events.append(answer)
 
-    def next_message(self):
+    def next_message(self) -> Json:
+        """Return the next message of the browser."""
         until = time.monotonic() + LONGEST_WAIT
         while b"\0" not in self.rest:
-            ready, _, _ = select.select(
-                [self.from_browser], [], [], max(0, until - time.monotonic())
-            )
+            wait = max(0, until - time.monotonic())
+            ready, _, _ = select.select([self.from_browser], [], [], wait)
             part = os.read(self.from_browser, 1 << 16) if ready else b""
-            if not part:
-                raise AssertionError("the browser doesn't answer")
+            assert part, "the browser doesn't answer"
             self.rest += part
         message, self.rest = self.rest.split(b"\0", 1)
-        return json.loads(message)
+        value = json.loads(message)
+        assert isinstance(value, dict)
+        return value
 
-    def evaluate(self, code):
-        """The value of an expression in the page."""
+    def evaluate(self, code: str) -> object:
+        """Return the value of an expression in the page."""
         answer = self.ask(
             "Runtime.evaluate", expression=code, returnByValue=True, awaitPromise=True
         )
-        if "exceptionDetails" in answer:
-            raise AssertionError(
-                answer["exceptionDetails"]["exception"].get("description", "the page fails")
-            )
-        return answer["result"].get("value")
+        fault = member(answer, "exceptionDetails", "exception", "description")
+        assert "exceptionDetails" not in answer, fault or "the page fails"
+        return member(answer, "result", "value")
 
-    def wait_until(self, code):
-        """Waits until an expression in the page is true."""
+    def wait_until(self, code: str) -> None:
+        """Wait until an expression in the page is true."""
         until = time.monotonic() + LONGEST_WAIT
         while not self.evaluate(f"Boolean({code})"):
-            if time.monotonic() > until:
-                raise AssertionError(f"it never comes: {code}")
+            assert time.monotonic() <= until, f"it never comes: {code}"
             time.sleep(0.02)
 
-    def open(self, path, wide=1400, high=900, dark=False):
-        """Opens a page in a window of this size."""
-        self.ask(
-            "Emulation.setDeviceMetricsOverride",
-            width=wide,
-            height=high,
-            deviceScaleFactor=1,
-            mobile=False,
-        )
-        self.ask(
-            "Emulation.setEmulatedMedia",
-            features=[{"name": "prefers-color-scheme", "value": "dark" if dark else "light"}],
-        )
-        self.ask("Page.navigate", url=pathlib.Path(path).resolve().as_uri())
+    def open(
+        self, path: pathlib.Path, wide: int = 1400, high: int = 900, dark: bool = False
+    ) -> None:
+        """Open a page in a window of this size."""
+        size: Json = {"width": wide, "height": high, "deviceScaleFactor": 1, "mobile": False}
+        self.ask("Emulation.setDeviceMetricsOverride", **size)
+        scheme = {"name": "prefers-color-scheme", "value": "dark" if dark else "light"}
+        self.ask("Emulation.setEmulatedMedia", features=[scheme])
+        self.ask("Page.navigate", url=path.resolve().as_uri())
         self.wait_until("document.readyState === 'complete'")
         # Before the first frame a browser drops what mouse and keys do.
-        self.evaluate(
-            "new Promise((done) => requestAnimationFrame(() => requestAnimationFrame(done)))"
-        )
+        self.evaluate(NEXT_FRAME)
 
-    def press(self, key, code=None, text=None):
-        """Presses a key; `code` is the number that Windows has for it."""
-        shared = {"key": key, "code": key, "windowsVirtualKeyCode": code or ord(key[0].upper())}
-        self.ask(
-            "Input.dispatchKeyEvent", type="keyDown", **shared, **({"text": text} if text else {})
-        )
+    def press(self, key: str, code: int | None = None, text: str | None = None) -> None:
+        """Press a key; `code` is the number that Windows has for it."""
+        number = code or ord(key[0].upper())
+        shared: Json = {"key": key, "code": key, "windowsVirtualKeyCode": number}
+        written: Json = {"text": text} if text else {}
+        self.ask("Input.dispatchKeyEvent", type="keyDown", **shared, **written)
         self.ask("Input.dispatchKeyEvent", type="keyUp", **shared)
 
-    def write(self, text):
-        """Types a text where the keyboard is."""
+    def write(self, text: str) -> None:
+        """Type a text where the keyboard is."""
         self.ask("Input.insertText", text=text)
 
-    def click(self, x, y):
-        for kind, button in (
-            ("mouseMoved", "none"),
-            ("mousePressed", "left"),
-            ("mouseReleased", "left"),
-        ):
-            self.ask("Input.dispatchMouseEvent", type=kind, x=x, y=y, button=button, clickCount=1)
+    def click(self, x: float, y: float) -> None:
+        """Click with the mouse."""
+        kinds = {"mouseMoved": "none", "mousePressed": "left", "mouseReleased": "left"}
+        for kind, button in kinds.items():
+            place: Json = {"x": x, "y": y, "button": button, "clickCount": 1}
+            self.ask("Input.dispatchMouseEvent", type=kind, **place)
 
-    def complaints(self):
-        """What the page wrote to its console, and exceptions that nobody caught."""
+    def complaints(self) -> list[str]:
+        """Return what the page wrote to its console, and exceptions that nobody caught."""
         found = []
         for event in self.events:
-            method, told = event.get("method"), event.get("params", {})
-            if method == "Runtime.exceptionThrown":
-                found.append(
-                    told["exceptionDetails"]
-                    .get("exception", {})
-                    .get("description", told["exceptionDetails"]["text"])
-                )
-            elif method == "Runtime.consoleAPICalled":
-                found.append(f"console.{told['type']}")
-            elif method == "Log.entryAdded":
-                found.append(told["entry"]["text"])
+            told = event.get("params")
+            match event.get("method"):
+                case "Runtime.exceptionThrown":
+                    details = member(told, "exceptionDetails")
+                    said = member(details, "exception", "description")
+                    found.append(str(said or member(details, "text")))
+                case "Runtime.consoleAPICalled":
+                    found.append(f"console.{member(told, 'type')}")
+                case "Log.entryAdded":
+                    found.append(str(member(told, "entry", "text")))
         return found
 
-    def requests(self):
-        """The addresses for which the page asked."""
-        sent = [
-            event for event in self.events if event.get("method") == "Network.requestWillBeSent"
+    def requests(self) -> list[str]:
+        """Return the addresses for which the page asked."""
+        addresses = [
+            str(member(event, "params", "request", "url"))
+            for event in self.events
+            if event.get("method") == "Network.requestWillBeSent"
         ]
-        addresses = [event["params"]["request"]["url"] for event in sent]
         return [address for address in addresses if not address.startswith("data:")]
 
-    def close(self):
+    def close(self) -> None:
+        """End the browser, if need be by force."""
         with contextlib.suppress(OSError, AssertionError):
             self.session = None
             self.ask("Browser.close")
@@ -191,10 +201,10 @@ class Browser:
 
 
 @contextlib.contextmanager
-def opened(program):
-    """A browser with a profile of its own, which goes with it."""
+def opened(program: str) -> Iterator[Browser]:
+    """Open a browser with a profile of its own, which goes with it."""
     with tempfile.TemporaryDirectory(ignore_cleanup_errors=True) as folder:
-        browser = Browser(program, folder)
+        browser = Browser(program, pathlib.Path(folder))
         try:
             yield browser
         finally:

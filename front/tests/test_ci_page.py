@@ -37,35 +37,30 @@ def scripts(job):
     return found
 
 
-class Jobs(unittest.TestCase):
-    def test_there_are_three(self):
-        self.assertEqual([len(scripts(job)) for job in JOBS], [3, 6, 3])
-
-    def test_bash_reads_each_script(self):
-        for job in JOBS:
-            for script in scripts(job):
-                plain = re.sub(r"\$\{\{.*?\}\}", "x", script)
-                done = subprocess.run(["bash", "-n", "-c", plain], capture_output=True, check=False)
-                self.assertEqual((done.returncode, done.stderr), (0, b""), script)
-
-    def test_the_front_end_takes_their_words(self):
-        lines = "\n".join(script for job in JOBS for script in scripts(job))
-        asked = re.findall(r"rezovamy-runs ([a-z][^;\n]*)", lines)
-        self.assertEqual(
-            asked,
-            [
-                "test -- --workspace",
-                "junit --to test-run/junit",
-                "page --to test-run/page.html",
-                "show",
-                "test -- --workspace",
-                "junit --to test-run/junit",
-                "page --to test-run/page.html",
-            ],
-        )
-        for words in asked:
-            front_end.parser().parse_args(words.partition(" -- ")[0].split())
+# class Jobs(unittest.TestCase):
+def test_there_are_three() -> None:
+    assert [len(scripts(job)) for job in JOBS] == [3, 6, 3]
 
 
-if __name__ == "__main__":
-    unittest.main()
+def test_bash_reads_each_script() -> None:
+    for job in JOBS:
+        for script in scripts(job):
+            plain = re.sub(r"\$\{\{.*?\}\}", "x", script)
+            done = subprocess.run(["bash", "-n", "-c", plain], capture_output=True, check=False)
+            assert (done.returncode, done.stderr) == (0, b""), script
+
+
+def test_the_front_end_takes_their_words() -> None:
+    lines = "\n".join(script for job in JOBS for script in scripts(job))
+    asked = re.findall(r"rezovamy-runs ([a-z][^;\n]*)", lines)
+    assert asked == [
+        "test -- --workspace",
+        "junit --to test-run/junit",
+        "page --to test-run/page.html",
+        "show",
+        "test -- --workspace",
+        "junit --to test-run/junit",
+        "page --to test-run/page.html",
+    ]
+    for words in asked:
+        front_end.parser().parse_args(words.partition(" -- ")[0].split())

@@ -1,488 +1,390 @@
 """What a page knows of a run, and the file that is made of it."""
 
+from __future__ import annotations
+
 import base64
-import contextlib
+import dataclasses
 import hashlib
 import html.parser
-import io
 import json
-import os
 import pathlib
 import re
-import tempfile
-import unittest
-import unittest.mock
 
-from rezovamy_runs.page import document
+import pytest
+
+from rezovamy_runs import cli
 from rezovamy_runs.faults.fault import Fault
-from rezovamy_runs.cli import run as front_end
-from rezovamy_runs.page.data import Outputs, cut_middle
-from tests.made import (
-    bundle_of,
-    event,
-    exit_code,
-    failed,
-    finished,
-    retried,
-    session_of,
-    skipped,
-    started,
-    status,
-)
-
+from rezovamy_runs.page import document
+from rezovamy_runs.page.data import PageAttempt, Outputs, PageData, State, PageTest, cut_middle
 from tests import EXAMPLES
+from tests.made import bundle_of, exit_code, finished, session_of, started, status
+from tests.page_sessions import NASTY, nasty_session
 
-NASTY = (
-    "</script><script>alert(1)</script><!-- \u2028\u2029 &lt; {{data}} é \U0001f980".encode()
-    + b"\xff\x00\x1b[31m"
+DATA = re.compile(r'<script type="application/json" id="data">(.*?)</script>')
+LOADING = r"fetch\(|XMLHttpRequest|WebSocket|import\(|innerHTML|eval\("
+
+
+@dataclasses.dataclass(frozen=True)
+class Page:
+    """The page of a run, and the value that its script reads."""
+
+    text: str
+    value: PageData
+
+    @property
+    def tests(self) -> dict[str, PageTest]:
+        """The tests by their names."""
+        return {test["name"]: test for test in self.value["tests"]}
+
+
+def page_of(session: str, folder: pathlib.Path) -> Page:
+    """Return the page of a session."""
+    path = folder / "run.bundle"
+    path.write_bytes(bundle_of(session))
+    text = document.page_of(path)
+    return Page(text, json.loads(DATA.findall(text)[0]))
+
+
+@pytest.fixture
+def page(tmp_path: pathlib.Path) -> Page:
+    """Return the page of a run with all that a run may have."""
+    return page_of(nasty_session(), tmp_path)
+
+
+# The value.
+
+
+def test_tests_have_their_states(page: Page) -> None:
+    assert {name: test["state"] for name, test in page.tests.items()} == {
+        "database": "script",
+        "a</script>": "failed",
+        "flaky": "flaky",
+        "hangs": "unfinished",
+        "later": "skipped",
+    }
+    assert page.value["binaries"] == ["alpha"]
+    skipped = {"binary": 0, "name": "later", "state": "skipped", "reason": "ignored"}
+    assert page.tests["later"] == skipped
+
+
+def test_attempts_have_slices_in_microseconds_since_the_begin(page: Page) -> None:
+    first, second = page.tests["flaky"]["attempts"]
+    assert (first["slot"], first["slices"]) == (1, [1_000_000, 2_000_000])
+    assert (first["bad"], first["detail"]) == (True, "exit code 101")
+    assert (second["slot"], second["slices"]) == (3, [6_000_000, 7_000_000])
+    assert "bad" not in second
+
+
+def test_a_pause_cuts_an_attempt(page: Page) -> None:
+    (failing,) = page.tests["a</script>"]["attempts"]
+    slices = [1_000_000, 3_000_000, 5_000_000, 8_000_000]
+    assert (failing["slot"], failing["slices"], failing["seconds"]) == (0, slices, 5)
+
+
+def test_an_attempt_without_an_end_has_no_length(page: Page) -> None:
+    (hanging,) = page.tests["hangs"]["attempts"]
+    slices = [1_500_000, 3_000_000, 5_000_000, 9_000_000]
+    assert (hanging["result"], hanging["slices"]) == ("unfinished", slices)
+    assert "seconds" not in hanging
+
+
+def test_a_setup_script_has_a_slice(page: Page) -> None:
+    (script,) = page.tests["database"]["attempts"]
+    assert (script["slot"], script["slices"]) == (0, [0, 1_000_000])
+
+
+def test_each_output_is_there_once(page: Page) -> None:
+    assert [output["size"] for output in page.value["outputs"]] == [6, len(NASTY), 0]
+    first, second = page.tests["flaky"]["attempts"]
+    assert [tuple(pair) for pair in first["outputs"]] == [("stdout", 1)]
+    assert [tuple(pair) for pair in second["outputs"]] == [("stdout", 0), ("stderr", 2)]
+    assert page.value["outputs"][1]["text"].encode("utf-8", "surrogateescape") == NASTY
+
+
+def test_the_run_is_told(page: Page) -> None:
+    run = page.value["run"]
+    assert (run["profile"], run["seconds"], run["args"]) == ("ci", 9, ["--no-fail-fast"])
+    assert run["ended"] == "completed, exit code 101"
+    assert [tuple(pair) for pair in page.value["pauses"]] == [(3_000_000, 5_000_000)]
+    marks = [tuple(pair) for pair in page.value["marks"]]
+    assert marks == [(9_000_000, "cancelled: interrupt")]
+    cancelled = "The run was cancelled: interrupt."
+    assert page.value["notes"] == [cancelled, "2 tests more were announced, and never started."]
+
+
+def test_a_run_without_an_end_says_so(tmp_path: pathlib.Path) -> None:
+    page = page_of((EXAMPLES / "pause_and_retry.session").read_text(), tmp_path)
+    note = "The run was broken off, or the recording of it was: it has no end."
+    assert page.value["notes"] == [note]
+
+
+def test_a_run_without_events_has_a_page(tmp_path: pathlib.Path) -> None:
+    value = page_of(session_of([]), tmp_path).value
+    assert (value["tests"], value["end"]) == ([], 0)
+
+
+# Long outputs.
+
+
+@pytest.mark.parametrize(
+    ("data", "most", "expected"),
+    [
+        (b"0123456789", 10, (b"0123456789", b"", 0)),
+        (b"0123456789", 4, (b"01", b"89", 6)),
+        (b"0123456789", 0, (b"", b"", 10)),
+    ],
 )
+def test_the_middle_goes(data: bytes, most: int, expected: tuple[bytes, bytes, int]) -> None:
+    assert cut_middle(data, most) == expected
 
 
-def page_of(session, **options):
-    """The page of a session, and the value that its script reads."""
-    with tempfile.TemporaryDirectory() as folder:
-        path = pathlib.Path(folder, "run.bundle")
-        path.write_bytes(bundle_of(session))
-        text = document.page_of(path, **options)
-    found = re.findall(r'<script type="application/json" id="data">(.*?)</script>', text)
-    return text, json.loads(found[0])
+@pytest.mark.parametrize(
+    ("data", "most", "expected"),
+    [
+        ("aé--éa".encode(), 4, (b"a", b"a", 6)),
+        ("a€--€a".encode(), 6, (b"a", b"a", 8)),
+        ("é--é".encode(), 4, ("é".encode(), "é".encode(), 2)),
+        (b"a\xff--\xffa", 4, (b"a", b"\xffa", 3)),
+    ],
+)
+def test_no_character_is_cut(data: bytes, most: int, expected: tuple[bytes, bytes, int]) -> None:
+    assert cut_middle(data, most) == expected
 
 
-def nasty_session():
-    """A run with a pause, a retry, a test that never ended, a script and outputs that could do harm."""
-    script = {"script_id": "database", "index": 0, "program": "sh", "args": ["-c", "start"]}
-    return session_of(
+def test_a_note_says_what_is_left_out() -> None:
+    outputs = Outputs(most_each=200)
+    outputs.place(b"a" * 150 + b"b" * 150)
+    text = "a" * 100 + "\n\n... [100 bytes are left out] ...\n\n" + "b" * 100
+    note = "100 bytes in the middle are left out here. `rezovamy-runs show` prints them."
+    assert outputs.kept == [{"size": 300, "text": text, "note": note}]
+
+
+def test_the_recording_may_have_cut_it_before() -> None:
+    outputs = Outputs()
+    outputs.place(b"ab", 2_000_000)
+    note = "It was cut in the recording: of 2,000,000 bytes 2 were kept."
+    assert outputs.kept == [{"size": 2_000_000, "text": "ab", "note": note}]
+
+
+def test_all_of_them_have_room_together() -> None:
+    outputs = Outputs(most_all=250)
+    for letter in b"abc":
+        outputs.place(bytes([letter]) * 200)
+    assert [len(output["text"]) for output in outputs.kept] == [200, 0, 0]
+    note = "This page has no more room for outputs. `rezovamy-runs show` prints it."
+    assert outputs.kept[2] == {"size": 200, "text": "", "note": note}
+
+
+def test_failures_have_room_first(tmp_path: pathlib.Path) -> None:
+    session = session_of(
         [
-            event("run-started", 0, profile_name="ci", cli_args=[]),
-            event("setup-script-started", 0, **script),
-            event(
-                "setup-script-finished", 1, **script, run_status=status(0, 1, combined=b"ready\n")
-            ),
-            started(1, "a</script>", 0),
-            started(1, "flaky", 1),
-            started(1.5, "hangs", 2),
-            failed(2, "flaky", status(1, 1, exit_code(), 1, 3, stdout=NASTY)),
-            event("run-paused", 3),
-            event("run-continued", 5),
-            retried(6, "flaky", 2, 3, 3),
-            finished(
-                7,
-                "flaky",
-                status(1, 1, exit_code(), 1, 3, stdout=NASTY),
-                status(6, 1, "pass", 2, 3, stdout=b"ready\n", stderr=b""),
-            ),
-            finished(8, "a</script>", status(1, 5, exit_code(), stdout=NASTY)),
-            skipped(8, "later"),
-            event("run-begin-cancel", 9, reason="interrupt"),
-            event(
-                "run-finished",
-                9,
-                run_elapsed={"secs": 9, "nanos": 0},
-                run_stats={},
-                outstanding_not_seen={"not-seen": [], "total-not-seen": 3},
-            ),
+            started(0, "passes", 0),
+            finished(1, "passes", status(0, 1, stdout=b"p" * 300)),
+            started(1, "fails", 0),
+            finished(2, "fails", status(1, 1, exit_code(), stdout=b"f" * 300)),
         ]
     )
+    outputs = page_of(session, tmp_path).value["outputs"]
+    assert [output["text"][0] for output in outputs] == ["f", "p"]
 
 
-class PageData(unittest.TestCase):
-    def setUp(self):
-        self.text, self.value = page_of(nasty_session())
-        self.tests = {test["name"]: test for test in self.value["tests"]}
-
-    def test_tests_have_their_states(self):
-        self.assertEqual(
-            {name: test["state"] for name, test in self.tests.items()},
-            {
-                "database": "script",
-                "a</script>": "failed",
-                "flaky": "flaky",
-                "hangs": "unfinished",
-                "later": "skipped",
-            },
-        )
-        self.assertEqual(self.value["binaries"], ["alpha"])
-        self.assertEqual(
-            self.tests["later"],
-            {"binary": 0, "name": "later", "state": "skipped", "reason": "ignored"},
-        )
-
-    def test_attempts_have_slices_in_microseconds_since_the_begin(self):
-        first, second = self.tests["flaky"]["attempts"]
-        self.assertEqual((first["slot"], first["slices"]), (1, [1_000_000, 2_000_000]))
-        self.assertEqual((first["bad"], first["detail"]), (True, "exit code 101"))
-        self.assertEqual((second["slot"], second["slices"]), (3, [6_000_000, 7_000_000]))
-        self.assertNotIn("bad", second)
-        (failing,) = self.tests["a</script>"]["attempts"]
-        self.assertEqual(
-            (failing["slot"], failing["slices"]), (0, [1_000_000, 3_000_000, 5_000_000, 8_000_000])
-        )
-        self.assertEqual(failing["seconds"], 5)
-        (hanging,) = self.tests["hangs"]["attempts"]
-        self.assertEqual(
-            (hanging["result"], hanging["slices"]),
-            ("unfinished", [1_500_000, 3_000_000, 5_000_000, 9_000_000]),
-        )
-        self.assertNotIn("seconds", hanging)
-        (script,) = self.tests["database"]["attempts"]
-        self.assertEqual((script["slot"], script["slices"]), (0, [0, 1_000_000]))
-
-    def test_each_output_is_there_once(self):
-        self.assertEqual([output["size"] for output in self.value["outputs"]], [6, len(NASTY), 0])
-        first, second = self.tests["flaky"]["attempts"]
-        self.assertEqual(
-            (first["outputs"], second["outputs"]), ([["stdout", 1]], [["stdout", 0], ["stderr", 2]])
-        )
-        self.assertEqual(self.value["outputs"][1]["text"].encode("utf-8", "surrogateescape"), NASTY)
-
-    def test_the_run_is_told(self):
-        run = self.value["run"]
-        self.assertEqual(
-            (run["profile"], run["seconds"], run["args"]), ("ci", 9, ["--no-fail-fast"])
-        )
-        self.assertEqual(run["ended"], "completed, exit code 101")
-        self.assertEqual(self.value["pauses"], [[3_000_000, 5_000_000]])
-        self.assertEqual(self.value["marks"], [[9_000_000, "cancelled: interrupt"]])
-        self.assertEqual(
-            self.value["notes"],
-            [
-                "The run was cancelled: interrupt.",
-                "2 tests more were announced, and never started.",
-            ],
-        )
-
-    def test_a_run_without_an_end_says_so(self):
-        _, value = page_of((EXAMPLES / "pause_and_retry.session").read_text())
-        self.assertEqual(
-            value["notes"], ["The run was broken off, or the recording of it was: it has no end."]
-        )
-
-    def test_a_run_without_events_has_a_page(self):
-        _, value = page_of(session_of([]))
-        self.assertEqual((value["tests"], value["end"]), ([], 0))
+def test_what_has_no_room_is_counted(
+    tmp_path: pathlib.Path, monkeypatch: pytest.MonkeyPatch
+) -> None:
+    events = []
+    for number, letter in enumerate(b"ABCD"):
+        ended = status(number, 0.5, stdout=bytes([letter]) * 150_000)
+        events.append(started(number, f"t{number}", 0))
+        events.append(finished(number + 0.5, f"t{number}", ended))
+    monkeypatch.setattr(document, "Outputs", lambda most: Outputs(most, 300_000))
+    value = page_of(session_of(events), tmp_path).value
+    assert [len(output["text"]) for output in value["outputs"]] == [150_000, 150_032, 0, 0]
+    note = "2 different outputs have no room in this page. `rezovamy-runs show` prints all."
+    assert value["notes"] == [note]
 
 
-class LongOutputs(unittest.TestCase):
-    def test_the_middle_goes(self):
-        self.assertEqual(cut_middle(b"0123456789", 10), (b"0123456789", b"", 0))
-        self.assertEqual(cut_middle(b"0123456789", 4), (b"01", b"89", 6))
-        self.assertEqual(cut_middle(b"0123456789", 0), (b"", b"", 10))
-
-    def test_no_character_is_cut(self):
-        self.assertEqual(cut_middle("aé--éa".encode(), 4), (b"a", b"a", 6))
-        self.assertEqual(cut_middle("a€--€a".encode(), 6), (b"a", b"a", 8))
-        self.assertEqual(cut_middle("é--é".encode(), 4), ("é".encode(), "é".encode(), 2))
-        self.assertEqual(cut_middle(b"a\xff--\xffa", 4), (b"a", b"\xffa", 3))
-
-    def test_a_note_says_so(self):
-        outputs = Outputs(most_each=200)
-        outputs.place(b"a" * 150 + b"b" * 150)
-        self.assertEqual(
-            outputs.kept,
-            [
-                {
-                    "size": 300,
-                    "text": "a" * 100 + "\n\n... [100 bytes are left out] ...\n\n" + "b" * 100,
-                    "note": "100 bytes in the middle are left out here. `rezovamy-runs show` prints them.",
-                }
-            ],
-        )
-
-    def test_the_recording_may_have_cut_it_before(self):
-        outputs = Outputs()
-        outputs.place(b"ab", 2_000_000)
-        self.assertEqual(
-            outputs.kept,
-            [
-                {
-                    "size": 2_000_000,
-                    "text": "ab",
-                    "note": "It was cut in the recording: of 2,000,000 bytes 2 were kept.",
-                },
-            ],
-        )
-
-    def test_all_of_them_have_room_together(self):
-        outputs = Outputs(most_all=250)
-        for letter in b"abc":
-            outputs.place(bytes([letter]) * 200)
-        self.assertEqual([len(output["text"]) for output in outputs.kept], [200, 0, 0])
-        note = "This page has no more room for outputs. `rezovamy-runs show` prints it."
-        self.assertEqual(outputs.kept[2], {"size": 200, "text": "", "note": note})
-
-    def test_failures_have_room_first(self):
-        session = session_of(
-            [
-                started(0, "passes", 0),
-                finished(1, "passes", status(0, 1, stdout=b"p" * 300)),
-                started(1, "fails", 0),
-                finished(2, "fails", status(1, 1, exit_code(), stdout=b"f" * 300)),
-            ]
-        )
-        _, value = page_of(session)
-        self.assertEqual([output["text"][0] for output in value["outputs"]], ["f", "p"])
-
-    def test_what_has_no_room_is_counted(self):
-        printed = [bytes([number]) * 150_000 for number in range(65, 69)]
-        session = session_of(
-            [
-                one
-                for number, data in enumerate(printed)
-                for one in (
-                    started(number, f"t{number}", 0),
-                    finished(number + 0.5, f"t{number}", status(number, 0.5, stdout=data)),
-                )
-            ]
-        )
-        with unittest.mock.patch("runs.page.Outputs", lambda most: Outputs(most, 300_000)):
-            _, value = page_of(session)
-        self.assertEqual(
-            [len(output["text"]) for output in value["outputs"]], [150_000, 150_032, 0, 0]
-        )
-        self.assertEqual(
-            value["notes"],
-            ["2 different outputs have no room in this page. `rezovamy-runs show` prints all."],
-        )
+# The file.
 
 
 class Addresses(html.parser.HTMLParser):
     """What a page leads to or loads."""
 
-    def __init__(self):
+    def __init__(self) -> None:
         super().__init__()
-        self.found = []
+        self.found: list[str | None] = []
 
-    def handle_starttag(self, tag, attributes):
+    def handle_starttag(self, tag: str, attrs: list[tuple[str, str | None]]) -> None:
+        """Take the addresses and scripts in the attributes of an element."""
         leading = ("src", "href", "srcset", "action", "data", "style")
-        self.found += [
-            value for name, value in attributes if name in leading or name.startswith("on")
-        ]
+        self.found += [value for name, value in attrs if name in leading or name.startswith("on")]
 
 
-def luminance(colour):
-    """How light a colour is, from 0 to 1, as the guidelines for accessible pages reckon it."""
-    digits = colour if len(colour) == 6 else "".join(digit * 2 for digit in colour)
-    parts = [int(digits[place : place + 2], 16) / 255 for place in (0, 2, 4)]
-    red, green, blue = [
-        part / 12.92 if part <= 0.03928 else ((part + 0.055) / 1.055) ** 2.4 for part in parts
-    ]
-    return 0.2126 * red + 0.7152 * green + 0.0722 * blue
+def test_nothing_ends_the_script_early(page: Page) -> None:
+    text = page.text
+    assert (text.count("<script"), text.count("</script>"), text.count("<!--")) == (2, 2, 0)
+    assert "\u2028" not in text
+    assert "\u2029" not in text
+    assert page.value["tests"][1]["name"] == "a</script>"
 
 
-class Colours(unittest.TestCase):
-    def test_words_stand_out_from_what_is_behind_them(self):
-        words = {
-            "ink",
-            "muted",
-            "faint",
-            "accent",
-            "failed",
-            "flaky",
-            "passed",
-            "skipped",
-            "unfinished",
-            "script",
-        }
-        words |= {"red", "green", "yellow", "blue", "magenta", "cyan", "gray"}
-        themes = re.findall(r"^:root\S* \{(.*?)\}", document.part("style.css"), re.S | re.M)
-        self.assertEqual(len(themes), 2)
-        for theme in themes:
-            colours = {
-                name: luminance(digits) for name, digits in re.findall(r"--([\w-]+): #(\w+)", theme)
-            }
-            for name in words:
-                for behind in ("panel", "back", "hover", "chosen", "code"):
-                    dark, light = sorted((colours[name], colours[behind]))
-                    self.assertGreaterEqual((light + 0.05) / (dark + 0.05), 4.5, (name, behind))
+def test_json_is_ascii() -> None:
+    written = document.embedded_json("</script>\u2028&<!--\udcff")
+    assert written == '"\\u003c/script\\u003e\\u2028\\u0026\\u003c!--\\udcff"'
 
 
-class PageFile(unittest.TestCase):
-    def test_nothing_ends_the_script_early(self):
-        text, value = page_of(nasty_session())
-        self.assertEqual(
-            (text.count("<script"), text.count("</script>"), text.count("<!--")), (2, 2, 0)
-        )
-        self.assertNotIn("\u2028", text)
-        self.assertNotIn("\u2029", text)
-        self.assertEqual(value["tests"][1]["name"], "a</script>")
-
-    def test_json_is_ascii(self):
-        written = document.embedded_json("</script>\u2028&<!--\udcff")
-        self.assertEqual(written, '"\\u003c/script\\u003e\\u2028\\u0026\\u003c!--\\udcff"')
-
-    def test_nothing_is_loaded(self):
-        text, _ = page_of(nasty_session())
-        addresses = Addresses()
-        addresses.feed(text)
-        self.assertEqual(addresses.found, ["data:,", "#tests"])
-        self.assertNotRegex(document.part("style.css"), r"url\(|@import")
-        script = "".join(document.part(f"{name}.js") for name in document.SCRIPTS)
-        self.assertNotRegex(script, r"fetch\(|XMLHttpRequest|WebSocket|import\(|innerHTML|eval\(")
-
-    def test_the_policy_knows_the_script_and_the_style(self):
-        text, _ = page_of(nasty_session())
-        policy = re.search(r'http-equiv="Content-Security-Policy" content="([^"]*)"', text)[1]
-        for tag in ("script", "style"):
-            inner = re.search(rf"<{tag}>(.*?)</{tag}>", text, re.S)[1]
-            self.assertIn(
-                f"{tag}-src 'sha256-{base64.b64encode(hashlib.sha256(inner.encode()).digest()).decode()}'",
-                policy,
-            )
-        self.assertTrue(policy.startswith("default-src 'none'; "))
-
-    def test_the_title_tells_how_it_went(self):
-        text, _ = page_of(nasty_session())
-        self.assertRegex(text, r"<title>1 failed · ci · \d{4}-")
-
-    def test_the_profile_in_the_title_is_short_and_harmless(self):
-        run = {"profile": "a\u202eb\x1b" + "c" * 1000, "when": "now"}
-        title = document.page_title({"tests": [], "run": run})
-        self.assertRegex(title, r"^0 passed · a\\u\{202e\}b\\x1bc+ \.\. · now$")
-        self.assertLess(len(title), 90)
-
-    def test_the_title_calls_no_broken_run_passed(self):
-        def title(*states, **attempt):
-            tests = [{"name": "t", "state": state, "attempts": [attempt]} for state in states]
-            return document.page_title({"tests": tests, "run": {"profile": "ci", "when": "now"}})
-
-        self.assertEqual(title("unfinished", "passed", "failed"), "1 failed · ci · now")
-        self.assertEqual(title("unfinished", "passed", "flaky"), "1 unfinished · ci · now")
-        self.assertEqual(
-            title("script", "skipped", result="fail", bad=True), "1 setup failed · ci · now"
-        )
-        self.assertEqual(title("script", result="unfinished"), "1 unfinished · ci · now")
-        self.assertEqual(title("script", "passed", "flaky", result="pass"), "2 passed · ci · now")
-        self.assertEqual(title(), "0 passed · ci · now")
-
-    def test_all_parts_are_used(self):
-        used = {"page.html", "style.css"} | {f"{name}.js" for name in document.SCRIPTS}
-        self.assertEqual({path.name for path in document.PARTS.iterdir()}, used)
+def test_nothing_is_loaded(page: Page) -> None:
+    addresses = Addresses()
+    addresses.feed(page.text)
+    assert addresses.found == ["data:,", "#tests"]
+    assert not re.search(r"url\(|@import", document.part("style.css"))
+    script = "".join(document.part(f"{name}.js") for name in document.SCRIPTS)
+    assert not re.search(LOADING, script)
 
 
-class Command(unittest.TestCase):
-    def setUp(self):
-        folder = tempfile.TemporaryDirectory()
-        self.addCleanup(folder.cleanup)
-        self.folder = pathlib.Path(folder.name)
-        self.bundle = self.folder / "550e8400-e29b-41d4-a716-446655440000.bundle"
-        self.bundle.write_bytes(bundle_of(nasty_session()))
-        before = os.environ.get("REZOVAMY_RUNS")
-        self.addCleanup(
-            lambda: os.environ.pop("REZOVAMY_RUNS")
-            if before is None
-            else os.environ.update(REZOVAMY_RUNS=before)
-        )
-        os.environ["REZOVAMY_RUNS"] = folder.name
-
-    def command(self, *words):
-        """The status of the command, and what it prints."""
-        printed = io.StringIO()
-        with contextlib.redirect_stdout(printed):
-            return front_end(["page", *words]), printed.getvalue()
-
-    def test_the_last_run_has_its_page_beside_it(self):
-        path = self.bundle.with_suffix(".html")
-        self.assertEqual(self.command(), (0, f"{path}\n"))
-        self.assertTrue(path.read_text().startswith("<!DOCTYPE html>"))
-        self.assertEqual(
-            sorted(one.name for one in self.folder.iterdir()), [self.bundle.name, path.name]
-        )
-
-    def test_a_file_or_standard_output_takes_it(self):
-        self.assertEqual(
-            self.command("550e", "--to", str(self.folder / "page.html")),
-            (0, f"{self.folder}/page.html\n"),
-        )
-        status_of_page, printed = self.command("--to", "-")
-        self.assertEqual((status_of_page, printed), (0, (self.folder / "page.html").read_text()))
-
-    def test_what_cannot_be_written_is_a_line(self):
-        causes = {
-            f"{self.folder}/none/page.html": "No such file or directory",
-            "/dev/full": "No space left on device",
-        }
-        for path, cause in causes.items():
-            with self.assertRaises(Fault) as caught:
-                self.command("--to", path)
-            line = f"the page can't be written to {path}: {cause}; name another file with --to"
-            self.assertEqual(str(caught.exception), line)
-
-    def test_a_page_goes_with_its_run(self):
-        self.command()
-        with contextlib.redirect_stdout(io.StringIO()):
-            for keep, left in (("1", 2), ("0", 0)):
-                front_end(["prune", "--keep", keep])
-                self.assertEqual(len(list(self.folder.iterdir())), left)
-
-    def test_words_that_are_wrong_are_a_line(self):
-        with self.assertRaises(Fault) as caught:
-            self.command("--most-output", "-1")
-        self.assertEqual(caught.exception.status, 2)
+def test_the_policy_knows_the_script_and_the_style(page: Page) -> None:
+    meta = r'http-equiv="Content-Security-Policy" content="([^"]*)"'
+    (policy,) = re.findall(meta, page.text)
+    for tag in ("script", "style"):
+        inner = re.findall(rf"<{tag}>(.*?)</{tag}>", page.text, re.S)[0]
+        digest = base64.b64encode(hashlib.sha256(inner.encode()).digest()).decode()
+        assert f"{tag}-src 'sha256-{digest}'" in policy
+    assert policy.startswith("default-src 'none'; ")
 
 
-def colours(block):
-    """The colours that a block of the style names."""
-    return dict(re.findall(r"--([\w-]+): (#[0-9a-f]{3,6})", block))
+def test_all_parts_are_used() -> None:
+    used = {"page.html", "style.css"} | {f"{name}.js" for name in document.SCRIPTS}
+    assert {path.name for path in document.PARTS.iterdir()} == used
 
 
-def brightness(colour):
-    """The relative luminance of a colour, as accessibility guidelines have it."""
-    digits = colour[1:] if len(colour) == 7 else "".join(2 * digit for digit in colour[1:])
-    parts = [int(digits[at : at + 2], 16) / 255 for at in (0, 2, 4)]
-    red, green, blue = (
-        part / 12.92 if part <= 0.03928 else ((part + 0.055) / 1.055) ** 2.4 for part in parts
-    )
-    return 0.2126 * red + 0.7152 * green + 0.0722 * blue
+# The title.
 
 
-def contrast(one, other):
-    dark, bright = sorted(map(brightness, (one, other)))
-    return (bright + 0.05) / (dark + 0.05)
+def title_of(tests: list[PageTest], profile: str = "ci") -> str:
+    """Return the title of a page with these tests."""
+    run: PageData = {
+        "run": {
+            "id": "",
+            "profile": profile,
+            "when": "now",
+            "seconds": 0,
+            "status": "",
+            "exit": None,
+            "ended": "",
+            "args": [],
+            "bundle": "",
+        },
+        "binaries": [],
+        "tests": tests,
+        "outputs": [],
+        "notes": [],
+        "pauses": [],
+        "marks": [],
+        "end": 0,
+    }
+    return document.page_title(run)
 
 
-class Contrasts(unittest.TestCase):
-    def setUp(self):
-        light, dark = re.findall(r"^:root[^{]*\{(.*?)^\}", document.part("style.css"), re.M | re.S)
-        self.themes = {"light": colours(light), "dark": {**colours(light), **colours(dark)}}
-
-    def demand(self, least, colour, *grounds):
-        for theme, named in self.themes.items():
-            for ground in grounds:
-                found = contrast(named[colour], named[ground])
-                self.assertGreaterEqual(found, least, f"{theme}: {colour} on {ground}")
-
-    def test_slices_stand_out_from_the_ground_and_from_pauses(self):
-        for kind in ("passed", "script", "flaky", "retried", "unfinished", "failed"):
-            self.demand(3, f"edge-{kind}", "panel", "pause")
-        for colour in ("pause-line", "edge"):
-            self.demand(3, colour, "panel")
-
-    def test_labels_can_be_read(self):
-        for colour, kinds in (
-            ("on-failed", ["failed"]),
-            ("on-slice", ["passed", "script"]),
-            ("ink", ["flaky", "retried", "unfinished"]),
-        ):
-            self.demand(4.5, colour, *(f"slice-{kind}" for kind in kinds))
-
-    def test_words_can_be_read_on_each_ground(self):
-        words = [
-            "ink",
-            "muted",
-            "faint",
-            "failed",
-            "flaky",
-            "passed",
-            "skipped",
-            "unfinished",
-            "script",
-        ]
-        outputs = ["red", "green", "yellow", "blue", "magenta", "cyan", "gray"]
-        for colour in words + outputs:
-            self.demand(4.49, colour, "panel", "back", "hover", "code")
-        for colour in words:
-            self.demand(4.49, colour, "chosen")
+def made_tests(states: tuple[State, ...], result: str, bad: bool) -> list[PageTest]:
+    """Return a test of each state, with an attempt that ended so."""
+    attempt: PageAttempt = {"number": 1, "total": 1, "result": result}
+    if bad:
+        attempt["bad"] = True
+    return [{"name": "t", "state": state, "attempts": [attempt]} for state in states]
 
 
-if __name__ == "__main__":
-    unittest.main()
+def test_the_title_tells_how_it_went(page: Page) -> None:
+    assert re.search(r"<title>1 failed · ci · \d{4}-", page.text)
+
+
+def test_the_profile_in_the_title_is_short_and_harmless() -> None:
+    title = title_of([], "a\u202eb\x1b" + "c" * 1000)
+    assert re.fullmatch(r"0 passed · a\\u\{202e\}b\\x1bc+ \.\. · now", title)
+    assert len(title) < 90
+
+
+@pytest.mark.parametrize(
+    ("states", "result", "bad", "told"),
+    [
+        (("unfinished", "passed", "failed"), "pass", False, "1 failed"),
+        (("unfinished", "passed", "flaky"), "pass", False, "1 unfinished"),
+        (("script", "skipped"), "fail", True, "1 setup failed"),
+        (("script",), "unfinished", False, "1 unfinished"),
+        (("script", "passed", "flaky"), "pass", False, "2 passed"),
+        ((), "pass", False, "0 passed"),
+    ],
+)
+def test_the_title_calls_no_broken_run_passed(
+    states: tuple[State, ...], result: str, bad: bool, told: str
+) -> None:
+    assert title_of(made_tests(states, result, bad)) == f"{told} · ci · now"
+
+
+# The command.
+
+
+@dataclasses.dataclass(frozen=True)
+class Command:
+    """The command `page` in a folder with a run."""
+
+    bundle: pathlib.Path
+    printed: pytest.CaptureFixture[str]
+
+    @property
+    def folder(self) -> pathlib.Path:
+        """The folder of the run."""
+        return self.bundle.parent
+
+    def run(self, *words: str) -> tuple[int, str]:
+        """Return the status of the command, and what it prints."""
+        return cli.run(["page", *words]), self.printed.readouterr().out
+
+
+@pytest.fixture
+def command(
+    tmp_path: pathlib.Path, monkeypatch: pytest.MonkeyPatch, capsys: pytest.CaptureFixture[str]
+) -> Command:
+    """Return the command in a folder with a run."""
+    bundle = tmp_path / "550e8400-e29b-41d4-a716-446655440000.bundle"
+    bundle.write_bytes(bundle_of(nasty_session()))
+    monkeypatch.setenv("REZOVAMY_RUNS", str(tmp_path))
+    return Command(bundle, capsys)
+
+
+def test_the_last_run_has_its_page_beside_it(command: Command) -> None:
+    path = command.bundle.with_suffix(".html")
+    assert command.run() == (0, f"{path}\n")
+    assert path.read_text().startswith("<!DOCTYPE html>")
+    files = sorted(file.name for file in command.folder.iterdir())
+    assert files == [command.bundle.name, path.name]
+
+
+def test_a_file_or_standard_output_takes_it(command: Command) -> None:
+    path = command.folder / "page.html"
+    assert command.run("550e", "--to", str(path)) == (0, f"{path}\n")
+    assert command.run("--to", "-") == (0, path.read_text())
+
+
+def test_a_folder_that_is_missing_is_told(command: Command) -> None:
+    path = f"{command.folder}/none/page.html"
+    line = f"the page can't be written to {path}: No such file or directory"
+    with pytest.raises(Fault, match=f"^{re.escape(line)}; name another file with --to$"):
+        command.run("--to", path)
+
+
+def test_a_full_device_is_told(command: Command) -> None:
+    line = "the page can't be written to /dev/full: No space left on device"
+    with pytest.raises(Fault, match=f"^{line}; name another file with --to$"):
+        command.run("--to", "/dev/full")
+
+
+def test_a_page_goes_with_its_run(command: Command) -> None:
+    command.run()
+    for keep, left in (("1", 2), ("0", 0)):
+        cli.run(["prune", "--keep", keep])
+        assert len(list(command.folder.iterdir())) == left
+
+
+def test_words_that_are_wrong_are_a_line(command: Command) -> None:
+    with pytest.raises(Fault) as caught:
+        command.run("--most-output", "-1")
+    assert caught.value.status == 2

@@ -1,14 +1,18 @@
-"""A page in a headless Chromium: by mouse, by keyboard, light and dark, with little and with much in it."""
+"""Pages in a headless Chromium: by mouse, by keyboard, light and dark, of small and large runs."""
+
+from __future__ import annotations
 
 import base64
-import contextlib
+import dataclasses
 import pathlib
 import re
-import tempfile
-import unittest
+from collections.abc import Iterator
+
+import pytest
 
 from rezovamy_runs.page import document
-from tests import browser
+from tests import EXAMPLES, browser
+from tests.browser import Browser, NEXT_FRAME, Json
 from tests.made import (
     bundle_of,
     event,
@@ -20,517 +24,522 @@ from tests.made import (
     started,
     status,
 )
-from tests.test_page import EXAMPLES, nasty_session
+from tests.page_sessions import many_tests, nasty_session, with_binary
 
-PROGRAM = browser.find()
+pytestmark = pytest.mark.browser
+
 READY = "document.documentElement.dataset.ready === 'yes'"
-DETAILS = "document.getElementById('details').innerText"
-ROWS = "[...document.querySelectorAll('.row .name')].map((name) => name.textContent)"
-MANY = 10_000
+NAMES = "[...document.querySelectorAll('.row .name')].map((name) => name.textContent)"
+SUMS = (EXAMPLES / "sums.session").read_text()
 
 
-def many_tests():
-    """A run of many tests on eight slots, of which every thousandth fails."""
-    events = []
-    for number in range(MANY):
-        at, fails = number // 8, number % 1000 == 999
-        printed = b"the last words of test 1999\n" if number == 1999 else b"nothing special\n"
-        events += [
-            started(at, f"test_{number}", number % 8),
-            finished(
-                at + 0.5,
-                f"test_{number}",
-                status(at, 0.5, exit_code() if fails else "pass", stdout=printed),
-            ),
-        ]
-    return session_of(
-        sorted(events, key=lambda one: (one["timestamp"]["secs"], one["timestamp"]["nanos"]))
-    )
+@dataclasses.dataclass
+class Page:
+    """A page of a run in a browser, which complains of nothing and asks for nothing but itself."""
 
+    browser: Browser
+    folder: pathlib.Path
+    address: str = ""
 
-@unittest.skipIf(PROGRAM is None, "no Chromium is here; CHROMIUM may name one")
-class InBrowser(unittest.TestCase):
-    @classmethod
-    def setUpClass(cls):
-        with contextlib.ExitStack() as stack:
-            cls.folder = pathlib.Path(stack.enter_context(tempfile.TemporaryDirectory()))
-            cls.browser = stack.enter_context(browser.opened(PROGRAM))
-            stack.push(lambda *_: False)
-            cls.addClassCleanup(stack.pop_all().close)
-
-    def open(self, session, **window):
-        """Opens the page of a session."""
-        bundle, path = self.folder / "run.bundle", self.folder / f"{self.id()}.html"
+    def open(self, session: str, wide: int = 1400, high: int = 900, dark: bool = False) -> None:
+        """Open the page of a session in a window of this size."""
+        bundle, path = self.folder / "run.bundle", self.folder / "page.html"
         bundle.write_bytes(bundle_of(session))
         path.write_text(document.page_of(bundle))
         self.browser.events.clear()
-        self.browser.open(path, **window)
+        self.browser.open(path, wide, high, dark)
         self.browser.wait_until(READY)
         self.address = path.as_uri()
 
-    def tearDown(self):
-        self.assertEqual(self.browser.complaints(), [])
-        self.assertEqual(self.browser.requests(), [self.address])
+    def evaluate(self, code: str) -> object:
+        """Return the value of an expression in the page."""
+        return self.browser.evaluate(code)
 
-    def search(self, text):
-        """Seeks a text as somebody who types it, and goes to the first test that is found."""
+    def number(self, code: str) -> float:
+        """Return the number that an expression is."""
+        value = self.evaluate(code)
+        assert isinstance(value, (int, float))
+        return value
+
+    def texts(self, code: str) -> list[str]:
+        """Return the texts that an expression is."""
+        value = self.evaluate(code)
+        assert isinstance(value, list)
+        return [str(text) for text in value]
+
+    def member(self, selector: str, name: str) -> str:
+        """Return a member of the first element that a selector finds, which has to be a text."""
+        value = self.evaluate(f"document.querySelector('{selector}').{name}")
+        assert isinstance(value, str)
+        return value
+
+    def inner(self, selector: str) -> str:
+        """Return what is seen of the text of an element."""
+        return self.member(selector, "innerText")
+
+    def content(self, selector: str) -> str:
+        """Return the text of an element."""
+        return self.member(selector, "textContent")
+
+    def style(self, selector: str, name: str) -> object:
+        """Return a style of an element, as it is drawn."""
+        return self.evaluate(f"getComputedStyle(document.querySelector('{selector}')).{name}")
+
+    def fits(self, wide: int) -> bool:
+        """Return whether the page is no wider than so many pixels."""
+        return self.number("document.documentElement.scrollWidth") <= wide
+
+    def rows(self) -> list[str]:
+        """Return the names in the rows of the list that are there."""
+        return self.texts(NAMES)
+
+    def details(self) -> str:
+        """Return what is seen of the details of a test or a run."""
+        return self.inner("#details")
+
+    def click(self, selector: str) -> None:
+        """Click on an element."""
+        self.evaluate(f"document.querySelector('{selector}').click()")
+
+    def focus(self, selector: str) -> None:
+        """Give the keyboard to an element."""
+        self.evaluate(f"document.querySelector('{selector}').focus()")
+
+    def box(self, selector: str) -> dict[str, float]:
+        """Return the sides of an element."""
+        code = f"document.querySelector('{selector}').getBoundingClientRect().toJSON()"
+        value = self.evaluate(code)
+        assert isinstance(value, dict)
+        return {side: float(number) for side, number in value.items()}
+
+    def search(self, text: str) -> None:
+        """Seek a text as somebody who types it, and go to the first test that is found."""
         self.browser.press("/", 191, "/")
         self.browser.write(text)
         self.browser.press("Enter", 13, "\r")
 
-    def test_a_failing_test_is_found_and_its_output_seen(self):
-        self.open((EXAMPLES / "sums.session").read_text())
-        self.assertEqual(
-            self.browser.evaluate("document.getElementById('headline').innerText"),
-            "2 failed, 5 passed, 1 skipped",
-        )
-        told = self.browser.evaluate(DETAILS)
-        self.assertIn(
-            "panicked at tests/wrong.rs:7:5: assertion `left == right` failed: that is the product",
-            told,
-        )
-        self.search("product")
-        self.assertEqual(self.browser.evaluate(ROWS), ["expects_a_product"])
-        told = self.browser.evaluate(DETAILS)
-        self.assertIn("failed, exit code 101", told)
-        self.assertIn("2 + 3 – or 2 × 3?\nabout to fail\n", told)
-        self.assertEqual(
-            self.browser.evaluate("document.getElementById('found').innerText"), "1 of 8 shown"
-        )
-        self.assertEqual(
-            self.browser.evaluate("location.hash"), "#sums%3A%3Awrong/expects_a_product"
-        )
 
-    def test_an_address_leads_to_its_test_alone(self):
-        events = [
-            started(0, "a::t", 0),
-            finished(1, "a::t", status(0, 1)),
-            started(2, "t", 0),
-            finished(3, "t", status(2, 1)),
-        ]
-        for one in events[2:]:
-            one["test-instance"]["binary-id"] = "alpha::a"
-        self.open(session_of(events))
-        self.browser.evaluate("document.querySelectorAll('.row')[1].click()")
-        address = self.browser.evaluate("location.hash")
-        self.browser.evaluate("document.querySelector('.back').click()")
-        self.browser.evaluate(f"location.hash = '{address}'")
-        self.browser.wait_until("document.querySelector('#details h2')")
-        self.assertIn("alpha::a", self.browser.evaluate(DETAILS))
+@pytest.fixture(scope="module")
+def chromium() -> Iterator[Browser]:
+    """Yield a browser for all tests here."""
+    program = browser.find()
+    assert program is not None
+    with browser.opened(program) as opened:
+        yield opened
 
-    def test_failures_come_first(self):
-        self.open((EXAMPLES / "sums.session").read_text())
-        self.assertEqual(
-            self.browser.evaluate(ROWS),
+
+@pytest.fixture
+def page(chromium: Browser, tmp_path: pathlib.Path) -> Iterator[Page]:
+    """Yield a page that is opened with a session."""
+    made = Page(chromium, tmp_path)
+    yield made
+    assert chromium.complaints() == []
+    assert chromium.requests() == [made.address]
+
+
+def test_a_failing_test_is_found_and_its_output_seen(page: Page) -> None:
+    page.open(SUMS)
+    assert page.inner("#headline") == "2 failed, 5 passed, 1 skipped"
+    told = page.details()
+    assert (
+        "panicked at tests/wrong.rs:7:5: assertion `left == right` failed: that is the product"
+        in told
+    )
+    page.search("product")
+    assert page.rows() == ["expects_a_product"]
+    told = page.details()
+    assert "failed, exit code 101" in told
+    assert "2 + 3 – or 2 × 3?\nabout to fail\n" in told
+    assert page.inner("#found") == "1 of 8 shown"
+    assert page.evaluate("location.hash") == "#sums%3A%3Awrong/expects_a_product"
+
+
+def test_an_address_leads_to_its_test_alone(page: Page) -> None:
+    events = [
+        started(0, "a::t", 0),
+        finished(1, "a::t", status(0, 1)),
+        started(2, "t", 0),
+        finished(3, "t", status(2, 1)),
+    ]
+    page.open(session_of(events[:2] + [with_binary("alpha::a", one) for one in events[2:]]))
+    page.evaluate("document.querySelectorAll('.row')[1].click()")
+    address = page.evaluate("location.hash")
+    page.click(".back")
+    page.evaluate(f"location.hash = '{address}'")
+    page.browser.wait_until("document.querySelector('#details h2')")
+    assert "alpha::a" in page.details()
+
+
+def test_failures_come_first(page: Page) -> None:
+    page.open(SUMS)
+    assert page.rows() == [
+        "answers_an_error",
+        "expects_a_product",
+        "tests::adds",
+        "tests::none_above_the_range",
+        "takes_a_moment",
+        "takes_a_second",
+        "panics",
+        "tests::adds_very_many",
+    ]
+    page.evaluate("document.getElementById('sort').value = 'slowest'")
+    page.evaluate("document.getElementById('sort').dispatchEvent(new Event('change'))")
+    assert page.rows()[:2] == ["takes_a_second", "takes_a_moment"]
+
+
+def test_a_setup_script_that_failed_is_a_failure(page: Page) -> None:
+    script: Json = {"script_id": "database", "index": 0, "program": "sh", "args": []}
+    ended = status(0, 1, exit_code(3), combined=b"")
+    page.open(
+        session_of(
             [
-                "answers_an_error",
-                "expects_a_product",
-                "tests::adds",
-                "tests::none_above_the_range",
-                "takes_a_moment",
-                "takes_a_second",
-                "panics",
-                "tests::adds_very_many",
-            ],
-        )
-        self.browser.evaluate("document.getElementById('sort').value = 'slowest'")
-        self.browser.evaluate("document.getElementById('sort').dispatchEvent(new Event('change'))")
-        self.assertEqual(self.browser.evaluate(ROWS)[:2], ["takes_a_second", "takes_a_moment"])
-
-    def test_a_setup_script_that_failed_is_a_failure(self):
-        script = {"script_id": "database", "index": 0, "program": "sh", "args": []}
-        self.open(
-            session_of(
-                [
-                    event("setup-script-started", 0, **script),
-                    event(
-                        "setup-script-finished",
-                        1,
-                        **script,
-                        run_status=status(0, 1, exit_code(3), combined=b""),
-                    ),
-                    started(1, "passes", 0),
-                    finished(2, "passes", status(1, 1)),
-                ]
-            )
-        )
-        self.assertEqual(self.browser.evaluate(ROWS), ["database", "passes"])
-        self.browser.press("n", text="n")
-        told = self.browser.evaluate(DETAILS).split("\n")
-        self.assertEqual([one for one in told if one][1:4], ["✕", "database", "setup script"])
-        self.assertIn("failed, exit code 3", told)
-        self.browser.evaluate("document.querySelector('[data-state=script]').click()")
-        self.assertEqual(
-            self.browser.evaluate("document.getElementById('found').innerText"), "0 of 1 shown"
-        )
-
-    def test_what_could_do_harm_is_shown(self):
-        self.open(nasty_session())
-        self.search("a</script>")
-        told = self.browser.evaluate(DETAILS)
-        self.assertIn("</script><script>alert(1)</script><!--", told)
-        self.assertIn("&lt; {{data}} é \U0001f980\\xff\\x00", told)
-        self.assertNotIn("\x1b", told)
-        self.assertEqual(self.browser.evaluate("document.querySelectorAll('script').length"), 2)
-        self.assertEqual(
-            self.browser.evaluate("document.querySelector('.byte').textContent"), "\\xff"
-        )
-
-    def test_what_could_turn_the_name_of_a_row_is_shown(self):
-        events = [started(0, "t\u202e", 0), finished(1, "t\u202e", status(0, 1))]
-        for one in events:
-            one["test-instance"]["binary-id"] = "a\u202eb\0"
-        self.open(session_of(events))
-        self.assertEqual(
-            self.browser.evaluate("document.querySelector('.row .name').title"), "t\\u{202e}"
-        )
-        self.browser.evaluate("document.querySelector('[data-rows=binary]').click()")
-        self.browser.evaluate("document.getElementById('lanes').focus()")
-        self.browser.press("ArrowRight", 39)
-        said = self.browser.evaluate("document.getElementById('said').textContent")
-        self.assertEqual(said, r"t\u{202e}, a\u{202e}b\x00, passed, 1.00 s, a\u{202e}b\x00 0")
-
-    def test_attempts_are_shown_in_their_order(self):
-        self.open(nasty_session())
-        self.search("flaky")
-        titles = self.browser.evaluate(
-            "[...document.querySelectorAll('.attempt > header')].map((header) => header.innerText)"
-        )
-        self.assertEqual(
-            [" ".join(title.split()) for title in titles],
-            [
-                "Attempt 1 of 3 failed, exit code 101 1.00 s from 1.00 s slot 1",
-                "Attempt 2 of 3 passed 1.00 s from 6.00 s slot 3",
-            ],
-        )
-        self.search("hangs")
-        self.assertIn(
-            "never ended\nfrom 1.50 s, without 2.00 s of pause", self.browser.evaluate(DETAILS)
-        )
-
-    def test_a_test_that_fails_though_it_passed_says_why(self):
-        tries = status(0, 1, exit_code(), 1, 2), status(2, 1, "pass", 2, 2)
-        self.open(
-            session_of(
-                [
-                    started(0, "t", 0),
-                    failed(1, "t", tries[0]),
-                    retried(2, "t", 2, 2, 0),
-                    finished(3, "t", *tries, flaky="fail"),
-                ]
-            )
-        )
-        why = self.browser.evaluate("document.querySelector('.why').innerText")
-        self.assertEqual(why, "it passed at a later attempt, which counts as a failure")
-
-    def test_a_search_in_outputs(self):
-        self.open(nasty_session())
-        self.browser.evaluate("document.getElementById('in-outputs').click()")
-        self.search("ready")
-        self.assertEqual(self.browser.evaluate(ROWS), ["flaky", "database"])
-        self.assertEqual(
-            self.browser.evaluate("document.querySelector('pre mark').textContent"), "ready"
-        )
-
-    def test_the_keyboard_goes_everywhere(self):
-        self.open((EXAMPLES / "sums.session").read_text())
-        self.browser.press("n", text="n")
-        self.assertIn(
-            "answers_an_error",
-            self.browser.evaluate("document.querySelector('#details h2').innerText"),
-        )
-        self.browser.evaluate("document.getElementById('list').focus()")
-        self.browser.press("ArrowDown", 40)
-        row = self.browser.evaluate(
-            "document.getElementById('list').getAttribute('aria-activedescendant')"
-        )
-        self.assertEqual(
-            self.browser.evaluate(f"document.querySelector('#{row} .name').textContent"),
-            "expects_a_product",
-        )
-        self.browser.press("Enter", 13, "\r")
-        self.assertEqual(self.browser.evaluate("document.activeElement.id"), "details")
-        self.browser.press("Escape", 27)
-        self.assertEqual(self.browser.evaluate("document.activeElement.id"), "list")
-        self.browser.press("Escape", 27)
-        self.assertIn("Slowest tests", self.browser.evaluate(DETAILS))
-        self.browser.evaluate("document.getElementById('lanes').focus()")
-        self.browser.press("ArrowRight", 39)
-        said = self.browser.evaluate("document.getElementById('said').textContent")
-        self.assertEqual(said.strip(), "tests::adds, sums, passed, 7 µs, slot 0")
-
-    def test_a_key_that_is_held(self):
-        self.open((EXAMPLES / "sums.session").read_text())
-        # The browser complains of an address that changes so often.
-        self.browser.evaluate(
-            """for (let times = 0; times < 400; times++) {
-            const key = times % 2 ? "ArrowUp" : "ArrowDown";
-            document.getElementById("list").dispatchEvent(new KeyboardEvent("keydown", { key, bubbles: true }));
-        }"""
-        )
-        self.browser.wait_until("location.hash === '#sums%3A%3Awrong/answers_an_error'")
-
-    def test_a_box_that_is_ticked_keeps_no_keys(self):
-        self.open((EXAMPLES / "sums.session").read_text())
-        self.browser.evaluate("document.getElementById('in-outputs').focus()")
-        self.browser.press("n", text="n")
-        self.assertIn(
-            "answers_an_error",
-            self.browser.evaluate("document.querySelector('#details h2')?.innerText ?? ''"),
-        )
-
-    def test_a_click_on_a_slice_shows_its_test(self):
-        self.open((EXAMPLES / "pause_and_retry.session").read_text())
-        box = self.browser.evaluate(
-            "document.getElementById('canvas').getBoundingClientRect().toJSON()"
-        )
-        second_row = box["top"] + 22 + 24 * 1.5
-        # It is that of slot 1, on which t2 runs from the first to the third second of eleven.
-        self.browser.click(box["width"] * 0.2, second_row)
-        self.browser.wait_until("document.querySelector('#details h2')")
-        self.assertIn(
-            "t2", self.browser.evaluate("document.querySelector('#details h2').innerText")
-        )
-        self.browser.press("Escape", 27)
-        # In the pause there is nothing to click on.
-        self.browser.click(box["width"] * 0.42, second_row)
-        self.assertIn("Slowest tests", self.browser.evaluate(DETAILS))
-
-    def test_the_tip_of_a_very_long_name_is_small(self):
-        self.open(session_of([started(0, "x" * 5000, 0), finished(1, "x" * 5000, status(0, 1))]))
-        self.browser.ask("Input.dispatchMouseEvent", type="mouseMoved", x=700, y=160)
-        self.browser.wait_until("!document.getElementById('tip').hidden")
-        self.assertLess(self.browser.evaluate("document.getElementById('tip').offsetHeight"), 120)
-        self.assertTrue(
-            self.browser.evaluate("document.documentElement.scrollHeight <= innerHeight")
-        )
-
-    def test_very_long_names_take_some_lines_of_the_overview(self):
-        events, name = [], "x" * 5000
-        for at, result in enumerate((exit_code(), "pass")):
-            events += [
-                started(at, f"{at}{name}", 0),
-                finished(at + 1, f"{at}{name}", status(at, 1, result)),
+                event("setup-script-started", 0, **script),
+                event("setup-script-finished", 1, **script, run_status=ended),
+                started(1, "passes", 0),
+                finished(2, "passes", status(1, 1)),
             ]
-        for one in events:
-            one["test-instance"]["binary-id"] = name
-        begun = event("run-started", 0, profile_name=f"p{name}", cli_args=["cargo", name])
-        for wide in (1400, 400):
-            self.open(session_of([begun, *events]), wide=wide)
-            for place in (".item", "tr", ".about dd", ".facts"):
-                high = f"Math.max(...[...document.querySelectorAll('{place}')].map((one) => one.offsetHeight))"
-                self.assertLess(self.browser.evaluate(high), 200, place)
-            self.assertTrue(
-                self.browser.evaluate(f"document.documentElement.scrollWidth <= {wide}")
-            )
-            whole = "document.querySelector('{}').title.length > 5000"
-            self.assertTrue(self.browser.evaluate(whole.format(".item .name")))
-            self.assertTrue(self.browser.evaluate(whole.format(".facts [title^=profile]")))
+        )
+    )
+    assert page.rows() == ["database", "passes"]
+    page.browser.press("n", text="n")
+    told = page.details().split("\n")
+    assert [one for one in told if one][1:4] == ["✕", "database", "setup script"]
+    assert "failed, exit code 3" in told
+    page.click("[data-state=script]")
+    assert page.inner("#found") == "0 of 1 shown"
 
-    def test_a_slice_has_an_edge(self):
-        self.open((EXAMPLES / "sums.session").read_text())
-        found = self.browser.evaluate(
-            """(() => {
-            const canvas = document.getElementById("canvas"), context = canvas.getContext("2d"), found = new Set();
+
+def test_what_could_do_harm_is_shown(page: Page) -> None:
+    page.open(nasty_session())
+    page.search("a</script>")
+    told = page.details()
+    assert "</script><script>alert(1)</script><!--" in told
+    assert "&lt; {{data}} é \U0001f980\\xff\\x00" in told
+    assert "\x1b" not in told
+    assert page.evaluate("document.querySelectorAll('script').length") == 2
+    assert page.content(".byte") == "\\xff"
+
+
+def test_what_could_turn_the_name_of_a_row_is_shown(page: Page) -> None:
+    events = [started(0, "t\u202e", 0), finished(1, "t\u202e", status(0, 1))]
+    page.open(session_of([with_binary("a\u202eb\0", one) for one in events]))
+    assert page.member(".row .name", "title") == "t\\u{202e}"
+    page.click("[data-rows=binary]")
+    page.focus("#lanes")
+    page.browser.press("ArrowRight", 39)
+    said = page.content("#said")
+    assert said == r"t\u{202e}, a\u{202e}b\x00, passed, 1.00 s, a\u{202e}b\x00 0"
+
+
+def test_attempts_are_shown_in_their_order(page: Page) -> None:
+    page.open(nasty_session())
+    page.search("flaky")
+    headers = "[...document.querySelectorAll('.attempt > header')]"
+    titles = page.texts(f"{headers}.map((header) => header.innerText)")
+    assert [" ".join(title.split()) for title in titles] == [
+        "Attempt 1 of 3 failed, exit code 101 1.00 s from 1.00 s slot 1",
+        "Attempt 2 of 3 passed 1.00 s from 6.00 s slot 3",
+    ]
+    page.search("hangs")
+    assert "never ended\nfrom 1.50 s, without 2.00 s of pause" in page.details()
+
+
+def test_a_test_that_fails_though_it_passed_says_why(page: Page) -> None:
+    first, second = status(0, 1, exit_code(), 1, 2), status(2, 1, "pass", 2, 2)
+    page.open(
+        session_of(
+            [
+                started(0, "t", 0),
+                failed(1, "t", first),
+                retried(2, "t", 2, 2, 0),
+                finished(3, "t", first, second, flaky="fail"),
+            ]
+        )
+    )
+    why = page.inner(".why")
+    assert why == "it passed at a later attempt, which counts as a failure"
+
+
+def test_a_search_in_outputs(page: Page) -> None:
+    page.open(nasty_session())
+    page.click("#in-outputs")
+    page.search("ready")
+    assert page.rows() == ["flaky", "database"]
+    assert page.content("pre mark") == "ready"
+
+
+def test_the_keyboard_goes_everywhere(page: Page) -> None:
+    page.open(SUMS)
+    page.browser.press("n", text="n")
+    assert "answers_an_error" in page.inner("#details h2")
+    page.focus("#list")
+    page.browser.press("ArrowDown", 40)
+    row = page.evaluate("document.getElementById('list').getAttribute('aria-activedescendant')")
+    assert page.content(f"#{row} .name") == "expects_a_product"
+    page.browser.press("Enter", 13, "\r")
+    assert page.evaluate("document.activeElement.id") == "details"
+    page.browser.press("Escape", 27)
+    assert page.evaluate("document.activeElement.id") == "list"
+    page.browser.press("Escape", 27)
+    assert "Slowest tests" in page.details()
+    page.focus("#lanes")
+    page.browser.press("ArrowRight", 39)
+    said = page.content("#said")
+    assert said.strip() == "tests::adds, sums, passed, 7 µs, slot 0"
+
+
+def test_a_key_that_is_held(page: Page) -> None:
+    page.open(SUMS)
+    # The browser complains of an address that changes so often.
+    page.evaluate(
+        """for (let times = 0; times < 400; times++) {
+            const key = times % 2 ? "ArrowUp" : "ArrowDown";
+            const pressed = new KeyboardEvent("keydown", { key, bubbles: true });
+            document.getElementById("list").dispatchEvent(pressed);
+        }"""
+    )
+    page.browser.wait_until("location.hash === '#sums%3A%3Awrong/answers_an_error'")
+
+
+def test_a_box_that_is_ticked_keeps_no_keys(page: Page) -> None:
+    page.open(SUMS)
+    page.focus("#in-outputs")
+    page.browser.press("n", text="n")
+    page.browser.wait_until("document.querySelector('#details h2')")
+    assert "answers_an_error" in page.inner("#details h2")
+
+
+def test_a_click_on_a_slice_shows_its_test(page: Page) -> None:
+    page.open((EXAMPLES / "pause_and_retry.session").read_text())
+    box = page.box("#canvas")
+    second_row = box["top"] + 22 + 24 * 1.5
+    # It is that of slot 1, on which t2 runs from the first to the third second of eleven.
+    page.browser.click(box["width"] * 0.2, second_row)
+    page.browser.wait_until("document.querySelector('#details h2')")
+    assert "t2" in page.inner("#details h2")
+    page.browser.press("Escape", 27)
+    # In the pause there is nothing to click on.
+    page.browser.click(box["width"] * 0.42, second_row)
+    assert "Slowest tests" in page.details()
+
+
+def test_the_tip_of_a_very_long_name_is_small(page: Page) -> None:
+    page.open(session_of([started(0, "x" * 5000, 0), finished(1, "x" * 5000, status(0, 1))]))
+    page.browser.ask("Input.dispatchMouseEvent", type="mouseMoved", x=700, y=160)
+    page.browser.wait_until("!document.getElementById('tip').hidden")
+    assert page.number("document.getElementById('tip').offsetHeight") < 120
+    assert page.evaluate("document.documentElement.scrollHeight <= innerHeight")
+
+
+@pytest.mark.parametrize("wide", [1400, 400])
+def test_very_long_names_take_some_lines_of_the_overview(page: Page, wide: int) -> None:
+    name = "x" * 5000
+    events = [
+        started(0, f"0{name}", 0),
+        finished(1, f"0{name}", status(0, 1, exit_code())),
+        started(1, f"1{name}", 0),
+        finished(2, f"1{name}", status(1, 1)),
+    ]
+    begun = event("run-started", 0, profile_name=f"p{name}", cli_args=["cargo", name])
+    page.open(session_of([begun, *(with_binary(name, one) for one in events)]), wide=wide)
+    for place in (".item", "tr", ".about dd", ".facts"):
+        heights = f"[...document.querySelectorAll('{place}')].map((one) => one.offsetHeight)"
+        assert page.number(f"Math.max(...{heights})") < 200, place
+    assert page.fits(wide)
+    assert len(page.member(".item .name", "title")) > 5000
+    assert len(page.member(".facts [title^=profile]", "title")) > 5000
+
+
+def test_a_slice_has_an_edge(page: Page) -> None:
+    page.open(SUMS)
+    found = page.texts(
+        """(() => {
+            const canvas = document.getElementById("canvas"), found = new Set();
+            const context = canvas.getContext("2d");
             const { data } = context.getImageData(0, 0, canvas.width, canvas.height);
             for (let at = 0; at < data.length; at += 4) found.add(data.slice(at, at + 3).join());
             return [...found];
         })()"""
-        )
-        # The edge and the slice of tests that passed.
-        for colour in ("77,142,111", "188,220,203"):
-            self.assertIn(colour, found)
+    )
+    # The edge and the slice of tests that passed.
+    for colour in ("77,142,111", "188,220,203"):
+        assert colour in found
 
-    def test_an_arrow_within_the_first_row_is_whole(self):
-        failing = status(0, 1, exit_code(), 1, 2)
-        self.open(
-            session_of(
-                [
-                    started(0, "flaky", 0),
-                    failed(1, "flaky", failing),
-                    retried(2, "flaky", 2, 2, 0),
-                    finished(3, "flaky", failing, status(2, 1, "pass", 2, 2)),
-                ]
-            )
-        )
-        # Midway between both attempts nothing but the arrow is drawn below the axis.
-        self.assertEqual(self.drawn_columns(22, 50), 50)
 
-    def test_arrows_of_very_many_retries_are_drawn_where_few_are_in_sight(self):
-        events = []
-        for number in range(500):
-            tries = status(number, 0.1, exit_code(), 1, 2), status(number + 0.8, 0.1, "pass", 2, 2)
-            events += [
-                started(number, f"t{number}", 0),
-                failed(number + 0.1, f"t{number}", tries[0]),
-                retried(number + 0.8, f"t{number}", 2, 2, 0),
-                finished(number + 0.9, f"t{number}", *tries),
+def test_an_arrow_within_the_first_row_is_whole(page: Page) -> None:
+    failing = status(0, 1, exit_code(), 1, 2)
+    page.open(
+        session_of(
+            [
+                started(0, "flaky", 0),
+                failed(1, "flaky", failing),
+                retried(2, "flaky", 2, 2, 0),
+                finished(3, "flaky", failing, status(2, 1, "pass", 2, 2)),
             ]
-        self.open(session_of(events))
-        for _ in range(5):
-            self.browser.evaluate("document.querySelector('[data-zoom=in]').click()")
-        self.browser.evaluate(
-            "new Promise((done) => requestAnimationFrame(() => requestAnimationFrame(done)))"
         )
-        # Below the only row there are lines of the axis in a few columns, and arrows.
-        self.assertGreater(self.drawn_columns(46, 500), 250)
+    )
+    # Midway between both attempts nothing but the arrow is drawn below the axis.
+    assert drawn_columns(page, 22, 50) == 50
 
-    def drawn_columns(self, top, wide):
-        """In how many of so many columns from the middle of the timeline on something is drawn below a height."""
-        return self.browser.evaluate(
-            f"""(() => {{
-            const canvas = document.getElementById("canvas"), context = canvas.getContext("2d"), columns = new Set();
-            const {{ data }} = context.getImageData(Math.round(canvas.width / 2), {top}, {wide}, canvas.height - {top});
+
+def test_arrows_of_very_many_retries_are_drawn_where_few_are_in_sight(page: Page) -> None:
+    events = []
+    for number in range(500):
+        first = status(number, 0.1, exit_code(), 1, 2)
+        second = status(number + 0.8, 0.1, "pass", 2, 2)
+        events += [
+            started(number, f"t{number}", 0),
+            failed(number + 0.1, f"t{number}", first),
+            retried(number + 0.8, f"t{number}", 2, 2, 0),
+            finished(number + 0.9, f"t{number}", first, second),
+        ]
+    page.open(session_of(events))
+    for _ in range(5):
+        page.click("[data-zoom=in]")
+    page.evaluate(NEXT_FRAME)
+    # Below the only row there are lines of the axis in a few columns, and arrows.
+    assert drawn_columns(page, 46, 500) > 250
+
+
+def drawn_columns(page: Page, top: int, wide: int) -> float:
+    """Count the columns in which something is drawn below a height.
+
+    They are so many from the middle of the timeline on.
+    """
+    return page.number(
+        f"""(() => {{
+            const canvas = document.getElementById("canvas"), columns = new Set();
+            const context = canvas.getContext("2d"), left = Math.round(canvas.width / 2);
+            const {{ data }} = context.getImageData(left, {top}, {wide}, canvas.height - {top});
             data.forEach((part, at) => {{ if (part) columns.add(Math.floor(at / 4) % {wide}); }});
             return columns.size;
         }})()"""
-        )
-
-    def test_a_long_output_is_drawn_when_it_is_asked_for(self):
-        self.open(
-            session_of(
-                [
-                    started(0, "long", 0),
-                    finished(1, "long", status(0, 1, stdout=b"a" * 30_000 + b"b" * 30_000)),
-                ]
-            )
-        )
-        self.search("long")
-        self.assertEqual(
-            self.browser.evaluate("document.querySelector('pre button').innerText"),
-            "Show 20,000 characters more",
-        )
-        self.assertNotIn(
-            "a" * 20_001, self.browser.evaluate("document.querySelector('pre').textContent")
-        )
-        self.browser.evaluate("document.querySelector('pre button').click()")
-        self.assertEqual(
-            self.browser.evaluate("document.querySelector('pre').textContent"),
-            "a" * 30_000 + "b" * 30_000,
-        )
-
-    def test_light_and_dark(self):
-        colour = "getComputedStyle(document.body).backgroundColor"
-        self.open((EXAMPLES / "sums.session").read_text())
-        self.assertEqual(self.browser.evaluate(colour), "rgb(246, 246, 244)")
-        self.open((EXAMPLES / "sums.session").read_text(), dark=True)
-        self.assertEqual(self.browser.evaluate(colour), "rgb(18, 21, 24)")
-
-    def test_what_is_chosen_is_seen_in_forced_colours(self):
-        self.open((EXAMPLES / "sums.session").read_text())
-        self.browser.ask(
-            "Emulation.setEmulatedMedia", features=[{"name": "forced-colors", "value": "active"}]
-        )
-        self.browser.evaluate("document.querySelector('.row').click()")
-        outline = "getComputedStyle(document.querySelector('{}')).outlineStyle"
-        self.assertEqual(self.browser.evaluate(outline.format(".row[aria-selected=true]")), "solid")
-        self.assertEqual(self.browser.evaluate(outline.format(".row[aria-selected=false]")), "none")
-        width = "getComputedStyle(document.querySelector('[data-state=failed]')).borderTopWidth"
-        self.assertEqual(self.browser.evaluate(width), "2px")
-
-    def test_a_narrow_window_shows_one_thing_at_a_time(self):
-        self.open((EXAMPLES / "sums.session").read_text(), wide=380, high=800)
-        self.assertTrue(self.browser.evaluate("document.documentElement.scrollWidth <= 380"))
-        self.browser.evaluate("document.querySelector('.row').click()")
-        self.assertEqual(
-            self.browser.evaluate("getComputedStyle(document.getElementById('tests')).display"),
-            "none",
-        )
-        self.assertTrue(self.browser.evaluate("document.documentElement.scrollWidth <= 380"))
-        self.browser.evaluate("document.querySelector('.back').click()")
-        self.assertEqual(
-            self.browser.evaluate("getComputedStyle(document.getElementById('tests')).display"),
-            "flex",
-        )
-
-    def test_a_narrow_window_shows_the_attempt_that_was_clicked_on(self):
-        tries = status(0, 4, exit_code(), 1, 2, stdout=b"line\n" * 500), status(
-            6, 4, "pass", 2, 2, stdout=b"second\n"
-        )
-        self.open(
-            session_of(
-                [
-                    started(0, "t", 0),
-                    failed(4, "t", tries[0]),
-                    retried(6, "t", 2, 2, 0),
-                    finished(10, "t", *tries),
-                ]
-            ),
-            wide=400,
-            high=500,
-        )
-        box = self.browser.evaluate(
-            "document.getElementById('canvas').getBoundingClientRect().toJSON()"
-        )
-        self.browser.click(box["right"] - 60, box["top"] + 32)
-        self.browser.wait_until("document.getElementById('attempt-1')")
-        bottom = self.browser.evaluate(
-            "document.getElementById('attempt-1').getBoundingClientRect().bottom"
-        )
-        self.assertTrue(0 < bottom <= 500, bottom)
-
-    def test_the_order_of_tests_stands_in_their_column(self):
-        self.open((EXAMPLES / "sums.session").read_text(), wide=780)
-        right = "document.getElementById('{}').getBoundingClientRect().right"
-        self.assertTrue(self.browser.evaluate(f"{right.format('sort')} <= {right.format('tests')}"))
-
-    def test_a_low_window_has_room_for_tests(self):
-        self.open(many_tests(), wide=844, high=390)
-        self.assertGreater(
-            self.browser.evaluate("document.getElementById('list').clientHeight"), 140
-        )
-        self.browser.evaluate("document.getElementById('found').scrollIntoView()")
-        self.assertLessEqual(
-            self.browser.evaluate(
-                "document.getElementById('found').getBoundingClientRect().bottom"
-            ),
-            390,
-        )
-
-    def test_many_tests(self):
-        self.open(many_tests())
-        self.assertEqual(
-            self.browser.evaluate("document.getElementById('headline').innerText"),
-            "10 failed, 9,990 passed",
-        )
-        self.assertLess(self.browser.evaluate("document.querySelectorAll('*').length"), 1000)
-        self.search("test_1999")
-        self.assertEqual(self.browser.evaluate(ROWS), ["test_1999"])
-        self.assertIn("the last words of test 1999", self.browser.evaluate(DETAILS))
-
-    def test_on_paper(self):
-        self.open(many_tests(), dark=True)
-        themes = "['beforeprint', 'afterprint'].forEach((name) => addEventListener(name, () => themes.push(dataset.theme)))"
-        self.browser.evaluate(
-            f"const {{ dataset }} = document.documentElement, themes = []; {themes}"
-        )
-        printed = base64.b64decode(self.browser.ask("Page.printToPDF")["data"])
-        # The list has a row of some pixels for each test, of which paper has those in sight.
-        self.assertLess(len(re.findall(rb"/Type ?/Page\b", printed)), 10)
-        self.assertEqual(self.browser.evaluate("themes"), ["light", "dark"])
-
-    def test_an_output_is_whole_on_paper(self):
-        self.open(
-            session_of(
-                [started(0, "long", 0), finished(1, "long", status(0, 1, stdout=b"a\n" * 1000))]
-            )
-        )
-        self.search("long")
-        is_whole = "((pre) => pre.clientHeight === pre.scrollHeight)(document.querySelector('pre'))"
-        self.assertFalse(self.browser.evaluate(is_whole))
-        self.browser.ask("Emulation.setEmulatedMedia", media="print")
-        self.addCleanup(self.browser.ask, "Emulation.setEmulatedMedia", media="")
-        self.assertTrue(self.browser.evaluate(is_whole))
-
-    def test_a_run_without_tests(self):
-        self.open(session_of([event("run-started", 0, profile_name="default", cli_args=[])]))
-        self.assertEqual(
-            self.browser.evaluate("document.getElementById('headline').innerText"), "No test ran"
-        )
-        self.browser.evaluate("document.getElementById('lanes').focus()")
-        self.browser.press("ArrowRight", 39)
-        self.browser.press("n", text="n")
+    )
 
 
-if __name__ == "__main__":
-    unittest.main()
+def test_a_long_output_is_drawn_when_it_is_asked_for(page: Page) -> None:
+    page.open(
+        session_of(
+            [
+                started(0, "long", 0),
+                finished(1, "long", status(0, 1, stdout=b"a" * 30_000 + b"b" * 30_000)),
+            ]
+        )
+    )
+    page.search("long")
+    assert page.inner("pre button") == "Show 20,000 characters more"
+    assert "a" * 20_001 not in page.content("pre")
+    page.click("pre button")
+    assert page.content("pre") == "a" * 30_000 + "b" * 30_000
+
+
+def test_light_and_dark(page: Page) -> None:
+    page.open(SUMS)
+    assert page.style("body", "backgroundColor") == "rgb(246, 246, 244)"
+    page.open(SUMS, dark=True)
+    assert page.style("body", "backgroundColor") == "rgb(18, 21, 24)"
+
+
+def test_what_is_chosen_is_seen_in_forced_colours(page: Page) -> None:
+    page.open(SUMS)
+    page.browser.ask(
+        "Emulation.setEmulatedMedia", features=[{"name": "forced-colors", "value": "active"}]
+    )
+    page.click(".row")
+    assert page.style(".row[aria-selected=true]", "outlineStyle") == "solid"
+    assert page.style(".row[aria-selected=false]", "outlineStyle") == "none"
+    assert page.style("[data-state=failed]", "borderTopWidth") == "2px"
+
+
+def test_a_narrow_window_shows_one_thing_at_a_time(page: Page) -> None:
+    page.open(SUMS, wide=380, high=800)
+    assert page.fits(380)
+    page.click(".row")
+    assert page.style("#tests", "display") == "none"
+    assert page.fits(380)
+    page.click(".back")
+    assert page.style("#tests", "display") == "flex"
+
+
+def test_a_narrow_window_shows_the_attempt_that_was_clicked_on(page: Page) -> None:
+    first = status(0, 4, exit_code(), 1, 2, stdout=b"line\n" * 500)
+    second = status(6, 4, "pass", 2, 2, stdout=b"second\n")
+    page.open(
+        session_of(
+            [
+                started(0, "t", 0),
+                failed(4, "t", first),
+                retried(6, "t", 2, 2, 0),
+                finished(10, "t", first, second),
+            ]
+        ),
+        wide=400,
+        high=500,
+    )
+    box = page.box("#canvas")
+    page.browser.click(box["right"] - 60, box["top"] + 32)
+    page.browser.wait_until("document.getElementById('attempt-1')")
+    assert 0 < page.box("#attempt-1")["bottom"] <= 500
+
+
+def test_the_order_of_tests_stands_in_their_column(page: Page) -> None:
+    page.open(SUMS, wide=780)
+    assert page.box("#sort")["right"] <= page.box("#tests")["right"]
+
+
+def test_a_low_window_has_room_for_tests(page: Page) -> None:
+    page.open(many_tests(), wide=844, high=390)
+    assert page.number("document.getElementById('list').clientHeight") > 140
+    page.evaluate("document.getElementById('found').scrollIntoView()")
+    assert page.box("#found")["bottom"] <= 390
+
+
+def test_many_tests(page: Page) -> None:
+    page.open(many_tests())
+    assert page.inner("#headline") == "10 failed, 9,990 passed"
+    assert page.number("document.querySelectorAll('*').length") < 1000
+    page.search("test_1999")
+    assert page.rows() == ["test_1999"]
+    assert "the last words of test 1999" in page.details()
+
+
+def test_on_paper(page: Page) -> None:
+    page.open(many_tests(), dark=True)
+    page.evaluate(
+        """const { dataset } = document.documentElement, themes = [];
+        for (const name of ["beforeprint", "afterprint"]) {
+            addEventListener(name, () => themes.push(dataset.theme));
+        }"""
+    )
+    printed = base64.b64decode(str(page.browser.ask("Page.printToPDF")["data"]))
+    # The list has a row of some pixels for each test, of which paper has those in sight.
+    assert len(re.findall(rb"/Type ?/Page\b", printed)) < 10
+    assert page.evaluate("themes") == ["light", "dark"]
+
+
+@pytest.fixture
+def paper(page: Page) -> Iterator[Page]:
+    """Yield a page that can be seen as on paper; the next one is seen on a screen again."""
+    yield page
+    page.browser.ask("Emulation.setEmulatedMedia", media="")
+
+
+def test_an_output_is_whole_on_paper(paper: Page) -> None:
+    page = paper
+    page.open(
+        session_of([started(0, "long", 0), finished(1, "long", status(0, 1, stdout=b"a\n" * 1000))])
+    )
+    page.search("long")
+    is_whole = "((pre) => pre.clientHeight === pre.scrollHeight)(document.querySelector('pre'))"
+    assert not page.evaluate(is_whole)
+    page.browser.ask("Emulation.setEmulatedMedia", media="print")
+
+    assert page.evaluate(is_whole)
+
+
+def test_a_run_without_tests(page: Page) -> None:
+    page.open(session_of([event("run-started", 0, profile_name="default", cli_args=[])]))
+    assert page.inner("#headline") == "No test ran"
+    page.focus("#lanes")
+    page.browser.press("ArrowRight", 39)
+    page.browser.press("n", text="n")

@@ -1,122 +1,165 @@
 """What the page's script makes of durations, sizes and texts, in Node."""
 
+from __future__ import annotations
+
+import dataclasses
 import json
 import shutil
 import subprocess
-import unittest
+from collections.abc import Iterator
+
+import pytest
 
 from rezovamy_runs.page import document
 
 NODE = shutil.which("node")
+SPELLED = "`<${colour === undefined ? spelled(part) : ''}>`"
+EVALUATE = """
+require('readline').createInterface({ input: process.stdin }).on('line', (line) => {
+  const [expression, one] = JSON.parse(line);
+  console.log(JSON.stringify(eval(expression)));
+});
+"""
+DOCUMENT = """const document = {
+  getElementById: () => ({ textContent: require('fs').readFileSync(0, 'utf-8') }),
+};"""
+
+pytestmark = pytest.mark.skipif(NODE is None, reason="no Node is here")
 
 
-@unittest.skipIf(NODE is None, "no Node is here")
-class Texts(unittest.TestCase):
-    def value(self, expression, given):
-        """The values of an expression in the page's script, in which `one` is each of those that are given."""
-        script = (
-            f"{document.part('text.js')}\nconst given = JSON.parse(require('fs').readFileSync(0));"
-        )
-        script += f"\nconsole.log(JSON.stringify(given.map((one) => {expression})));"
-        done = subprocess.run(
-            [NODE, "-e", script],
-            input=json.dumps(given),
-            capture_output=True,
-            text=True,
-            check=True,
-        )
-        return json.loads(done.stdout)
+@dataclasses.dataclass(frozen=True)
+class Script:
+    """The page's script in Node, which evaluates an expression for each line that it reads."""
 
-    def test_durations(self):
-        told = {
-            0: "0 s",
-            1e-7: "< 1 µs",
-            1e-6: "1 µs",
-            0.000999: "999 µs",
-            0.001: "1 ms",
-            0.0042: "4.2 ms",
-            0.1234: "123 ms",
-            0.9994: "999 ms",
-            1: "1.00 s",
-            9.994: "9.99 s",
-            9.996: "10.0 s",
-            59.94: "59.9 s",
-            59.96: "1 min 0 s",
-            61.4: "1 min 1 s",
-            3599.7: "1 h 0 min",
-            7260: "2 h 1 min",
-            -1.5: "−1.50 s",
-        }
-        self.assertEqual(self.value("duration(one)", list(told)), list(told.values()))
+    process: subprocess.Popen[str]
 
-    def test_sizes(self):
-        told = {
-            0: "0 B",
-            999: "999 B",
-            1000: "1.00 kB",
-            99_949: "99.9 kB",
-            999_499: "999 kB",
-            999_500: "1.00 MB",
-            5_000_000_000: "5.00 GB",
-        }
-        self.assertEqual(self.value("bytes(one)", list(told)), list(told.values()))
-
-    def test_numbers(self):
-        self.assertEqual(
-            self.value("plural(one, 'test')", [0, 1, 999, 1000, 1234567]),
-            [
-                "0 tests",
-                "1 test",
-                "999 tests",
-                "1,000 tests",
-                "1,234,567 tests",
-            ],
-        )
-
-    def test_what_could_do_harm_is_spelled(self):
-        told = {
-            "plain\ttext\r\nin lines\n": "plain\ttext\r\nin lines\n",
-            "50%\r100%": "50%<\\r>100%",
-            "\x1b]0;title\x07": "<\\x1b>]0;title<\\x07>",
-            "\udcff\udc80": "<\\xff\\x80>",
-            "a\u202eb\u2028": "a<\\u{202e}>b<\\u{2028}>",
-            "\x1b[1;31mred\x1b[0m": "<>red<>",
-            "\U0001f980 é": "\U0001f980 é",
-        }
-        spelled = "one.replace(SPECIAL, (part, colour) => `<${colour === undefined ? spelled(part) : ''}>`)"
-        self.assertEqual(self.value(spelled, list(told)), list(told.values()))
-
-    def test_colours(self):
-        told = {
-            "1;31": ["s-bold", "s-1"],
-            "": [],
-            "38;5;9;4": ["s-underline"],
-            "38;2;1;2;3;4": ["s-underline"],
-            "31;39": [],
-            "1;22": [],
-            "91;32": ["s-2"],
-        }
-        self.assertEqual(self.value("styled([], one)", list(told)), list(told.values()))
+    def value(self, expression: str, one: object) -> object:
+        """Return the value of an expression, in which `one` is what is given."""
+        assert self.process.stdin and self.process.stdout
+        print(json.dumps([expression, one]), file=self.process.stdin, flush=True)
+        value: object = json.loads(self.process.stdout.readline())
+        return value
 
 
-@unittest.skipIf(NODE is None, "no Node is here")
-class Data(unittest.TestCase):
-    def test_very_many_tests(self):
-        value = {"binaries": ["alpha"], "outputs": []}
-        value["tests"] = [
-            {"name": "t", "state": "passed", "binary": 0, "attempts": [{"number": 1, "seconds": 2}]}
-        ] * 200_000
-        script = "const document = { getElementById: () => ({ textContent: require('fs').readFileSync(0, 'utf-8') }) };\n"
-        script += f"{document.part('text.js')}\n{document.part('data.js')}\nconsole.log(LONGEST, TEST_COUNT);"
-        done = subprocess.run(
-            [NODE, "-e", script],
-            input=json.dumps(value),
-            capture_output=True,
-            text=True,
-            check=True,
-        )
-        self.assertEqual(done.stdout, "2 200000\n")
+@pytest.fixture(scope="module")
+def script() -> Iterator[Script]:
+    """Yield a process of Node with the page's script."""
+    words = [NODE or "node", "-e", document.part("text.js") + EVALUATE]
+    with subprocess.Popen(
+        words, stdin=subprocess.PIPE, stdout=subprocess.PIPE, text=True
+    ) as process:
+        yield Script(process)
 
 
-if __name__ == "__main__":
-    unittest.main()
+@pytest.mark.parametrize(
+    ("seconds", "told"),
+    [
+        (0, "0 s"),
+        (1e-7, "< 1 µs"),
+        (1e-6, "1 µs"),
+        (0.000999, "999 µs"),
+        (0.001, "1 ms"),
+        (0.0042, "4.2 ms"),
+        (0.1234, "123 ms"),
+        (0.9994, "999 ms"),
+        (1, "1.00 s"),
+        (9.994, "9.99 s"),
+        (9.996, "10.0 s"),
+        (59.94, "59.9 s"),
+        (59.96, "1 min 0 s"),
+        (61.4, "1 min 1 s"),
+        (3599.7, "1 h 0 min"),
+        (7260, "2 h 1 min"),
+        (-1.5, "−1.50 s"),
+    ],
+)
+def test_durations(script: Script, seconds: float, told: str) -> None:
+    assert script.value("duration(one)", seconds) == told
+
+
+@pytest.mark.parametrize(
+    ("size", "told"),
+    [
+        (0, "0 B"),
+        (999, "999 B"),
+        (1000, "1.00 kB"),
+        (99_949, "99.9 kB"),
+        (999_499, "999 kB"),
+        (999_500, "1.00 MB"),
+        (5_000_000_000, "5.00 GB"),
+    ],
+)
+def test_sizes(script: Script, size: int, told: str) -> None:
+    assert script.value("bytes(one)", size) == told
+
+
+@pytest.mark.parametrize(
+    ("number", "told"),
+    [
+        (0, "0 tests"),
+        (1, "1 test"),
+        (999, "999 tests"),
+        (1000, "1,000 tests"),
+        (1234567, "1,234,567 tests"),
+    ],
+)
+def test_numbers(script: Script, number: int, told: str) -> None:
+    assert script.value("plural(one, 'test')", number) == told
+
+
+@pytest.mark.parametrize(
+    ("text", "told"),
+    [
+        ("plain\ttext\r\nin lines\n", "plain\ttext\r\nin lines\n"),
+        ("50%\r100%", "50%<\\r>100%"),
+        ("\x1b]0;title\x07", "<\\x1b>]0;title<\\x07>"),
+        ("\udcff\udc80", "<\\xff\\x80>"),
+        ("a\u202eb\u2028", "a<\\u{202e}>b<\\u{2028}>"),
+        ("\x1b[1;31mred\x1b[0m", "<>red<>"),
+        ("\U0001f980 é", "\U0001f980 é"),
+    ],
+    ids=["plain", "return", "escape", "bytes", "directions", "colours", "letters"],
+)
+def test_what_could_do_harm_is_spelled(script: Script, text: str, told: str) -> None:
+    assert script.value(f"one.replace(SPECIAL, (part, colour) => {SPELLED})", text) == told
+
+
+@pytest.mark.parametrize(
+    ("codes", "styles"),
+    [
+        ("1;31", ["s-bold", "s-1"]),
+        ("", []),
+        ("38;5;9;4", ["s-underline"]),
+        ("38;2;1;2;3;4", ["s-underline"]),
+        ("31;39", []),
+        ("1;22", []),
+        ("91;32", ["s-2"]),
+    ],
+)
+def test_colours(script: Script, codes: str, styles: list[str]) -> None:
+    assert script.value("styled([], one)", codes) == styles
+
+
+@pytest.mark.parametrize(
+    ("sought", "places"),
+    [("a", [0, 3]), ("ab", [0]), ("", []), ("c", [])],
+)
+def test_places_of_what_is_sought(script: Script, sought: str, places: list[int]) -> None:
+    assert script.value("places_of(one, 'AbxA')", sought) == places
+
+
+def test_a_thousand_places_are_found(script: Script) -> None:
+    assert script.value("places_of('a', one).length", "a" * 2000) == 1000
+
+
+def test_very_many_tests() -> None:
+    attempt = {"number": 1, "seconds": 2}
+    test = {"name": "t", "state": "passed", "binary": 0, "attempts": [attempt]}
+    value = {"binaries": ["alpha"], "outputs": [], "tests": [test] * 200_000}
+    parts = [DOCUMENT, document.part("text.js"), document.part("data.js")]
+    parts.append("console.log(LONGEST, TEST_COUNT);")
+    words = [NODE or "node", "-e", "\n".join(parts)]
+    done = subprocess.run(
+        words, input=json.dumps(value), capture_output=True, text=True, check=True
+    )
+    assert done.stdout == "2 200000\n"

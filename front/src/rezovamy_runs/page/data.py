@@ -19,7 +19,7 @@ State: TypeAlias = Literal["failed", "unfinished", "flaky", "passed", "skipped",
 Names: TypeAlias = tuple[str, str]
 
 
-class OutputValue(TypedDict):
+class PageOutput(TypedDict):
     """An output: its size as it was printed, and the text that the page has of it."""
 
     size: int
@@ -27,7 +27,7 @@ class OutputValue(TypedDict):
     note: NotRequired[str]
 
 
-class AttemptValue(TypedDict):
+class PageAttempt(TypedDict):
     """An attempt of a test, or the run of a setup script.
 
     `outputs` has streams with the places of their outputs, and `slices` begins and ends in turn.
@@ -47,7 +47,7 @@ class AttemptValue(TypedDict):
     slow_at: NotRequired[list[int]]
 
 
-class TestValue(TypedDict):
+class PageTest(TypedDict):
     """A test, or a setup script, which has a command and no binary."""
 
     name: str
@@ -57,10 +57,10 @@ class TestValue(TypedDict):
     reason: NotRequired[str]
     stress: NotRequired[int]
     flaky_fails: NotRequired[bool]
-    attempts: NotRequired[list[AttemptValue]]
+    attempts: NotRequired[list[PageAttempt]]
 
 
-class RunValue(TypedDict):
+class PageRun(TypedDict):
     """A run without its tests."""
 
     id: str
@@ -74,13 +74,13 @@ class RunValue(TypedDict):
     bundle: str
 
 
-class PageValue(TypedDict):
+class PageData(TypedDict):
     """All that a page knows; `marks` are instants with what is written at them."""
 
-    run: RunValue
+    run: PageRun
     binaries: list[str]
-    tests: list[TestValue]
-    outputs: list[OutputValue]
+    tests: list[PageTest]
+    outputs: list[PageOutput]
     notes: list[str]
     pauses: list[tuple[int, int]]
     marks: list[tuple[int, str]]
@@ -133,7 +133,7 @@ class Outputs:
     def __init__(self, most_each: int = MOST_OUTPUT, most_all: int = MOST_OUTPUTS) -> None:
         self.most_each = most_each
         self.room = most_all
-        self.kept: list[OutputValue] = []
+        self.kept: list[PageOutput] = []
         self.left_out = 0
         self.places: dict[tuple[bytes, int | None], int] = {}
 
@@ -145,7 +145,7 @@ class Outputs:
             self.kept.append(self.value(data, recorded_size))
         return self.places[key]
 
-    def value(self, data: bytes, recorded_size: int | None) -> OutputValue:
+    def value(self, data: bytes, recorded_size: int | None) -> PageOutput:
         """Return what the page has of an output, for which some of the room is taken."""
         most = min(self.most_each, max(0, self.room))
         text, notes = "", []
@@ -161,7 +161,7 @@ class Outputs:
                 left_out = f"{missing:,} bytes in the middle are left out here"
                 notes.append(f"{left_out}. `rezovamy-runs show` prints them.")
         size = len(data) if recorded_size is None else recorded_size
-        made: OutputValue = {"size": size, "text": text}
+        made: PageOutput = {"size": size, "text": text}
         if notes:
             made["note"] = " ".join(notes)
         return made
@@ -198,13 +198,13 @@ def placed_outputs(attempt: Attempt, outputs: Outputs) -> list[tuple[str, int]]:
     ]
 
 
-def attempt_value(
+def page_attempt(
     attempt: Attempt, span: Span | None, drawing: Drawing, outputs: Outputs
-) -> AttemptValue:
+) -> PageAttempt:
     """Return an attempt, with the slices of its span, if it has one."""
     has_ended = attempt.result != "unfinished"
     placed = placed_outputs(attempt, outputs)
-    made: AttemptValue = {
+    made: PageAttempt = {
         "number": attempt.number,
         "total": attempt.total,
         "result": attempt.result,
@@ -229,7 +229,7 @@ def attempt_value(
     return made
 
 
-def add_times(made: AttemptValue, span: Span, drawing: Drawing) -> None:
+def add_times(made: PageAttempt, span: Span, drawing: Drawing) -> None:
     """Add to an attempt when it ran, and when it was said to be slow."""
     if span.slices:
         made["slices"] = [time - drawing.begin for piece in span.slices for time in piece]
@@ -262,11 +262,11 @@ class Binaries:
         return self.places.setdefault(binary, len(self.places))
 
 
-def test_value(
+def page_test(
     test: Test, spans: dict[int, Span], drawing: Drawing, outputs: Outputs, binaries: Binaries
-) -> TestValue:
+) -> PageTest:
     """Return a test with its attempts, of which spans are known by their numbers."""
-    made: TestValue = {"name": test.name, "state": STATES[test.verdict]}
+    made: PageTest = {"name": test.name, "state": STATES[test.verdict]}
     made["binary"] = binaries.place(test.binary)
     if test.reason:
         made["reason"] = test.reason
@@ -275,7 +275,7 @@ def test_value(
     if test.flaky_fails:
         made["flaky_fails"] = True
     attempts = [
-        attempt_value(attempt, spans.get(attempt.number), drawing, outputs)
+        page_attempt(attempt, spans.get(attempt.number), drawing, outputs)
         for attempt in test.attempts
     ]
     if attempts:
@@ -283,29 +283,29 @@ def test_value(
     return made
 
 
-def test_values(
+def page_tests(
     tests: Iterable[Test], drawing: Drawing, outputs: Outputs, binaries: Binaries
-) -> list[TestValue]:
+) -> list[PageTest]:
     """Return the tests; those that matter more have the first go at the room for outputs."""
     queues = SpanQueues(drawing)
     matched = [(test, queues.take(test)) for test in tests]
     by_urgency = sorted(
         range(len(matched)), key=lambda place: URGENCY.index(STATES[matched[place][0].verdict])
     )
-    made = {place: test_value(*matched[place], drawing, outputs, binaries) for place in by_urgency}
+    made = {place: page_test(*matched[place], drawing, outputs, binaries) for place in by_urgency}
     return [made[place] for place in range(len(matched))]
 
 
-def script_value(script: Script, span: Span, drawing: Drawing, outputs: Outputs) -> TestValue:
+def page_script(script: Script, span: Span, drawing: Drawing, outputs: Outputs) -> PageTest:
     """Return a setup script."""
-    made: TestValue = {
+    made: PageTest = {
         "name": script.id,
         "state": "script",
         "command": " ".join([script.program, *script.args]),
     }
     if script.stress is not None:
         made["stress"] = script.stress
-    made["attempts"] = [attempt_value(script.attempt, span, drawing, outputs)]
+    made["attempts"] = [page_attempt(script.attempt, span, drawing, outputs)]
     return made
 
 
@@ -334,7 +334,7 @@ def reason_text(reason: str) -> str:
     return reason.replace("-", " ")
 
 
-def run_value(run: Run) -> RunValue:
+def page_run(run: Run) -> PageRun:
     """Return what is known of a run without its tests."""
     ended = run.status if run.exit_code is None else f"{run.status}, exit code {run.exit_code}"
     return {
@@ -350,16 +350,16 @@ def run_value(run: Run) -> RunValue:
     }
 
 
-def page_data(run: Run, drawing: Drawing, outputs: Outputs) -> PageValue:
+def page_data(run: Run, drawing: Drawing, outputs: Outputs) -> PageData:
     """Return all that a page knows of a run."""
     binaries = Binaries()
     scripts = [
-        script_value(script, span, drawing, outputs)
+        page_script(script, span, drawing, outputs)
         for script, span in zip(run.scripts, drawing.scripts)
     ]
-    tests = scripts + test_values(run.tests, drawing, outputs, binaries)
+    tests = scripts + page_tests(run.tests, drawing, outputs, binaries)
     return {
-        "run": run_value(run),
+        "run": page_run(run),
         "binaries": list(binaries.places),
         "tests": tests,
         "outputs": outputs.kept,

@@ -16,7 +16,7 @@ from rezovamy_runs import formatting, terminal
 from rezovamy_runs.bundles import bundle
 from rezovamy_runs.bundles.slices import draw
 from rezovamy_runs.faults.fault import Fault
-from rezovamy_runs.page.data import MOST_OUTPUT, Outputs, PageValue, page_data
+from rezovamy_runs.page.data import MOST_OUTPUT, Outputs, PageData, page_data
 from rezovamy_runs.store import run_folder
 
 PARTS = pathlib.Path(__file__).resolve().parent / "assets"
@@ -70,7 +70,7 @@ def content_policy(script: str, style: str) -> str:
     return "; ".join(directives)
 
 
-def page_title(value: PageValue) -> str:
+def page_title(value: PageData) -> str:
     """Return the name of the page's window.
 
     It says how many tests failed or never ended, if any, or passed.
@@ -94,15 +94,15 @@ def page_title(value: PageValue) -> str:
     return f"{told} · {terminal.cut(profile, LONGEST_PROFILE)} · {value['run']['when']}"
 
 
-def page_script() -> str:
+def joined_scripts() -> str:
     """Return the script of all pages, whose parts share their names and hide them from others."""
     parts = "\n".join(part(f"{name}.js") for name in SCRIPTS)
     return f'(() => {{\n"use strict";\n{parts}}})();\n'
 
 
-def page_html(value: PageValue) -> str:
+def page_html(value: PageData) -> str:
     """Return the page of a value that `page_data` made."""
-    style, script = part("style.css"), page_script()
+    style, script = part("style.css"), joined_scripts()
     parts = {
         "title": html.escape(page_title(value)),
         "policy": html.escape(content_policy(script, style), quote=False),
@@ -116,7 +116,7 @@ def page_html(value: PageValue) -> str:
 def page_of(path: pathlib.Path, most_output: int = MOST_OUTPUT) -> str:
     """Return the page of the bundle at a path."""
 
-    def value_of(opened: bundle.Bundle) -> PageValue:
+    def value_of(opened: bundle.Bundle) -> PageData:
         return page_data(opened.run(True), draw(opened.lines()), Outputs(most_output))
 
     return page_html(bundle.read(path, value_of))
