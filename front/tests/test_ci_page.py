@@ -1,66 +1,71 @@
-"""The jobs of docs/CI.md: bash reads their scripts, and the front end takes the words that they give it."""
+"""The jobs of docs/CI.md: bash reads their scripts, and the front end takes their words."""
 
-import pathlib
+from __future__ import annotations
+
 import re
 import subprocess
-import unittest
 
-from rezovamy_runs import cli as front_end
+import pytest
 
-PAGE = pathlib.Path(__file__).resolve().parents[2] / "docs/CI.md"
-JOBS = re.findall(r"^```yaml\n(.*?)^```$", PAGE.read_text(), re.M | re.S)
+from rezovamy_runs import cli
+from tests import TOP
+
+JOBS = re.findall(r"^```yaml\n(.*?)^```$", (TOP / "docs/CI.md").read_text(), re.M | re.S)
+BLOCK = re.compile(r"( *)(?:- )?(?:run: )?\|")
+PROGRAMS = r"rezovamy-runs|\.rezovamy/\$|front|cd|mkdir|\(cd|echo"
+LINE = re.compile(rf" *(?:- )*(?:run: |- )((?:{PROGRAMS}).*)")
+# What a CI puts into a script before a shell reads it.
+PUT_IN = re.compile(r"\$\{\{.*?\}\}")
 
 
-def scripts(job):
-    """The scripts of a job: blocks after `|`, and single lines after `run:` or `- `."""
+def indented_block(rows: list[str]) -> str:
+    """Return the rows that are as far from the edge as the first one, up to another one."""
+    depth = len(rows[0]) - len(rows[0].lstrip())
+    ends = (at for at, row in enumerate(rows) if row.strip() and not row.startswith(" " * depth))
+    return "\n".join(row[depth:] for row in rows[: next(ends, len(rows))])
+
+
+def scripts(job: str) -> list[str]:
+    """Return the scripts of a job: blocks after `|`, and single lines after `run:` or `- `."""
     rows, found = job.splitlines(), []
     for number, row in enumerate(rows):
-        block = re.fullmatch(r"( *)(?:- )?(?:run: )?\|", row)
-        line = re.fullmatch(
-            r" *(?:- )*(?:run: |- )((?:rezovamy-runs|\.rezovamy/\$|tools|cd|mkdir|\(cd|echo).*)",
-            row,
-        )
-        if block:
-            inner = rows[number + 1 :]
-            depth = len(inner[0]) - len(inner[0].lstrip())
-            ends = next(
-                (
-                    at
-                    for at, other in enumerate(inner)
-                    if other.strip() and not other.startswith(" " * depth)
-                ),
-                len(inner),
-            )
-            found.append("\n".join(other[depth:] for other in inner[:ends]))
+        line = LINE.fullmatch(row)
+        if BLOCK.fullmatch(row):
+            found.append(indented_block(rows[number + 1 :]))
         elif line:
             found.append(line[1])
     return found
 
 
-# class Jobs(unittest.TestCase):
-def test_there_are_three() -> None:
+SCRIPTS = [script for job in JOBS for script in scripts(job)]
+
+
+def asked(script: str) -> list[str]:
+    """Return the words of a script that the front end gets, for each time that it is started."""
+    return re.findall(r"rezovamy-runs ([a-z][^;\n]*)", script)
+
+
+def test_there_are_three_jobs() -> None:
     assert [len(scripts(job)) for job in JOBS] == [3, 6, 3]
 
 
-def test_bash_reads_each_script() -> None:
-    for job in JOBS:
-        for script in scripts(job):
-            plain = re.sub(r"\$\{\{.*?\}\}", "x", script)
-            done = subprocess.run(["bash", "-n", "-c", plain], capture_output=True, check=False)
-            assert (done.returncode, done.stderr) == (0, b""), script
+@pytest.mark.parametrize("script", SCRIPTS)
+def test_bash_reads_each_script(script: str) -> None:
+    words = ["bash", "-n", "-c", PUT_IN.sub("x", script)]
+    done = subprocess.run(words, capture_output=True, check=False)
+    assert (done.returncode, done.stderr) == (0, b"")
 
 
-def test_the_front_end_takes_their_words() -> None:
-    lines = "\n".join(script for job in JOBS for script in scripts(job))
-    asked = re.findall(r"rezovamy-runs ([a-z][^;\n]*)", lines)
-    assert asked == [
-        "test -- --workspace",
-        "junit --to test-run/junit",
-        "page --to test-run/page.html",
+def test_the_front_end_is_asked_for_these() -> None:
+    recorded = ["test -- --workspace", "junit --to test-run/junit"]
+    recorded.append("page --to test-run/page.html")
+    assert [words for script in SCRIPTS for words in asked(script)] == [
+        *recorded,
         "show",
-        "test -- --workspace",
-        "junit --to test-run/junit",
-        "page --to test-run/page.html",
+        *recorded,
     ]
-    for words in asked:
-        front_end.parser().parse_args(words.partition(" -- ")[0].split())
+
+
+@pytest.mark.parametrize("words", sorted({words for one in SCRIPTS for words in asked(one)}))
+def test_the_front_end_takes_their_words(words: str) -> None:
+    cli.parser().parse_args(words.partition(" -- ")[0].split())

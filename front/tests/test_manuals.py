@@ -1,25 +1,32 @@
 """Man pages and completions of a small program, typed by hand, and of those that are installed."""
 
+from __future__ import annotations
+
 import argparse
 import dataclasses
 import os
 import pathlib
 import shutil
 import subprocess
-import tempfile
-import unittest
 
-from rezovamy_runs.manuals import __main__ as make_manuals
-from rezovamy_runs.manuals import bash
-from rezovamy_runs.manuals import fish
-from rezovamy_runs.manuals import manual
-from rezovamy_runs.manuals import zsh
+import pytest
+
+from rezovamy_runs.manuals import __main__ as manuals
+from rezovamy_runs.manuals import bash, fish, manual, zsh
 from rezovamy_runs.manuals.programs import programs
-from rezovamy_runs.manuals.tables import program_of
+from rezovamy_runs.manuals.tables import Program, program_of
+
+NAMES = ["junit_xml", "rezovamy", "rezovamy-runs", "session_from_libtest"]
+# Lets bash complete the words that it gets by the completion in FILE.
+COMPLETE = (
+    'COMP_WORDS=("$@"); COMP_CWORD=$(( $# - 1 )); . "$FILE"; "_${1//-/_}"; '
+    'printf "%s\\n" "${COMPREPLY[@]}"'
+)
 
 
-def small():
-    """A program with two commands."""
+@pytest.fixture
+def small() -> Program:
+    """Return a program with two commands."""
     parser = argparse.ArgumentParser(
         prog="a-b", description="Does a\\b.\n\n    a-b x\n\n.Not a macro."
     )
@@ -33,14 +40,17 @@ def small():
     write.add_argument("file", metavar="FILE", help="the file")
     write.add_argument("-n", "--number", metavar="N", help="how many")
     program = program_of(parser, "a-b")
-    commands = (program.commands[0], dataclasses.replace(program.commands[1], takes_rest=True))
-    return dataclasses.replace(program, commands=commands)
+    shown, written = program.commands
+    return dataclasses.replace(
+        program, commands=(shown, dataclasses.replace(written, takes_rest=True))
+    )
 
 
-# class Pages(unittest.TestCase):
-def test_page() -> None:
-    lines = manual.page(small()).splitlines()
-    assert lines[:7] == [
+# A small program.
+
+
+def test_a_page_begins_with_its_name_and_its_words(small: Program) -> None:
+    assert manual.page(small).splitlines()[:7] == [
         '.TH A\\-B 1 "" Rezovamy Rezovamy',
         ".SH NAME",
         "a\\-b \\- does a\\eb",
@@ -49,31 +59,39 @@ def test_page() -> None:
         "a\\-b show [OPTION].. [RUN]",
         "a\\-b write [OPTION].. FILE [\\-\\- WORD ...]",
     ]
-    assert ["    a\\-b x", ".fi", ".PP", "\\&.Not a macro."] in [
-        lines[at : at + 4] for at in range(len(lines))
-    ]
-    assert [".TP", ".B \\-\\-by {one,two}", "what's first (one)"] in [
-        lines[at : at + 3] for at in range(len(lines))
-    ]
 
 
-# class Completions(unittest.TestCase):
-def test_bash() -> None:
-    lines = [line.strip() for line in bash.completion(small()).splitlines()]
-    for line in (
+@pytest.mark.parametrize(
+    "wanted",
+    [
+        ["    a\\-b x", ".fi", ".PP", "\\&.Not a macro."],
+        [".TP", ".B \\-\\-by {one,two}", "what's first (one)"],
+    ],
+    ids=["description", "option"],
+)
+def test_a_page_has_rows(small: Program, wanted: list[str]) -> None:
+    lines = manual.page(small).splitlines()
+    assert wanted in [lines[at : at + len(wanted)] for at in range(len(lines))]
+
+
+@pytest.mark.parametrize(
+    "line",
+    [
         'show:--by) words="one two" ;;',
         "write:-n | write:--number) return ;;",
         '_:*) options="-h --help" words="show write" ;;',
         'show:*) options="-h --help --by" runs="yes" files="yes" ;;',
         'write:*) options="-n --number" files="yes" ;;',
         "complete -o filenames -F _a_b a-b",
-    ):
-        assert line in lines
+    ],
+)
+def test_bash(small: Program, line: str) -> None:
+    assert line in [row.strip() for row in bash.completion(small).splitlines()]
 
 
-def test_zsh() -> None:
-    lines = [line.strip(" \\") for line in zsh.completion(small()).splitlines()]
-    for line in (
+@pytest.mark.parametrize(
+    "line",
+    [
         "#compdef a-b",
         "'show:show \\[it\\]'",
         "'--by[what'\\''s first (one)]:BY:(one two)'",
@@ -81,74 +99,91 @@ def test_zsh() -> None:
         "'(-n --number)--number[how many]:N:'",
         "'1:FILE:_files'",
         "'*::word:_files'",
-    ):
-        assert line in lines
+    ],
+)
+def test_zsh(small: Program, line: str) -> None:
+    assert line in [row.strip(" \\") for row in zsh.completion(small).splitlines()]
 
 
-def test_fish() -> None:
-    lines = fish.completion(small()).splitlines()
-    for line in (
+@pytest.mark.parametrize(
+    "line",
+    [
         "complete -c a-b -f",
         "complete -c a-b -n __fish_use_subcommand -a show -d 'show [it]'",
-        "complete -c a-b -n '__fish_seen_subcommand_from show' -l by -xa 'one two' -d 'what\\'s first (one)'",
+        "complete -c a-b -n '__fish_seen_subcommand_from show' -l by -xa 'one two'"
+        " -d 'what\\'s first (one)'",
         "complete -c a-b -n '__fish_seen_subcommand_from write' -s n -l number -x -d 'how many'",
         "complete -c a-b -n '__fish_seen_subcommand_from write' -F",
-    ):
-        assert line in lines
+    ],
+)
+def test_fish(small: Program, line: str) -> None:
+    assert line in fish.completion(small).splitlines()
 
 
-# class Installed(unittest.TestCase):
-def setUp(self):
-    self.folder = pathlib.Path(self.enterContext(tempfile.TemporaryDirectory()))
-    make_manuals.write(self.folder)
+# The programs that are installed.
 
 
-def complete(self, *words):
-    """What bash completes the words to."""
-    script = 'COMP_WORDS=("$@"); COMP_CWORD=$(( $# - 1 )); . "$FILE"; "_${1//-/_}"; printf "%s\\n" "${COMPREPLY[@]}"'
-    file = self.folder / "share/bash-completion/completions" / words[0]
-    env = {**os.environ, "FILE": str(file)}
-    done = subprocess.run(
-        ["bash", "-c", script, "bash", *words],
-        cwd=self.folder,
-        env=env,
-        capture_output=True,
-        check=True,
-    )
-    return done.stdout.decode().split()
+@pytest.fixture(scope="module")
+def prefix(tmp_path_factory: pytest.TempPathFactory) -> pathlib.Path:
+    """Return a folder that has the pages and the completions."""
+    folder = tmp_path_factory.mktemp("prefix")
+    manuals.write(folder)
+    return folder
 
 
-def test_each_program_has_its_files() -> None:
-    names = ["junit_xml", "rezovamy", "rezovamy-runs", "session_from_libtest"]
-    assert [program.name for program in programs()] == names
-    assert tuple(names) == manual.PAGES
-    for folder, form in (
+def test_the_programs_are_known() -> None:
+    assert [program.name for program in programs()] == NAMES
+    assert list(manual.PAGES) == NAMES
+
+
+@pytest.mark.parametrize(
+    ("folder", "form"),
+    [
         ("man/man1", "{}.1"),
         ("bash-completion/completions", "{}"),
         ("zsh/site-functions", "_{}"),
         ("fish/vendor_completions.d", "{}.fish"),
-    ):
-        assert sorted(os.listdir(self.folder / "share" / folder)) == sorted(
-            form.format(name) for name in names
-        )
+    ],
+)
+def test_each_program_has_its_files(prefix: pathlib.Path, folder: str, form: str) -> None:
+    files = sorted(os.listdir(prefix / "share" / folder))
+    assert files == sorted(form.format(name) for name in NAMES)
 
 
-def test_commands_options_and_values() -> None:
-    assert self.complete("rezovamy", "re") == ["record", "replay", "report", "rerun"]
-    assert self.complete("rezovamy", "replay", "--output", "") == ["load", "skip"]
-    assert self.complete("rezovamy", "record", "b", "--max-output", "") == []
-    assert self.complete("rezovamy-runs", "expl") == ["explain"]
-    assert self.complete("rezovamy-runs", "explain", "--in") == ["--input"]
-    assert self.complete("rezovamy-runs", "show", "la") == ["last"]
-    assert self.complete("session_from_libtest", "--build-error", "t") == ["test"]
-    assert self.complete("junit_xml", "--events", "sh") == ["share"]
+@pytest.mark.parametrize(
+    ("words", "offered"),
+    [
+        ("rezovamy re", ["record", "replay", "report", "rerun"]),
+        ("rezovamy replay --output ", ["load", "skip"]),
+        ("rezovamy record b --max-output ", []),
+        ("rezovamy-runs expl", ["explain"]),
+        ("rezovamy-runs explain --in", ["--input"]),
+        ("rezovamy-runs show la", ["last"]),
+        ("session_from_libtest --build-error t", ["test"]),
+        ("junit_xml --events sh", ["share"]),
+    ],
+)
+def test_bash_completes(prefix: pathlib.Path, words: str, offered: list[str]) -> None:
+    typed = words.split(" ")
+    file = prefix / "share/bash-completion/completions" / typed[0]
+    done = subprocess.run(
+        ["bash", "-c", COMPLETE, "bash", *typed],
+        cwd=prefix,
+        env={**os.environ, "FILE": str(file)},
+        capture_output=True,
+        check=True,
+    )
+    assert done.stdout.decode().split() == offered
 
 
-def test_pages_are_read_without_a_warning() -> None:
-    if shutil.which("groff") is None:
-        self.skipTest("groff isn't there")
-    for page in (self.folder / "share/man/man1").iterdir():
-        done = subprocess.run(
-            ["groff", "-man", "-ww", "-Tutf8", page], capture_output=True, check=True
-        )
-        assert done.stderr == b""
+@pytest.mark.parametrize("name", NAMES)
+def test_a_page_names_no_file_of_a_clone(prefix: pathlib.Path, name: str) -> None:
+    assert f"front/{name}" not in (prefix / f"share/man/man1/{name}.1").read_text()
+
+
+@pytest.mark.skipif(shutil.which("groff") is None, reason="groff is missing")
+@pytest.mark.parametrize("name", NAMES)
+def test_groff_reads_a_page_without_a_warning(prefix: pathlib.Path, name: str) -> None:
+    page = prefix / f"share/man/man1/{name}.1"
+    words = ["groff", "-man", "-ww", "-Tutf8", str(page)]
+    assert subprocess.run(words, capture_output=True, check=True).stderr == b""

@@ -1,5 +1,8 @@
 """The command `page`: writes a run as one HTML page."""
 
+from __future__ import annotations
+
+import argparse
 import pathlib
 import sys
 
@@ -10,10 +13,11 @@ from rezovamy_runs.page.data import MOST_OUTPUT
 from rezovamy_runs.store import run_folder
 
 SUMMARY = "write a run as one HTML page: timeline, failures, outputs"
+STANDARD_OUTPUT = "-"
 
 
-def add_options(parser):
-    """Takes the run, where the page goes, and how much of an output it has."""
+def add_options(parser: argparse.ArgumentParser) -> None:
+    """Take the run, where the page goes, and how much of an output it has."""
     parser.add_argument(
         "run",
         nargs="?",
@@ -24,27 +28,33 @@ def add_options(parser):
     parser.add_argument(
         "--to",
         metavar="FILE",
-        help="where the page goes, - for standard output (beside the bundle, with its name and .html)",
+        help="where the page goes, - for standard output (beside the bundle, with its name "
+        "and .html)",
     )
     parser.add_argument(
         "--most-output",
         type=whole(0, 10**9),
         metavar="BYTES",
         default=MOST_OUTPUT,
-        help=f"the most bytes of an output; of a longer one the middle is left out ({MOST_OUTPUT})",
+        help="the most bytes of an output; of a longer one the middle is left out "
+        f"({MOST_OUTPUT})",
     )
 
 
-def run(words):
-    """Writes the page, and prints where it is."""
+def run(words: argparse.Namespace) -> int:
+    """Write the page, and print where it is."""
     path = run_folder.here().find(words.run)
     text = document.page_of(path, words.most_output)
-    if words.to == "-":
-        if sys.stdout is None:
-            raise Fault("standard output is closed: name a file with --to")
-        print_out(document.bytes_of(text).decode())
-        return 0
-    print_out(
-        f"{document.written(text, pathlib.Path(words.to) if words.to else document.beside(path))}\n"
-    )
+    if words.to == STANDARD_OUTPUT:
+        print_page(text)
+    else:
+        target = pathlib.Path(words.to) if words.to else document.beside(path)
+        print_out(f"{document.written(text, target)}\n")
     return 0
+
+
+def print_page(text: str) -> None:
+    """Print a page on standard output."""
+    if sys.stdout is None:
+        raise Fault("standard output is closed: name a file with --to")
+    print_out(document.bytes_of(text).decode())

@@ -1,24 +1,24 @@
-#!/usr/bin/env python3
-"""Writes the man pages of the programs, and their completions for bash, zsh and fish, below a folder.
+"""Writes the man pages of the programs, and their completions for bash, zsh and fish.
 
     python3 -m rezovamy_runs.manuals ~/.local
 
-All are made of the parsers that print `--help`, but for the built program, whose words faults/causes.py has.
+All are made of the parsers that print `--help`, but for the built program, whose words
+faults/causes.py has.
 """
+
+from __future__ import annotations
 
 import pathlib
 import sys
 
 from rezovamy_runs.command_line import command_line, say
-from rezovamy_runs.manuals import bash
-from rezovamy_runs.manuals import fish
-from rezovamy_runs.manuals import manual
-from rezovamy_runs.manuals import zsh
+from rezovamy_runs.manuals import bash, fish, manual, zsh
 from rezovamy_runs.manuals.programs import programs
+from rezovamy_runs.manuals.tables import Program
 
 
-def files(program):
-    """The files of a program, by their paths below the folder."""
+def files(program: Program) -> dict[str, str]:
+    """Return the files of a program, by their paths below the folder."""
     return {
         f"share/man/man1/{program.name}.1": manual.page(program),
         f"share/bash-completion/completions/{program.name}": bash.completion(program),
@@ -27,8 +27,8 @@ def files(program):
     }
 
 
-def write(folder):
-    """Writes all files."""
+def write(folder: pathlib.Path) -> None:
+    """Write all files below a folder."""
     for program in programs():
         for name, text in files(program).items():
             path = folder / name
@@ -36,7 +36,8 @@ def write(folder):
             path.write_text(text, encoding="utf-8")
 
 
-def main():
+def main() -> int:
+    """Run the program on the words of the process, and return its status."""
     parser = command_line(__doc__)
     parser.add_argument(
         "folder", type=pathlib.Path, metavar="FOLDER", help="the folder that gets `share`"

@@ -1,13 +1,14 @@
 """The programs that are installed, each with the parser of its words."""
 
+from __future__ import annotations
+
 import argparse
 import dataclasses
 
-from rezovamy_runs.commands import junit_xml
-from rezovamy_runs.commands import session_from_libtest
-from rezovamy_runs.manuals.tables import program_of
+from rezovamy_runs import cli
+from rezovamy_runs.commands import junit_xml, session_from_libtest
 from rezovamy_runs.faults import causes
-from rezovamy_runs import cli as front_end
+from rezovamy_runs.manuals.tables import Program, program_of
 
 RECORDER = "Records a run of tests from its session, and prints what is in the bundle of a run."
 # What each command of the recorder does, and the words that stand before its options.
@@ -21,7 +22,8 @@ RECORDING = {
     "replay": ("print a line for each event of the bundle on standard input", ()),
     "report": ("print the results of each run of the bundle on standard input, as JSON", ()),
     "slots": (
-        "print how long each slot of the run in the bundle on standard input was busy, paused and idle",
+        "print how long each slot of the run in the bundle on standard input "
+        "was busy, paused and idle",
         (),
     ),
     "rerun": (
@@ -38,6 +40,8 @@ RECORDING = {
         ("BUNDLE",),
     ),
 }
+# What takes a number of bytes, as causes.py says it of options.
+BYTES = "a number of bytes"
 OPERANDS = {
     "BUNDLE": "the file of the bundle; options stand after it",
     "N": "how many tests, up to 10000",
@@ -46,14 +50,15 @@ OPTIONS = {
     "--group-by": "draw a process for each test binary, or one process for all (binary)",
     "--message-format": "write the trace in one line, or over several (json)",
     "--max-output": "the most bytes of an output that is kept whole (10485760)",
-    "--read-limit": "the most bytes of the manifest, of the log and of an entry of the store (268435456)",
+    "--read-limit": "the most bytes of the manifest, of the log and of an entry of the store "
+    "(268435456)",
     "--session-limit": "the most bytes of the session or the bundle that is read (268435456)",
     "--output": "read the outputs of tests, or leave them out (load)",
 }
 
 
-def recorder():
-    """A parser as that of the built program, which reads its words itself."""
+def recorder() -> argparse.ArgumentParser:
+    """Return a parser as that of the built program, which reads its words itself."""
     parser = argparse.ArgumentParser(prog="rezovamy", description=RECORDER, add_help=False)
     parser.add_argument("--help", action="help", help="print how the program is used")
     parser.add_argument(
@@ -72,37 +77,38 @@ def recorder():
         for operand in operands:
             of_command.add_argument(operand, metavar=operand, help=OPERANDS[operand])
         for option in causes.TAKEN[command]:
-            words = [
-                word for word in causes.OPTIONS[option].split(" or ") if word != "a number of bytes"
-            ]
-            of_command.add_argument(
-                option,
-                metavar="VALUE" if words else "BYTES",
-                choices=words or None,
-                help=OPTIONS[option],
-            )
+            add_option(of_command, option)
     return parser
 
 
-def runs_program():
-    """The front end. Which of its commands take the words after `--` no parser knows."""
-    program = program_of(front_end.parser(), front_end.PROGRAM)
+def add_option(parser: argparse.ArgumentParser, option: str) -> None:
+    """Let a command of the built program take an option, whose value is a word or a number."""
+    words = [word for word in causes.OPTIONS[option].split(" or ") if word != BYTES]
+    if words:
+        parser.add_argument(option, metavar="VALUE", choices=words, help=OPTIONS[option])
+    else:
+        parser.add_argument(option, metavar="BYTES", help=OPTIONS[option])
+
+
+def runs_program() -> Program:
+    """Return the front end. Which of its commands take the words after `--` no parser knows."""
+    program = program_of(cli.parser(), cli.PROGRAM)
     commands = [
         dataclasses.replace(
-            command, takes_rest=getattr(front_end.module_of(command.name), "TAKES_REST", False)
+            command, takes_rest=getattr(cli.module_of(command.name), "TAKES_REST", False)
         )
         for command in program.commands
     ]
     return dataclasses.replace(program, commands=tuple(commands))
 
 
-def script_program(parser, name):
-    """A script, called by the name under which it is installed."""
-    return program_of(parser, name, parser.description.replace(f"tools/{name}.py", name))
+def script_program(parser: argparse.ArgumentParser, name: str) -> Program:
+    """Return a script, called by the name under which it is installed."""
+    return program_of(parser, name, (parser.description or "").replace(f"front/{name}", name))
 
 
-def programs():
-    """The programs, in the order of their names."""
+def programs() -> list[Program]:
+    """Return the programs, in the order of their names."""
     return [
         script_program(junit_xml.words_parser(), "junit_xml"),
         program_of(recorder(), "rezovamy"),

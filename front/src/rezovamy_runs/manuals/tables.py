@@ -1,52 +1,75 @@
 """What a program takes, read out of its parser: its options, its operands and its commands."""
 
+from __future__ import annotations
+
 import argparse
 import dataclasses
+import enum
 
 FILES = ("FILE", "PATH", "FOLDER", "BUNDLE", "REPORTS")
 RUNS = ("RUN", "A", "B")
-WORDS, FILE, RUN, NOTHING = "words", "file", "run", "nothing"
+USAGES = {"?": "[{0}]", "*": "[{0} ...]", "+": "{0} [{0} ...]"}
 
 
-def kind_of(value, choices):
-    """How a value is completed: by words, by files, by the ids of runs (or the paths of bundles), or not at all."""
+class Kind(enum.Enum):
+    """How a value is completed."""
+
+    # By words that are known.
+    WORDS = enum.auto()
+    FILE = enum.auto()
+    # By the ids of runs, or the paths of bundles.
+    RUN = enum.auto()
+    NOTHING = enum.auto()
+
+
+def kind_of(value: str, choices: tuple[str, ...]) -> Kind:
+    """Return how a value is completed that has this name and these choices."""
     if choices:
-        return WORDS
-    return FILE if value in FILES else RUN if value in RUNS else NOTHING
+        return Kind.WORDS
+    if value in FILES:
+        return Kind.FILE
+    return Kind.RUN if value in RUNS else Kind.NOTHING
 
 
 @dataclasses.dataclass(frozen=True)
 class Option:
-    """An option: its words, what its value is called (nothing where it has none), the words that it takes, and its help."""
+    """An option: its words, what its value is called, the words that this can be, and its help.
 
-    names: tuple
+    Where it has no value, the name of that is empty.
+    """
+
+    names: tuple[str, ...]
     value: str
-    choices: tuple
+    choices: tuple[str, ...]
     help: str
 
     @property
-    def kind(self):
+    def kind(self) -> Kind:
+        """How its value is completed."""
         return kind_of(self.value, self.choices)
 
 
 @dataclasses.dataclass(frozen=True)
 class Operand:
-    """A word without a name: what it is called, how often it stands (as argparse says), and its help."""
+    """A word without a name: what it is called, how often it stands, and its help.
+
+    How often it stands is told as argparse does.
+    """
 
     value: str
     often: str
-    choices: tuple
+    choices: tuple[str, ...]
     help: str
 
     @property
-    def kind(self):
+    def kind(self) -> Kind:
+        """How it is completed."""
         return kind_of(self.value, self.choices)
 
     @property
-    def usage(self):
+    def usage(self) -> str:
         """The operand as a synopsis has it."""
-        forms = {"?": "[{0}]", "*": "[{0} ...]", "+": "{0} [{0} ...]"}
-        return forms.get(self.often, "{0}").format(self.value)
+        return USAGES.get(self.often, "{0}").format(self.value)
 
 
 @dataclasses.dataclass(frozen=True)
@@ -55,59 +78,65 @@ class Program:
 
     name: str
     about: str
-    options: tuple
-    operands: tuple
-    commands: tuple = ()
+    options: tuple[Option, ...]
+    operands: tuple[Operand, ...]
+    commands: tuple[Program, ...] = ()
     takes_rest: bool = False
     usage: str = ""
 
     @property
-    def function(self):
+    def function(self) -> str:
         """The name as one that a function of a shell can have."""
         return "_" + self.name.replace("-", "_")
 
     @property
-    def kinds(self):
+    def kinds(self) -> list[Kind]:
         """How the operands are completed."""
         return [operand.kind for operand in self.operands]
 
 
-def help_of(parser, action):
-    """The help of an action in one line, with its default put in."""
+def help_of(parser: argparse.ArgumentParser, action: argparse.Action) -> str:
+    """Return the help of an action in one line, with its default put in."""
     if not action.help:
         return ""
     return " ".join(parser._get_formatter()._expand_help(action).split())
 
 
-def option_of(parser, action):
-    value = (
-        "" if action.nargs == 0 else str(action.metavar or action.dest.upper().replace("_", "-"))
-    )
-    choices = tuple(map(str, action.choices or ()))
-    return Option(tuple(action.option_strings), value, choices, help_of(parser, action))
+def choices_of(action: argparse.Action) -> tuple[str, ...]:
+    """Return the words that an action takes, none where it takes all."""
+    return tuple(map(str, action.choices or ()))
 
 
-def operand_of(parser, action):
+def option_of(parser: argparse.ArgumentParser, action: argparse.Action) -> Option:
+    """Return the option of an action."""
+    called = str(action.metavar or action.dest.upper().replace("_", "-"))
+    value = "" if action.nargs == 0 else called
+    names = tuple(action.option_strings)
+    return Option(names, value, choices_of(action), help_of(parser, action))
+
+
+def operand_of(parser: argparse.ArgumentParser, action: argparse.Action) -> Operand:
+    """Return the operand of an action."""
+    value = str(action.metavar or action.dest)
     often = "" if action.nargs is None else str(action.nargs)
-    return Operand(
-        str(action.metavar or action.dest),
-        often,
-        tuple(map(str, action.choices or ())),
-        help_of(parser, action),
-    )
+    return Operand(value, often, choices_of(action), help_of(parser, action))
 
 
-def commands_of(action):
-    """The commands that a parser has below it, with their helps."""
+def commands_of(
+    action: argparse._SubParsersAction[argparse.ArgumentParser],
+) -> tuple[Program, ...]:
+    """Return the commands that a parser has below it, with their helps."""
     helps = {choice.dest: choice.help or "" for choice in action._choices_actions}
     return tuple(
         program_of(parser, name, helps.get(name, "")) for name, parser in action.choices.items()
     )
 
 
-def program_of(parser, name, about=None):
-    """The program whose words a parser reads. What an action hides stays hidden."""
-    options, operands, commands = [], [], ()
+def program_of(parser: argparse.ArgumentParser, name: str, about: str | None = None) -> Program:
+    """Return the program whose words a parser reads. What an action hides stays hidden."""
+    options: list[Option] = []
+    operands: list[Operand] = []
+    commands: tuple[Program, ...] = ()
     for action in parser._actions:
         if action.help == argparse.SUPPRESS:
             continue

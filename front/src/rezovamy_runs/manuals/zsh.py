@@ -1,100 +1,108 @@
 """The completion of a program for zsh."""
 
-from rezovamy_runs.manuals.tables import FILE, RUN, WORDS
+from __future__ import annotations
+
+from collections.abc import Sequence
+
+from rezovamy_runs.manuals.tables import Kind, Operand, Option, Program
 
 LIST_RUNS = """\
     local -a ids
     ids=(last ${(f)"$(rezovamy-runs list 2>/dev/null | awk 'NR > 1 {print $1}')"})
     compadd -a ids
     _files"""
+FIRST_WORD = """\
+    )
+    if (( CURRENT == 2 )); then
+        _describe -t commands command commands"""
+FURTHER_WORDS = """\
+        return
+    fi
+    local command=$words[2]
+    shift words
+    (( CURRENT-- ))
+    case $command in"""
 
 
-def quoted(text):
-    """A text in single quotes."""
+def quoted(text: str) -> str:
+    """Return a text in single quotes."""
     return "'" + text.replace("'", "'\\''") + "'"
 
 
-def plain(text):
-    """A text in which no letter means something to `_arguments`."""
+def plain(text: str) -> str:
+    """Return a text in which no letter means something to `_arguments`."""
     return "".join("\\" + letter if letter in "[]:\\" else letter for letter in text)
 
 
-def offered(kind, choices, runs):
-    """The action that offers what a value can be."""
-    return {WORDS: f"({' '.join(choices)})", FILE: "_files", RUN: runs}.get(kind, "")
+def offered(kind: Kind, choices: Sequence[str], runs: str) -> str:
+    """Return the action that offers what a value can be."""
+    match kind:
+        case Kind.WORDS:
+            return f"({' '.join(choices)})"
+        case Kind.FILE:
+            return "_files"
+        case Kind.RUN:
+            return runs
+        case Kind.NOTHING:
+            return ""
 
 
-def option_words(option, runs):
-    """The specifications of an option, one for each of its words."""
-    value = (
-        f":{plain(option.value)}:{offered(option.kind, option.choices, runs)}"
-        if option.value
-        else ""
-    )
+def option_words(option: Option, runs: str) -> list[str]:
+    """Return the specifications of an option, one for each of its words."""
+    value = ""
+    if option.value:
+        value = f":{plain(option.value)}:{offered(option.kind, option.choices, runs)}"
     apart = f"({' '.join(option.names)})" if len(option.names) > 1 else ""
     return [quoted(f"{apart}{name}[{plain(option.help)}]{value}") for name in option.names]
 
 
-def operand_words(program, runs):
-    """The specifications of the operands, and of the words after `--`."""
-    words = []
-    for number, operand in enumerate(program.operands, 1):
-        place = (
-            "*"
-            if operand.often in ("*", "+")
-            else f"{number}:"
-            if operand.often == "?"
-            else str(number)
-        )
-        words.append(
-            quoted(f"{place}:{plain(operand.value)}:{offered(operand.kind, operand.choices, runs)}")
-        )
-    return words + [quoted("*::word:_files")] * (
-        program.takes_rest and not any(word.startswith("'*") for word in words)
-    )
+def stands_often(operand: Operand) -> bool:
+    """Return whether more than one word may be of an operand."""
+    return operand.often in ("*", "+")
 
 
-def arguments(program, runs, indent):
-    """The call that completes the words of a program or a command."""
-    words = [
-        word for option in program.options for word in option_words(option, runs)
-    ] + operand_words(program, runs)
-    return (
-        [f"{indent}_arguments \\"]
-        + [f"{indent}    {word} \\" for word in words[:-1]]
-        + [f"{indent}    {words[-1]}"]
-    )
+def operand_word(number: int, operand: Operand, runs: str) -> str:
+    """Return the specification of an operand, which stands at a place."""
+    place = "*" if stands_often(operand) else f"{number}:" if operand.often == "?" else f"{number}"
+    offers = offered(operand.kind, operand.choices, runs)
+    return quoted(f"{place}:{plain(operand.value)}:{offers}")
 
 
-def with_commands(program, runs):
-    """The lines that complete a command, and then its words."""
+def rest_words(program: Program) -> list[str]:
+    """Return the specification of the words after `--`, where nothing else takes them."""
+    is_offered = program.takes_rest and not any(map(stands_often, program.operands))
+    return [quoted("*::word:_files")] if is_offered else []
+
+
+def arguments(program: Program, runs: str, indent: str) -> list[str]:
+    """Return the call that completes the words of a program or a command."""
+    words = [word for option in program.options for word in option_words(option, runs)]
+    words += [operand_word(*place, runs) for place in enumerate(program.operands, 1)]
+    words += rest_words(program)
+    return [
+        f"{indent}_arguments \\",
+        *(f"{indent}    {word} \\" for word in words[:-1]),
+        f"{indent}    {words[-1]}",
+    ]
+
+
+def with_commands(program: Program, runs: str) -> list[str]:
+    """Return the lines that complete a command, and then its words."""
     lines = ["    local -a commands", "    commands=("]
-    lines += [
-        f"        {quoted(plain(command.name) + ':' + plain(command.about))}"
-        for command in program.commands
-    ]
-    lines += [
-        "    )",
-        "    if (( CURRENT == 2 )); then",
-        "        _describe -t commands command commands",
-    ]
-    lines += arguments(program, runs, "        ") + [
-        "        return",
-        "    fi",
-        "    local command=$words[2]",
-    ]
-    lines += ["    shift words", "    (( CURRENT-- ))", "    case $command in"]
     for command in program.commands:
-        lines += [f"    {command.name})", *(arguments(command, runs, "        ")), "        ;;"]
-    return lines + ["    esac"]
+        lines.append(f"        {quoted(plain(command.name) + ':' + plain(command.about))}")
+    lines += [FIRST_WORD, *arguments(program, runs, "        "), FURTHER_WORDS]
+    for command in program.commands:
+        lines += [f"    {command.name})", *arguments(command, runs, "        "), "        ;;"]
+    return [*lines, "    esac"]
 
 
-def completion(program):
-    """The whole file."""
+def completion(program: Program) -> str:
+    """Return the whole file."""
     runs = f"{program.function}_run"
     lines = [f"#compdef {program.name}", f"# Completes {program.name} in zsh. Made of its --help."]
-    if any(RUN in command.kinds for command in program.commands):
+    if any(Kind.RUN in command.kinds for command in program.commands):
         lines += [f"{runs}() {{", LIST_RUNS, "}"]
-    lines += [f"{program.function}() {{"]
+    lines.append(f"{program.function}() {{")
     lines += with_commands(program, runs) if program.commands else arguments(program, runs, "    ")
-    return "\n".join(lines + ["}", f'{program.function} "$@"']) + "\n"
+    return "\n".join([*lines, "}", f'{program.function} "$@"']) + "\n"
