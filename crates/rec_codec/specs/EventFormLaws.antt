@@ -29,27 +29,23 @@ use Rattle.rec_codec.specs.CoreKindForms.{stress_sub_run_finished_form, run_fini
 use Rattle.rec_codec.specs.CoreKindForms.{test_slow_form, test_retry_started_form}
 use Rattle.rec_codec.specs.CoreKindForms.{test_skipped_form, run_begin_cancel_form}
 use Rattle.rec_codec.specs.CoreKindForms.{run_paused_form, run_continued_form}
-use Rattle.rec_codec.specs.CoreKindLaws.{
-  FieldsWritten,
-  core_back,
-  core_written,
+use Rattle.rec_codec.specs.CoreKindLaws.{FieldsWritten, core_back, core_written}
+use Rattle.rec_codec.specs.CoreKinds.{IsCore}
+use Rattle.rec_codec.specs.CoreKindsWellFormed.{
   run_started_well_formed,
   stress_sub_run_started_well_formed,
-}
-use Rattle.rec_codec.specs.CoreKindLaws.{
   run_continued_well_formed,
   stress_sub_run_finished_well_formed,
   run_finished_well_formed,
-}
-use Rattle.rec_codec.specs.CoreKindLaws.{
   setup_script_started_well_formed,
   setup_script_slow_well_formed,
   test_started_well_formed,
   test_slow_well_formed,
+  test_retry_started_well_formed,
+  test_skipped_well_formed,
+  run_begin_cancel_well_formed,
+  run_paused_well_formed,
 }
-use Rattle.rec_codec.specs.CoreKindLaws.{test_retry_started_well_formed, test_skipped_well_formed}
-use Rattle.rec_codec.specs.CoreKindLaws.{run_begin_cancel_well_formed, run_paused_well_formed}
-use Rattle.rec_codec.specs.CoreKinds.{IsCore}
 use Rattle.rec_codec.specs.EventForms.{kind_fields, IsKind, event_value, event_form}
 use Rattle.rec_codec.specs.EventForms.{IsEvent, kinds, kind_named, kind_form}
 use Rattle.rec_codec.specs.OutputKindLaws.{output_back, output_written, script_finished_well_formed}

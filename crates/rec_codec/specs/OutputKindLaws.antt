@@ -37,7 +37,7 @@ use Rattle.rec_forms.specs.Writable.{IsWritable, weaker, natural_writable}
 use Rattle.rec_forms.specs.Writable.{string_writable, word_writable, boolean_writable}
 use Rattle.rec_codec.specs.CoreKindForms.{place_form, command_form}
 use Rattle.rec_codec.specs.CoreKindLaws.{FieldsWritten, stress_index_written, texts_written}
-use Rattle.rec_codec.specs.CoreKindLaws.{place_well_formed, command_well_formed}
+use Rattle.rec_codec.specs.CoreKindsWellFormed.{place_well_formed, command_well_formed}
 use Rattle.rec_codec.specs.EventForms.{kind_named, kind_form, event_value, event_form}
 use Rattle.rec_codec.specs.OutputKinds.{reporting_form, output_fields, script_finished_form}
 use Rattle.rec_codec.specs.OutputKinds.{attempt_failed_form, test_finished_form, IsOutput}

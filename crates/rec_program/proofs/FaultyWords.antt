@@ -22,7 +22,7 @@ use Rattle.rec_words.specs.Words.{sampling, upgrading, salvaging, help, version}
 use Rattle.rec_faults.specs.ReadingLine.{reading_shown}
 use Rattle.rec_faults.specs.Status.{export_status, reading_status}
 use Rattle.rec_faults.specs.WritingCommands.{upgrade_status}
-use Rattle.rec_program.proofs.Commands.{export_above, reading_above}
+use Rattle.rec_program.proofs.StatusesAbove.{export_above, reading_above}
 use Rattle.rec_program.proofs.WritingCommands.{refusal_above, upgrade_above}
 use Rattle.rec_program.specs.BundleTraces.{PrintsTrace}
 use Rattle.rec_program.specs.Counts.{counts_line}

@@ -32,7 +32,7 @@ use Rattle.rec_export.specs.declared.settings.Settings.{Settings}
 use Rattle.rec_export.specs.Export.{CountsOf, Exports, Fails, Undelivered}
 use Rattle.rec_export.specs.Reading.{Unread}
 use Rattle.rec_faults.specs.Status.{export_status}
-use Rattle.rec_program.proofs.Commands.{export_above}
+use Rattle.rec_program.proofs.StatusesAbove.{export_above}
 use Rattle.rec_program.specs.Counts.{counts_line}
 use Rattle.rec_program.specs.Running.{RecordsSample}
 use Rattle.rec_program.specs.Samples.{MakesSample, SampleFails, Samples}

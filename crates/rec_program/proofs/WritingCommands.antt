@@ -33,8 +33,9 @@ use Rattle.rec_export.proofs.Complete.{no_more, same_session}
 use Rattle.rec_export.specs.declared.settings.Settings.{Settings}
 use Rattle.rec_faults.specs.WritingCommands.{run_part_status, salvage_status, upgrade_status}
 use Rattle.rec_program.proofs.BundlesShown.{withheld}
-use Rattle.rec_program.proofs.Commands.{bundle_above, printed_of}
+use Rattle.rec_program.proofs.Commands.{printed_of}
 use Rattle.rec_program.proofs.RunsSalvaged.{stopped_unfound}
+use Rattle.rec_program.proofs.StatusesAbove.{bundle_above}
 use Rattle.rec_program.specs.Counts.{counts_line}
 use Rattle.rec_program.specs.declared.salvage_refusal.SalvageRefusal.TheVariants.{
   Bundle,
