@@ -1,5 +1,5 @@
 //! The tests of `rec_replay` for which no case of the built program can stand;
-//! those are in `tools/cases`.
+//! those are in `workshop/cases`.
 #![tactic(auto)]
 
 #[cfg(test)]
