@@ -10,6 +10,7 @@ from rezovamy_runs.store import run_folder
 from rezovamy_runs.faults.fault import Fault
 
 SUMMARY = "write JUnit XML of a run, for a CI"
+TAKES_REST = False
 FOLDER = "rezovamy-junit"
 
 
