@@ -78,11 +78,10 @@ def root_bundle(plan, before):
 def never_started(path):
     """What is said of tests that were announced and never started: the run has no name of them. It may be gone by now."""
     try:
-        last = bundle.read(path, lambda opened: opened.first_and_last()[1]) or {}
+        end = bundle.read_end(path)
     except (FileNotFoundError, Fault):
         return []
-    unseen = last.get("outstanding-not-seen") or {}
-    count = unseen.get("total-not-seen", 0) - len(unseen.get("not-seen", []))
+    count = end.unseen - len(end.unseen_names) if end else 0
     if count <= 0:
         return []
     return [

@@ -18,6 +18,7 @@ from rezovamy_runs.report.run_report import NoReport
 from rezovamy_runs.store import run_folder
 
 SUMMARY = "write JUnit XML of a run, for a CI"
+TAKES_REST = False
 FOLDER = "rezovamy-junit"
 
 

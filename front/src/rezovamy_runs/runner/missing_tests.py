@@ -37,7 +37,7 @@ def build_words(words):
 def is_same_build(first, words):
     """Whether the words ask for the same build as those of the run with which a row of reruns began; its bundle may be gone."""
     try:
-        before = bundle.read_summary(first).cli_args
+        before = list(bundle.read_summary(first).cli_args)
     except (FileNotFoundError, Fault):
         return False
     return before[:2] == ["cargo", "test"] and build_words(before[2:]) == build_words(words)
