@@ -1,93 +1,118 @@
-"""A run as its runner would have printed it: its tests and their attempts with what they printed, and how it ended."""
+"""A run as its runner would have printed it.
+
+That is its tests and their attempts with what they printed, and how it ended.
+"""
+
+from __future__ import annotations
+
+import dataclasses
+from collections.abc import Iterable, Iterator
 
 from rezovamy_runs import formatting
+from rezovamy_runs.model import (
+    CANCELLED,
+    WITHOUT_END,
+    Attempt,
+    Result,
+    Run,
+    Script,
+    Stream,
+    Test,
+    TestName,
+    Verdict,
+)
+from rezovamy_runs.terminal import Colour, Paint
 
-VERDICTS = {
-    "pass": ("PASS", "green"),
-    "leak": ("LEAK", "yellow"),
-    "leak-fail": ("LEAK-FAIL", "red"),
-    "fail": ("FAIL", "red"),
-    "abort": ("ABORT", "red"),
-    "timeout": ("TIMEOUT", "red"),
-    "timeout-pass": ("TIMEOUT-PASS", "yellow"),
-    "exec-fail": ("EXEC-FAIL", "red"),
-    "unfinished": ("UNFINISHED", "yellow"),
+RESULTS: dict[Result, tuple[str, Colour]] = {
+    Result.PASS: ("PASS", "green"),
+    Result.LEAK: ("LEAK", "yellow"),
+    Result.LEAK_FAIL: ("LEAK-FAIL", "red"),
+    Result.FAIL: ("FAIL", "red"),
+    Result.ABORT: ("ABORT", "red"),
+    Result.TIMEOUT: ("TIMEOUT", "red"),
+    Result.TIMEOUT_PASS: ("TIMEOUT-PASS", "yellow"),
+    Result.EXEC_FAIL: ("EXEC-FAIL", "red"),
+    Result.UNFINISHED: ("UNFINISHED", "yellow"),
 }
-STREAMS = {"stdout": "standard output", "stderr": "standard error", "combined": "output"}
-NOTEWORTHY = ("fail", "flaky", "unfinished")
+STREAMS = {
+    Stream.STDOUT: "standard output",
+    Stream.STDERR: "standard error",
+    Stream.COMBINED: "output",
+}
+NOTEWORTHY = (Verdict.FAIL, Verdict.FLAKY, Verdict.UNFINISHED)
 SLOWEST = 5
 INDENT = "    "
 LONGEST_LINE = 2000
 
 
+@dataclasses.dataclass(frozen=True)
 class Printer:
-    """Makes lines of a run. Outputs longer than `most_lines` lose their middle, if that is given, and so do very long lines."""
+    """Makes lines of a run.
 
-    def __init__(self, paint, most_lines=None):
-        self.paint, self.most_lines = paint, most_lines
+    Outputs longer than `most_lines` lose their middle, if that is given, and so do very long
+    lines.
+    """
 
-    def head(self, run, prefix):
-        """A line that says which run it is."""
+    paint: Paint
+    most_lines: int | None = None
+
+    def head(self, run: Run, prefix: str) -> str:
+        """Return a line that says which run it is."""
         command = formatting.name(" ".join(run.cli_args))
         ran = f": {command}" if command else ""
-        return (
-            self.paint("bold", f"run {prefix}")
-            + f" of {formatting.moment(run.started)}, profile {formatting.name(run.profile)}{ran}"
-        )
+        profile = formatting.name(run.profile)
+        started = formatting.moment(run.started)
+        return f"{self.paint('bold', f'run {prefix}')} of {started}, profile {profile}{ran}"
 
-    def tests(self, tests, with_passed):
-        """The tests in the order in which they ended, those that passed only where they are asked for."""
+    def tests(self, tests: Iterable[Test], with_passed: bool) -> Iterator[str]:
+        """Return the tests in the order in which they ended, those that passed if wanted."""
         for test in sorted(tests, key=ended):
             if with_passed or test.verdict in NOTEWORTHY:
                 yield from self.test(test, with_passed)
 
-    def test(self, test, with_passed):
-        """The lines of a test, an attempt after the other. Outputs of an attempt that passed come where they are asked for."""
+    def test(self, test: Test, with_passed: bool) -> Iterator[str]:
+        """Return the lines of a test, an attempt after the other.
+
+        Outputs of an attempt that passed come if they are wanted.
+        """
         title = title_of(test)
-        if test.verdict == "skip":
+        if test.verdict is Verdict.SKIP:
             yield f"{self.paint('yellow', 'SKIP')} {title} ({test.reason})"
         for attempt in test.attempts:
-            word, colour = VERDICTS[attempt.result]
             was_retried = len(test.attempts) > 1 or attempt.total > 1
             tried = f"attempt {attempt.number} of {attempt.total}" if was_retried else ""
-            said = ", ".join(
-                filter(None, (tried, attempt.detail, "slow" if attempt.is_slow else ""))
-            )
-            taken = (
-                f"[{formatting.duration(attempt.seconds)}] " if attempt.ended is not None else ""
-            )
-            yield f"{self.paint(colour, word)} {taken}{title}{f' ({said})' if said else ''}"
+            told = [tried, attempt.detail, "slow" if attempt.is_slow else ""]
+            said = ", ".join(filter(None, told))
+            taken = "" if attempt.ended is None else f"{took(attempt)} "
+            yield f"{self.result(attempt)} {taken}{title}{f' ({said})' if said else ''}"
             if with_passed or not attempt.passed:
                 yield from self.outputs(attempt)
-        if test.flaky_fails and test.verdict == "fail" and test.attempts[-1].passed:
+        if test.flaky_fails and test.verdict is Verdict.FAIL and test.attempts[-1].passed:
             yield f"{INDENT}it passed at last, and flaky tests fail in this run"
 
-    def scripts(self, scripts, with_passed):
-        """The setup scripts that failed, or all."""
+    def scripts(self, scripts: Iterable[Script], with_passed: bool) -> Iterator[str]:
+        """Return the setup scripts that failed, or all."""
         for script in scripts:
             attempt = script.attempt
             if with_passed or not attempt.passed:
-                word, colour = VERDICTS[attempt.result]
-                taken, detail = (
-                    formatting.duration(attempt.seconds),
-                    f" ({attempt.detail})" if attempt.detail else "",
-                )
-                yield f"{self.paint(colour, word)} [{taken}] setup script {formatting.name(script.id)}{detail}"
+                detail = f" ({attempt.detail})" if attempt.detail else ""
+                title = f"setup script {formatting.name(script.id)}"
+                yield f"{self.result(attempt)} {took(attempt)} {title}{detail}"
                 yield from self.outputs(attempt)
 
-    def outputs(self, attempt):
-        """What an attempt printed, and its errors where they don't stand there."""
+    def result(self, attempt: Attempt) -> str:
+        """Return the word for how an attempt ended."""
+        word, colour = RESULTS[attempt.result]
+        return self.paint(colour, word)
+
+    def outputs(self, attempt: Attempt) -> Iterator[str]:
+        """Return what an attempt printed, and its errors where they don't stand there."""
         printed = ""
-        for stream, what in STREAMS.items():
-            data = getattr(attempt, stream)
+        for stream, data in attempt.outputs.items():
             if data:
                 text = formatting.output(data)
                 printed += text
-                whole = attempt.truncated.get(stream)
-                cut = (
-                    f", cut when it was recorded; it had {formatting.size(whole)}" if whole else ""
-                )
-                yield f"  {self.paint('dim', what + cut)}"
+                yield f"  {self.paint('dim', STREAMS[stream] + cut_note(attempt, stream))}"
                 yield from self.indented(text)
         lines = formatting.harmless(attempt.errors or "").split("\n")
         errors = [line for line in lines if line.strip() and line.strip() not in printed]
@@ -95,62 +120,85 @@ class Printer:
             yield f"  {self.paint('dim', 'error')}"
             yield from self.indented("\n".join(errors))
 
-    def indented(self, text):
+    def indented(self, text: str) -> list[str]:
+        """Return the lines of a text, each a bit to the right."""
         lines = text.rstrip("\n").split("\n")
         if self.most_lines and len(lines) > self.most_lines:
             half = self.most_lines // 2
-            left_out = f".. {len(lines) - 2 * half} lines are left out here, `rezovamy-runs show` has them .."
-            lines = [*lines[:half], left_out, *lines[-half:]]
+            left_out = f"{len(lines) - 2 * half} lines are left out here"
+            lines = [*lines[:half], f".. {left_out}, {SHOWN_BY} ..", *lines[-half:]]
         if self.most_lines:
             lines = [cut_middle(line) for line in lines]
         return [(INDENT + line).rstrip() for line in lines]
 
-    def slowest(self, run):
-        """The tests that took longest, where there is more than one."""
-        tests = sorted(
-            (test for test in run.tests if test.has_finished), key=lambda test: -test.seconds
-        )[:SLOWEST]
+    def slowest(self, run: Run) -> list[str]:
+        """Return the tests that took longest, where there is more than one."""
+        finished = [test for test in run.tests if test.has_finished]
+        tests = sorted(finished, key=lambda test: -test.seconds)[:SLOWEST]
         lines = [f"  {formatting.duration(test.seconds):>8}  {title_of(test)}" for test in tests]
         return ["slowest tests:", *lines] if len(tests) > 1 else []
 
-    def end(self, run):
-        """A line that says how the run ended."""
+    def end(self, run: Run) -> str:
+        """Return a line that says how the run ended."""
         counts = run.counts
         flaky = f" ({counts.flaky} flaky)" if counts.flaky else ""
         parts = [self.paint("green", f"{counts.passed} passed{flaky}")]
         parts += [self.paint("red", f"{counts.failed} failed")] if counts.failed else []
         parts += [self.paint("yellow", f"{counts.unseen} never ended")] if counts.unseen else []
         parts += [f"{counts.skipped} skipped"] if counts.skipped else []
-        return f"{formatting.count(counts.total, 'test')} in {formatting.duration(run.elapsed)}: {', '.join(parts)}{ending_of(run)}"
+        tests = formatting.count(counts.total, "test")
+        taken = formatting.duration(run.elapsed)
+        return f"{tests} in {taken}: {', '.join(parts)}{ending_of(run)}"
 
 
-def cut_middle(line):
-    """The line, without its middle where it is longer than anybody reads."""
+SHOWN_BY = "`rezovamy-runs show` has them"
+
+
+def took(attempt: Attempt) -> str:
+    """Return how long an attempt took, in brackets."""
+    return f"[{formatting.duration(attempt.seconds)}]"
+
+
+def cut_note(attempt: Attempt, stream: Stream) -> str:
+    """Return what is said of an output that was cut when it was recorded."""
+    whole = attempt.truncated.get(stream)
+    return f", cut when it was recorded; it had {formatting.size(whole)}" if whole else ""
+
+
+def cut_middle(line: str) -> str:
+    """Return the line, without its middle where it is longer than anybody reads."""
     half = LONGEST_LINE // 2
     left_out = len(line) - 2 * half
     if left_out <= 0:
         return line
-    return f"{line[:half]} .. {left_out} characters are left out here, `rezovamy-runs show` has them .. {line[-half:]}"
+    note = f".. {left_out} characters are left out here, {SHOWN_BY} .."
+    return f"{line[:half]} {note} {line[-half:]}"
 
 
-def ending_of(run):
-    """What else there is to say of how a run ended."""
-    if run.status in ("cancelled", "stress-cancelled"):
+def ending_of(run: Run) -> str:
+    """Return what else there is to say of how a run ended."""
+    if run.status in CANCELLED:
         return "; the run was broken off"
-    return "; the run's end isn't known" if run.status in ("incomplete", "unknown") else ""
+    return "; the run's end isn't known" if run.status in WITHOUT_END else ""
 
 
-def all_told(errors, printed):
-    """Whether each word of the errors stands in what was printed, where a line of theirs has been made of two."""
+def all_told(errors: Iterable[str], printed: str) -> bool:
+    """Tell whether each word of the errors was printed, where a line of theirs is made of two."""
     return all(word in printed for line in errors for word in line.split())
 
 
-def title_of(test):
+def name_of(key: TestName) -> str:
+    """Return what a test is called in a line."""
+    return f"{formatting.name(key.binary)} {formatting.name(key.test)}"
+
+
+def title_of(test: Test) -> str:
+    """Return what a test is called in a line, with its sub-run."""
     sub_run = f" (sub-run {test.stress + 1})" if test.stress is not None else ""
-    return f"{formatting.name(test.binary)} {formatting.name(test.name)}{sub_run}"
+    return f"{name_of(test.key)}{sub_run}"
 
 
-def ended(test):
-    """Where a test stands among the others: by its end, and without one after them."""
+def ended(test: Test) -> float:
+    """Return where a test stands among the others: by its end, and without one after them."""
     end = test.attempts[-1].ended if test.attempts else 0.0
     return float("inf") if end is None else end

@@ -1,14 +1,19 @@
 """Tables for people, and the JSON of scripts."""
 
+from __future__ import annotations
+
 import json
+from collections.abc import Container, Iterable, Sequence
 
 
-def table(heads, rows, right=()):
-    """The lines of a table; the columns whose heads are in `right` end at one place."""
-    rows = [list(heads), *[[str(cell) for cell in row] for row in rows]]
-    widths = [max(len(row[place]) for row in rows) for place in range(len(heads))]
+def table(
+    heads: Sequence[str], rows: Iterable[Sequence[object]], right: Container[str] = ()
+) -> list[str]:
+    """Return the lines of a table; the columns whose heads are in `right` end at one place."""
+    shown = [list(heads), *[[str(cell) for cell in row] for row in rows]]
+    widths = [max(len(row[place]) for row in shown) for place in range(len(heads))]
     lines = []
-    for row in rows:
+    for row in shown:
         cells = [
             cell.rjust(width) if head in right else cell.ljust(width)
             for cell, width, head in zip(row, widths, heads)
@@ -17,13 +22,10 @@ def table(heads, rows, right=()):
     return lines
 
 
-def as_json(value):
-    """A value for scripts, with a line break at its end. Halves of pairs are spelled as JSON spells them."""
-    return (
-        json.dumps(value, indent=2, ensure_ascii=False).encode("utf-8", "backslashreplace").decode()
-        + "\n"
-    )
+def as_json(value: object) -> str:
+    """Return a value for scripts, with a line break at its end.
 
-
-def printed(lines):
-    return "".join(f"{line}\n" for line in lines)
+    Halves of pairs are spelled as JSON spells them.
+    """
+    text = json.dumps(value, indent=2, ensure_ascii=False)
+    return text.encode("utf-8", "backslashreplace").decode() + "\n"
