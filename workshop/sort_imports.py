@@ -6,7 +6,7 @@
 
 Imports that stand one below the other are a block. In a block those of the standard library come first,
 then those of other libraries, then those of the crates of this repository from the lowest up, each group
-in the order of their paths.
+in the order of their paths. Imports of one path stay in the order in which they stand.
 """
 
 import re
@@ -16,7 +16,9 @@ from rezovamy_runs.command_line import command_line
 
 from workshop import TOP
 
-IMPORT = re.compile(r"^\s*(?:ghost )?use Rattle\.(\S+)")
+IMPORT = re.compile(r"\s*(?:ghost )?use(?: Rattle\.|$)")
+# The path of an import, with the brace before its names.
+PATH = re.compile(r"(?:ghost )?use Rattle\.([^\s{]+\{?)")
 
 
 def layers():
@@ -25,23 +27,46 @@ def layers():
     return [line.split(":")[0] for line in lines if line and not line.startswith("#")]
 
 
-def key(line, crates):
+def joined(lines: list[str]) -> str:
+    return " ".join(line.strip() for line in lines)
+
+
+def import_length(lines: list[str]) -> int:
+    """Returns how many lines the import has with which the lines begin, 0 where they begin with none."""
+    if not lines or not IMPORT.match(lines[0]):
+        return 0
+    length = 1
+    for line in lines[1:]:
+        text = joined(lines[:length])
+        if "}" in text or ("{" not in text and not line.lstrip().startswith(("Rattle.", "as "))):
+            break
+        length += 1
+    return length
+
+
+def key(lines: list[str], crates: list[str]) -> tuple[int, str, str]:
     """Returns what an import is sorted by."""
-    path = IMPORT.match(line).group(1)
+    found = PATH.match(joined(lines))
+    assert found, lines
+    path = found.group(1)
     crate = path.split(".")[0]
     rank = 0 if crate == "std" else 2 + crates.index(crate) if crate in crates else 1
-    return rank, path.lower(), path, line
+    return rank, path.lower(), path
 
 
-def in_order(text, crates):
+def in_order(text: str, crates: list[str]) -> str:
     """Returns the text with each block of imports in order."""
     lines, done = text.split("\n"), []
     while lines:
-        block = 0
-        while block < len(lines) and IMPORT.match(lines[block]):
-            block += 1
-        done += sorted(lines[:block], key=lambda line: key(line, crates)) or [lines[0]]
-        lines = lines[block or 1 :]
+        block = []
+        while length := import_length(lines):
+            block.append(lines[:length])
+            lines = lines[length:]
+        done += [
+            line for each in sorted(block, key=lambda each: key(each, crates)) for line in each
+        ]
+        done += lines[:1]
+        lines = lines[1:]
     return "\n".join(done)
 
 
@@ -62,4 +87,5 @@ def main():
     return int(found)
 
 
-sys.exit(main())
+if __name__ == "__main__":
+    sys.exit(main())

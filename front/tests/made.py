@@ -1,14 +1,21 @@
-"""Made sessions and bundles, as docs/FORMATS.md says, without the program. Instants are seconds after the second 1000."""
+"""Made sessions and bundles, as docs/FORMATS.md says, without the program.
+
+Instants are seconds after the second 1000.
+"""
+
+from __future__ import annotations
 
 import hashlib
 import json
+from collections.abc import Iterable, Mapping
 
 from rezovamy_runs.bundles.container import container
+from rezovamy_runs.json_values import JsonObject, object_of, text_of
 from rezovamy_runs.streams.session_json import stats
 
 START = 1000
 ID = "0a1b2c3d-0000-4000-8000-000000000001"
-HEAD = {
+HEAD: JsonObject = {
     "run-id": "550e8400-e29b-41d4-a716-446655440000",
     "nextest-version": "0.9.111",
     "cli-args": ["--no-fail-fast"],
@@ -24,42 +31,48 @@ HEAD = {
 }
 
 
-def span(seconds):
+def span(seconds: float) -> JsonObject:
+    """A length of time."""
     nanos = round(seconds * 10**9)
     return {"secs": nanos // 10**9, "nanos": nanos % 10**9}
 
 
-def instant(seconds):
+def instant(seconds: float) -> JsonObject:
+    """An instant so many seconds after the start."""
     return {**span(START + seconds), "offset": 0}
 
 
 # Events and what they have.
 
 
-def event(kind, seconds, **members):
+def event(kind: str, seconds: float, **members: object) -> JsonObject:
     """An event so many seconds after the start. Members are named with `_` for `-`."""
     named = {name.replace("_", "-"): value for name, value in members.items()}
     return {"timestamp": instant(seconds), "elapsed": span(seconds), "kind": kind, **named}
 
 
-def test_of(name):
+def test_of(name: str) -> JsonObject:
+    """What a test of the binary `alpha` is known by."""
     return {"binary-id": "alpha", "test-name": name}
 
 
-def of_test(kind, seconds, name, **members):
+def of_test(kind: str, seconds: float, name: str, **members: object) -> JsonObject:
     """An event of a test of the binary `alpha`."""
     return event(kind, seconds, test_instance=test_of(name), **members)
 
 
-def slot_of(number):
+def slot_of(number: int) -> JsonObject:
+    """A slot on which an attempt runs."""
     return {"global-slot": number, "test-group": "@global"}
 
 
-def attempt_of(number, total):
+def attempt_of(number: int, total: int) -> JsonObject:
+    """Which attempt it is, of how many."""
     return {"attempt": number, "total-attempts": total}
 
 
-def started(seconds, name, slot=3):
+def started(seconds: float, name: str, slot: int = 3) -> JsonObject:
+    """A test started."""
     return of_test(
         "test-started",
         seconds,
@@ -71,7 +84,8 @@ def started(seconds, name, slot=3):
     )
 
 
-def retried(seconds, name, attempt, total, slot=3):
+def retried(seconds: float, name: str, attempt: int, total: int, slot: int = 3) -> JsonObject:
+    """A further attempt of a test started."""
     return of_test(
         "test-retry-started",
         seconds,
@@ -83,13 +97,25 @@ def retried(seconds, name, attempt, total, slot=3):
     )
 
 
-def exit_code(code=101):
+def exit_code(code: int = 101) -> JsonObject:
+    """The result of an attempt that ended with an exit code."""
     return {"fail": {"failure": {"exit-code": code}, "leaked": False}}
 
 
-def status(seconds, took, result="pass", attempt=1, total=1, output=None, **streams):
-    """The status of an attempt that started so many seconds after the start, with its output or the bytes that it printed."""
-    printed = {stream: data.hex() for stream, data in streams.items()}
+def status(
+    seconds: float,
+    took: float,
+    result: object = "pass",
+    attempt: int = 1,
+    total: int = 1,
+    output: object = None,
+    **streams: bytes,
+) -> JsonObject:
+    """The status of an attempt that started so many seconds after the start.
+
+    It has an output, or the bytes that the attempt printed.
+    """
+    printed: JsonObject = {stream: data.hex() for stream, data in streams.items()}
     captured = printed if "combined" in printed else {"split": printed}
     return {
         "retry-data": attempt_of(attempt, total),
@@ -102,12 +128,13 @@ def status(seconds, took, result="pass", attempt=1, total=1, output=None, **stre
     }
 
 
-def failed(seconds, name, attempt):
+def failed(seconds: float, name: str, attempt: object) -> JsonObject:
     """An attempt failed, after which another one follows."""
     return of_test("test-attempt-failed-will-retry", seconds, name, run_status=attempt)
 
 
-def finished(seconds, name, *attempts, flaky="pass"):
+def finished(seconds: float, name: str, *attempts: object, flaky: str = "pass") -> JsonObject:
+    """A test ended after these attempts."""
     return of_test(
         "test-finished",
         seconds,
@@ -123,17 +150,22 @@ def finished(seconds, name, *attempts, flaky="pass"):
     )
 
 
-def skipped(seconds, name):
+def skipped(seconds: float, name: str) -> JsonObject:
+    """A test was left out."""
     return of_test("test-skipped", seconds, name, reason="ignored", junit_report_skipped="all")
 
 
-def run_started(seconds=0, profile="default"):
+def run_started(seconds: float = 0, profile: str = "default") -> JsonObject:
+    """A run started."""
     return event(
         "run-started", seconds, run_id=ID, profile_name=profile, cli_args=["cargo", "test"]
     )
 
 
-def run_finished(seconds, took, flaky=0, skipped_count=0, **more):
+def run_finished(
+    seconds: float, took: float, flaky: int = 0, skipped_count: int = 0, **more: object
+) -> JsonObject:
+    """A run finished."""
     counts = {**stats(1), "flaky": flaky, "skipped": skipped_count}
     return event(
         "run-finished",
@@ -146,7 +178,8 @@ def run_finished(seconds, took, flaky=0, skipped_count=0, **more):
     )
 
 
-def completed(passed, failed_count, code=0):
+def completed(passed: int, failed_count: int, code: int = 0) -> JsonObject:
+    """The status of a run that went to its end."""
     return {
         "status": "completed",
         "initial-run-count": passed + failed_count,
@@ -159,19 +192,26 @@ def completed(passed, failed_count, code=0):
 # Sessions and bundles.
 
 
-def session_of(events):
+def session_of(events: Iterable[object]) -> str:
+    """The session of these events."""
     return "".join(json.dumps(value) + "\n" for value in (HEAD, *events))
 
 
-def container_of(run, events, outputs, version=(1, 1), store=(3, 1)):
-    """The bundle of a run's members in the manifest, these events, and outputs by their files' names."""
+def container_of(
+    run: JsonObject,
+    events: Iterable[object],
+    outputs: Mapping[str, bytes],
+    version: tuple[int, int] = (1, 1),
+    store: tuple[int, int] = (3, 1),
+) -> bytes:
+    """The bundle of a run's members in the manifest, these events, and outputs by their files."""
     versions = {"store-format-version": store[0], "store-format-minor-version": store[1]}
     manifest = {
         "format-version": {"major": version[0], "minor": version[1]},
         "run": {**run, **versions},
     }
     log = "".join(json.dumps(one) + "\n" for one in events).encode()
-    stored = container([(b"out/" + name.encode(), data) for name, data in dict(outputs).items()])
+    stored = container((b"out/" + name.encode(), data) for name, data in outputs.items())
     return container(
         [
             (b"manifest.json", json.dumps(manifest).encode()),
@@ -181,9 +221,21 @@ def container_of(run, events, outputs, version=(1, 1), store=(3, 1)):
     )
 
 
-def bundle(*events, outputs=(), ended=None, at=0, run_id=ID, version=(1, 1), store=(3, 1), **more):
-    """A bundle of these events as they are logged, with outputs by their files' names, and further members of its run."""
-    run = {
+def bundle(
+    *events: object,
+    outputs: Mapping[str, bytes] = {},
+    ended: JsonObject | None = None,
+    at: float = 0,
+    run_id: str = ID,
+    version: tuple[int, int] = (1, 1),
+    store: tuple[int, int] = (3, 1),
+    **more: object,
+) -> bytes:
+    """A bundle of these events as they are logged, with outputs by their files' names.
+
+    Its run may have further members.
+    """
+    run: JsonObject = {
         "run-id": run_id,
         "nextest-version": "0.9.111",
         "started-at": instant(at),
@@ -195,31 +247,34 @@ def bundle(*events, outputs=(), ended=None, at=0, run_id=ID, version=(1, 1), sto
     return container_of(run, events, outputs, version, store)
 
 
-def bundle_of(session):
+def bundle_of(session: str) -> bytes:
     """The bundle of a session's text."""
     head, *events = [json.loads(line) for line in session.split("\n") if line.strip()]
-    outputs = {}
+    outputs: dict[str, bytes] = {}
     logged = [stored(event, outputs) for event in events]
     return container_of({key: head[key] for key in HEAD if key in head}, logged, outputs)
 
 
-def stored(value, store):
-    """The value of an event with the names of outputs in place of their bytes, which go into the store."""
+def stored(value: object, store: dict[str, bytes]) -> object:
+    """The value of an event with the names of outputs in place of their bytes.
+
+    The bytes go into the store.
+    """
     if isinstance(value, list):
         return [stored(item, store) for item in value]
     if not isinstance(value, dict):
         return value
     if "split" in value or "combined" in value:
-        outputs = value.get("split", value)
+        outputs = object_of(value.get("split", value))
         named = {
-            stream: name_of(bytes.fromhex(digits), stream, store)
+            stream: name_of(bytes.fromhex(text_of(digits)), stream, store)
             for stream, digits in outputs.items()
         }
         return {"split": named} if "split" in value else named
     return {key: stored(item, store) for key, item in value.items()}
 
 
-def name_of(data, stream, store):
+def name_of(data: bytes, stream: str, store: dict[str, bytes]) -> object:
     """What a log has in the place of these bytes, which go into the store."""
     if not data:
         return "empty"

@@ -8,7 +8,7 @@ import unittest
 from unittest import mock
 
 from rezovamy_runs.commands import junit as junit_command
-from rezovamy_runs.store import run_folder
+from rezovamy_runs.store import location, run_folder
 from rezovamy_runs.faults.fault import Fault
 from tests import made
 
@@ -161,14 +161,14 @@ class Folders(unittest.TestCase):
         self.folder = pathlib.Path(folder.name).resolve()
         self.addCleanup(os.chdir, os.getcwd())
         self.enterContext(
-            mock.patch.object(run_folder, "target_of_cargo", lambda manifest=None: None)
+            mock.patch.object(location, "target_of_cargo", lambda manifest=None: None)
         )
         self.enterContext(mock.patch.dict(os.environ))
         os.environ.pop("REZOVAMY_RUNS", None)
 
     def test_the_environment_says_it(self):
         os.environ["REZOVAMY_RUNS"] = "/some/where"
-        self.assertEqual(run_folder.runs_folder(), pathlib.Path("/some/where"))
+        self.assertEqual(location.runs_folder(), pathlib.Path("/some/where"))
 
     def test_the_xml_stands_beside_it_whatever_its_name(self):
         (self.folder / "runs").mkdir()
@@ -195,11 +195,11 @@ class Folders(unittest.TestCase):
         (self.folder / "Cargo.toml").write_text('[workspace]\nmembers = ["member"]\n')
         (self.folder / "member/Cargo.toml").write_text("[package]\n")
         os.chdir(self.folder / "member/src")
-        self.assertEqual(run_folder.runs_folder(), self.folder / "target/rezovamy-runs")
+        self.assertEqual(location.runs_folder(), self.folder / "target/rezovamy-runs")
         (self.folder / "Cargo.toml").write_text("[package]\n")
-        self.assertEqual(run_folder.runs_folder(), self.folder / "member/target/rezovamy-runs")
+        self.assertEqual(location.runs_folder(), self.folder / "member/target/rezovamy-runs")
         self.assertEqual(
-            run_folder.runs_folder(self.folder / "Cargo.toml"), self.folder / "target/rezovamy-runs"
+            location.runs_folder(self.folder / "Cargo.toml"), self.folder / "target/rezovamy-runs"
         )
 
     def test_a_target_directory_that_is_made_is_marked_as_cargo_does(self):
@@ -218,7 +218,7 @@ class Folders(unittest.TestCase):
     def test_outside_of_workspaces_it_is_a_fault(self):
         os.chdir(self.folder)
         with self.assertRaisesRegex(Fault, "REZOVAMY_RUNS"):
-            run_folder.runs_folder()
+            location.runs_folder()
 
     def test_outside_of_workspaces_a_bundle_is_found_by_its_path(self):
         os.chdir(self.folder)

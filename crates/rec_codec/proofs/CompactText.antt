@@ -1,5 +1,7 @@
 -- The compact text of a value has no newline, and that of an object stands between braces.
-use Rattle.std.proofs.Common.{◌≡◌, ℕ, zero, suc, ◌+◌, ◌/◌, ◌%◌, ◌<◌, ◌==◌, Bool, true, false, not, ◌&&◌, nat_lt, if◌then◌else◌, List, [], ◌∷◌, ◌++◌, refl, ap, ◌∙◌, inl, inr, arith, append_assoc, pos, negsuc}
+use Rattle.std.proofs.Common.{◌≡◌, ℕ, zero, suc, ◌+◌, ◌/◌, ◌%◌, ◌<◌, ◌==◌, Bool, true}
+use Rattle.std.proofs.Common.{false, not, ◌&&◌, nat_lt, if◌then◌else◌, List, [], ◌∷◌, ◌++◌}
+use Rattle.std.proofs.Common.{refl, ap, ◌∙◌, inl, inr, arith, append_assoc, pos, negsuc}
 use Rattle.std.proofs.lemmas.Bool.{and_parts, cases_lt, cases_eq, ne_eqb}
 use Rattle.std.proofs.lemmas.List.Elements.{All-from_recursion}
 use Rattle.std.proofs.lemmas.List.Folds.{list_all-append}
@@ -7,7 +9,9 @@ use Rattle.std.specs.Fmt.{decimal, digits, digits_onto, digit_glyph}
 use Rattle.std.specs.List.{list_all, AllByRecursion}
 use Rattle.json.proofs.Printed.Strings.{escape_byte_plain}
 use Rattle.json.specs.Print.{escape_byte, escape, quoted}
-use Rattle.serde_json.specs.Data.{Num, unsigned, negative, float, Data, null, boolean, number, string, array, object, Items, no_items, item, Members, no_members, member}
+use Rattle.serde_json.specs.Data.{Num, unsigned, negative, float, Data, null}
+use Rattle.serde_json.specs.Data.{boolean, number, string, array, object, Items}
+use Rattle.serde_json.specs.Data.{no_items, item, Members, no_members, member}
 use Rattle.serde_json.specs.Written.{compact_text, items_text, members_text, number_text, comma_if}
 use Rattle.rec_codec.proofs.LineLemmas.{IsPiece}
 
@@ -22,40 +26,50 @@ is_not : (b : Bool) → not b ≡ true → b ≡ false
 is_not true h = absurd cc
 is_not false h = refl
 
-by_recursion : (bytes : List ℕ) → is_piece bytes ≡ true → AllByRecursion (λ b. (b == 10) ≡ false) bytes
+by_recursion : (bytes : List ℕ) → is_piece bytes ≡ true
+    → AllByRecursion (λ b. (b == 10) ≡ false) bytes
 by_recursion [] h = tt
-by_recursion (b ∷ bytes) h = let p = and_parts _ _ h in (is_not (b == 10) p.0, by_recursion bytes p.1)
+by_recursion (b ∷ bytes) h =
+    let p = and_parts _ _ h in (is_not (b == 10) p.0, by_recursion bytes p.1)
 
 pub IsPiece-from_is_piece : (bytes : List ℕ) → is_piece bytes ≡ true → IsPiece bytes
-IsPiece-from_is_piece bytes h = All-from_recursion (λ b. (b == 10) ≡ false) bytes (by_recursion bytes h)
+IsPiece-from_is_piece bytes h =
+    All-from_recursion (λ b. (b == 10) ≡ false) bytes (by_recursion bytes h)
 
 is_other-from_ne : (b : ℕ) → (b ≡ 10 → ⊥) → is_other b ≡ true
 is_other-from_ne b h = ap not (ne_eqb b 10 h)
 
-append_piece : (xs ys : List ℕ) → is_piece xs ≡ true → is_piece ys ≡ true → is_piece (xs ++ ys) ≡ true
+append_piece : (xs ys : List ℕ) → is_piece xs ≡ true → is_piece ys ≡ true
+    → is_piece (xs ++ ys) ≡ true
 append_piece xs ys h k = list_all-append is_other xs ys ∙ rw (h, k) refl
 
-cons_piece : (b : ℕ) (xs : List ℕ) → is_other b ≡ true → is_piece xs ≡ true → is_piece (b ∷ xs) ≡ true
+cons_piece : (b : ℕ) (xs : List ℕ) → is_other b ≡ true → is_piece xs ≡ true
+    → is_piece (b ∷ xs) ≡ true
 cons_piece b xs h k = rw (h, k) refl
 
-if_piece : (b : Bool) (xs ys : List ℕ) → is_piece xs ≡ true → is_piece ys ≡ true → is_piece (if b then xs else ys) ≡ true
+if_piece : (b : Bool) (xs ys : List ℕ) → is_piece xs ≡ true → is_piece ys ≡ true
+    → is_piece (if b then xs else ys) ≡ true
 if_piece true xs ys h k = h
 if_piece false xs ys h k = k
 
 -- ---- numbers
 
-if_other : (b : Bool) (m n : ℕ) → is_other m ≡ true → is_other n ≡ true → is_other (if b then m else n) ≡ true
+if_other : (b : Bool) (m n : ℕ) → is_other m ≡ true → is_other n ≡ true
+    → is_other (if b then m else n) ≡ true
 if_other true m n h k = h
 if_other false m n h k = k
 
 digit_other : (d : ℕ) → is_other (digit_glyph false d) ≡ true
 digit_other d =
-    if_other (nat_lt d 10) (48 + d) (87 + d) (is_other-from_ne (48 + d) (λ e. omega arith)) (is_other-from_ne (87 + d) (λ e. omega arith))
+    if_other (nat_lt d 10) (48 + d) (87 + d) (is_other-from_ne (48 + d) (λ e. omega arith))
+    (is_other-from_ne (87 + d) (λ e. omega arith))
 
-digits_onto_piece : (k n : ℕ) (bytes : List ℕ) → is_piece bytes ≡ true → is_piece (digits_onto k 10 false n bytes) ≡ true
+digits_onto_piece : (k n : ℕ) (bytes : List ℕ) → is_piece bytes ≡ true
+    → is_piece (digits_onto k 10 false n bytes) ≡ true
 digits_onto_piece zero n bytes h = h
 digits_onto_piece (suc k) n bytes h =
-    let more : is_piece (digit_glyph false (n % 10) ∷ bytes) ≡ true = cons_piece _ bytes (digit_other (n % 10)) h in
+    let more : is_piece (digit_glyph false (n % 10) ∷ bytes) ≡ true =
+    cons_piece _ bytes (digit_other (n % 10)) h in
     if_piece (n / 10 == 0) _ _ more (digits_onto_piece k (n / 10) _ more)
 
 decimal_piece : (n : ℕ) → is_piece (decimal n) ≡ true
@@ -95,7 +109,8 @@ escape_byte_piece x = elim (cases_lt x 93) [
 
 escape_piece : (s : List ℕ) → is_piece (escape s) ≡ true
 escape_piece [] = refl
-escape_piece (x ∷ s) = append_piece (escape_byte x) (escape s) (escape_byte_piece x) (escape_piece s)
+escape_piece (x ∷ s) =
+    append_piece (escape_byte x) (escape s) (escape_byte_piece x) (escape_piece s)
 
 quoted_piece : (s : List ℕ) → is_piece (quoted s) ≡ true
 quoted_piece s = append_piece (escape s) (34 ∷ []) (escape_piece s) refl
@@ -120,24 +135,29 @@ mutual
   items_text_piece later no_items = refl
   items_text_piece later (item d ds) =
       append_piece (comma_if later) (compact_text d ++ items_text true ds) (comma_piece later)
-      (append_piece (compact_text d) (items_text true ds) (compact_text_piece d) (items_text_piece true ds))
+      (append_piece (compact_text d) (items_text true ds) (compact_text_piece d)
+      (items_text_piece true ds))
 
   members_text_piece : (later : Bool) (ms : Members) → is_piece (members_text later ms) ≡ true
   members_text_piece later no_members = refl
   members_text_piece later (member k d ms) =
-      append_piece (comma_if later) (quoted k ++ 58 ∷ (compact_text d ++ members_text true ms)) (comma_piece later)
+      append_piece (comma_if later) (quoted k ++ 58 ∷ (compact_text d ++ members_text true ms))
+      (comma_piece later)
       (append_piece (quoted k) (58 ∷ (compact_text d ++ members_text true ms)) (quoted_piece k)
-      (append_piece (compact_text d) (members_text true ms) (compact_text_piece d) (members_text_piece true ms)))
+      (append_piece (compact_text d) (members_text true ms) (compact_text_piece d)
+      (members_text_piece true ms)))
 
 -- ---- how the text of an object ends
 
 regroup : (a b c d e : List ℕ) → a ++ (b ++ 58 ∷ (c ++ (d ++ e))) ≡ (a ++ (b ++ 58 ∷ (c ++ d))) ++ e
 regroup a b c d e = simp append_assoc
 
-pub members_text_end : (later : Bool) (ms : Members) → (prefix : List ℕ) × (members_text later ms ≡ prefix ++ 125 ∷ [])
+pub members_text_end : (later : Bool) (ms : Members)
+    → (prefix : List ℕ) × (members_text later ms ≡ prefix ++ 125 ∷ [])
 members_text_end later no_members = ([], refl)
 members_text_end later (member k d ms) =
     let end = members_text_end true ms in (
       comma_if later ++ (quoted k ++ 58 ∷ (compact_text d ++ end.0)),
-      ap (λ t. comma_if later ++ (quoted k ++ 58 ∷ (compact_text d ++ t))) end.1 ∙ regroup (comma_if later) (quoted k) (compact_text d) end.0 (125 ∷ []),
+      ap (λ t. comma_if later ++ (quoted k ++ 58 ∷ (compact_text d ++ t))) end.1
+          ∙ regroup (comma_if later) (quoted k) (compact_text d) end.0 (125 ∷ []),
     )

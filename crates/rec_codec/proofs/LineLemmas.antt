@@ -1,9 +1,12 @@
 -- The first line of a text, and lines as texts.
-use Rattle.std.proofs.Common.{◌≡◌, ℕ, ◌+◌, ◌-◌, ◌<◌, ◌≤◌, ◌==◌, List, [], ◌∷◌, ◌++◌, length, take, drop, get_or, Option, Some, None, Bool, true, false, nat_lt, if◌then◌else◌, ap, subst, ◌∙◌, refl, arith}
+use Rattle.std.proofs.Common.{◌≡◌, ℕ, ◌+◌, ◌-◌, ◌<◌, ◌≤◌, ◌==◌, List, [], ◌∷◌, ◌++◌}
+use Rattle.std.proofs.Common.{length, take, drop, get_or, Option, Some, None, Bool, true}
+use Rattle.std.proofs.Common.{false, nat_lt, if◌then◌else◌, ap, subst, ◌∙◌, refl, arith}
 use Rattle.std.proofs.lemmas.Bool.Decides.{nat_tests}
 use Rattle.std.proofs.lemmas.Grind.{common_steps}
 use Rattle.std.proofs.lemmas.List.Elements.{All-head, All-tail}
-use Rattle.std.proofs.lemmas.List.Sums.{fails_before_first, passes_at_first, position_or_len_is, split_at_first}
+use Rattle.std.proofs.lemmas.List.Sums.{fails_before_first, passes_at_first}
+use Rattle.std.proofs.lemmas.List.Sums.{position_or_len_is, split_at_first}
 use Rattle.std.proofs.lemmas.List.{take_all}
 use Rattle.std.proofs.lemmas.Str.{is_utf8-from_IsUtf8, IsUtf8-from_is_utf8}
 use Rattle.std.specs.List.{position, position_or_len, before_first, after_first, onto_first, All}
@@ -30,7 +33,8 @@ is_newline b = b == 10
 abbrev pub IsPiece : List ℕ → Type 0
 IsPiece bytes = All (λ b. (b == 10) ≡ false) bytes
 
-lines-cons_other : (b : ℕ) (bytes : List ℕ) → (b == 10) ≡ false → lines (b ∷ bytes) ≡ onto_first b (lines bytes)
+lines-cons_other : (b : ℕ) (bytes : List ℕ) → (b == 10) ≡ false
+    → lines (b ∷ bytes) ≡ onto_first b (lines bytes)
 lines-cons_other b bytes e = ap (λ t. if t then [] ∷ lines bytes else onto_first b (lines bytes)) e
 
 -- what stands before a newline is the first line
@@ -48,18 +52,26 @@ lines_only b (d ∷ line) h =
     ∙ ap (onto_first b) (lines_only d line (All-tail (λ e. (e == 10) ≡ false) b (d ∷ line) h))
 
 piece_before : (bytes : List ℕ) → IsPiece (before_first is_newline bytes)
-piece_before bytes = λ k e m. let k' = fails_before_first is_newline bytes k e (grind (arith, common_steps)) in grind (arith, common_steps)
+piece_before bytes =
+    λ k e m. let k' = fails_before_first is_newline bytes k e (grind (arith, common_steps)) in
+    grind (arith, common_steps)
 
-lines_first : (bytes : List ℕ) → position_or_len is_newline bytes < length bytes → lines bytes ≡ before_first is_newline bytes ∷ lines (after_first is_newline bytes)
+lines_first : (bytes : List ℕ) → position_or_len is_newline bytes < length bytes
+    → lines bytes ≡ before_first is_newline bytes ∷ lines (after_first is_newline bytes)
 lines_first bytes l =
-    let found : get_or bytes (position_or_len is_newline bytes) 0 ≡ 10 = let passes = passes_at_first is_newline bytes 0 l in grind (arith, nat_tests) in
-    ap lines (split_at_first is_newline bytes 0 l ∙ ap (λ d. before_first is_newline bytes ++ d ∷ after_first is_newline bytes) found)
+    let found : get_or bytes (position_or_len is_newline bytes) 0 ≡ 10 = let passes =
+    passes_at_first is_newline bytes 0 l in
+    grind (arith, nat_tests) in
+    ap lines (split_at_first is_newline bytes 0 l
+    ∙ ap (λ d. before_first is_newline bytes ++ d ∷ after_first is_newline bytes) found)
     ∙ lines_at (before_first is_newline bytes) (after_first is_newline bytes) (piece_before bytes)
 
 whole_piece : (bytes : List ℕ) → length bytes ≤ position_or_len is_newline bytes → IsPiece bytes
-whole_piece bytes l = subst IsPiece (take_all (position_or_len is_newline bytes) bytes l) (piece_before bytes)
+whole_piece bytes l =
+    subst IsPiece (take_all (position_or_len is_newline bytes) bytes l) (piece_before bytes)
 
-lines_none : (bytes : List ℕ) → length bytes ≤ position_or_len is_newline bytes → 0 < length bytes → lines bytes ≡ bytes ∷ []
+lines_none : (bytes : List ℕ) → length bytes ≤ position_or_len is_newline bytes → 0 < length bytes
+    → lines bytes ≡ bytes ∷ []
 lines_none [] l n = absurd (omega arith)
 lines_none (b ∷ bytes) l n = lines_only b bytes (whole_piece (b ∷ bytes) l)
 
@@ -68,12 +80,16 @@ fails true h = absurd (h refl)
 fails false h = refl
 
 -- what a search for newlines finds is the place of the first one
-pub first_newline : (bytes : List ℕ) (r : Option ℕ) → IsFirstByte (is_byte 10) bytes r → r ≡ position is_newline bytes
+pub first_newline : (bytes : List ℕ) (r : Option ℕ) → IsFirstByte (is_byte 10) bytes r
+    → r ≡ position is_newline bytes
 first_newline bytes None h =
-    let at : position_or_len is_newline bytes ≡ length bytes = position_or_len_is is_newline bytes (length bytes) 0 (omega arith) (λ k l. fails _ (h k (omega arith) l)) (λ l. absurd (omega (arith, l))) in
+    let at : position_or_len is_newline bytes ≡ length bytes =
+    position_or_len_is is_newline bytes (length bytes) 0 (omega arith)
+    (λ k l. fails _ (h k (omega arith) l)) (λ l. absurd (omega (arith, l))) in
     rw at (grind (arith, nat_tests))
 first_newline bytes (Some k) h =
-    let at : position_or_len is_newline bytes ≡ k = position_or_len_is is_newline bytes k 0 (omega (arith, h.0.high)) (λ j l. fails _ (h.0.before j (omega arith) l)) (λ l. h.1) in
+    let at : position_or_len is_newline bytes ≡ k = position_or_len_is is_newline bytes k 0
+    (omega (arith, h.0.high)) (λ j l. fails _ (h.0.before j (omega arith) l)) (λ l. h.1) in
     rw at (let inside = h.0.high in grind (arith, nat_tests))
 
 found_at : (t : Bool) (n i : ℕ) → (if t then Some n else None) ≡ Some i → (t ≡ true) × (n ≡ i)
@@ -88,15 +104,22 @@ take_drop : (bytes : List ℕ) (n : ℕ) → take (length bytes - n) (drop n byt
 take_drop bytes n = grind (arith, common_steps)
 
 -- a newline was found: what stands before it, and the lines after it
-pub lines_found : (bytes : List ℕ) (end : ℕ) → position is_newline bytes ≡ Some end → lines bytes ≡ take end bytes ∷ lines (take (length bytes - (end + 1)) (drop (end + 1) bytes))
+pub lines_found : (bytes : List ℕ) (end : ℕ) → position is_newline bytes ≡ Some end
+    → lines bytes ≡ take end bytes ∷ lines (take (length bytes - (end + 1)) (drop (end + 1) bytes))
 lines_found bytes end h =
-    let f = found_at (nat_lt (position_or_len is_newline bytes) (length bytes)) (position_or_len is_newline bytes) end h in
+    let f = found_at (nat_lt (position_or_len is_newline bytes) (length bytes))
+    (position_or_len is_newline bytes) end h in
     let found : position_or_len is_newline bytes < length bytes = grind (arith, nat_tests) in
     rw (take_drop bytes (end + 1), ← f.1) (lines_first bytes found)
 
 -- no newline was found
-pub lines_missing : (bytes : List ℕ) → position is_newline bytes ≡ None → 0 < length bytes → lines bytes ≡ bytes ∷ lines (take (length bytes - length bytes) (drop (length bytes) bytes))
+pub lines_missing : (bytes : List ℕ) → position is_newline bytes ≡ None → 0 < length bytes
+    → lines bytes ≡ bytes ∷ lines (take (length bytes - length bytes) (drop (length bytes) bytes))
 lines_missing bytes h n =
-    let missing : length bytes ≤ position_or_len is_newline bytes = let f = none_at (nat_lt (position_or_len is_newline bytes) (length bytes)) (position_or_len is_newline bytes) h in grind (arith, nat_tests) in
-    let nothing : take (length bytes - length bytes) (drop (length bytes) bytes) ≡ [] = grind (arith, common_steps) in
+    let missing : length bytes ≤ position_or_len is_newline bytes = let f =
+    none_at (nat_lt (position_or_len is_newline bytes) (length bytes))
+    (position_or_len is_newline bytes) h in
+    grind (arith, nat_tests) in
+    let nothing : take (length bytes - length bytes) (drop (length bytes) bytes) ≡ [] =
+    grind (arith, common_steps) in
     rw nothing (lines_none bytes missing n)

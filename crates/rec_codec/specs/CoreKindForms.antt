@@ -2,11 +2,26 @@
 use Rattle.std.specs.Prelude.{ℕ, ◌^◌, ◌<◌, IfSome, List, [], ◌∷◌, ◌++◌, Option, Some, codes}
 use Rattle.serde_json.specs.Data.{Members}
 use Rattle.serde_json.specs.Find.{as_bool}
-use Rattle.rec_events.specs.declared.events.CoreEventKind.TheVariants.{RunStarted, StressSubRunStarted, SetupScriptStarted, SetupScriptSlow, TestStarted, TestSlow, TestRetryStarted, TestSkipped, RunBeginCancel, RunPaused, RunContinued, StressSubRunFinished, RunFinished}
+use Rattle.rec_events.specs.declared.events.CoreEventKind.TheVariants.{
+  RunStarted,
+  StressSubRunStarted,
+  SetupScriptStarted,
+  SetupScriptSlow,
+  TestStarted,
+  TestSlow,
+  TestRetryStarted,
+  TestSkipped,
+  RunBeginCancel,
+  RunPaused,
+  RunContinued,
+  StressSubRunFinished,
+  RunFinished,
+}
 use Rattle.rec_events.specs.declared.events.CoreEventKind.{CoreEventKind}
 use Rattle.rec_events.specs.Names.{IsText, AreTexts}
 use Rattle.rec_forms.specs.Ids.{uuid_form}
-use Rattle.rec_forms.specs.Instances.{test_instance_form, slot_assignment_form, retry_data_form, stress_index_form, IsStressIndex}
+use Rattle.rec_forms.specs.Instances.{test_instance_form, slot_assignment_form}
+use Rattle.rec_forms.specs.Instances.{retry_data_form, stress_index_form, IsStressIndex}
 use Rattle.rec_forms.specs.Lists.{list_form}
 use Rattle.rec_forms.specs.Numbers.{u64_form}
 use Rattle.rec_forms.specs.Reporting.{cancel_reason_form}
@@ -63,7 +78,8 @@ setup_script_started_form ms = do
   place ← place_form ms
   no_capture ← required as_bool (codes "no-capture") ms
   command ← command_form ms
-  Some (SetupScriptStarted place.stress_index place.index place.total command.script_id command.program command.args no_capture)
+  Some (SetupScriptStarted place.stress_index place.index place.total command.script_id
+      command.program command.args no_capture)
 
 unfoldable pub setup_script_slow_form : Members → Option CoreEventKind
 setup_script_slow_form ms = do
@@ -71,7 +87,8 @@ setup_script_slow_form ms = do
   elapsed ← required duration_form (codes "slow-elapsed") ms
   will_terminate ← required as_bool (codes "will-terminate") ms
   command ← command_form ms
-  Some (SetupScriptSlow stress_index command.script_id command.program command.args elapsed will_terminate)
+  Some (SetupScriptSlow stress_index command.script_id command.program command.args elapsed
+      will_terminate)
 
 unfoldable pub test_started_form : Members → Option CoreEventKind
 test_started_form ms = do
@@ -159,7 +176,9 @@ run_kinds =
     ∷ []
 
 abbrev pub script_kinds : List (List ℕ × (Members → Option CoreEventKind))
-script_kinds = (codes "setup-script-started", setup_script_started_form) ∷ (codes "setup-script-slow", setup_script_slow_form) ∷ []
+script_kinds =
+    (codes "setup-script-started", setup_script_started_form)
+    ∷ (codes "setup-script-slow", setup_script_slow_form) ∷ []
 
 abbrev pub test_kinds : List (List ℕ × (Members → Option CoreEventKind))
 test_kinds =
@@ -173,5 +192,6 @@ abbrev pub core_kinds : List (List ℕ × (Members → Option CoreEventKind))
 core_kinds = run_kinds ++ script_kinds ++ test_kinds
 
 -- the kind that has this name in a table
-unfoldable pub kind_in : List (List ℕ × (Members → Option CoreEventKind)) → List ℕ → Members → Option CoreEventKind
+unfoldable pub kind_in : List (List ℕ × (Members → Option CoreEventKind)) → List ℕ → Members
+    → Option CoreEventKind
 kind_in kinds name ms = named kinds name >>= λ form. form ms

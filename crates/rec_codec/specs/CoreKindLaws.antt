@@ -1,46 +1,61 @@
 -- The kinds of events that hold no outputs read back, and are writable.
 use Rattle.std.proofs.Common.{arith}
-use Rattle.std.specs.Prelude.{◌≡◌, ℕ, ◌+◌, true, refl, List, Option, Some, IfSome, option_map, codes}
-use Rattle.serde_json.specs.Data.{Data, string, Members}
-use Rattle.serde_json.specs.Find.{as_bool}
-use Rattle.rec_events.specs.declared.events.CoreEventKind.TheVariants.{RunFinished}
-use Rattle.rec_events.specs.declared.events.CoreEventKind.TheVariants.{RunStarted, StressSubRunStarted, SetupScriptStarted, SetupScriptSlow, TestStarted, TestSlow}
-use Rattle.rec_events.specs.declared.events.CoreEventKind.TheVariants.{TestRetryStarted, TestSkipped, RunBeginCancel, RunPaused, RunContinued, StressSubRunFinished}
+use Rattle.std.specs.Prelude.{◌≡◌, ℕ, ◌+◌, true, refl, List, Option}
+use Rattle.std.specs.Prelude.{Some, IfSome, option_map, codes}
+use Rattle.serde_json.specs.Data.{Data, string}
+use Rattle.rec_events.specs.declared.events.CoreEventKind.TheVariants.{
+  RunFinished,
+  RunStarted,
+  StressSubRunStarted,
+  SetupScriptStarted,
+  SetupScriptSlow,
+  TestStarted,
+  TestSlow,
+  TestRetryStarted,
+  TestSkipped,
+  RunBeginCancel,
+  RunPaused,
+  RunContinued,
+  StressSubRunFinished,
+}
 use Rattle.rec_events.specs.declared.events.CoreEventKind.{CoreEventKind}
 use Rattle.rec_events.specs.declared.events.TestEventKindSummary.TheVariants.{Core}
 use Rattle.rec_events.specs.declared.instances.StressIndexSummary.{StressIndexSummary}
 use Rattle.rec_events.specs.Names.{IsText, AreTexts}
 use Rattle.rec_events.specs.Times.{Span, Moment}
-use Rattle.rec_forms.specs.GivesWellFormed.{Holds}
-use Rattle.rec_forms.specs.IdLaws.{uuid_back, uuid_writable, uuid_well_formed}
-use Rattle.rec_forms.specs.Ids.{uuid_form}
-use Rattle.rec_forms.specs.InstanceLaws.{stress_index_back, stress_index_writable, retry_data_well_formed, slot_assignment_well_formed, stress_index_well_formed}
-use Rattle.rec_forms.specs.InstanceLaws.{test_instance_back, test_instance_writable, slot_assignment_back, slot_assignment_writable, retry_data_back, retry_data_writable}
-use Rattle.rec_forms.specs.InstanceLaws.{test_instance_well_formed}
-use Rattle.rec_forms.specs.Instances.{stress_index_value, stress_index_form, IsStressIndex, retry_data_form, slot_assignment_form, test_instance_form}
+use Rattle.rec_forms.specs.IdLaws.{uuid_back, uuid_writable}
+use Rattle.rec_forms.specs.InstanceLaws.{stress_index_back, stress_index_writable}
+use Rattle.rec_forms.specs.InstanceLaws.{test_instance_back, test_instance_writable}
+use Rattle.rec_forms.specs.InstanceLaws.{slot_assignment_back, slot_assignment_writable}
+use Rattle.rec_forms.specs.InstanceLaws.{retry_data_back, retry_data_writable}
+use Rattle.rec_forms.specs.Instances.{stress_index_value, stress_index_form, IsStressIndex}
 use Rattle.rec_forms.specs.ListLaws.{list_back, maybe_back}
-use Rattle.rec_forms.specs.Lists.{list_value, list_form}
+use Rattle.rec_forms.specs.Lists.{list_value}
 use Rattle.rec_forms.specs.Members.{get_member-members_of}
-use Rattle.rec_forms.specs.NumberLaws.{u64_back, text_back, text_well_formed, u64_well_formed}
-use Rattle.rec_forms.specs.Numbers.{u64_form}
-use Rattle.rec_forms.specs.Reporting.{cancel_reason_form}
+use Rattle.rec_forms.specs.NumberLaws.{u64_back, text_back}
 use Rattle.rec_forms.specs.ReportingLaws.{cancel_reason_back, cancel_reason_writable}
-use Rattle.rec_forms.specs.RunEndLaws.{run_finished_stats_back, run_finished_stats_writable, tests_not_seen_back, tests_not_seen_writable, run_finished_stats_well_formed, tests_not_seen_well_formed}
-use Rattle.rec_forms.specs.RunEnds.{tests_not_seen_value, tests_not_seen_form, IsTestsNotSeen, run_finished_stats_form}
+use Rattle.rec_forms.specs.RunEndLaws.{run_finished_stats_back, run_finished_stats_writable}
+use Rattle.rec_forms.specs.RunEndLaws.{tests_not_seen_back, tests_not_seen_writable}
+use Rattle.rec_forms.specs.RunEnds.{tests_not_seen_value, tests_not_seen_form, IsTestsNotSeen}
 use Rattle.rec_forms.specs.Shape.{Field, text_of}
-use Rattle.rec_forms.specs.Skipping.{mismatch_reason_form, skip_policy_form}
-use Rattle.rec_forms.specs.SkippingLaws.{mismatch_reason_back, mismatch_reason_writable, skip_policy_back, skip_policy_writable}
-use Rattle.rec_forms.specs.Stats.{run_stats_form}
-use Rattle.rec_forms.specs.StatsLaws.{run_stats_back, run_stats_writable, run_stats_well_formed}
-use Rattle.rec_forms.specs.Stress.{stress_condition_value, stress_condition_form, IsStressCondition, stress_progress_form}
-use Rattle.rec_forms.specs.StressLaws.{stress_condition_back, stress_condition_writable, stress_progress_back, stress_progress_writable, stress_condition_well_formed, stress_progress_well_formed}
-use Rattle.rec_forms.specs.TimeLaws.{stamp_back, stamp_writable, duration_back, duration_writable, duration_well_formed, stamp_well_formed}
-use Rattle.rec_forms.specs.Times.{IsStamp, IsDuration, duration_form, stamp_form}
-use Rattle.rec_forms.specs.WellFormedLaws.{any_well_formed, then_holds, required_then, maybe_then, list_well_formed}
-use Rattle.rec_forms.specs.Writable.{IsWritable, IfWritten, EachWritten, keys_are_ascii, weaker, natural_writable, string_writable, word_writable, boolean_writable, list_writable, optional_writable}
-use Rattle.rec_codec.specs.CoreKindForms.{place_form, IsPlace, command_form, IsCommand, run_started_form, stress_sub_run_started_form, setup_script_started_form}
-use Rattle.rec_codec.specs.CoreKindForms.{run_paused_form, run_continued_form, stress_sub_run_finished_form, run_finished_form}
-use Rattle.rec_codec.specs.CoreKindForms.{setup_script_slow_form, test_started_form, test_slow_form, test_retry_started_form, test_skipped_form, run_begin_cancel_form}
+use Rattle.rec_forms.specs.SkippingLaws.{mismatch_reason_back, mismatch_reason_writable}
+use Rattle.rec_forms.specs.SkippingLaws.{skip_policy_back, skip_policy_writable}
+use Rattle.rec_forms.specs.StatsLaws.{run_stats_back, run_stats_writable}
+use Rattle.rec_forms.specs.Stress.{stress_condition_value, stress_condition_form, IsStressCondition}
+use Rattle.rec_forms.specs.StressLaws.{stress_condition_back, stress_condition_writable}
+use Rattle.rec_forms.specs.StressLaws.{stress_progress_back, stress_progress_writable}
+use Rattle.rec_forms.specs.TimeLaws.{stamp_back, stamp_writable, duration_back, duration_writable}
+use Rattle.rec_forms.specs.Times.{IsStamp, IsDuration}
+use Rattle.rec_forms.specs.Writable.{IsWritable, IfWritten, EachWritten, keys_are_ascii}
+use Rattle.rec_forms.specs.Writable.{weaker, natural_writable, string_writable, word_writable}
+use Rattle.rec_forms.specs.Writable.{boolean_writable, list_writable, optional_writable}
+use Rattle.rec_codec.specs.CoreKindForms.{place_form, command_form, run_started_form}
+use Rattle.rec_codec.specs.CoreKindForms.{stress_sub_run_started_form, setup_script_started_form}
+use Rattle.rec_codec.specs.CoreKindForms.{run_paused_form, run_continued_form}
+use Rattle.rec_codec.specs.CoreKindForms.{stress_sub_run_finished_form, run_finished_form}
+use Rattle.rec_codec.specs.CoreKindForms.{setup_script_slow_form, test_started_form}
+use Rattle.rec_codec.specs.CoreKindForms.{test_slow_form, test_retry_started_form}
+use Rattle.rec_codec.specs.CoreKindForms.{test_skipped_form, run_begin_cancel_form}
 use Rattle.rec_codec.specs.CoreKinds.{core_fields, IsCore}
 use Rattle.rec_codec.specs.EventForms.{kind_named, kind_form, event_value, event_form}
 
@@ -48,8 +63,13 @@ use Rattle.rec_codec.specs.EventForms.{kind_named, kind_form, event_value, event
 
 module _ {S O : Type 0} (output_value : O → Data) (output_form : Data → Option O) where
   pub core_back : (t : Moment) (e : Span) (k : CoreEventKind) → IsStamp t → IsDuration e → IsCore k
-      → event_form {S = S} output_form (event_value {S = S} output_value (record { timestamp = t; elapsed = e; kind = Core k })) ≡ Some (record { timestamp = t; elapsed = e; kind = Core k })
-  unfolding event_form kind_form kind_named run_started_form stress_sub_run_started_form place_form command_form setup_script_started_form setup_script_slow_form test_started_form test_slow_form test_retry_started_form test_skipped_form run_begin_cancel_form run_paused_form run_continued_form stress_sub_run_finished_form run_finished_form
+      → event_form {S = S} output_form
+      (event_value {S = S} output_value (record { timestamp = t; elapsed = e; kind = Core k }))
+      ≡ Some (record { timestamp = t; elapsed = e; kind = Core k })
+  unfolding event_form kind_form kind_named run_started_form stress_sub_run_started_form place_form
+      command_form setup_script_started_form setup_script_slow_form test_started_form test_slow_form
+      test_retry_started_form test_skipped_form run_begin_cancel_form run_paused_form
+      run_continued_form stress_sub_run_finished_form run_finished_form
   core_back t e (RunStarted run_id profile_name cli_args stress_condition) ht he h =
       simp (
         get_member-members_of,
@@ -58,7 +78,8 @@ module _ {S O : Type 0} (output_value : O → Data) (output_form : Data → Opti
         uuid_back run_id h.0,
         text_back profile_name h.1,
         list_back IsText string text_of text_back cli_args h.2,
-        maybe_back IsStressCondition stress_condition_value stress_condition_form stress_condition_back stress_condition_writable stress_condition h.3,
+        maybe_back IsStressCondition stress_condition_value stress_condition_form
+            stress_condition_back stress_condition_writable stress_condition h.3,
       )
   core_back t e (StressSubRunStarted progress) ht he h =
       simp (
@@ -67,35 +88,42 @@ module _ {S O : Type 0} (output_value : O → Data) (output_form : Data → Opti
         duration_back e he,
         stress_progress_back progress h,
       )
-  core_back t e (SetupScriptStarted stress_index index total script_id program args no_capture) ht he h =
+  core_back t e (SetupScriptStarted stress_index index total script_id program args no_capture)
+      ht he h =
       simp (
         get_member-members_of,
         stamp_back t ht,
         duration_back e he,
-        maybe_back IsStressIndex stress_index_value stress_index_form stress_index_back stress_index_writable stress_index h.0,
+        maybe_back IsStressIndex stress_index_value stress_index_form stress_index_back
+            stress_index_writable stress_index h.0,
         u64_back index h.1,
         u64_back total h.2,
         text_back script_id h.3,
         text_back program h.4,
         list_back IsText string text_of text_back args h.5,
       )
-  core_back t e (SetupScriptSlow stress_index script_id program args elapsed will_terminate) ht he h =
+  core_back t e (SetupScriptSlow stress_index script_id program args elapsed will_terminate)
+      ht he h =
       simp (
         get_member-members_of,
         stamp_back t ht,
         duration_back e he,
-        maybe_back IsStressIndex stress_index_value stress_index_form stress_index_back stress_index_writable stress_index h.0,
+        maybe_back IsStressIndex stress_index_value stress_index_form stress_index_back
+            stress_index_writable stress_index h.0,
         text_back script_id h.1,
         text_back program h.2,
         list_back IsText string text_of text_back args h.3,
         duration_back elapsed h.4,
       )
-  core_back t e (TestStarted stress_index test_instance slot_assignment current_stats running command_line) ht he h =
+  core_back t e
+      (TestStarted stress_index test_instance slot_assignment current_stats running command_line)
+      ht he h =
       simp (
         get_member-members_of,
         stamp_back t ht,
         duration_back e he,
-        maybe_back IsStressIndex stress_index_value stress_index_form stress_index_back stress_index_writable stress_index h.0,
+        maybe_back IsStressIndex stress_index_value stress_index_form stress_index_back
+            stress_index_writable stress_index h.0,
         test_instance_back test_instance h.1,
         slot_assignment_back slot_assignment h.2,
         run_stats_back current_stats h.3,
@@ -107,17 +135,21 @@ module _ {S O : Type 0} (output_value : O → Data) (output_form : Data → Opti
         get_member-members_of,
         stamp_back t ht,
         duration_back e he,
-        maybe_back IsStressIndex stress_index_value stress_index_form stress_index_back stress_index_writable stress_index h.0,
+        maybe_back IsStressIndex stress_index_value stress_index_form stress_index_back
+            stress_index_writable stress_index h.0,
         test_instance_back test_instance h.1,
         retry_data_back retry_data h.2,
         duration_back elapsed h.3,
       )
-  core_back t e (TestRetryStarted stress_index test_instance slot_assignment retry_data running command_line) ht he h =
+  core_back t e
+      (TestRetryStarted stress_index test_instance slot_assignment retry_data running command_line)
+      ht he h =
       simp (
         get_member-members_of,
         stamp_back t ht,
         duration_back e he,
-        maybe_back IsStressIndex stress_index_value stress_index_form stress_index_back stress_index_writable stress_index h.0,
+        maybe_back IsStressIndex stress_index_value stress_index_form stress_index_back
+            stress_index_writable stress_index h.0,
         test_instance_back test_instance h.1,
         slot_assignment_back slot_assignment h.2,
         retry_data_back retry_data h.3,
@@ -129,7 +161,8 @@ module _ {S O : Type 0} (output_value : O → Data) (output_form : Data → Opti
         get_member-members_of,
         stamp_back t ht,
         duration_back e he,
-        maybe_back IsStressIndex stress_index_value stress_index_form stress_index_back stress_index_writable stress_index h.0,
+        maybe_back IsStressIndex stress_index_value stress_index_form stress_index_back
+            stress_index_writable stress_index h.0,
         test_instance_back test_instance h.1,
         mismatch_reason_back reason,
         skip_policy_back junit_report_skipped,
@@ -177,7 +210,8 @@ module _ {S O : Type 0} (output_value : O → Data) (output_form : Data → Opti
         stamp_back start_time h.1,
         duration_back elapsed h.2,
         run_finished_stats_back run_stats h.3,
-        maybe_back IsTestsNotSeen tests_not_seen_value tests_not_seen_form tests_not_seen_back tests_not_seen_writable outstanding_not_seen h.4,
+        maybe_back IsTestsNotSeen tests_not_seen_value tests_not_seen_form tests_not_seen_back
+            tests_not_seen_writable outstanding_not_seen h.4,
       )
 
 -- ---- writable
@@ -186,10 +220,14 @@ module _ {S O : Type 0} (output_value : O → Data) (output_form : Data → Opti
 abbrev pub FieldsWritten : ℕ → List Field → Type 0
 FieldsWritten n fs = (keys_are_ascii fs ≡ true) × EachWritten n fs
 
-pub stress_index_written : (n : ℕ) (i : Option StressIndexSummary) → IfSome i IsStressIndex → IfWritten (n + 9) (option_map stress_index_value i)
-stress_index_written n i h = optional_writable stress_index_value (λ x is. weaker 1 (n + 9) (omega arith) (stress_index_writable x is)) i h
+pub stress_index_written : (n : ℕ) (i : Option StressIndexSummary) → IfSome i IsStressIndex
+    → IfWritten (n + 9) (option_map stress_index_value i)
+stress_index_written n i h =
+    optional_writable stress_index_value
+    (λ x is. weaker 1 (n + 9) (omega arith) (stress_index_writable x is)) i h
 
-pub texts_written : (n : ℕ) (ts : List (List ℕ)) → AreTexts ts → IsWritable (n + 9) (list_value string ts)
+pub texts_written : (n : ℕ) (ts : List (List ℕ)) → AreTexts ts
+    → IsWritable (n + 9) (list_value string ts)
 texts_written n ts h = weaker 1 (n + 9) (omega arith) (list_writable string string_writable ts h)
 
 pub core_written : (n : ℕ) (k : CoreEventKind) → IsCore k → FieldsWritten (n + 9) (core_fields k)
@@ -203,7 +241,12 @@ core_written n (RunStarted run_id profile_name cli_args stress_condition) h = (
         string_writable profile_name h.1,
         (
           texts_written n cli_args h.2,
-          (optional_writable stress_condition_value (λ x is. weaker 2 (n + 9) (omega arith) (stress_condition_writable x is)) stress_condition h.3, tt),
+          (
+            optional_writable stress_condition_value
+                (λ x is. weaker 2 (n + 9) (omega arith) (stress_condition_writable x is))
+                stress_condition h.3,
+            tt,
+          ),
         ),
       ),
     ),
@@ -263,28 +306,30 @@ core_written n (SetupScriptSlow stress_index script_id program args elapsed will
     ),
   ),
 )
-core_written n (TestStarted stress_index test_instance slot_assignment current_stats running command_line) h = (
-  refl,
-  (
-    word_writable (codes "test-started") refl,
-    (
-      stress_index_written n stress_index h.0,
+core_written n
+    (TestStarted stress_index test_instance slot_assignment current_stats running command_line)
+    h = (
+      refl,
       (
-        weaker 1 (n + 9) (omega arith) (test_instance_writable test_instance h.1),
+        word_writable (codes "test-started") refl,
         (
-          weaker 1 (n + 9) (omega arith) (slot_assignment_writable slot_assignment h.2),
+          stress_index_written n stress_index h.0,
           (
-            weaker 1 (n + 9) (omega arith) (run_stats_writable current_stats h.3),
+            weaker 1 (n + 9) (omega arith) (test_instance_writable test_instance h.1),
             (
-              natural_writable running h.4,
-              (texts_written n command_line h.5, tt),
+              weaker 1 (n + 9) (omega arith) (slot_assignment_writable slot_assignment h.2),
+              (
+                weaker 1 (n + 9) (omega arith) (run_stats_writable current_stats h.3),
+                (
+                  natural_writable running h.4,
+                  (texts_written n command_line h.5, tt),
+                ),
+              ),
             ),
           ),
         ),
       ),
-    ),
-  ),
-)
+    )
 core_written n (TestSlow stress_index test_instance retry_data elapsed will_terminate) h = (
   refl,
   (
@@ -304,28 +349,30 @@ core_written n (TestSlow stress_index test_instance retry_data elapsed will_term
     ),
   ),
 )
-core_written n (TestRetryStarted stress_index test_instance slot_assignment retry_data running command_line) h = (
-  refl,
-  (
-    word_writable (codes "test-retry-started") refl,
-    (
-      stress_index_written n stress_index h.0,
+core_written n
+    (TestRetryStarted stress_index test_instance slot_assignment retry_data running command_line)
+    h = (
+      refl,
       (
-        weaker 1 (n + 9) (omega arith) (test_instance_writable test_instance h.1),
+        word_writable (codes "test-retry-started") refl,
         (
-          weaker 1 (n + 9) (omega arith) (slot_assignment_writable slot_assignment h.2),
+          stress_index_written n stress_index h.0,
           (
-            weaker 1 (n + 9) (omega arith) (retry_data_writable retry_data h.3),
+            weaker 1 (n + 9) (omega arith) (test_instance_writable test_instance h.1),
             (
-              natural_writable running h.4,
-              (texts_written n command_line h.5, tt),
+              weaker 1 (n + 9) (omega arith) (slot_assignment_writable slot_assignment h.2),
+              (
+                weaker 1 (n + 9) (omega arith) (retry_data_writable retry_data h.3),
+                (
+                  natural_writable running h.4,
+                  (texts_written n command_line h.5, tt),
+                ),
+              ),
             ),
           ),
         ),
       ),
-    ),
-  ),
-)
+    )
 core_written n (TestSkipped stress_index test_instance reason junit_report_skipped) h = (
   refl,
   (
@@ -400,141 +447,15 @@ core_written n (RunFinished run_id start_time elapsed run_stats outstanding_not_
           weaker 1 (n + 9) (omega arith) (duration_writable elapsed h.2),
           (
             weaker 3 (n + 9) (omega arith) (run_finished_stats_writable run_stats h.3),
-            (optional_writable tests_not_seen_value (λ x is. weaker 3 (n + 9) (omega arith) (tests_not_seen_writable x is)) outstanding_not_seen h.4, tt),
+            (
+              optional_writable tests_not_seen_value
+                  (λ x is. weaker 3 (n + 9) (omega arith) (tests_not_seen_writable x is))
+                  outstanding_not_seen h.4,
+              tt,
+            ),
           ),
         ),
       ),
     ),
   ),
 )
-
--- ---- what is read is well-formed
-
-pub run_started_well_formed : (ms : Members) → Holds IsCore (run_started_form ms)
-unfolding run_started_form
-run_started_well_formed ms =
-    required_then uuid_form (codes "run-id") ms _ uuid_well_formed (λ run_id run_id_is.
-    required_then text_of (codes "profile-name") ms _ text_well_formed (λ profile_name profile_name_is.
-    required_then (list_form text_of) (codes "cli-args") ms _ (list_well_formed text_of text_well_formed) (λ cli_args cli_args_is.
-    maybe_then stress_condition_form (codes "stress-condition") ms _ stress_condition_well_formed (λ stress_condition stress_condition_is.
-    record { is = (run_id_is, profile_name_is, cli_args_is, stress_condition_is) }))))
-
-pub stress_sub_run_started_well_formed : (ms : Members) → Holds IsCore (stress_sub_run_started_form ms)
-unfolding stress_sub_run_started_form
-stress_sub_run_started_well_formed ms =
-    required_then stress_progress_form (codes "progress") ms _ stress_progress_well_formed (λ progress progress_is.
-    record { is = progress_is })
-
-pub place_well_formed : (ms : Members) → Holds IsPlace (place_form ms)
-unfolding place_form
-place_well_formed ms =
-    maybe_then stress_index_form (codes "stress-index") ms _ stress_index_well_formed (λ stress_index stress_index_is.
-    required_then u64_form (codes "index") ms _ u64_well_formed (λ index index_is.
-    required_then u64_form (codes "total") ms _ u64_well_formed (λ total total_is.
-    record { is = record { stress_index = stress_index_is; index = index_is; total = total_is } })))
-
-pub command_well_formed : (ms : Members) → Holds IsCommand (command_form ms)
-unfolding command_form
-command_well_formed ms =
-    required_then text_of (codes "script-id") ms _ text_well_formed (λ script_id script_id_is.
-    required_then text_of (codes "program") ms _ text_well_formed (λ program program_is.
-    required_then (list_form text_of) (codes "args") ms _ (list_well_formed text_of text_well_formed) (λ args args_is.
-    record { is = record { script_id = script_id_is; program = program_is; args = args_is } })))
-
-pub setup_script_started_well_formed : (ms : Members) → Holds IsCore (setup_script_started_form ms)
-unfolding setup_script_started_form
-setup_script_started_well_formed ms =
-    then_holds (place_form ms) _ (place_well_formed ms) (λ place place_is.
-    required_then as_bool (codes "no-capture") ms _ (any_well_formed as_bool) (λ no_capture no_capture_is.
-    then_holds (command_form ms) _ (command_well_formed ms) (λ command command_is.
-    record { is = (place_is.stress_index, place_is.index, place_is.total, command_is.script_id, command_is.program, command_is.args) })))
-
-pub setup_script_slow_well_formed : (ms : Members) → Holds IsCore (setup_script_slow_form ms)
-unfolding setup_script_slow_form
-setup_script_slow_well_formed ms =
-    maybe_then stress_index_form (codes "stress-index") ms _ stress_index_well_formed (λ stress_index stress_index_is.
-    required_then duration_form (codes "slow-elapsed") ms _ duration_well_formed (λ elapsed elapsed_is.
-    required_then as_bool (codes "will-terminate") ms _ (any_well_formed as_bool) (λ will_terminate will_terminate_is.
-    then_holds (command_form ms) _ (command_well_formed ms) (λ command command_is.
-    record { is = (stress_index_is, command_is.script_id, command_is.program, command_is.args, elapsed_is) }))))
-
-pub test_started_well_formed : (ms : Members) → Holds IsCore (test_started_form ms)
-unfolding test_started_form
-test_started_well_formed ms =
-    maybe_then stress_index_form (codes "stress-index") ms _ stress_index_well_formed (λ stress_index stress_index_is.
-    required_then test_instance_form (codes "test-instance") ms _ test_instance_well_formed (λ test_instance test_instance_is.
-    required_then slot_assignment_form (codes "slot-assignment") ms _ slot_assignment_well_formed (λ slot_assignment slot_assignment_is.
-    required_then run_stats_form (codes "current-stats") ms _ run_stats_well_formed (λ current_stats current_stats_is.
-    required_then u64_form (codes "running") ms _ u64_well_formed (λ running running_is.
-    required_then (list_form text_of) (codes "command-line") ms _ (list_well_formed text_of text_well_formed) (λ command_line command_line_is.
-    record { is = (stress_index_is, test_instance_is, slot_assignment_is, current_stats_is, running_is, command_line_is) }))))))
-
-pub test_slow_well_formed : (ms : Members) → Holds IsCore (test_slow_form ms)
-unfolding test_slow_form
-test_slow_well_formed ms =
-    maybe_then stress_index_form (codes "stress-index") ms _ stress_index_well_formed (λ stress_index stress_index_is.
-    required_then test_instance_form (codes "test-instance") ms _ test_instance_well_formed (λ test_instance test_instance_is.
-    required_then retry_data_form (codes "retry-data") ms _ retry_data_well_formed (λ retry_data retry_data_is.
-    required_then duration_form (codes "slow-elapsed") ms _ duration_well_formed (λ elapsed elapsed_is.
-    required_then as_bool (codes "will-terminate") ms _ (any_well_formed as_bool) (λ will_terminate will_terminate_is.
-    record { is = (stress_index_is, test_instance_is, retry_data_is, elapsed_is) })))))
-
-pub test_retry_started_well_formed : (ms : Members) → Holds IsCore (test_retry_started_form ms)
-unfolding test_retry_started_form
-test_retry_started_well_formed ms =
-    maybe_then stress_index_form (codes "stress-index") ms _ stress_index_well_formed (λ stress_index stress_index_is.
-    required_then test_instance_form (codes "test-instance") ms _ test_instance_well_formed (λ test_instance test_instance_is.
-    required_then slot_assignment_form (codes "slot-assignment") ms _ slot_assignment_well_formed (λ slot_assignment slot_assignment_is.
-    required_then retry_data_form (codes "retry-data") ms _ retry_data_well_formed (λ retry_data retry_data_is.
-    required_then u64_form (codes "running") ms _ u64_well_formed (λ running running_is.
-    required_then (list_form text_of) (codes "command-line") ms _ (list_well_formed text_of text_well_formed) (λ command_line command_line_is.
-    record { is = (stress_index_is, test_instance_is, slot_assignment_is, retry_data_is, running_is, command_line_is) }))))))
-
-pub test_skipped_well_formed : (ms : Members) → Holds IsCore (test_skipped_form ms)
-unfolding test_skipped_form
-test_skipped_well_formed ms =
-    maybe_then stress_index_form (codes "stress-index") ms _ stress_index_well_formed (λ stress_index stress_index_is.
-    required_then test_instance_form (codes "test-instance") ms _ test_instance_well_formed (λ test_instance test_instance_is.
-    required_then mismatch_reason_form (codes "reason") ms _ (any_well_formed mismatch_reason_form) (λ reason reason_is.
-    required_then skip_policy_form (codes "junit-report-skipped") ms _ (any_well_formed skip_policy_form) (λ junit_report_skipped junit_report_skipped_is.
-    record { is = (stress_index_is, test_instance_is) }))))
-
-pub run_begin_cancel_well_formed : (ms : Members) → Holds IsCore (run_begin_cancel_form ms)
-unfolding run_begin_cancel_form
-run_begin_cancel_well_formed ms =
-    required_then u64_form (codes "setup-scripts-running") ms _ u64_well_formed (λ setup_scripts_running setup_scripts_running_is.
-    required_then u64_form (codes "running") ms _ u64_well_formed (λ running running_is.
-    required_then cancel_reason_form (codes "reason") ms _ (any_well_formed cancel_reason_form) (λ reason reason_is.
-    record { is = (setup_scripts_running_is, running_is) })))
-
-pub run_paused_well_formed : (ms : Members) → Holds IsCore (run_paused_form ms)
-unfolding run_paused_form
-run_paused_well_formed ms =
-    required_then u64_form (codes "setup-scripts-running") ms _ u64_well_formed (λ setup_scripts_running setup_scripts_running_is.
-    required_then u64_form (codes "running") ms _ u64_well_formed (λ running running_is.
-    record { is = (setup_scripts_running_is, running_is) }))
-
-pub run_continued_well_formed : (ms : Members) → Holds IsCore (run_continued_form ms)
-unfolding run_continued_form
-run_continued_well_formed ms =
-    required_then u64_form (codes "setup-scripts-running") ms _ u64_well_formed (λ setup_scripts_running setup_scripts_running_is.
-    required_then u64_form (codes "running") ms _ u64_well_formed (λ running running_is.
-    record { is = (setup_scripts_running_is, running_is) }))
-
-pub stress_sub_run_finished_well_formed : (ms : Members) → Holds IsCore (stress_sub_run_finished_form ms)
-unfolding stress_sub_run_finished_form
-stress_sub_run_finished_well_formed ms =
-    required_then stress_progress_form (codes "progress") ms _ stress_progress_well_formed (λ progress progress_is.
-    required_then duration_form (codes "sub-elapsed") ms _ duration_well_formed (λ sub_elapsed sub_elapsed_is.
-    required_then run_stats_form (codes "sub-stats") ms _ run_stats_well_formed (λ sub_stats sub_stats_is.
-    record { is = (progress_is, sub_elapsed_is, sub_stats_is) })))
-
-pub run_finished_well_formed : (ms : Members) → Holds IsCore (run_finished_form ms)
-unfolding run_finished_form
-run_finished_well_formed ms =
-    required_then uuid_form (codes "run-id") ms _ uuid_well_formed (λ run_id run_id_is.
-    required_then stamp_form (codes "start-time") ms _ stamp_well_formed (λ start_time start_time_is.
-    required_then duration_form (codes "run-elapsed") ms _ duration_well_formed (λ elapsed elapsed_is.
-    required_then run_finished_stats_form (codes "run-stats") ms _ run_finished_stats_well_formed (λ run_stats run_stats_is.
-    maybe_then tests_not_seen_form (codes "outstanding-not-seen") ms _ tests_not_seen_well_formed (λ outstanding_not_seen outstanding_not_seen_is.
-    record { is = (run_id_is, start_time_is, elapsed_is, run_stats_is, outstanding_not_seen_is) })))))

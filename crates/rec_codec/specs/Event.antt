@@ -1,6 +1,7 @@
 -- The events of a session and of a log.
 use Rattle.std.specs.List.{flat_map}
-use Rattle.std.specs.Prelude.{◌≡◌, ℕ, List, [], ◌∷◌, ◌++◌, Option, Some, None, IsTrue, if◌then◌else◌, option_map}
+use Rattle.std.specs.Prelude.{◌≡◌, ℕ, List, [], ◌∷◌, ◌++◌, Option, Some}
+use Rattle.std.specs.Prelude.{None, IsTrue, if◌then◌else◌, option_map}
 use Rattle.std.specs.Str.{is_utf8}
 use Rattle.serde_json.specs.Written.{compact_text}
 use Rattle.rec_events.specs.declared.events.TestEventSummary.{TestEventSummary}
@@ -54,9 +55,11 @@ recorded_event_of text = text_form (event_form stored_outputs_form) text
 -- a line of a log: nothing where it isn't UTF-8 or no event, no event where it is blank
 abbrev pub line_event : Option (List ℕ) → Option (Option RecordedEvent)
 line_event None = None
-line_event (Some text) = if is_blank text then Some None else option_map Some (recorded_event_of text)
+line_event (Some text) =
+    if is_blank text then Some None else option_map Some (recorded_event_of text)
 
-abbrev pub with_event : Option (Option RecordedEvent) → Option (List RecordedEvent) → Option (List RecordedEvent)
+abbrev pub with_event : Option (Option RecordedEvent) → Option (List RecordedEvent)
+    → Option (List RecordedEvent)
 with_event None events = None
 with_event (Some None) events = events
 with_event (Some (Some e)) events = option_map (λ es. e ∷ es) events

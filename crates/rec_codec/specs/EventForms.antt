@@ -8,11 +8,14 @@ use Rattle.rec_events.specs.declared.events.TestEventKindSummary.TheVariants.{Co
 use Rattle.rec_events.specs.declared.events.TestEventKindSummary.{TestEventKindSummary}
 use Rattle.rec_events.specs.declared.events.TestEventSummary.{TestEventSummary}
 use Rattle.rec_forms.specs.Shape.{◌>>=◌, Field, field, struct, required, named}
-use Rattle.rec_forms.specs.Times.{stamp_value, stamp_form, IsStamp, duration_value, duration_form, IsDuration}
+use Rattle.rec_forms.specs.Times.{stamp_value, stamp_form, IsStamp}
+use Rattle.rec_forms.specs.Times.{duration_value, duration_form, IsDuration}
 use Rattle.rec_codec.specs.CoreKindForms.{core_kinds}
 use Rattle.rec_codec.specs.CoreKinds.{core_fields, IsCore}
 use Rattle.rec_codec.specs.EventParts.{times_fields}
-use Rattle.rec_codec.specs.OutputKinds.{output_fields, output_loaded, IsOutput, script_finished_form, attempt_failed_form, test_finished_form}
+use Rattle.rec_codec.specs.OutputKinds.{output_fields, output_loaded, IsOutput}
+use Rattle.rec_codec.specs.OutputKinds.{script_finished_form}
+use Rattle.rec_codec.specs.OutputKinds.{attempt_failed_form, test_finished_form}
 
 -- ---- values
 
@@ -26,20 +29,28 @@ module _ {S O : Type 0} (output_value : O → Data) where
   event_fields e = in_order (times_fields e.timestamp e.elapsed ++ kind_fields e.kind)
 
   abbrev pub event_value : TestEventSummary S O → Data
-  event_value e = struct (field (codes "timestamp") (stamp_value e.timestamp) ∷ field (codes "elapsed") (duration_value e.elapsed) ∷ kind_fields e.kind)
+  event_value e =
+      struct (field (codes "timestamp") (stamp_value e.timestamp)
+      ∷ field (codes "elapsed") (duration_value e.elapsed) ∷ kind_fields e.kind)
 
 -- ---- forms
 
 module _ {S O : Type 0} (output_form : Data → Option O) where
   -- a kind without outputs as one of all
-  abbrev pub core_entry : List ℕ × (Members → Option CoreEventKind) → List ℕ × (Members → Option (TestEventKindSummary S O))
+  abbrev pub core_entry : List ℕ × (Members → Option CoreEventKind)
+      → List ℕ × (Members → Option (TestEventKindSummary S O))
   core_entry k = (k.0, λ ms. k.1 ms >>= λ kind. Some (Core kind))
 
   -- each kind by its name
   abbrev pub kinds : List (List ℕ × (Members → Option (TestEventKindSummary S O)))
-  kinds =
-      (codes "setup-script-finished", λ ms. script_finished_form output_form ms >>= λ k. Some (Output k))
-      ∷ (codes "test-attempt-failed-will-retry", λ ms. attempt_failed_form output_form ms >>= λ k. Some (Output k))
+  kinds = (
+    codes "setup-script-finished",
+    λ ms. script_finished_form output_form ms >>= λ k. Some (Output k),
+  )
+      ∷ (
+        codes "test-attempt-failed-will-retry",
+        λ ms. attempt_failed_form output_form ms >>= λ k. Some (Output k),
+      )
       ∷ (codes "test-finished", λ ms. test_finished_form output_form ms >>= λ k. Some (Output k))
       ∷ map core_entry core_kinds
 

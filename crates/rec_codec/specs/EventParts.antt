@@ -1,4 +1,5 @@
--- The members of events as they are written: in the order of the bytes of their keys, those of the kind among those of the event.
+-- The members of events as they are written: in the order of the bytes of their keys, those of the
+-- kind among those of the event.
 use Rattle.std.specs.Prelude.{ℕ, List, [], ◌∷◌, ◌++◌, Option, codes}
 use Rattle.serde_json.specs.Data.{string}
 use Rattle.rec_json.specs.Fields.{in_order}
@@ -14,11 +15,14 @@ use Rattle.rec_codec.specs.CoreKinds.{kind_field, core_fields, IsCore}
 
 -- what each event has beside its kind
 abbrev pub times_fields : Moment → Span → List Field
-times_fields timestamp elapsed = field (codes "timestamp") (stamp_value timestamp) ∷ field (codes "elapsed") (duration_value elapsed) ∷ []
+times_fields timestamp elapsed =
+    field (codes "timestamp") (stamp_value timestamp)
+    ∷ field (codes "elapsed") (duration_value elapsed) ∷ []
 
 -- an event of a kind without outputs
 abbrev pub core_event_fields : Moment → Span → CoreEventKind → List Field
-core_event_fields timestamp elapsed kind = in_order (times_fields timestamp elapsed ++ core_fields kind)
+core_event_fields timestamp elapsed kind =
+    in_order (times_fields timestamp elapsed ++ core_fields kind)
 
 abbrev pub IsCoreEvent : Moment → Span → CoreEventKind → Type 0
 IsCoreEvent timestamp elapsed kind = IsStamp timestamp × IsDuration elapsed × IsCore kind

@@ -12,6 +12,7 @@ pub mod CoreKinds
 pub mod EventParts
 pub mod CoreKindForms
 pub mod CoreKindLaws
+pub mod CoreKindsWellFormed
 pub mod OutputKinds
 pub mod OutputKindLaws
 pub mod EventForms

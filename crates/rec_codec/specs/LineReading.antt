@@ -1,5 +1,7 @@
--- What lines give where memory suffices: an item or a fault a line, the items before the first line that fails, and its fault.
-use Rattle.std.specs.Prelude.{◌≡◌, ℕ, List, [], ◌∷◌, filter_map, Option, Some, None, Result, Ok, Err, if◌then◌else◌}
+-- What lines give where memory suffices: an item or a fault a line, the items before the first line
+-- that fails, and its fault.
+use Rattle.std.specs.Prelude.{◌≡◌, ℕ, List, [], ◌∷◌, filter_map, Option}
+use Rattle.std.specs.Prelude.{Some, None, Result, Ok, Err, if◌then◌else◌}
 use Rattle.serde_json.specs.Data.{Data}
 use Rattle.rec_forms.specs.Outputs.{stored_outputs_form}
 use Rattle.rec_forms.specs.TextForm.{text_form}
@@ -17,10 +19,12 @@ item_or_fault n None = Err (ParseEvent n)
 item_or_fault n (Some x) = Ok x
 
 module _ {T : Type 0} (form : Data → Option T) where
-  -- what the text of the line n gives: nothing where it is blank; no text is a line that isn't UTF-8
+  -- what the text of the line n gives: nothing where it is blank;
+  -- no text is a line that isn't UTF-8
   abbrev pub text_item : ℕ → Option (List ℕ) → Option (Result T LineError)
   text_item n None = Some (Err (ReadRunLog n))
-  text_item n (Some text) = if is_blank text then None else Some (item_or_fault n (text_form form text))
+  text_item n (Some text) =
+      if is_blank text then None else Some (item_or_fault n (text_form form text))
 
   abbrev pub line_item : NumberedLine → Option (Result T LineError)
   line_item line = text_item line.number (text_of line.bytes)
@@ -44,8 +48,10 @@ first_fault (Ok x ∷ items) = first_fault items
 first_fault (Err e ∷ items) = Some e
 
 -- the items of lines before the first fault are these, and the fault is this, if there is one
-abbrev pub GivesUpTo : {T : Type 0} → (Data → Option T) → List NumberedLine → List T → Option LineError → Type 0
-GivesUpTo form lines xs fault = (before_fault (line_items form lines) ≡ xs) × (first_fault (line_items form lines) ≡ fault)
+abbrev pub GivesUpTo : {T : Type 0} → (Data → Option T) → List NumberedLine → List T
+    → Option LineError → Type 0
+GivesUpTo form lines xs fault =
+    (before_fault (line_items form lines) ≡ xs) × (first_fault (line_items form lines) ≡ fault)
 
 -- ---- logs
 

@@ -1,6 +1,7 @@
 -- The lines of a text.
 use Rattle.std.specs.List.{onto_first}
-use Rattle.std.specs.Prelude.{ℕ, ◌+◌, ◌==◌, List, [], ◌∷◌, length, Option, Some, None, Bool, if◌then◌else◌}
+use Rattle.std.specs.Prelude.{ℕ, ◌+◌, ◌==◌, List, [], ◌∷◌, length}
+use Rattle.std.specs.Prelude.{Option, Some, None, Bool, if◌then◌else◌}
 use Rattle.std.specs.Str.{is_utf8, trim}
 
 -- the pieces between newlines; what stands after the last newline is a line where it isn't empty

@@ -3,7 +3,11 @@ use Rattle.std.specs.Prelude.{IfSome, Bool, true, false, [], ◌∷◌, Option, 
 use Rattle.hex.specs.Hex.{IsBytes}
 use Rattle.serde_json.specs.Data.{Data, string}
 use Rattle.serde_json.specs.Find.{as_object}
-use Rattle.rec_events.specs.declared.outputs.ChildOutputDescription.TheVariants.{Split, Combined, NotLoaded}
+use Rattle.rec_events.specs.declared.outputs.ChildOutputDescription.TheVariants.{
+  Split,
+  Combined,
+  NotLoaded,
+}
 use Rattle.rec_events.specs.declared.outputs.ChildOutputDescription.{ChildOutputDescription}
 use Rattle.rec_forms.specs.Outputs.{output_bytes_value, output_bytes_form}
 use Rattle.rec_forms.specs.Shape.{◌>>=◌, optional, struct, maybe, tagged, variant}
@@ -17,7 +21,8 @@ is_loaded NotLoaded = false
 -- What isn't loaded is never written; an empty text stands in its place.
 abbrev pub live_value : ChildOutputDescription → Data
 live_value (Split out err) =
-    tagged (codes "split") (struct (optional (codes "stdout") output_bytes_value out ∷ optional (codes "stderr") output_bytes_value err ∷ []))
+    tagged (codes "split") (struct (optional (codes "stdout") output_bytes_value out
+    ∷ optional (codes "stderr") output_bytes_value err ∷ []))
 live_value (Combined output) = tagged (codes "combined") (output_bytes_value output)
 live_value NotLoaded = string []
 
@@ -32,7 +37,8 @@ abbrev pub live_combined_form : Data → Option ChildOutputDescription
 live_combined_form d = option_map Combined (output_bytes_form d)
 
 unfoldable pub live_form : Data → Option ChildOutputDescription
-live_form = variant [] ((codes "split", live_split_form) ∷ (codes "combined", live_combined_form) ∷ [])
+live_form =
+    variant [] ((codes "split", live_split_form) ∷ (codes "combined", live_combined_form) ∷ [])
 
 abbrev pub IsLive : ChildOutputDescription → Type 0
 IsLive (Split out err) = IfSome out IsBytes × IfSome err IsBytes

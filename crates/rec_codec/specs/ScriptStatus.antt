@@ -2,14 +2,22 @@
 use Rattle.std.specs.Prelude.{IfSome, Bool, [], ◌∷◌, Option, Some, codes}
 use Rattle.serde_json.specs.Data.{Data, string, boolean}
 use Rattle.serde_json.specs.Find.{as_object, as_bool}
-use Rattle.rec_events.specs.declared.script_statuses.SetupScriptExecuteStatus.{SetupScriptExecuteStatus}
+use Rattle.rec_events.specs.declared.script_statuses.SetupScriptExecuteStatus.{
+  SetupScriptExecuteStatus,
+}
 use Rattle.rec_events.specs.Names.{IsText}
 use Rattle.rec_forms.specs.ErrorTexts.{error_summary_value, error_summary_form, IsErrorSummary}
 use Rattle.rec_forms.specs.Maps.{map_value, map_form, IsMap}
-use Rattle.rec_forms.specs.Results.{execution_result_value, execution_result_form, IsExecutionResult}
+use Rattle.rec_forms.specs.Results.{
+  execution_result_value,
+  execution_result_form,
+  IsExecutionResult,
+}
 use Rattle.rec_forms.specs.Shape.{◌>>=◌, field, optional, struct, required, maybe, text_of}
-use Rattle.rec_forms.specs.Times.{stamp_value, stamp_form, IsStamp, duration_value, duration_form, IsDuration}
-use Rattle.rec_codec.specs.Status.{description_value, description_form, description_loaded, IsDescription}
+use Rattle.rec_forms.specs.Times.{stamp_value, stamp_form, IsStamp}
+use Rattle.rec_forms.specs.Times.{duration_value, duration_form, IsDuration}
+use Rattle.rec_codec.specs.Status.{description_value, description_form}
+use Rattle.rec_codec.specs.Status.{description_loaded, IsDescription}
 
 module _ {S O : Type 0} (output_value : O → Data) where
   abbrev pub script_status_value : SetupScriptExecuteStatus S O → Data

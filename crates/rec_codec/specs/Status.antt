@@ -1,19 +1,29 @@
 -- The values and forms of attempts, over those of an output.
 use Rattle.std.specs.List.{AllByRecursion}
-use Rattle.std.specs.Prelude.{◌<◌, length, IfSome, Bool, true, List, [], ◌∷◌, ◌++◌, Option, Some, option_map, codes}
+use Rattle.std.specs.Prelude.{◌<◌, length, IfSome, Bool, true, List, []}
+use Rattle.std.specs.Prelude.{◌∷◌, ◌++◌, Option, Some, option_map, codes}
 use Rattle.serde_json.specs.Data.{Data, Members, string, boolean}
 use Rattle.serde_json.specs.Find.{as_object, as_bool}
-use Rattle.rec_events.specs.declared.outputs.ChildExecutionOutputDescription.TheVariants.{Output, StartError}
-use Rattle.rec_events.specs.declared.outputs.ChildExecutionOutputDescription.{ChildExecutionOutputDescription}
+use Rattle.rec_events.specs.declared.outputs.ChildExecutionOutputDescription.TheVariants.{
+  Output,
+  StartError,
+}
+use Rattle.rec_events.specs.declared.outputs.ChildExecutionOutputDescription.{
+  ChildExecutionOutputDescription,
+}
 use Rattle.rec_events.specs.declared.statuses.ExecuteStatus.{ExecuteStatus}
 use Rattle.rec_events.specs.declared.statuses.ExecutionStatuses.{ExecutionStatuses}
 use Rattle.rec_events.specs.Names.{IsText, AreTexts}
-use Rattle.rec_forms.specs.ErrorTexts.{error_summary_value, error_summary_form, IsErrorSummary, error_slice_value, error_slice_form, IsErrorSlice}
+use Rattle.rec_forms.specs.ErrorTexts.{error_summary_value, error_summary_form, IsErrorSummary}
+use Rattle.rec_forms.specs.ErrorTexts.{error_slice_value, error_slice_form, IsErrorSlice}
 use Rattle.rec_forms.specs.Instances.{retry_data_value, retry_data_form, IsRetryData}
 use Rattle.rec_forms.specs.Lists.{list_value, list_form, some_form}
-use Rattle.rec_forms.specs.Results.{flaky_result_value, flaky_result_form, execution_result_value, execution_result_form, IsExecutionResult}
-use Rattle.rec_forms.specs.Shape.{◌>>=◌, Field, field, optional, struct, required, maybe, text_of, tagged, variant}
-use Rattle.rec_forms.specs.Times.{stamp_value, stamp_form, IsStamp, duration_value, duration_form, IsDuration}
+use Rattle.rec_forms.specs.Results.{flaky_result_value, flaky_result_form, execution_result_value}
+use Rattle.rec_forms.specs.Results.{execution_result_form, IsExecutionResult}
+use Rattle.rec_forms.specs.Shape.{◌>>=◌, Field, field, optional, struct}
+use Rattle.rec_forms.specs.Shape.{required, maybe, text_of, tagged, variant}
+use Rattle.rec_forms.specs.Times.{stamp_value, stamp_form, IsStamp}
+use Rattle.rec_forms.specs.Times.{duration_value, duration_form, IsDuration}
 use Rattle.rec_codec.specs.declared.status.AfterOutput.{AfterOutput}
 use Rattle.rec_codec.specs.declared.status.BeforeOutput.{BeforeOutput}
 use Rattle.rec_codec.specs.Writes.{every}
@@ -34,7 +44,12 @@ before_output_form ms = do
   delay_before_start ← required duration_form (codes "delay-before-start") ms
   is_slow ← required as_bool (codes "is-slow") ms
   error_summary ← maybe error_summary_form (codes "error-summary") ms
-  Some (record { cpu_time = cpu_time; delay_before_start = delay_before_start; error_summary = error_summary; is_slow = is_slow })
+  Some (record {
+    cpu_time = cpu_time;
+    delay_before_start = delay_before_start;
+    error_summary = error_summary;
+    is_slow = is_slow;
+  })
 
 pub record IsBeforeOutput (b : BeforeOutput) : Type 0 where
   pub cpu_time : IfSome b.cpu_time IsDuration
@@ -59,7 +74,13 @@ after_output_form ms = do
   time_taken ← required duration_form (codes "time-taken") ms
   output_error_slice ← maybe error_slice_form (codes "output-error-slice") ms
   result ← required execution_result_form (codes "result") ms
-  Some (record { output_error_slice = output_error_slice; result = result; retry_data = retry_data; start_time = start_time; time_taken = time_taken })
+  Some (record {
+    output_error_slice = output_error_slice;
+    result = result;
+    retry_data = retry_data;
+    start_time = start_time;
+    time_taken = time_taken;
+  })
 
 pub record IsAfterOutput (a : AfterOutput) : Type 0 where
   pub output_error_slice : IfSome a.output_error_slice IsErrorSlice
@@ -70,10 +91,21 @@ pub record IsAfterOutput (a : AfterOutput) : Type 0 where
 
 module _ {S O : Type 0} where
   abbrev pub before_output : ExecuteStatus S O → BeforeOutput
-  before_output s = record { cpu_time = s.cpu_time; delay_before_start = s.delay_before_start; error_summary = s.error_summary; is_slow = s.is_slow }
+  before_output s = record {
+    cpu_time = s.cpu_time;
+    delay_before_start = s.delay_before_start;
+    error_summary = s.error_summary;
+    is_slow = s.is_slow;
+  }
 
   abbrev pub after_output : ExecuteStatus S O → AfterOutput
-  after_output s = record { output_error_slice = s.output_error_slice; result = s.result; retry_data = s.retry_data; start_time = s.start_time; time_taken = s.time_taken }
+  after_output s = record {
+    output_error_slice = s.output_error_slice;
+    result = s.result;
+    retry_data = s.retry_data;
+    start_time = s.start_time;
+    time_taken = s.time_taken;
+  }
 
 -- ---- values
 
@@ -88,7 +120,9 @@ module _ {S O : Type 0} (output_value : O → Data) where
   description_value (StartError message) = tagged (codes "start-error") (string message)
 
   abbrev pub status_value : ExecuteStatus S O → Data
-  status_value s = struct (before_output_fields (before_output s) ++ field (codes "output") (description_value s.output) ∷ after_output_fields (after_output s))
+  status_value s =
+      struct (before_output_fields (before_output s)
+      ++ field (codes "output") (description_value s.output) ∷ after_output_fields (after_output s))
 
   -- as stores of version 3.0 have it
   abbrev pub status_value_3_0 : ExecuteStatus S O → Data
@@ -105,7 +139,9 @@ module _ {S O : Type 0} (output_value : O → Data) where
       ∷ [])
 
   abbrev pub statuses_value : ExecutionStatuses S O → Data
-  statuses_value s = struct (field (codes "statuses") (list_value status_value s.statuses) ∷ field (codes "flaky-result") (flaky_result_value s.flaky_result) ∷ [])
+  statuses_value s =
+      struct (field (codes "statuses") (list_value status_value s.statuses)
+      ∷ field (codes "flaky-result") (flaky_result_value s.flaky_result) ∷ [])
 
 -- ---- forms
 
@@ -122,7 +158,8 @@ module _ {S O : Type 0} (output_form : Data → Option O) where
   start_error_form d = option_map StartError (text_of d)
 
   unfoldable pub description_form : Data → Option (ChildExecutionOutputDescription S O)
-  description_form = variant [] ((codes "output", output_case_form) ∷ (codes "start-error", start_error_form) ∷ [])
+  description_form =
+      variant [] ((codes "output", output_case_form) ∷ (codes "start-error", start_error_form) ∷ [])
 
   unfoldable pub status_form : Data → Option (ExecuteStatus S O)
   status_form d = do
@@ -170,7 +207,8 @@ module _ {S O : Type 0} (loaded : O → Bool) where
 
 module _ {S O : Type 0} (P : O → Type 0) where
   abbrev pub IsDescription : ChildExecutionOutputDescription S O → Type 0
-  IsDescription (Output result output errors) = IfSome result IsExecutionResult × P output × IfSome errors AreTexts
+  IsDescription (Output result output errors) =
+      IfSome result IsExecutionResult × P output × IfSome errors AreTexts
   IsDescription (StartError message) = IsText message
 
   pub record IsStatus (s : ExecuteStatus S O) : Type 0 where

@@ -16,7 +16,8 @@ abbrev pub Writes : Result Value ToValueError → Data → Bool → Type 0
 Writes (Ok v) d loaded = (view v ≡ d) × (loaded ≡ true)
 Writes (Err e) d loaded = FailsUnloaded e loaded
 
--- what a call that writes to a text answers, by whether the outputs in what it writes are all loaded
+-- what a call that writes to a text answers, by whether the outputs in what it writes are all
+-- loaded
 abbrev pub WritesLoaded : Result ⊤ ToValueError → Bool → Type 0
 WritesLoaded (Ok u) loaded = loaded ≡ true
 WritesLoaded (Err e) loaded = FailsUnloaded e loaded

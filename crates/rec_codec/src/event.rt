@@ -6,7 +6,8 @@ ghost use Rattle.rec_json.specs.Nodes.{members_view, view as node_view};
 ghost use Rattle.rec_json.specs.Tokens.{value_tokens, with_fields};
 ghost use Rattle.rec_forms.specs.Gives.{Gives};
 ghost use Rattle.rec_forms.specs.Shape.{required};
-ghost use Rattle.rec_codec.specs.EventForms.{kind_named, kind_form, kind_loaded, event_fields, event_value, event_form, IsEvent};
+ghost use Rattle.rec_codec.specs.EventForms.{kind_named, kind_form, kind_loaded};
+ghost use Rattle.rec_codec.specs.EventForms.{event_fields, event_value, event_form, IsEvent};
 ghost use Rattle.rec_codec.specs.Writes.{Writes, WritesLoaded};
 
 use crate::core_kinds::{core_from, write_core};
@@ -88,8 +89,8 @@ fn value_from<S: OutputForm>(
     Ok(value)
 }
 
-/// Makes the value of an event, which is the value of its text. It is read as this event again. Where only
-/// the text is wanted, `write_event` does without a value.
+/// Makes the value of an event, which is the value of its text. It is read as this event again.
+/// Where only the text is wanted, `write_event` does without a value.
 ///
 /// # Errors
 ///
@@ -152,8 +153,8 @@ fn kind_from<'a, S: OutputForm>(
     }
 }
 
-/// Reads the event for which `value` stands, a value that is there already. A text is read as a node,
-/// without a value in between.
+/// Reads the event for which `value` stands, a value that is there already. A text is read as a
+/// node, without a value in between.
 ///
 /// # Errors
 ///
@@ -190,7 +191,8 @@ pub fn event_from_node<S: OutputForm>(
     event_from(alloc, node)
 }
 
-/// Reads an event, in a call of its own, so that `known` of `event_from_node` can rest on its clause.
+/// Reads an event, in a call of its own, so that `known` of `event_from_node` can rest on its
+/// clause.
 #[tactic(auto, unfolding(crate::specs::EventForms::event_form))]
 fn event_from<S: OutputForm>(
     alloc: Global,

@@ -5,7 +5,8 @@ ghost use Rattle.rec_events.specs.Names.{IsText, AreTexts};
 ghost use Rattle.rec_forms.specs.Instances.{IsStressIndex, IsTestInstance};
 ghost use Rattle.rec_forms.specs.ObjectWriting.{Writes};
 ghost use Rattle.rec_forms.specs.Times.{IsStamp, IsDuration};
-ghost use Rattle.rec_codec.specs.EventParts.{head_part, running_part, test_part, args_part, script_part};
+ghost use Rattle.rec_codec.specs.EventParts.{head_part, running_part};
+ghost use Rattle.rec_codec.specs.EventParts.{test_part, args_part, script_part};
 ghost use Rattle.rec_codec.specs.OutputKinds.{finished_part, reporting_part};
 
 use rec_events::{

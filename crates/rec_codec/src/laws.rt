@@ -7,13 +7,19 @@ ghost use Rattle.serde_json.specs.Written.{compact_text};
 ghost use Rattle.rec_events.specs.declared.events.TestEventSummary.{TestEventSummary};
 ghost use Rattle.rec_events.specs.declared.statuses.ExecuteStatus.{ExecuteStatus};
 ghost use Rattle.rec_forms.specs.GivesWellFormed.{GivesWellFormed};
-ghost use Rattle.rec_forms.specs.Outputs.{IsStoredOutputs, stored_outputs_form, stored_outputs_value};
+ghost use Rattle.rec_forms.specs.Outputs.{
+  IsStoredOutputs,
+  stored_outputs_form,
+  stored_outputs_value,
+};
 ghost use Rattle.rec_codec.specs.declared.line_events.LineError.TheVariants.{OutOfMemory};
 ghost use Rattle.rec_codec.specs.declared.line_events.LineError.{LineError};
-ghost use Rattle.rec_codec.specs.Event.{IsLogged, LiveEvent, RecordedEvent, live_event_of, recorded_event_of, log_events, log_text};
+ghost use Rattle.rec_codec.specs.Event.{IsLogged, LiveEvent, RecordedEvent, live_event_of};
+ghost use Rattle.rec_codec.specs.Event.{recorded_event_of, log_events, log_text};
 ghost use Rattle.rec_codec.specs.EventForms.{event_form, event_value, kind_loaded, IsEvent};
 ghost use Rattle.rec_codec.specs.LineItems.{GivesNext};
-ghost use Rattle.rec_codec.specs.LineReading.{GivesUpTo, before_fault, events_before_fault, first_line_fault, line_items};
+ghost use Rattle.rec_codec.specs.LineReading.{GivesUpTo, before_fault, events_before_fault};
+ghost use Rattle.rec_codec.specs.LineReading.{first_line_fault, line_items};
 ghost use Rattle.rec_codec.specs.Lines.{NumberedLine, lines, numbered};
 ghost use Rattle.rec_codec.specs.Live.{is_loaded, live_form, live_value, IsLive};
 ghost use Rattle.rec_codec.specs.Status.{status_value, status_value_3_0};
@@ -33,7 +39,8 @@ pub fn well_formed_events_are_logged()
     ensures { (e : RecordedEvent) → IsEvent IsStoredOutputs e → IsLogged e }
 {}
 
-/// States that the value of a well-formed event is read as this event: no field is lost between the two.
+/// States that the value of a well-formed event is read as this event:
+/// no field is lost between the two.
 pub fn well_formed_events_read_back()
     ensures live { (e : LiveEvent)
         → IsEvent IsLive e
@@ -43,8 +50,9 @@ pub fn well_formed_events_read_back()
         → event_form stored_outputs_form (event_value stored_outputs_value e) ≡ Some e }
 {}
 
-/// States that an event that is read, from any value and from any text, is well-formed: its numbers are in
-/// range, its texts are UTF-8, its lists of attempts have an item, and its outputs are there.
+/// States that an event that is read, from any value and from any text, is well-formed: its numbers
+/// are in range, its texts are UTF-8, its lists of attempts have an item,
+/// and its outputs are there.
 pub fn read_events_are_well_formed()
     ensures live { GivesWellFormed {T = LiveEvent} (IsEvent IsLive) (event_form live_form) }
     ensures recorded { GivesWellFormed {T = RecordedEvent} (IsEvent IsStoredOutputs)
@@ -57,15 +65,16 @@ pub fn read_events_are_well_formed()
         → IsEvent IsStoredOutputs e }
 {}
 
-/// States that an attempt whose cpu time isn't known is written as stores of version 3.0 have it, byte for byte.
+/// States that an attempt whose cpu time isn't known is written as stores of version 3.0 have it,
+/// byte for byte.
 pub fn older_attempts_stay<S: OutputForm>()
     ensures { (s : ExecuteStatus S S.ChildOutput) → s.cpu_time ≡ None
         → compact_text (status_value S.output_value s)
         ≡ compact_text (status_value_3_0 S.output_value s) }
 {}
 
-/// States that an event that is read as one of a session, from any value and from any text, has its outputs:
-/// none of them is one that was not loaded.
+/// States that an event that is read as one of a session, from any value and from any text, has its
+/// outputs: none of them is one that was not loaded.
 pub fn read_events_are_loaded()
     ensures value { (v : Data) (e : LiveEvent)
         → event_form live_form v ≡ Some e
@@ -75,9 +84,10 @@ pub fn read_events_are_loaded()
         → kind_loaded is_loaded e.kind ≡ true }
 {}
 
-/// States that an iterator over lines gives what the lines give. Where it gives events and ends, no line fails, and
-/// these are all events. Where it gives events and then a fault other than want of memory, these stand before the first
-/// line that fails, and this is its fault. And events that it gives are the first ones of those before that line.
+/// States that an iterator over lines gives what the lines give. Where it gives events and ends, no
+/// line fails, and these are all events. Where it gives events and then a fault other than want of
+/// memory, these stand before the first line that fails, and this is its fault. And events that it
+/// gives are the first ones of those before that line.
 pub fn lines_give_items<S: OutputForm>()
     ensures drained { (events : List (TestEventSummary S S.ChildOutput)) (all : List NumberedLine)
         → Drains (GivesNext (event_form S.output_form)) all (map Ok events)
@@ -95,7 +105,8 @@ pub fn lines_give_items<S: OutputForm>()
         × (before_fault (line_items (event_form S.output_form) all) ≡ events ++ more) }
 {}
 
-/// States that a log has events exactly where no line of it fails. They are those before the first line that fails.
+/// States that a log has events exactly where no line of it fails.
+/// They are those before the first line that fails.
 pub fn logs_without_fault()
     ensures { (n : ℕ) (all : List (List ℕ)) (events : List RecordedEvent)
         → (log_events all ≡ Some events)

@@ -75,7 +75,8 @@ pub fn read_line<S: OutputForm>(
     Some(event_of_line(alloc, text, line.number, scratch))
 }
 
-/// Reads the event of a text that isn't blank. Where there is none, the fault has the line's number.
+/// Reads the event of a text that isn't blank. Where there is none,
+/// the fault has the line's number.
 fn event_of_line<S: OutputForm>(
     alloc: Global,
     text: &str,

@@ -17,8 +17,8 @@ pub struct Line<'a> {
 }
 
 impl<'a> Line<'a> {
-    /// Returns the line as a text, without the Unicode white space at its ends. `None` comes exactly
-    /// where the line isn't UTF-8.
+    /// Returns the line as a text, without the Unicode white space at its ends. `None` comes
+    /// exactly where the line isn't UTF-8.
     pub fn text(&self) -> Option<&'a str>
         ensures { option_map (λ text. text.now) result ≡ text_of self.now.bytes.now }
     {

@@ -38,8 +38,8 @@ pub trait LoadedForm: Sized {
     ///
     /// # Errors
     ///
-    /// `NotLoaded` comes exactly where an output in the item isn't loaded, and `OutOfMemory` if memory
-    /// runs out; then `text` may hold a part of the item.
+    /// `NotLoaded` comes exactly where an output in the item isn't loaded, and `OutOfMemory` if
+    /// memory runs out; then `text` may hold a part of the item.
     fn write(&self, alloc: Global, text: &mut JsonText) -> Result<(), ToValueError>
         ensures written { OnOk result (text.new ≡ text.old ++ value_tokens (value_of self.now)) }
         ensures loaded { WritesLoaded result (loaded self.now) }

@@ -39,8 +39,8 @@ pub trait OutputForm: OutputSpec {
     ///
     /// # Errors
     ///
-    /// `NotLoaded` comes exactly where the output isn't loaded, and `OutOfMemory` if memory runs out;
-    /// then `text` may hold a part of the output.
+    /// `NotLoaded` comes exactly where the output isn't loaded, and `OutOfMemory` if memory runs
+    /// out; then `text` may hold a part of the output.
     fn output_write(
         alloc: Global,
         output: &Self::ChildOutput,
@@ -51,7 +51,8 @@ pub trait OutputForm: OutputSpec {
         ensures text_loaded { WritesLoaded result (loaded output.now) }
         ensures text_known { OnOk result (output_well_formed output.now) };
 
-    /// Makes the value of the output, which is the value of its text. It is read as this output again.
+    /// Makes the value of the output, which is the value of its text.
+    /// It is read as this output again.
     ///
     /// # Errors
     ///
@@ -77,13 +78,13 @@ pub trait OutputForm: OutputSpec {
     fn output_from_node(alloc: Global, node: &Node<'_>) -> Result<Self::ChildOutput, FromValueError>
         ensures read_node { Gives result (output_form (node_view node.now)) };
 
-    /// Reads the output for which `value` stands, a value that is there already. A text is read as a
-    /// node, without a value in between.
+    /// Reads the output for which `value` stands, a value that is there already. A text is read as
+    /// a node, without a value in between.
     ///
     /// # Errors
     ///
-    /// `NotAValue` comes exactly where the value stands for no output, and `OutOfMemory` where there
-    /// was not enough memory.
+    /// `NotAValue` comes exactly where the value stands for no output, and `OutOfMemory` where
+    /// there was not enough memory.
     fn output_from_value(alloc: Global, value: &Value) -> Result<Self::ChildOutput, FromValueError>
         ensures read { Gives result (output_form (view value.now)) }
     {
@@ -115,8 +116,16 @@ pub trait OutputForm: OutputSpec {
 
 impl OutputForm for RecordingSpec {
     ghost use Rattle.std.specs.Prelude.{true, refl};
-    ghost use Rattle.rec_forms.specs.OutputLaws.{stored_outputs_back, stored_outputs_writable, stored_outputs_well_formed};
-    ghost use Rattle.rec_forms.specs.Outputs.{stored_outputs_value, stored_outputs_form, IsStoredOutputs};
+    ghost use Rattle.rec_forms.specs.OutputLaws.{
+      stored_outputs_back,
+      stored_outputs_writable,
+      stored_outputs_well_formed,
+    };
+    ghost use Rattle.rec_forms.specs.Outputs.{
+      stored_outputs_value,
+      stored_outputs_form,
+      IsStoredOutputs,
+    };
     ghost use Rattle.rec_forms.specs.Writable.{within_depth};
 
     ghost output_well_formed = { IsStoredOutputs };

@@ -3,7 +3,9 @@ ghost use Rattle.std.specs.Prelude.{◌≡◌, OnOk, codes};
 ghost use Rattle.rec_json.specs.Nodes.{members_view};
 ghost use Rattle.rec_json.specs.Tokens.{with_fields};
 ghost use Rattle.rec_forms.specs.Gives.{Gives};
-ghost use Rattle.rec_codec.specs.OutputKinds.{output_name, reporting_form, output_event_fields, output_loaded, IsOutputEvent, script_finished_form, attempt_failed_form, test_finished_form};
+ghost use Rattle.rec_codec.specs.OutputKinds.{output_name, reporting_form, output_event_fields};
+ghost use Rattle.rec_codec.specs.OutputKinds.{output_loaded, IsOutputEvent, script_finished_form};
+ghost use Rattle.rec_codec.specs.OutputKinds.{attempt_failed_form, test_finished_form};
 ghost use Rattle.rec_codec.specs.Writes.{WritesLoaded};
 
 use crate::event_parts::{

@@ -3,7 +3,15 @@ ghost use Rattle.std.specs.Prelude.{◌≡◌, OnOk, codes};
 ghost use Rattle.rec_json.specs.Nodes.{members_view};
 ghost use Rattle.rec_json.specs.Tokens.{with_fields};
 ghost use Rattle.rec_forms.specs.Gives.{Gives};
-ghost use Rattle.rec_codec.specs.CoreKindForms.{run_started_form, stress_sub_run_started_form, run_begin_cancel_form, run_paused_form, run_continued_form, stress_sub_run_finished_form, run_finished_form};
+ghost use Rattle.rec_codec.specs.CoreKindForms.{
+  run_started_form,
+  stress_sub_run_started_form,
+  run_begin_cancel_form,
+  run_paused_form,
+  run_continued_form,
+  stress_sub_run_finished_form,
+  run_finished_form,
+};
 ghost use Rattle.rec_codec.specs.CoreKinds.{core_name};
 ghost use Rattle.rec_codec.specs.EventParts.{core_event_fields, IsCoreEvent};
 

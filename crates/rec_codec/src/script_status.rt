@@ -10,8 +10,13 @@ use std::alloc::Global;
 
 impl<S: OutputForm> LoadedForm for SetupScriptExecuteStatus<S> {
     ghost use Rattle.std.specs.Prelude.{◌+◌};
-    ghost use Rattle.rec_codec.specs.ScriptStatus.{script_status_value, script_status_form, script_status_loaded, IsScriptStatus};
-    ghost use Rattle.rec_codec.specs.ScriptStatusLaws.{script_status_back, script_status_writable, script_status_well_formed};
+    ghost use Rattle.rec_codec.specs.ScriptStatus.{script_status_value, script_status_form};
+    ghost use Rattle.rec_codec.specs.ScriptStatus.{script_status_loaded, IsScriptStatus};
+    ghost use Rattle.rec_codec.specs.ScriptStatusLaws.{
+      script_status_back,
+      script_status_writable,
+      script_status_well_formed,
+    };
 
     ghost well_formed = { IsScriptStatus S.output_well_formed };
 

@@ -2,11 +2,16 @@
 ghost use Rattle.std.specs.Prelude.{◌≡◌, ◌++◌, OnOk};
 ghost use Rattle.rec_json.specs.Nodes.{members_view, view};
 ghost use Rattle.rec_json.specs.Tokens.{value_tokens};
-ghost use Rattle.rec_events.specs.declared.outputs.ChildExecutionOutputDescription.TheVariants.{Output};
+ghost use Rattle.rec_events.specs.declared.outputs.ChildExecutionOutputDescription.TheVariants.{
+  Output,
+};
 ghost use Rattle.rec_forms.specs.Gives.{Gives};
 ghost use Rattle.rec_forms.specs.ObjectWriting.{Writes};
 ghost use Rattle.rec_forms.specs.Shape.{required};
-ghost use Rattle.rec_codec.specs.Status.{description_value, IsDescription, output_case_form, before_output, before_output_fields, before_output_form, IsBeforeOutput, after_output, after_output_fields, after_output_form, IsAfterOutput, attempts_form};
+ghost use Rattle.rec_codec.specs.Status.{description_value, IsDescription, output_case_form};
+ghost use Rattle.rec_codec.specs.Status.{before_output, before_output_fields, before_output_form};
+ghost use Rattle.rec_codec.specs.Status.{IsBeforeOutput, after_output, after_output_fields};
+ghost use Rattle.rec_codec.specs.Status.{after_output_form, IsAfterOutput, attempts_form};
 ghost use Rattle.rec_codec.specs.Writes.{WritesLoaded};
 
 use crate::loaded_fields::{begin_field, ended, with_loaded, with_output};
@@ -88,8 +93,13 @@ fn output_from<S: OutputForm>(
 
 impl<S: OutputForm> LoadedForm for ChildExecutionOutputDescription<S> {
     ghost use Rattle.std.specs.Prelude.{◌+◌};
-    ghost use Rattle.rec_codec.specs.Status.{description_value, description_form, description_loaded, IsDescription};
-    ghost use Rattle.rec_codec.specs.StatusLaws.{description_back, description_writable, description_well_formed};
+    ghost use Rattle.rec_codec.specs.Status.{description_value, description_form};
+    ghost use Rattle.rec_codec.specs.Status.{description_loaded, IsDescription};
+    ghost use Rattle.rec_codec.specs.StatusLaws.{
+      description_back,
+      description_writable,
+      description_well_formed,
+    };
 
     ghost well_formed = { IsDescription S.output_well_formed };
 
@@ -321,8 +331,13 @@ fn attempts_from<'a, S: OutputForm>(
 
 impl<S: OutputForm> LoadedForm for ExecutionStatuses<S> {
     ghost use Rattle.std.specs.Prelude.{◌+◌};
-    ghost use Rattle.rec_codec.specs.Status.{statuses_value, statuses_form, statuses_loaded, AreStatuses};
-    ghost use Rattle.rec_codec.specs.StatusLaws.{statuses_back, statuses_writable, statuses_well_formed};
+    ghost use Rattle.rec_codec.specs.Status.{statuses_value, statuses_form};
+    ghost use Rattle.rec_codec.specs.Status.{statuses_loaded, AreStatuses};
+    ghost use Rattle.rec_codec.specs.StatusLaws.{
+      statuses_back,
+      statuses_writable,
+      statuses_well_formed,
+    };
 
     ghost well_formed = { AreStatuses S.output_well_formed };
 

@@ -3,7 +3,8 @@ ghost use Rattle.std.specs.Prelude.{◌≡◌, OnOk, codes};
 ghost use Rattle.rec_json.specs.Nodes.{members_view};
 ghost use Rattle.rec_json.specs.Tokens.{with_fields};
 ghost use Rattle.rec_forms.specs.Gives.{Gives};
-ghost use Rattle.rec_codec.specs.CoreKindForms.{test_started_form, test_slow_form, test_retry_started_form, test_skipped_form};
+ghost use Rattle.rec_codec.specs.CoreKindForms.{test_started_form, test_slow_form};
+ghost use Rattle.rec_codec.specs.CoreKindForms.{test_retry_started_form, test_skipped_form};
 ghost use Rattle.rec_codec.specs.CoreKinds.{core_name};
 ghost use Rattle.rec_codec.specs.EventParts.{core_event_fields, IsCoreEvent};
 

@@ -2,6 +2,10 @@
 #![tactic(auto)]
 
 #[cfg(test)]
+mod captured_events;
+#[cfg(test)]
 mod events;
 #[cfg(test)]
 mod line_items;
+#[cfg(test)]
+mod stored_events;

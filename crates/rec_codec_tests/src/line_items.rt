@@ -35,12 +35,30 @@ fn log(alloc: Global, lines: &[&[u8]]) -> Result<Vec<u8>, AllocError> {
     Ok(bytes)
 }
 
-const RUN_START: &[u8] =
-    br#"{"timestamp":{"secs":1000,"nanos":0,"offset":0},"elapsed":{"secs":0,"nanos":0},"kind":"run-started","run-id":"550e8400-e29b-41d4-a716-446655440000","profile-name":"default","cli-args":[]}"#;
+const RUN_START: &[u8] = b"{\"timestamp\":{\"secs\":1000,\"nanos\":0,\"offset\":0},\
+    \"elapsed\":{\"secs\":0,\"nanos\":0},\"kind\":\"run-started\",\
+    \"run-id\":\"550e8400-e29b-41d4-a716-446655440000\",\
+    \"profile-name\":\"default\",\"cli-args\":[]}";
 
 // A finished test with a captured output.
-const CAPTURED: &[u8] =
-    br#"{"current-stats":{"exec-failed":0,"failed":0,"failed-slow":0,"failed-timed-out":0,"finished-count":0,"flaky":0,"initial-run-count":1,"leaky":0,"leaky-failed":0,"passed":0,"passed-slow":0,"passed-timed-out":0,"setup-scripts-exec-failed":0,"setup-scripts-failed":0,"setup-scripts-finished-count":0,"setup-scripts-initial-count":0,"setup-scripts-passed":0,"setup-scripts-timed-out":0,"skipped":0},"elapsed":{"nanos":0,"secs":3},"failure-output":"immediate-final","junit-flaky-fail-status":"success","junit-store-failure-output":true,"junit-store-success-output":false,"kind":"test-finished","run-statuses":{"flaky-result":"fail","statuses":[{"delay-before-start":{"nanos":0,"secs":0},"is-slow":true,"output":{"output":{"output":{"combined":"6f6b"}}},"result":{"fail":{"failure":{"exit-code":-1},"leaked":false}},"retry-data":{"attempt":1,"total-attempts":2},"start-time":{"nanos":0,"offset":0,"secs":1001},"time-taken":{"nanos":5,"secs":2}}]},"running":0,"success-output":"never","test-instance":{"binary-id":"alpha::a","test-name":"t1"},"timestamp":{"nanos":0,"offset":0,"secs":1002}}"#;
+const CAPTURED: &[u8] = b"{\"current-stats\":{\"exec-failed\":0,\"failed\":0,\"failed-slow\":0,\
+    \"failed-timed-out\":0,\"finished-count\":0,\"flaky\":0,\"initial-run-count\":1,\
+    \"leaky\":0,\"leaky-failed\":0,\"passed\":0,\"passed-slow\":0,\
+    \"passed-timed-out\":0,\"setup-scripts-exec-failed\":0,\
+    \"setup-scripts-failed\":0,\"setup-scripts-finished-count\":0,\
+    \"setup-scripts-initial-count\":0,\"setup-scripts-passed\":0,\
+    \"setup-scripts-timed-out\":0,\"skipped\":0},\"elapsed\":{\"nanos\":0,\"secs\":3},\
+    \"failure-output\":\"immediate-final\",\"junit-flaky-fail-status\":\"success\",\
+    \"junit-store-failure-output\":true,\"junit-store-success-output\":false,\
+    \"kind\":\"test-finished\",\"run-statuses\":{\"flaky-result\":\"fail\",\
+    \"statuses\":[{\"delay-before-start\":{\"nanos\":0,\"secs\":0},\"is-slow\":true,\
+    \"output\":{\"output\":{\"output\":{\"combined\":\"6f6b\"}}},\
+    \"result\":{\"fail\":{\"failure\":{\"exit-code\":-1},\"leaked\":false}},\
+    \"retry-data\":{\"attempt\":1,\"total-attempts\":2},\
+    \"start-time\":{\"nanos\":0,\"offset\":0,\"secs\":1001},\
+    \"time-taken\":{\"nanos\":5,\"secs\":2}}]},\"running\":0,\
+    \"success-output\":\"never\",\"test-instance\":{\"binary-id\":\"alpha::a\",\
+    \"test-name\":\"t1\"},\"timestamp\":{\"nanos\":0,\"offset\":0,\"secs\":1002}}";
 
 const MIXED: &[&[u8]] = &[
     RUN_START,

@@ -1,6 +1,8 @@
 -- A part of a list is halved at each step.
-use Rattle.std.proofs.Common.{◌≡◌, ◌<◌, ◌≤◌, ◌+◌, ◌*◌, ◌^◌, ℕ, suc, ◌⊎◌, inl, inr, subst, sym, arith}
-use Rattle.std.proofs.Math.Nat.{mul-le-mul_left, le-mul_of_pos_right, two-pow-succ, pow-le-pow_right}
+use Rattle.std.proofs.Common.{◌≡◌, ◌<◌, ◌≤◌, ◌+◌, ◌*◌, ◌^◌, ℕ, suc}
+use Rattle.std.proofs.Common.{◌⊎◌, inl, inr, subst, sym, arith}
+use Rattle.std.proofs.Math.Nat.{mul-le-mul_left, le-mul_of_pos_right}
+use Rattle.std.proofs.Math.Nat.{two-pow-succ, pow-le-pow_right}
 
 -- after k steps at most d of n entries are left, and k is as small as is promised
 pub record Halved (n k d : ℕ) : Type 0 where

@@ -1,6 +1,8 @@
 -- The container: bytes that spell a list of entries.
 use Rattle.std.specs.Int.{w16, w64, to_be_bytes}
-use Rattle.std.specs.Prelude.{zero, suc, ◌≡◌, ℕ, ◌+◌, ◌<◌, ◌≤◌, ◌^◌, List, [], ◌∷◌, ◌++◌, length, take, drop, flat_map, IsUtf8, Option, Some, None, if◌then◌else◌, codes, sum_by}
+use Rattle.std.specs.Prelude.{zero, suc, ◌≡◌, ℕ, ◌+◌, ◌<◌, ◌≤◌, ◌^◌, List, []}
+use Rattle.std.specs.Prelude.{◌∷◌, ◌++◌, length, take, drop, flat_map, IsUtf8}
+use Rattle.std.specs.Prelude.{Option, Some, None, if◌then◌else◌, codes, sum_by}
 use Rattle.std.specs.Str.{bytes_eq}
 
 -- an entry: its name and its content
@@ -12,7 +14,8 @@ pub record Entry : Type 0 where
 unfoldable pub magic : List ℕ
 magic = codes "nxtcont1"
 
--- what stands before an entry's content: the tag, the name after its length, and the content's length
+-- what stands before an entry's content: the tag, the name after its length,
+-- and the content's length
 unfoldable pub entry_head : List ℕ → ℕ → List ℕ
 entry_head name content = 1 ∷ to_be_bytes w16 (length name) ++ name ++ to_be_bytes w64 content
 
@@ -83,7 +86,8 @@ pub record IsPrefix (bytes : List ℕ) (es : List Entry) (rest : List ℕ) : Typ
 abbrev pub place_after : List Entry → ℕ
 place_after es = length (magic ++ flat_map entry es)
 
--- where the content of the entry at an index begins, in a spelling that has the entries from the place p on
+-- where the content of the entry at an index begins,
+-- in a spelling that has the entries from the place p on
 abbrev pub place_from : ℕ → List Entry → ℕ → ℕ
 place_from p [] i = p
 place_from p (e ∷ es) zero = p + 11 + length e.name

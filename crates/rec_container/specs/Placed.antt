@@ -12,9 +12,12 @@ placed_entries hs = map placed_entry hs
 -- each content begins where its entry, after those before it, has it
 abbrev pub PlacedFrom : ℕ → List PlacedEntry → Type 0
 PlacedFrom p [] = Unit {0}
-PlacedFrom p (h ∷ hs) = (h.place ≡ p + 11 + length h.name.now) × PlacedFrom (p + (11 + length h.name.now + length h.content.now)) hs
+PlacedFrom p (h ∷ hs) =
+    (h.place ≡ p + 11 + length h.name.now)
+    × PlacedFrom (p + (11 + length h.name.now + length h.content.now)) hs
 
 -- and stands there in the bytes
 pub record ArePlaced (bytes : List ℕ) (hs : List PlacedEntry) : Type 0 where
   pub places : PlacedFrom 8 hs
-  pub contents : (i : ℕ) (h : PlacedEntry) → slice_get hs i ≡ Some h → StandsWithin bytes h.place h.content.now
+  pub contents : (i : ℕ) (h : PlacedEntry) → slice_get hs i ≡ Some h
+      → StandsWithin bytes h.place h.content.now

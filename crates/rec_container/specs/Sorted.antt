@@ -30,7 +30,9 @@ Ascend contents = IsStrictlySortedBy name_cmp (keys_of contents)
 
 -- the content of each entry is found under its name, and nothing else is there
 pub record HasContents (contents : Contents) (hs : List PlacedEntry) : Type 0 where
-  pub found : (name : List ℕ) → option_map (λ c. c.now) (lookup (is_named name) contents) ≡ content_of (placed_entries hs) name
+  pub found : (name : List ℕ)
+      → option_map (λ c. c.now) (lookup (is_named name) contents)
+      ≡ content_of (placed_entries hs) name
   pub count : length contents ≡ length hs
 
 -- the same, in the order of the names

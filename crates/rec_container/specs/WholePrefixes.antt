@@ -4,7 +4,9 @@ use Rattle.rec_container.specs.Container.{Entry, entry, content_of, IsEntry, IsP
 
 -- the bytes don't begin with one more entry after those seen
 abbrev pub IsStuck : List Entry → List ℕ → Type 0
-IsStuck seen bytes = (e : Entry) (rest : List ℕ) → IsEntry e → content_of seen e.name ≡ None → bytes ≡ entry e ++ rest → ⊥
+IsStuck seen bytes =
+    (e : Entry) (rest : List ℕ) → IsEntry e → content_of seen e.name ≡ None
+    → bytes ≡ entry e ++ rest → ⊥
 
 -- the bytes begin with the magic and these whole entries, and none of a new name stands after them
 pub record IsWholePrefix (bytes : List ℕ) (es : List Entry) : Type 0 where

@@ -2,12 +2,22 @@
 use Rattle.std.specs.declared.alloc.Global.{Global}
 use Rattle.std.specs.Io.KnownBytes.{Appends}
 use Rattle.std.specs.Option.{option_map_or}
-use Rattle.std.specs.Prelude.{◌≡◌, ℕ, ◌^◌, ◌<◌, ◌≤◌, List, [], ◌∷◌, ◌++◌, length, Bool, true, false, not, ◌&&◌, nat_lt, if◌then◌else◌, map, Vec, String, string_bytes, Option, Some, None, MatchOption, ◌⊎◌}
+use Rattle.std.specs.Prelude.{◌≡◌, ℕ, ◌^◌, ◌<◌, ◌≤◌, List, [], ◌∷◌, ◌++◌, length, Bool}
+use Rattle.std.specs.Prelude.{true, false, not, ◌&&◌, nat_lt, if◌then◌else◌, map, Vec}
+use Rattle.std.specs.Prelude.{String, string_bytes, Option, Some, None, MatchOption, ◌⊎◌}
 use Rattle.std.specs.Str.{bytes_eq}
 use Rattle.rec_container.specs.Causes.{Rose}
-use Rattle.rec_container.specs.Container.{Entry, AreFrom, spell, addition, ending, content_of, content_bytes}
+use Rattle.rec_container.specs.Container.{Entry, AreFrom, spell, addition}
+use Rattle.rec_container.specs.Container.{ending, content_of, content_bytes}
 use Rattle.rec_container.specs.declared.errors.ContainerSizes.{ContainerSizes}
-use Rattle.rec_container.specs.declared.errors.ContainerWriteError.TheVariants.{Failed, BadName, NameCollision, CountOutOfRange, SinkFault, OutOfMemory}
+use Rattle.rec_container.specs.declared.errors.ContainerWriteError.TheVariants.{
+  Failed,
+  BadName,
+  NameCollision,
+  CountOutOfRange,
+  SinkFault,
+  OutOfMemory,
+}
 use Rattle.rec_container.specs.declared.errors.ContainerWriteError.{ContainerWriteError}
 use Rattle.rec_container.specs.Taking.{TookPart}
 
@@ -35,14 +45,20 @@ has_name_length name = nat_lt 0 (length name) && nat_lt (length name) 65536
 abbrev pub refusal : Bool → List Entry → List ℕ → List ℕ → Option ContainerWriteError
 refusal failed es name content =
     if failed then Some Failed else if not (has_name_length name) then Some BadName
-    else option_map_or (λ c. if bytes_eq c content then None else Some NameCollision) (content_of es name)
-    (if nat_lt (length (spell (es ++ entry_named name content ∷ []))) (2 ^ 64) then None else Some CountOutOfRange)
+    else option_map_or (λ c. if bytes_eq c content then None else Some NameCollision)
+    (content_of es name)
+    (if nat_lt (length (spell (es ++ entry_named name content ∷ []))) (2 ^ 64) then None
+    else Some CountOutOfRange)
 
--- what is known of an entry that isn't refused: it is there, or the container's length with it is a u64
+-- what is known of an entry that isn't refused: it is there,
+-- or the container's length with it is a u64
 abbrev pub Accepts : Bool → List Entry → List ℕ → List ℕ → Option ℕ → Type 0
-Accepts failed es name content None = (refusal failed es name content ≡ None) × (content_of es name ≡ Some content)
+Accepts failed es name content None =
+    (refusal failed es name content ≡ None) × (content_of es name ≡ Some content)
 Accepts failed es name content (Some size) =
-    (refusal failed es name content ≡ None) × (failed ≡ false) × (0 < length name) × (length name < 65536) × (content_of es name ≡ None) × (size ≡ length (spell (es ++ entry_named name content ∷ [])))
+    (refusal failed es name content ≡ None) × (failed ≡ false) × (0 < length name)
+    × (length name < 65536) × (content_of es name ≡ None)
+    × (size ≡ length (spell (es ++ entry_named name content ∷ [])))
 
 -- the sums that a writer keeps are those of its entries
 pub record HasSizes (es : List Entry) (compressed uncompressed : ℕ) : Type 0 where
@@ -67,7 +83,8 @@ module _ {K : Type 0} (taken : K → Option (List ℕ)) (faults : K → ℕ) whe
   Adds old new name content =
       MatchOption (content_of old.entries name) (
       (new.entries ≡ old.entries ++ entry_named name content ∷ []) × (new.failed ≡ false) ×
-      Appends (taken old.sink) (taken new.sink) (addition old.entries (entry_named name content))) (λ c. new ≡ old)
+      Appends (taken old.sink) (taken new.sink) (addition old.entries (entry_named name content)))
+      (λ c. new ≡ old)
 
   -- an entry that was accepted wasn't written: for want of memory, or since the sink failed
   abbrev pub RefusesLate : Writing K → Writing K → List ℕ → List ℕ → ContainerWriteError → Type 0
@@ -86,5 +103,7 @@ module _ {K : Type 0} (taken : K → Option (List ℕ)) (faults : K → ℕ) whe
   -- the end wasn't written
   abbrev pub Unfinished : Writing K → K → ContainerWriteError → Type 0
   Unfinished old sink Failed = (old.failed ≡ true) × (sink ≡ old.sink)
-  Unfinished old sink SinkFault = (old.failed ≡ false) × Rose (faults old.sink) (faults sink) × TookPart (taken old.sink) (taken sink) (ending old.entries)
+  Unfinished old sink SinkFault =
+      (old.failed ≡ false) × Rose (faults old.sink) (faults sink)
+      × TookPart (taken old.sink) (taken sink) (ending old.entries)
   Unfinished old sink e = ⊥

@@ -55,8 +55,8 @@ impl<R: Read> Source for StdSource<R> {
 /// Writes to a writer what it takes. Each write is flushed. An error of either is a fault, and so
 /// is a write that takes nothing of a piece.
 ///
-/// After a fault the outside may hold bytes of the piece all the same: a write counts as failed where
-/// only its flush failed.
+/// After a fault the outside may hold bytes of the piece all the same: a write counts as failed
+/// where only its flush failed.
 #[derive(Drop)]
 pub struct StdSink<W> {
     writer: W,
@@ -72,8 +72,9 @@ impl<W: Write> StdSink<W> {
     }
 }
 
-/// Writes the first bytes of a piece, flushes, and returns how many: at least one, unless the piece is
-/// empty. `None` where the write or the flush failed, or where the write took nothing of a piece.
+/// Writes the first bytes of a piece, flushes, and returns how many: at least one, unless the piece
+/// is empty. `None` where the write or the flush failed,
+/// or where the write took nothing of a piece.
 pub fn write_flushed<W: Write>(writer: &mut W, piece: &[u8]) -> Option<usize>
     ensures bound { IfSome result (λ n. n ≤ length piece.now) }
     ensures progress { IfSome result (λ n. 0 < length piece.now → 0 < n) }
@@ -121,8 +122,8 @@ impl<W: Write> Sink for StdSink<W> {
 /// The first write creates the file, or empties the one that is there. Where that fails, the write
 /// is a fault, and the next write tries again.
 ///
-/// After a fault the outside may hold bytes of the piece all the same: a write counts as failed where
-/// only its flush failed.
+/// After a fault the outside may hold bytes of the piece all the same: a write counts as failed
+/// where only its flush failed.
 #[derive(Drop)]
 pub struct FileSink<'r, R: Files> {
     rt: &'r R,
@@ -144,7 +145,8 @@ impl<'r, R: Files> FileSink<'r, R> {
         }
     }
 
-    /// Writes as `write_flushed` does, to the file, which it creates first where that isn't done yet.
+    /// Writes as `write_flushed` does, to the file,
+    /// which it creates first where that isn't done yet.
     fn write_some(&mut self, piece: &[u8]) -> Option<usize>
         ensures bound { IfSome result (λ n. n ≤ length piece.now) }
         ensures progress { IfSome result (λ n. 0 < length piece.now → 0 < n) }

@@ -16,8 +16,8 @@ pub(crate) struct PlacedEntry<'a> {
     pub(crate) place: usize,
 }
 
-/// Holds the entries read so far in their order, and an index of their contents by name: a map, since
-/// each name is looked up, and is to be put in its place, before the next entry is read.
+/// Holds the entries read so far in their order, and an index of their contents by name: a map,
+/// since each name is looked up, and is to be put in its place, before the next entry is read.
 #[derive(Drop)]
 pub(crate) struct IndexedEntries<'a> {
     entries: Vec<PlacedEntry<'a>>,

@@ -1,6 +1,10 @@
-//! Laws of the container's grammar. The functions do nothing: their contracts are what they are for.
-ghost use Rattle.std.specs.Prelude.{◌≡◌, ◌<◌, ◌≤◌, [], ◌∷◌, ◌++◌, length, map, slice_get, List, ℕ, Some, None, take};
-ghost use Rattle.rec_container.specs.Container.{Entry, IsEntry, IsPrefix, addition, content_of, content_bytes, ending, prefix, spell, AreFrom, IsContainer, StandsWithin, place_from};
+//! Laws of the container's grammar. The functions do nothing:
+//! their contracts are what they are for.
+ghost use Rattle.std.specs.Prelude.{◌≡◌, ◌<◌, ◌≤◌, [], ◌∷◌, ◌++◌, length, map};
+ghost use Rattle.std.specs.Prelude.{slice_get, List, ℕ, Some, None, take};
+ghost use Rattle.rec_container.specs.Container.{Entry, IsEntry, IsPrefix, addition, content_of};
+ghost use Rattle.rec_container.specs.Container.{content_bytes, ending, prefix, spell, AreFrom};
+ghost use Rattle.rec_container.specs.Container.{IsContainer, StandsWithin, place_from};
 ghost use Rattle.rec_container.specs.declared.errors.ContainerError.{ContainerError};
 ghost use Rattle.rec_container.specs.Reading.{IsFault};
 ghost use Rattle.rec_container.specs.WholePrefixes.{IsWholePrefix};
@@ -57,8 +61,8 @@ pub fn within_length()
     ensures entries { (es : List Entry) → length es < length (spell es) }
 {}
 
-/// States that the whole prefix of bytes is the longest list of whole, distinct entries that they begin
-/// with, and the only one after which none of a new name stands.
+/// States that the whole prefix of bytes is the longest list of whole, distinct entries that they
+/// begin with, and the only one after which none of a new name stands.
 pub fn one_whole_prefix()
     ensures longest { (bytes more : List ℕ) (es fs : List Entry)
         → IsWholePrefix bytes es

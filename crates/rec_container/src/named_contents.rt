@@ -8,7 +8,8 @@ ghost use Rattle.std.specs.Option.{SomeIff};
 ghost use Rattle.std.specs.Prelude.{◌≡◌, ◌<◌, ◌^◌, List, ℕ, length, OnOk, OnErr};
 ghost use Rattle.rec_container.specs.Causes.{HasCause};
 ghost use Rattle.rec_container.specs.Container.{entry, entry_head, magic};
-ghost use Rattle.rec_container.specs.NamedContents.{begun, container_of, entry_of, nested, tagged_name};
+ghost use Rattle.rec_container.specs.NamedContents.{begun, container_of, entry_of};
+ghost use Rattle.rec_container.specs.NamedContents.{nested, tagged_name};
 ghost use Rattle.rec_container.specs.Taking.{TookPart};
 
 use crate::streams::{Sink, SinkFailed, write_all};

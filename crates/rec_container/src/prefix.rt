@@ -1,6 +1,7 @@
 //! The whole prefix of a container that may be cut off.
 ghost use Rattle.std.specs.Option.{option_map};
-ghost use Rattle.std.specs.Prelude.{◌≡◌, ◌<◌, ◌+◌, ◌^◌, length, IfOk, IfErr, IfSome, Ok, Err, Some, None, false, MatchOption};
+ghost use Rattle.std.specs.Prelude.{◌≡◌, ◌<◌, ◌+◌, ◌^◌, length, IfOk, IfErr, IfSome};
+ghost use Rattle.std.specs.Prelude.{Ok, Err, Some, None, false, MatchOption};
 ghost use Rattle.rec_container.specs.declared.prefix.PrefixError.TheVariants.{BadMagic};
 ghost use Rattle.rec_container.specs.Placed.{placed_entry, placed_entries};
 ghost use Rattle.rec_container.specs.Reading.{has_magic, step_at};

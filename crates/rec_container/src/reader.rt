@@ -1,7 +1,9 @@
 //! The reader of containers.
 ghost use Rattle.std.specs.Option.{option_map};
-ghost use Rattle.std.specs.Prelude.{◌≡◌, ◌<◌, ◌≤◌, ◌-◌, ◌*◌, ◌+◌, ◌^◌, [], length, MatchResult, IfOk, IfErr, IsTrue, ◌↔◌, ◌⊎◌, slice_get, map, List, ℕ, Some};
-ghost use Rattle.rec_container.specs.Container.{Entry, content_of, place_from, IsContainer, StandsWithin};
+ghost use Rattle.std.specs.Prelude.{◌≡◌, ◌<◌, ◌≤◌, ◌-◌, ◌*◌, ◌+◌, ◌^◌, [], length, MatchResult};
+ghost use Rattle.std.specs.Prelude.{IfOk, IfErr, IsTrue, ◌↔◌, ◌⊎◌, slice_get, map, List, ℕ, Some};
+ghost use Rattle.rec_container.specs.Container.{Entry, content_of, place_from};
+ghost use Rattle.rec_container.specs.Container.{IsContainer, StandsWithin};
 ghost use Rattle.rec_container.specs.declared.errors.ContainerError.TheVariants.{OutOfMemory};
 ghost use Rattle.rec_container.specs.Placed.{placed_entries, ArePlaced};
 ghost use Rattle.rec_container.specs.Reading.{IsFault};
@@ -102,8 +104,8 @@ impl<'a> Container<'a> {
     }
 
     /// Returns the content under a name, and counts each comparison of two names that this took. It
-    /// takes s of them among n entries, with 2^s at most 2n + 1: at most 2 among three entries, and 5
-    /// among sixteen. A comparison says which name comes first, or that they are equal.
+    /// takes s of them among n entries, with 2^s at most 2n + 1: at most 2 among three entries, and
+    /// 5 among sixteen. A comparison says which name comes first, or that they are equal.
     pub fn get_counted<L: Ledger>(&self, name: &str, steps: &mut Steps<L>) -> Option<&'a [u8]>
         ensures found { option_map (λ c. c.now) result ≡ content_of self.now.entries name.now }
         ensures later { steps.old ≤ steps.new }

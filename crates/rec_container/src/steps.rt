@@ -1,10 +1,12 @@
 //! What stands at a place of a container's bytes: an entry, the end, or a fault.
 ghost use Rattle.std.specs.Int.{w16, w64};
 ghost use Rattle.std.specs.Option.{option_map};
-ghost use Rattle.std.specs.Prelude.{◌≡◌, ◌<◌, ◌+◌, ◌^◌, length, true, false, MatchOption, IfOk, IfSome};
+ghost use Rattle.std.specs.Prelude.{◌≡◌, ◌<◌, ◌+◌, ◌^◌, length, true};
+ghost use Rattle.std.specs.Prelude.{false, MatchOption, IfOk, IfSome};
 ghost use Rattle.std.specs.Str.{is_utf8};
 ghost use Rattle.rec_container.specs.Placed.{placed_entry, placed_entries};
-ghost use Rattle.rec_container.specs.Reading.{Gives, number_at, name_at, content_at, entry_at, step_at};
+ghost use Rattle.rec_container.specs.Reading.{Gives, number_at, name_at};
+ghost use Rattle.rec_container.specs.Reading.{content_at, entry_at, step_at};
 
 use crate::errors::ContainerError;
 use crate::indexed::{IndexedEntries, PlacedEntry};

@@ -56,8 +56,8 @@ pub trait Sink {
     ///
     /// # Errors
     ///
-    /// `SinkFailed` means that the sink failed: its count of faults rose, and it took nothing, where its
-    /// bytes are known.
+    /// `SinkFailed` means that the sink failed: its count of faults rose, and it took nothing,
+    /// where its bytes are known.
     fn write(&mut self, piece: &[u8]) -> Result<usize, SinkFailed>
         ensures bound { IfOk result (λ n. n ≤ length piece.now) }
         ensures progress { IfOk result (λ n. 0 < length piece.now → 0 < n) }

@@ -2,12 +2,17 @@
 ghost use Rattle.std.specs.declared.option.Option.{Option};
 ghost use Rattle.std.specs.Io.KnownBytes.{Appends};
 ghost use Rattle.std.specs.Option.{SomeIff};
-ghost use Rattle.std.specs.Prelude.{List, ℕ, ◌≡◌, ◌↔◌, IsTrue, map, slice_get, ◌<◌, [], ◌∷◌, ◌++◌, if◌then◌else◌, false, true, IfSome, IfOk, IfErr, OnOk, OnErr, None, Some, length, ◌+◌, ◌^◌, ◌≤◌, string_bytes};
+ghost use Rattle.std.specs.Prelude.{List, ℕ, ◌≡◌, ◌↔◌, IsTrue, map, slice_get, ◌<◌, [], ◌∷◌};
+ghost use Rattle.std.specs.Prelude.{◌++◌, if◌then◌else◌, false, true, IfSome, IfOk, IfErr, OnOk};
+ghost use Rattle.std.specs.Prelude.{OnErr, None, Some, length, ◌+◌, ◌^◌, ◌≤◌, string_bytes};
 ghost use Rattle.indexmap.specs.IndexMap.{spare};
 ghost use Rattle.rec_container.specs.Causes.{HasCause, Rose};
-ghost use Rattle.rec_container.specs.Container.{Entry, entry_head, addition, ending, magic, content_of, prefix, spell, AreFrom};
+ghost use Rattle.rec_container.specs.Container.{Entry, entry_head, addition, ending};
+ghost use Rattle.rec_container.specs.Container.{magic, content_of, prefix, spell, AreFrom};
 ghost use Rattle.rec_container.specs.Taking.{TookPart};
-ghost use Rattle.rec_container.specs.Writing.{entry_named, entry_of, refusal, Accepts, Adds, Refuses, RefusesLate, HasSizesOf, Unfinished, entries_of};
+ghost use Rattle.rec_container.specs.Writing.{entry_named, entry_of, refusal};
+ghost use Rattle.rec_container.specs.Writing.{Accepts, Adds, Refuses, RefusesLate};
+ghost use Rattle.rec_container.specs.Writing.{HasSizesOf, Unfinished, entries_of};
 
 use crate::errors::{ContainerSizes, ContainerWriteError};
 use crate::named_contents::{NamedContent, write_content, write_magic};
@@ -284,7 +289,8 @@ impl<K: Sink> ContainerWriter<K> {
         ensures later { K.faults self.sink ≤ K.faults result.sink }
         ensures entries { AreFrom [] self.entries }
 
-        // What the sink took since any time before, if it is the prefix of the entries, is now their spelling.
+        // What the sink took since any time before, if it is the prefix of the entries,
+        // is now their spelling.
         ensures whole { (start : Option (List ℕ))
             → Appends start (K.taken self.sink) (prefix self.entries)
             → OnOk result.result (Appends start (K.taken result.sink) (spell self.entries)) }

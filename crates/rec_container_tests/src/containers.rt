@@ -12,8 +12,8 @@ use std::test::Fail;
 /// What is called.
 #[derive(Clone, Copy)]
 enum Asked<'a> {
-    /// A writer of entries over a sink that takes pieces of so many bytes, 0 for whole ones, and fails at the
-    /// write of this number.
+    /// A writer of entries over a sink that takes pieces of so many bytes, 0 for whole ones, and
+    /// fails at the write of this number.
     Writer(usize, u64, &'a [(&'a str, &'a [u8])]),
     /// A container of one entry, whose content is at hand, into a sink that fails at this write.
     AtHand(u64),
@@ -192,7 +192,8 @@ const ANSWERS: &[(Asked<'static>, &str)] = &[
     // Equal content is taken again.
     (
         Asked::Writer(0, 0, &[("a", b"x"), ("a", b"x"), ("a", b"y"), ("", b"y")]),
-        "added, added, NameCollision, BadName, 1 with a x, 22 1 1, 0 faults: nxtcont1\x01\0\x01a\0\0\0\0\0\0\0\x01x\0",
+        "added, added, NameCollision, BadName, 1 with a x, 22 1 1, 0 faults: \
+        nxtcont1\x01\0\x01a\0\0\0\0\0\0\0\x01x\0",
     ),
     // The two pieces of the entry and the end mark, whole or byte by byte.
     (Asked::Writer(0, 1, HI), "SinkFault, Failed, 1 faults: "),
@@ -217,7 +218,8 @@ const ANSWERS: &[(Asked<'static>, &str)] = &[
         Asked::Writer(1, 23, HI),
         "added, 1 with a hi, SinkFault, 1 faults: nxtcont1\x01\0\x01a\0\0\0\0\0\0\0\x02hi",
     ),
-    // The magic, the tag and the name's length, the name, the content's length, the content, and the end mark.
+    // The magic, the tag and the name's length, the name, the content's length, the content,
+    // and the end mark.
     (Asked::AtHand(1), "23 false: "),
     (Asked::AtHand(2), "23 false: nxtcont1"),
     (Asked::AtHand(3), "23 false: nxtcont1\x01\0\x01"),

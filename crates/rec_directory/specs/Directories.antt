@@ -7,12 +7,20 @@ use Rattle.rec_container.specs.declared.errors.ContainerError.TheVariants as fau
 use Rattle.rec_container.specs.declared.errors.ContainerError.{ContainerError}
 use Rattle.rec_container.specs.Reading.{IsFault}
 use Rattle.rec_disk.specs.Disks.{Files, IsThere}
-use Rattle.rec_store.specs.declared.read_error.RecordReadError.TheVariants.{RunNotFound, OpenArchive, ParseArchive, ExtractFile, DiskFault, OutOfMemory}
+use Rattle.rec_store.specs.declared.read_error.RecordReadError.TheVariants.{
+  RunNotFound,
+  OpenArchive,
+  ParseArchive,
+  ExtractFile,
+  DiskFault,
+  OutOfMemory,
+}
 use Rattle.rec_store.specs.declared.read_error.RecordReadError.{RecordReadError}
 use Rattle.rec_directory.specs.Files.{IsMissing, IsWhole}
 use Rattle.rec_directory.specs.Paths.{path_of_store}
 
--- the disk, the run's directory, the most bytes of an entry that is read, and the store's bytes, once they were read
+-- the disk, the run's directory, the most bytes of an entry that is read,
+-- and the store's bytes, once they were read
 pub record Directory (D : Type 0) : Type 0 where
   pub disk : MutBor D
   pub run_dir : List ℕ
@@ -45,7 +53,8 @@ Unread files path (DiskFault p) = p ≡ path
 Unread files path OutOfMemory = Unit {0}
 Unread files path e = ⊥
 
--- of a store that was read: it is said to be no container only with a fault of its bytes, and nothing is said of a disk
+-- of a store that was read: it is said to be no container only with a fault of its bytes, and
+-- nothing is said of a disk
 abbrev pub IsOfBytes : List ℕ → List ℕ → RecordReadError → Type 0
 IsOfBytes path bytes (ParseArchive p fault) = (p ≡ path) × IsFault bytes fault
 IsOfBytes path bytes (OpenArchive p) = ⊥
@@ -59,9 +68,11 @@ IsRefusedBy refusal (Err OutOfMemory) = Unit {0}
 IsRefusedBy refusal (Err e) = e ≡ refusal
 
 -- the bytes of a store are judged before its parts
-pub record JudgesBytes {X : Type 0} (path bytes : List ℕ) (result : Result X RecordReadError) : Type 0 where
+pub record JudgesBytes {X : Type 0} (path bytes : List ℕ)
+    (result : Result X RecordReadError) : Type 0 where
   pub error : IfErr result (IsOfBytes path bytes)
-  pub fault : (fault : ContainerError) → IsFault bytes fault → IsRefusedBy (ParseArchive path fault) result
+  pub fault : (fault : ContainerError) → IsFault bytes fault
+      → IsRefusedBy (ParseArchive path fault) result
 
 -- a store that wasn't read has no part
 abbrev pub IsRefused : {X : Type 0} → Option Files → List ℕ → Result X RecordReadError → Type 0
@@ -69,7 +80,8 @@ IsRefused files path (Ok x) = ⊥
 IsRefused files path (Err e) = Unread files path e
 
 -- a call answers of the store as it is kept then: it wasn't read, or its bytes are judged
-abbrev pub JudgesStore : {X : Type 0} → Option Files → List ℕ → Option (List ℕ) → Result X RecordReadError → Type 0
+abbrev pub JudgesStore : {X : Type 0} → Option Files → List ℕ → Option (List ℕ)
+    → Result X RecordReadError → Type 0
 JudgesStore files path None result = IsRefused files path result
 JudgesStore files path (Some bytes) result = JudgesBytes path bytes result
 
@@ -93,11 +105,13 @@ module _ {D : Type 0} (files : D → Option Files) where
   abbrev pub Holds : Directory D → List Entry → Type 0
   Holds r es = HasEntries (files r.disk.now) (path_of_store r.run_dir) r.store es
 
-  -- a store that is kept stays, and the disk isn't asked; one that isn't is read whole, or is still not kept
+  -- a store that is kept stays, and the disk isn't asked; one that isn't is read whole,
+  -- or is still not kept
   abbrev pub ReadsOnce : Directory D → Directory D → Option (List ℕ) → Option (List ℕ) → Type 0
   ReadsOnce old new (Some bytes) now = new ≡ old
   ReadsOnce old new None None = Unit {0}
-  ReadsOnce old new None (Some bytes) = IsWhole (files old.disk.now) (path_of_store old.run_dir) bytes
+  ReadsOnce old new None (Some bytes) =
+      IsWhole (files old.disk.now) (path_of_store old.run_dir) bytes
 
   -- what a call that reads the store leaves
   pub record KeepsRun (old new : Directory D) : Type 0 where
@@ -132,7 +146,8 @@ HasFailed {D} faults before = (last : D) × Rose (faults before) (faults last)
 
 module _ {D : Type 0} (files : D → Option Files) (faults : D → ℕ) where
   -- a reader over the same disk, which has read nothing
-  pub record Opens (lent : MutBor D) (path : List ℕ) (read_limit : ℕ) (reader : Directory D) : Type 0 where
+  pub record Opens (lent : MutBor D) (path : List ℕ) (read_limit : ℕ)
+      (reader : Directory D) : Type 0 where
     pub reference : reader.disk.ghost_name ≡ lent.ghost_name
     pub same : files reader.disk.now ≡ files lent.now
     pub later : faults lent.now ≤ faults reader.disk.now

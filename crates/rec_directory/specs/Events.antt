@@ -1,6 +1,7 @@
 -- The events of a log on a disk.
 use Rattle.std.specs.Borrow.{MutBor}
-use Rattle.std.specs.Prelude.{◌≡◌, ℕ, ◌+◌, ◌≤◌, List, [], length, Option, Some, None, Result, Ok, Err, ◌⊎◌}
+use Rattle.std.specs.Prelude.{◌≡◌, ℕ, ◌+◌, ◌≤◌, List, [], length}
+use Rattle.std.specs.Prelude.{Option, Some, None, Result, Ok, Err, ◌⊎◌}
 use Rattle.serde_json.specs.Data.{Data}
 use Rattle.rec_container.specs.Causes.{Rose}
 use Rattle.rec_disk.specs.declared.disk.DiskError.TheVariants as disk
@@ -10,7 +11,13 @@ use Rattle.rec_codec.specs.declared.line_events.LineError.TheVariants as line
 use Rattle.rec_codec.specs.declared.line_events.LineError.{LineError}
 use Rattle.rec_codec.specs.LineItems.{GivesNext}
 use Rattle.rec_codec.specs.Lines.{NumberedLine, lines, numbered}
-use Rattle.rec_store.specs.declared.read_error.RecordReadError.TheVariants.{OpenRunLog, DiskFault, ReadRunLog, ParseEvent, OutOfMemory}
+use Rattle.rec_store.specs.declared.read_error.RecordReadError.TheVariants.{
+  OpenRunLog,
+  DiskFault,
+  ReadRunLog,
+  ParseEvent,
+  OutOfMemory,
+}
 use Rattle.rec_store.specs.declared.read_error.RecordReadError.{RecordReadError}
 use Rattle.rec_directory.specs.declared.log.LogPlace.{LogPlace}
 use Rattle.rec_directory.specs.Directories.{Directory, HasFailed}
@@ -64,8 +71,10 @@ most_of len None = len + 1
 most_of len (Some ls) = length ls
 
 -- the lines give the item that they give in memory
-abbrev pub GivesLifted : {T : Type 0} → (Data → Option T) → List NumberedLine → Option (Result T RecordReadError) → List NumberedLine → Type 0
-GivesLifted {T} form ls item left = (found : Option (Result T LineError)) × GivesNext form ls found left × (item ≡ lifted found)
+abbrev pub GivesLifted : {T : Type 0} → (Data → Option T) → List NumberedLine
+    → Option (Result T RecordReadError) → List NumberedLine → Type 0
+GivesLifted {T} form ls item left =
+    (found : Option (Result T LineError)) × GivesNext form ls found left × (item ≡ lifted found)
 
 -- ---- the log
 
@@ -83,18 +92,26 @@ pub record EventReading (D : Type 0) : Type 0 where
 
 module _ {D T : Type 0} (files : D → Option Files) (faults : D → ℕ) (form : Data → Option T) where
   -- the log wasn't read, and nothing is left
-  abbrev pub GivesFault : D → D → List ℕ → Option (Result T RecordReadError) → Option (List NumberedLine) → Type 0
+  abbrev pub GivesFault : D → D → List ℕ → Option (Result T RecordReadError)
+      → Option (List NumberedLine) → Type 0
   GivesFault before now path item left =
-      (e : RecordReadError) × (item ≡ Some (Err e)) × LogFault (faults before) (faults now) (files before) path e × (left ≡ Some [])
+      (e : RecordReadError) × (item ≡ Some (Err e))
+      × LogFault (faults before) (faults now) (files before) path e × (left ≡ Some [])
 
-  -- the lines that are left give the next item, and the disk isn't asked; before that the log is read
-  abbrev pub Gives : D → D → List ℕ → ℕ → Option (List NumberedLine) → Option (Result T RecordReadError) → Option (List NumberedLine) → Type 0
-  Gives before now path len (Some ls) item left = (rest : List NumberedLine) × GivesLifted form ls item rest × (left ≡ Some rest) × (now ≡ before)
+  -- the lines that are left give the next item, and the disk isn't asked;
+  -- before that the log is read
+  abbrev pub Gives : D → D → List ℕ → ℕ → Option (List NumberedLine)
+      → Option (Result T RecordReadError) → Option (List NumberedLine) → Type 0
+  Gives before now path len (Some ls) item left =
+      (rest : List NumberedLine) × GivesLifted form ls item rest × (left ≡ Some rest)
+      × (now ≡ before)
   Gives before now path len None item left =
       GivesFault before now path item left
-      ⊎ ((bytes : List ℕ) × (rest : List NumberedLine) × ReadsLog (files before) path len bytes × GivesLifted form (numbered 1 (lines bytes)) item rest × (left ≡ Some rest))
+      ⊎ ((bytes : List ℕ) × (rest : List NumberedLine) × ReadsLog (files before) path len bytes
+      × GivesLifted form (numbered 1 (lines bytes)) item rest × (left ≡ Some rest))
 
-  pub record GivesEvent (old : EventReading D) (item : Option (Result T RecordReadError)) (new : EventReading D) : Type 0 where
+  pub record GivesEvent (old : EventReading D) (item : Option (Result T RecordReadError))
+      (new : EventReading D) : Type 0 where
     pub path : new.path ≡ old.path
     pub len : new.len ≡ old.len
     pub reference : new.disk.ghost_name ≡ old.disk.ghost_name

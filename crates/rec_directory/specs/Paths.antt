@@ -1,6 +1,7 @@
 -- Paths on a disk.
 use Rattle.std.specs.List.{ends_with}
-use Rattle.std.specs.Prelude.{ℕ, nat_eq, ◌==◌, Bool, ◌||◌, List, [], ◌∷◌, ◌++◌, length, if◌then◌else◌}
+use Rattle.std.specs.Prelude.{ℕ, nat_eq, ◌==◌, Bool, ◌||◌, List}
+use Rattle.std.specs.Prelude.{[], ◌∷◌, ◌++◌, length, if◌then◌else◌}
 use Rattle.rec_store.specs.Entries.{log_name, store_name}
 
 -- a name goes right after a directory's path

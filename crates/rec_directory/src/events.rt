@@ -3,7 +3,8 @@ ghost use Rattle.std.specs.Prelude.{◌≡◌, ◌≤◌, ◌<◌, None, IfOk, I
 ghost use Rattle.rec_forms.specs.Outputs.{stored_outputs_form};
 ghost use Rattle.rec_codec.specs.EventForms.{event_form};
 ghost use Rattle.rec_directory.specs.Events as events;
-ghost use Rattle.rec_directory.specs.Events.{Gives, GivesLifted, IsPlaced, LogFault, ReadsLog, error_of_line, left_of, most_of};
+ghost use Rattle.rec_directory.specs.Events.{Gives, GivesLifted, IsPlaced, LogFault};
+ghost use Rattle.rec_directory.specs.Events.{ReadsLog, error_of_line, left_of, most_of};
 ghost use Rattle.rec_directory.specs.Logs.{IsPlace, left_at};
 
 use crate::file::read_prefix;
@@ -16,11 +17,13 @@ use rec_store::RecordReadError;
 use std::alloc::Global;
 use std::marker::Model;
 
-/// Goes over the events of a run's log: one item for each line that isn't blank, up to the length that the
-/// log had when `events` was called. The log is read up to there at the first call of `next`.
+/// Goes over the events of a run's log: one item for each line that isn't blank, up to the length
+/// that the log had when `events` was called. The log is read up to there at the first call of
+/// `next`.
 ///
-/// It ends after `DiskFault`, after `OpenRunLog`, which it answers where the log is missing by then, and
-/// after `OutOfMemory`. Where the log has become shorter, it ends with the last line that is there.
+/// It ends after `DiskFault`, after `OpenRunLog`, which it answers where the log is missing by
+/// then, and after `OutOfMemory`. Where the log has become shorter,
+/// it ends with the last line that is there.
 #[derive(Drop)]
 pub struct RecordEventIter<'r, D: Disk> {
     alloc: Global,

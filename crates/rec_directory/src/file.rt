@@ -24,8 +24,8 @@ pub fn read_file<D: Disk>(alloc: Global, disk: &mut D, path: &str) -> Result<Vec
     read_prefix(alloc, disk, path, len)
 }
 
-/// Reads the first `len` bytes of a file, or all where it has fewer. It asks for no byte after them, and
-/// ends where a read gives nothing.
+/// Reads the first `len` bytes of a file, or all where it has fewer. It asks for no byte after
+/// them, and ends where a read gives nothing.
 ///
 /// # Errors
 ///

@@ -4,8 +4,8 @@ ghost use Rattle.rec_directory.specs.Paths.{joined, ends_open};
 
 use std::alloc::{AllocError, Global};
 
-/// Returns the path of a name in a directory: one `/` stands between them, but none where the directory
-/// is empty or ends in `/`.
+/// Returns the path of a name in a directory: one `/` stands between them, but none where the
+/// directory is empty or ends in `/`.
 ///
 /// # Errors
 ///

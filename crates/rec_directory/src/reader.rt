@@ -1,13 +1,16 @@
 //! The reader of a run's directory.
-ghost use Rattle.std.specs.Prelude.{◌≡◌, List, IfOk, IfErr, IsSome, None, OnErr, OnOk, Some, string_bytes};
+ghost use Rattle.std.specs.Prelude.{◌≡◌, List, IfOk, IfErr, IsSome, None};
+ghost use Rattle.std.specs.Prelude.{OnErr, OnOk, Some, string_bytes};
 ghost use Rattle.rec_container.specs.Container.{Entry};
 ghost use Rattle.rec_disk.specs.Disks.{Exists, HasDiskCause};
 ghost use Rattle.rec_forms.specs.Recording.{test_list_form, record_opts_form};
 ghost use Rattle.rec_format.specs.ScopeForms.{recorded_scope_form};
-ghost use Rattle.rec_store.specs.Entries.{build_scope_path, cargo_metadata_path, test_list_path, record_opts_path};
+ghost use Rattle.rec_store.specs.Entries.{build_scope_path, cargo_metadata_path};
+ghost use Rattle.rec_store.specs.Entries.{test_list_path, record_opts_path};
 ghost use Rattle.rec_store.specs.Parts.{metadata_part, output_part, rerun_info_part, utf8_part};
 ghost use Rattle.rec_store.specs.Readers.{Answers, DiskCause, Extracts, Keeps, SinkCause};
-ghost use Rattle.rec_directory.specs.Directories.{Holds, JudgesStore, KeepsRun, LeavesSink, Opens, Stays, Unopened, Unread};
+ghost use Rattle.rec_directory.specs.Directories.{Holds, JudgesStore, KeepsRun, LeavesSink};
+ghost use Rattle.rec_directory.specs.Directories.{Opens, Stays, Unopened, Unread};
 ghost use Rattle.rec_directory.specs.Events.{OpensLog, UnopenedLog, HasLength, LogFault};
 ghost use Rattle.rec_directory.specs.Paths.{path_of_log, path_of_store};
 
@@ -26,7 +29,8 @@ use rec_store::{RecordReadError, StoreReader};
 use std::alloc::{AllocError, Global};
 use std::marker::Model;
 
-/// Reads a run's directory. The store's file is read whole at the first call that needs it, and kept.
+/// Reads a run's directory. The store's file is read whole at the first call that needs it,
+/// and kept.
 #[derive(Drop)]
 pub struct RecordReader<'d, D: Disk> {
     alloc: Global,
@@ -53,7 +57,8 @@ impl<'d, D: Disk> Model for RecordReader<'d, D> {
 }
 
 impl<'d, D: Disk> RecordReader<'d, D> {
-    /// Opens a run's directory. `read_limit` is the most bytes of an entry of the store that is read.
+    /// Opens a run's directory. `read_limit` is the most bytes of an entry of the store that is
+    /// read.
     ///
     /// # Errors
     ///
@@ -209,10 +214,11 @@ impl<D: Disk> RecordReader<'_, D> {
     ///
     /// # Errors
     ///
-    /// - `OpenArchive` exactly where the store is missing, `ParseArchive` exactly where it is no container.
+    /// - `OpenArchive` exactly where the store is missing, `ParseArchive` exactly where it is no
+    ///   container.
     /// - `DiskFault` where the disk fails. A store that is kept isn't read again.
-    /// - `FileNotFound` exactly where its entry isn't there, `FileTooLarge` exactly where it is longer than
-    ///   the limit.
+    /// - `FileNotFound` exactly where its entry isn't there, `FileTooLarge` exactly where it is
+    ///   longer than the limit.
     /// - `NotUtf8` exactly where it isn't UTF-8.
     /// - `OutOfMemory` if memory runs out.
     pub fn read_cargo_metadata(&mut self, alloc: Global) -> Result<String, RecordReadError>
@@ -234,10 +240,11 @@ impl<D: Disk> RecordReader<'_, D> {
     ///
     /// # Errors
     ///
-    /// - `OpenArchive` exactly where the store is missing, `ParseArchive` exactly where it is no container.
+    /// - `OpenArchive` exactly where the store is missing, `ParseArchive` exactly where it is no
+    ///   container.
     /// - `DiskFault` where the disk fails. A store that is kept isn't read again.
-    /// - `FileNotFound` exactly where its entry isn't there, `FileTooLarge` exactly where it is longer than
-    ///   the limit.
+    /// - `FileNotFound` exactly where its entry isn't there, `FileTooLarge` exactly where it is
+    ///   longer than the limit.
     /// - `DeserializeMetadata` exactly where it stands for no list.
     /// - `OutOfMemory` if memory runs out.
     pub fn read_test_list(&mut self, alloc: Global) -> Result<TestListSummary, RecordReadError>
@@ -260,10 +267,11 @@ impl<D: Disk> RecordReader<'_, D> {
     ///
     /// # Errors
     ///
-    /// - `OpenArchive` exactly where the store is missing, `ParseArchive` exactly where it is no container.
+    /// - `OpenArchive` exactly where the store is missing, `ParseArchive` exactly where it is no
+    ///   container.
     /// - `DiskFault` where the disk fails. A store that is kept isn't read again.
-    /// - `FileNotFound` exactly where its entry isn't there, `FileTooLarge` exactly where it is longer than
-    ///   the limit.
+    /// - `FileNotFound` exactly where its entry isn't there, `FileTooLarge` exactly where it is
+    ///   longer than the limit.
     /// - `DeserializeMetadata` exactly where it stands for no options.
     /// - `OutOfMemory` if memory runs out.
     pub fn read_record_opts(&mut self, alloc: Global) -> Result<RecordOpts, RecordReadError>
@@ -286,10 +294,11 @@ impl<D: Disk> RecordReader<'_, D> {
     ///
     /// # Errors
     ///
-    /// - `OpenArchive` exactly where the store is missing, `ParseArchive` exactly where it is no container.
+    /// - `OpenArchive` exactly where the store is missing, `ParseArchive` exactly where it is no
+    ///   container.
     /// - `DiskFault` where the disk fails. A store that is kept isn't read again.
-    /// - `FileNotFound` exactly where its entry isn't there, `FileTooLarge` exactly where it is longer than
-    ///   the limit.
+    /// - `FileNotFound` exactly where its entry isn't there, `FileTooLarge` exactly where it is
+    ///   longer than the limit.
     /// - `DeserializeMetadata` exactly where it stands for no scope.
     /// - `OutOfMemory` if memory runs out.
     pub fn read_build_scope(&mut self, alloc: Global) -> Result<RecordedBuildScope, RecordReadError>
@@ -312,7 +321,8 @@ impl<D: Disk> RecordReader<'_, D> {
     ///
     /// # Errors
     ///
-    /// - `OpenArchive` exactly where the store is missing, `ParseArchive` exactly where it is no container.
+    /// - `OpenArchive` exactly where the store is missing, `ParseArchive` exactly where it is no
+    ///   container.
     /// - `DiskFault` where the disk fails. A store that is kept isn't read again.
     /// - `FileTooLarge` exactly where it is longer than the limit.
     /// - `DeserializeMetadata` exactly where it stands for no rerun information.
@@ -336,10 +346,11 @@ impl<D: Disk> RecordReader<'_, D> {
     ///
     /// # Errors
     ///
-    /// - `OpenArchive` exactly where the store is missing, `ParseArchive` exactly where it is no container.
+    /// - `OpenArchive` exactly where the store is missing, `ParseArchive` exactly where it is no
+    ///   container.
     /// - `DiskFault` where the disk fails. A store that is kept isn't read again.
-    /// - `FileNotFound` exactly where its entry isn't there, `FileTooLarge` exactly where it is longer than
-    ///   the limit.
+    /// - `FileNotFound` exactly where its entry isn't there, `FileTooLarge` exactly where it is
+    ///   longer than the limit.
     /// - `UnknownOutputType` exactly where the name says no kind of output.
     /// - `OutOfMemory` if memory runs out.
     pub fn read_output(
@@ -365,11 +376,12 @@ impl<D: Disk> RecordReader<'_, D> {
     ///
     /// # Errors
     ///
-    /// - `OpenArchive` exactly where the store is missing, `ParseArchive` exactly where it is no container.
+    /// - `OpenArchive` exactly where the store is missing, `ParseArchive` exactly where it is no
+    ///   container.
     /// - `DiskFault` where the disk fails. A store that is kept isn't read again.
     /// - `FileNotFound` exactly where its entry isn't there.
-    /// - `ExtractFile` where the sink fails. It took a proper prefix of the entry; after any other error it is
-    ///   as it was.
+    /// - `ExtractFile` where the sink fails. It took a proper prefix of the entry; after any other
+    ///   error it is as it was.
     /// - `OutOfMemory` if memory runs out.
     pub fn extract_file_to_path(
         &mut self,

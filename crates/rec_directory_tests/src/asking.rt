@@ -18,7 +18,8 @@ pub(crate) const STORE: &[u8] = b"nxtcont1\
     \x01\x00\x13meta/test-list.json\x00\x00\x00\x00\x00\x00\x00\x0d{\"suites\":{}}\
     \x01\x00\x18meta/cargo-metadata.json\x00\x00\x00\x00\x00\x00\x00\x02{}\
     \x01\x00\x15meta/record-opts.json\x00\x00\x00\x00\x00\x00\x00\x13{\"run-mode\":\"test\"}\
-    \x01\x00\x15meta/build-scope.json\x00\x00\x00\x00\x00\x00\x00\x21{\"build-kind\":\"cargo\",\"scope\":{}}\
+    \x01\x00\x15meta/build-scope.json\x00\x00\x00\x00\x00\x00\x00\x21{\"build-kind\":\"cargo\",\
+    \"scope\":{}}\
     \x01\x00\x1bout/ba7816bf8f01cfea-stdout\x00\x00\x00\x00\x00\x00\x00\x03abc\
     \x01\x00\x1bout/2cf24dba5fb0a30e-stdout\x00\x00\x00\x00\x00\x00\x00\x05hello\x00";
 
@@ -38,7 +39,8 @@ pub(crate) enum Question<'q> {
     Extracted(&'q str),
 }
 
-/// What the directory `r` answers, a line each, or why it isn't opened. Its entries are read up to a limit.
+/// What the directory `r` answers, a line each, or why it isn't opened.
+/// Its entries are read up to a limit.
 pub(crate) fn answers<D: Disk>(
     alloc: Global,
     disk: &mut D,

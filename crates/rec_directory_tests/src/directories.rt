@@ -1,4 +1,5 @@
-//! Directories in memory: what is read of them, what they lack, and what is answered where a call of the disk fails.
+//! Directories in memory: what is read of them, what they lack,
+//! and what is answered where a call of the disk fails.
 
 use crate::asking::{AMPLE, Question, STORE, answers};
 use rec_disk::{Disk, DiskError, MemoryDisk};
@@ -20,11 +21,12 @@ struct Case<'c> {
 }
 
 /// Two lines of a log, with a blank one and one that is no event between them.
-const LOG: &[u8] =
-    b"{\"elapsed\":{\"nanos\":0,\"secs\":2},\"kind\":\"run-paused\",\"running\":1,\"setup-scripts-running\":0,\"timestamp\":{\"nanos\":0,\"offset\":0,\"secs\":1002}}\n\
+const LOG: &[u8] = b"{\"elapsed\":{\"nanos\":0,\"secs\":2},\"kind\":\"run-paused\",\"running\":1,\
+    \"setup-scripts-running\":0,\"timestamp\":{\"nanos\":0,\"offset\":0,\"secs\":1002}}\n\
     \n\
     no event\n\
-    {\"elapsed\":{\"nanos\":0,\"secs\":3},\"kind\":\"run-continued\",\"running\":1,\"setup-scripts-running\":0,\"timestamp\":{\"nanos\":0,\"offset\":0,\"secs\":1003}}\n";
+    {\"elapsed\":{\"nanos\":0,\"secs\":3},\"kind\":\"run-continued\",\"running\":1,\
+    \"setup-scripts-running\":0,\"timestamp\":{\"nanos\":0,\"offset\":0,\"secs\":1003}}\n";
 
 const WHOLE: &[(&str, &[u8])] = &[("r/store.zip", STORE), ("r/run.log.zst", LOG)];
 
@@ -44,17 +46,23 @@ const PARTS: &[Question<'static>] = &[
 ];
 
 /// What the parts are. Each default of the build scope is written.
-const PARTS_READ: &str = r#"{}
-{"suites":{}}
-{"run-mode":"test"}
-none
-{"build-kind":"cargo","scope":{"features":{"all-features":false,"features":[],"no-default-features":false},"packages":{"exclude":[],"specs":[],"workspace":false},"targets":{"all-targets":false,"benches":{"all":false,"names":[]},"bins":{"all":false,"names":[]},"examples":{"all":false,"names":[]},"lib":false,"tests":{"all":false,"names":[]}}}}
-abc
-hello
-the store has no entry out/x-unknown
-5: hello
-the store has no entry x
-"#;
+const PARTS_READ: &str = concat!(
+    "{}\n",
+    "{\"suites\":{}}\n",
+    "{\"run-mode\":\"test\"}\n",
+    "none\n",
+    r#"{"build-kind":"cargo","scope":{"features":{"all-features":false,"features":[],"#,
+    r#""no-default-features":false},"packages":{"exclude":[],"specs":[],"workspace":false},"#,
+    r#""targets":{"all-targets":false,"benches":{"all":false,"names":[]},"#,
+    r#""bins":{"all":false,"names":[]},"examples":{"all":false,"names":[]},"lib":false,"#,
+    r#""tests":{"all":false,"names":[]}}}}"#,
+    "\n",
+    "abc\n",
+    "hello\n",
+    "the store has no entry out/x-unknown\n",
+    "5: hello\n",
+    "the store has no entry x\n"
+);
 
 const LISTED: &[Question<'static>] = &[Question::RunDir, Question::TestList, Question::Events];
 
@@ -110,7 +118,8 @@ const CASES: &[Case<'static>] = &[
         fails: &[],
         limit: AMPLE,
         questions: &[Question::Output("x-unknown")],
-        answers: "the store at r/store.zip is no container: not a container: it doesn't begin with nxtcont1\n",
+        answers: "the store at r/store.zip is no container: not a container: it doesn't begin \
+            with nxtcont1\n",
     },
     // The events leave the reader as it was.
     Case {
@@ -165,14 +174,16 @@ const CASES: &[Case<'static>] = &[
         fails: &[2],
         limit: AMPLE,
         questions: TWICE,
-        answers: "the disk failed at r/store.zip\n{}\nevent. line 3 is no event. event. \nevent. line 3 is no event. event. \n",
+        answers: "the disk failed at r/store.zip\n{}\nevent. line 3 is no event. event. \n\
+            event. line 3 is no event. event. \n",
     },
     Case {
         files: WHOLE,
         fails: &[3],
         limit: AMPLE,
         questions: TWICE,
-        answers: "the disk failed at r/store.zip\n{}\nevent. line 3 is no event. event. \nevent. line 3 is no event. event. \n",
+        answers: "the disk failed at r/store.zip\n{}\nevent. line 3 is no event. event. \n\
+            event. line 3 is no event. event. \n",
     },
     Case {
         files: WHOLE,
@@ -208,7 +219,8 @@ const CASES: &[Case<'static>] = &[
         fails: &[8],
         limit: AMPLE,
         questions: TWICE,
-        answers: "{}\n{}\nevent. line 3 is no event. event. \nevent. line 3 is no event. event. \n, and the next call fails",
+        answers: "{}\n{}\nevent. line 3 is no event. event. \n\
+            event. line 3 is no event. event. \n, and the next call fails",
     },
 ];
 

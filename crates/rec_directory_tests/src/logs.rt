@@ -54,8 +54,8 @@ impl Disk for ChangingDisk {
     }
 }
 
-/// The length that a log had, its bytes, and its items. It is read up to that length, and missed where it
-/// had bytes and is gone.
+/// The length that a log had, its bytes, and its items. It is read up to that length, and missed
+/// where it had bytes and is gone.
 const LOGS: &[(u64, &[u8], &str)] = &[
     (2, b"x\ny\nz\n", "line 1 is no event. \n"),
     (

@@ -22,7 +22,8 @@ fn ask<R: Files>(
     Ok(())
 }
 
-/// What a directory answers that isn't there, that is empty, whose log is a folder, and that has a store.
+/// What a directory answers that isn't there, that is empty, whose log is a folder,
+/// and that has a store.
 fn found<R: Files>(rt: &R, alloc: Global) -> Result<String, Fail> {
     let mut text = String::new(alloc);
     ask(rt, alloc, &mut text, Question::Events)?;

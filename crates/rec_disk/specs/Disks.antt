@@ -1,5 +1,7 @@
 -- What a disk's calls answer, and what they do to its files.
-use Rattle.std.specs.Prelude.{◌≡◌, ℕ, ◌<◌, ◌≤◌, List, [], ◌∷◌, ◌++◌, length, take, drop, Bool, Option, Some, None, is_some, IsTrue, ◌↔◌, ◌⊎◌, if◌then◌else◌, Result, Ok, Err, IfErr}
+use Rattle.std.specs.Prelude.{◌≡◌, ℕ, ◌<◌, ◌≤◌, List, [], ◌∷◌, ◌++◌, length, take}
+use Rattle.std.specs.Prelude.{drop, Bool, Option, Some, None, is_some, IsTrue}
+use Rattle.std.specs.Prelude.{◌↔◌, ◌⊎◌, if◌then◌else◌, Result, Ok, Err, IfErr}
 use Rattle.std.specs.Str.{bytes_eq}
 use Rattle.rec_container.specs.Causes.{Rose, next_count}
 use Rattle.rec_disk.specs.declared.disk.DiskError.TheVariants.{Missing, DiskFailed, OutOfMemory}
@@ -19,7 +21,8 @@ AreSame fs gs = (path : List ℕ) → gs path ≡ fs path
 
 -- a file lies at the path, or below it
 abbrev pub IsThere : Files → List ℕ → Type 0
-IsThere fs path = IsTrue (is_some (fs path)) ⊎ ((rest : List ℕ) × IsTrue (is_some (fs (path ++ 47 ∷ rest))))
+IsThere fs path =
+    IsTrue (is_some (fs path)) ⊎ ((rest : List ℕ) × IsTrue (is_some (fs (path ++ 47 ∷ rest))))
 
 -- ---- errors
 
@@ -63,26 +66,32 @@ HasLength None (Ok n) = ⊥
 HasLength (Some bytes) (Ok n) = n ≡ length bytes
 HasLength file (Err e) = Refuses file e
 
--- the prefix of the buffer has what the file has from the place on; nothing only at the file's end, or without room
+-- the prefix of the buffer has what the file has from the place on;
+-- nothing only at the file's end, or without room
 abbrev pub ReadsBytes : Option (List ℕ) → ℕ → Result ℕ DiskError → List ℕ → Type 0
 ReadsBytes None at (Ok n) buf = ⊥
-ReadsBytes (Some bytes) at (Ok n) buf = (n ≤ length (drop at bytes)) × (take n buf ≡ take n (drop at bytes)) × (0 < length buf → at < length bytes → 0 < n)
+ReadsBytes (Some bytes) at (Ok n) buf =
+    (n ≤ length (drop at bytes)) × (take n buf ≡ take n (drop at bytes))
+    × (0 < length buf → at < length bytes → 0 < n)
 ReadsBytes file at (Err e) buf = Refuses file e
 
 abbrev pub CreatesIn : Files → Files → List ℕ → Result (Unit {0}) DiskError → Type 0
 CreatesIn fs gs path (Ok x) = AreSame (with_file fs path (Some [])) gs
 CreatesIn fs gs path (Err e) = NotMissing e × AreSame fs gs
 
-abbrev pub AppendsBytes : Files → Files → List ℕ → Option (List ℕ) → List ℕ → Result ℕ DiskError → Type 0
+abbrev pub AppendsBytes : Files → Files → List ℕ → Option (List ℕ) → List ℕ → Result ℕ DiskError
+    → Type 0
 AppendsBytes fs gs path None piece (Ok n) = ⊥
-AppendsBytes fs gs path (Some bytes) piece (Ok n) = AreSame (with_file fs path (Some (bytes ++ take n piece))) gs
+AppendsBytes fs gs path (Some bytes) piece (Ok n) =
+    AreSame (with_file fs path (Some (bytes ++ take n piece))) gs
 AppendsBytes fs gs path file piece (Err e) = Refuses file e × AreSame fs gs
 
 -- the file goes from one path to another, which may be the same
 abbrev pub renamed : Files → List ℕ → List ℕ → Option (List ℕ) → Files
 renamed fs from to file = with_file (with_file fs from None) to file
 
-abbrev pub RenamesFile : Files → Files → List ℕ → List ℕ → Option (List ℕ) → Result (Unit {0}) DiskError → Type 0
+abbrev pub RenamesFile : Files → Files → List ℕ → List ℕ → Option (List ℕ)
+    → Result (Unit {0}) DiskError → Type 0
 RenamesFile fs gs from to None (Ok x) = ⊥
 RenamesFile fs gs from to (Some bytes) (Ok x) = AreSame (renamed fs from to (Some bytes)) gs
 RenamesFile fs gs from to file (Err e) = Refuses file e × AreSame fs gs
@@ -111,7 +120,9 @@ abbrev pub Creates : Option Files → Option Files → List ℕ → Result (Unit
 Creates old new path r = BothKnown old new (λ fs gs. CreatesIn fs gs path r)
 
 abbrev pub AppendsTo : Option Files → Option Files → List ℕ → List ℕ → Result ℕ DiskError → Type 0
-AppendsTo old new path piece r = BothKnown old new (λ fs gs. AppendsBytes fs gs path (fs path) piece r)
+AppendsTo old new path piece r =
+    BothKnown old new (λ fs gs. AppendsBytes fs gs path (fs path) piece r)
 
-abbrev pub Renames : Option Files → Option Files → List ℕ → List ℕ → Result (Unit {0}) DiskError → Type 0
+abbrev pub Renames : Option Files → Option Files → List ℕ → List ℕ → Result (Unit {0}) DiskError
+    → Type 0
 Renames old new from to r = BothKnown old new (λ fs gs. RenamesFile fs gs from to (fs from) r)

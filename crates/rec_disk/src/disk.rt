@@ -3,7 +3,8 @@ ghost use Rattle.std.specs.declared.option.Option.{Option};
 ghost use Rattle.std.specs.Io.{ReadsAtMost};
 ghost use Rattle.std.specs.Prelude.{◌≡◌, ◌<◌, ◌≤◌, ℕ, length, IfOk, IfErr};
 ghost use Rattle.rec_disk.specs.declared.disk.DiskError.TheVariants.{OutOfMemory};
-ghost use Rattle.rec_disk.specs.Disks.{Files, HasDiskCause, Exists, IsLength, ReadsAt, Creates, AppendsTo, Renames, NotMissing};
+ghost use Rattle.rec_disk.specs.Disks.{Files, HasDiskCause, Exists, IsLength, ReadsAt};
+ghost use Rattle.rec_disk.specs.Disks.{Creates, AppendsTo, Renames, NotMissing};
 
 use std::alloc::{AllocError, AllocFailed};
 use thiserror::Error;
@@ -42,8 +43,8 @@ impl<T: Drop> From<AllocFailed<T>> for DiskError {
 /// Keeps files, by their paths.
 ///
 /// An implementation counts its faults, and answers `DiskFailed` only where that count rises. A
-/// call changes no file that it doesn't name, and none where it answers an error, as far as the files
-/// are known.
+/// call changes no file that it doesn't name, and none where it answers an error, as far as the
+/// files are known.
 pub trait Disk {
     /// Names the files, where they are known.
     ghost files: { Self → Option Files };
@@ -104,8 +105,8 @@ pub trait Disk {
     /// # Errors
     ///
     /// `Missing` means that no file stands at the path, `DiskFailed` that the disk failed and
-    /// counted it, and `OutOfMemory` that memory ran out. The files are as they were, where they are
-    /// known.
+    /// counted it, and `OutOfMemory` that memory ran out. The files are as they were, where they
+    /// are known.
     fn append(&mut self, path: &str, piece: &[u8]) -> Result<usize, DiskError>
         ensures bound { IfOk result (λ n. n ≤ length piece.now) }
         ensures progress { IfOk result (λ n. 0 < length piece.now → 0 < n) }

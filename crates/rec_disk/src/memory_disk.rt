@@ -5,7 +5,8 @@ ghost use Rattle.std.specs.Io.{ReadsAtMost};
 ghost use Rattle.std.specs.Option.{option_map};
 ghost use Rattle.std.specs.Prelude.{◌≡◌, ◌<◌, ◌≤◌, [], length, IfOk, IfErr, Ok, OnOk, OnErr, Some};
 ghost use Rattle.rec_disk.specs.declared.disk.DiskError.TheVariants.{DiskFailed};
-ghost use Rattle.rec_disk.specs.Disks.{ExistsIn, HasLength, ReadsBytes, CreatesIn, AppendsBytes, RenamesFile, HasDiskCause, NotMissing};
+ghost use Rattle.rec_disk.specs.Disks.{ExistsIn, HasLength, ReadsBytes, CreatesIn};
+ghost use Rattle.rec_disk.specs.Disks.{AppendsBytes, RenamesFile, HasDiskCause, NotMissing};
 ghost use Rattle.rec_disk.specs.MemoryDisks.{file_at, HasFile, IsCall};
 
 use crate::disk::{Disk, DiskError};

@@ -15,8 +15,8 @@ use std::{fs, io};
 /// A directory is no file. Each error of the runtime is a fault, but for one that says that there
 /// is no such file, and so is a write that takes nothing of a piece.
 ///
-/// After a fault the outside may hold bytes of the piece all the same: a write counts as failed where
-/// only its flush failed.
+/// After a fault the outside may hold bytes of the piece all the same: a write counts as failed
+/// where only its flush failed.
 #[derive(Drop)]
 pub struct StdDisk<'r, R: Files> {
     rt: &'r R,

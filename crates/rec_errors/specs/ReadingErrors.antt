@@ -4,8 +4,11 @@ use Rattle.rec_codec.specs.declared.line_events.LineError.{LineError}
 use Rattle.rec_store.specs.declared.read_error.RecordReadError.TheVariants as parts
 use Rattle.rec_store.specs.declared.read_error.RecordReadError.{RecordReadError}
 use Rattle.rec_portable.specs.declared.errors.PortableRecordingReadError.TheVariants as bundles
-use Rattle.rec_portable.specs.declared.errors.PortableRecordingReadError.{PortableRecordingReadError}
-use Rattle.rec_replay.specs.declared.conversion_error.ReplayConversionError.TheVariants as conversions
+use Rattle.rec_portable.specs.declared.errors.PortableRecordingReadError.{
+  PortableRecordingReadError,
+}
+use Rattle.rec_replay.specs.declared.conversion_error.ReplayConversionError.TheVariants
+    as conversions
 use Rattle.rec_replay.specs.declared.conversion_error.ReplayConversionError.{ReplayConversionError}
 use Rattle.rec_junit.specs.declared.errors.JunitError.TheVariants as reports
 use Rattle.rec_junit.specs.declared.errors.JunitError.{JunitError}
@@ -13,7 +16,10 @@ use Rattle.rec_spans.specs.declared.errors.ChromeTraceError.TheVariants as trace
 use Rattle.rec_spans.specs.declared.errors.ChromeTraceError.{ChromeTraceError}
 use Rattle.rec_slots.specs.declared.report.SlotError.TheVariants as slots
 use Rattle.rec_slots.specs.declared.report.SlotError.{SlotError}
-use Rattle.rec_errors.specs.declared.reading_error.ReadingError.TheVariants.{Bundle, Trace, Part, Line, Conversion, Report, Slots, OutOfMemory}
+use Rattle.rec_errors.specs.declared.reading_error.ReadingError.TheVariants.{Bundle, Trace}
+use Rattle.rec_errors.specs.declared.reading_error.ReadingError.TheVariants.{Part, Line}
+use Rattle.rec_errors.specs.declared.reading_error.ReadingError.TheVariants.{Conversion, Report}
+use Rattle.rec_errors.specs.declared.reading_error.ReadingError.TheVariants.{Slots, OutOfMemory}
 use Rattle.rec_errors.specs.declared.reading_error.ReadingError.{ReadingError}
 
 -- want of memory is one answer, wherever it comes

@@ -2,13 +2,24 @@
 use Rattle.std.specs.Prelude.{Some}
 use Rattle.rec_spans.specs.declared.errors.ChromeTraceError.TheVariants as traces
 use Rattle.rec_spans.specs.declared.errors.ChromeTraceError.{ChromeTraceError}
-use Rattle.rec_errors.specs.declared.export_error.RecordExportError.TheVariants.{CountOutOfRange, MissingScriptStart, MissingStressSubRunStart, MissingTestStart, OutOfMemory, RowOutOfRange, SlotBusy, SpanAlreadyOpen, TimestampOutOfRange}
+use Rattle.rec_errors.specs.declared.export_error.RecordExportError.TheVariants.{
+  CountOutOfRange,
+  MissingScriptStart,
+  MissingStressSubRunStart,
+  MissingTestStart,
+  OutOfMemory,
+  RowOutOfRange,
+  SlotBusy,
+  SpanAlreadyOpen,
+  TimestampOutOfRange,
+}
 use Rattle.rec_errors.specs.declared.export_error.RecordExportError.{RecordExportError}
 use Rattle.rec_errors.specs.LineFaults.{line_fault}
 
 abbrev pub trace_fault : ChromeTraceError → RecordExportError
 trace_fault (traces.ReadError fault) = line_fault fault
-trace_fault (traces.MissingTestStart event binary_id test_name) = MissingTestStart event binary_id test_name
+trace_fault (traces.MissingTestStart event binary_id test_name) =
+    MissingTestStart event binary_id test_name
 trace_fault (traces.MissingScriptStart event script_id) = MissingScriptStart event script_id
 trace_fault (traces.MissingStressSubRunStart event) = MissingStressSubRunStart event
 trace_fault (traces.SpanAlreadyOpen event span) = SpanAlreadyOpen event span

@@ -9,9 +9,9 @@ use std::alloc::AllocError;
 use std::fmt;
 use thiserror::Error;
 
-/// Says why a session isn't exported. The source is judged first, then the session's length, the head, the
-/// lines from the first on, the sum of all sizes, each size, and then the trace from the first event
-/// on. Want of memory may come at any time before the first byte is written.
+/// Says why a session isn't exported. The source is judged first, then the session's length, the
+/// head, the lines from the first on, the sum of all sizes, each size, and then the trace from the
+/// first event on. Want of memory may come at any time before the first byte is written.
 ///
 /// `line_number` is the number of a line of the session, and `event` that of an event, both from 1.
 /// `docs/CLI.md#of-record-and-sample-and-of-the-words` has the line and the status of each error.
@@ -61,16 +61,17 @@ pub enum RecordExportError {
         /// The read limit, in bytes.
         limit: u64,
     },
-    /// The event finishes a test of which no attempt is open, or says that it failed or is slow. Events are
-    /// numbered from 1.
-    #[error("event {event} is of {} {}, which isn't running", .binary_id.as_str(), .test_name.as_str())]
+    /// The event finishes a test of which no attempt is open, or says that it failed or is slow.
+    /// Events are numbered from 1.
+    #[error("event {event} is of {} {}, \
+        which isn't running", .binary_id.as_str(), .test_name.as_str())]
     MissingTestStart {
         event: u64,
         binary_id: RustBinaryId,
         test_name: TestCaseName,
     },
-    /// The event finishes a setup script whose index isn't open under its id, or says that one is slow while
-    /// none of its id is open.
+    /// The event finishes a setup script whose index isn't open under its id, or says that one is
+    /// slow while none of its id is open.
     #[error("event {event} is of setup script {}, which isn't running", .script_id.as_str())]
     MissingScriptStart {
         event: u64,
@@ -98,8 +99,8 @@ pub enum RecordExportError {
     TimestampOutOfRange {
         event: u64,
     },
-    /// A number of the trace is no u64: that of a row, and `number` is the slot or the index from which it is
-    /// made; or that of a process or a flow, and `number` is the greatest u64.
+    /// A number of the trace is no u64: that of a row, and `number` is the slot or the index from
+    /// which it is made; or that of a process or a flow, and `number` is the greatest u64.
     #[error("event {event} needs a row or a flow that is out of range, by its number {number}")]
     RowOutOfRange {
         event: u64,

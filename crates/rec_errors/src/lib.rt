@@ -1,4 +1,5 @@
-//! Why the program doesn't do what it is asked: faulty words, a session that isn't exported, a bundle of which nothing is printed.
+//! Why the program doesn't do what it is asked: faulty words, a session that isn't exported, a
+//! bundle of which nothing is printed.
 #![tactic(auto)]
 
 mod export_error;

@@ -1,7 +1,8 @@
 //! Why nothing is printed of a bundle.
 ghost use Rattle.std.specs.Prelude.{◌≡◌};
 ghost use Rattle.rec_errors.specs.declared.reading_error.ReadingError.TheVariants.{OutOfMemory};
-ghost use Rattle.rec_errors.specs.ReadingErrors.{bundle_error, conversion_error, line_error, part_error, report_error, slot_error, trace_error};
+ghost use Rattle.rec_errors.specs.ReadingErrors.{bundle_error, conversion_error, line_error};
+ghost use Rattle.rec_errors.specs.ReadingErrors.{part_error, report_error, slot_error, trace_error};
 
 use rec_codec::LineError;
 use rec_junit::JunitError;
@@ -14,10 +15,11 @@ use std::alloc::{AllocError, AllocFailed};
 use std::fmt;
 use thiserror::Error;
 
-/// Says why nothing is printed of a bundle. The source is judged first, then the bundle's length, its bytes
-/// and its manifest; then the log, where something of it is printed; then, for its events and its reports, the
-/// store, the record options and the test list; then the lines of the log, from the first on; and last what is
-/// reported of all its events. Want of memory may come at any time, and is never an inner error.
+/// Says why nothing is printed of a bundle. The source is judged first, then the bundle's length,
+/// its bytes and its manifest; then the log, where something of it is printed; then, for its events
+/// and its reports, the store, the record options and the test list; then the lines of the log,
+/// from the first on; and last what is reported of all its events. Want of memory may come at any
+/// time, and is never an inner error.
 #[derive(Drop, Error)]
 pub enum ReadingError {
     /// The bundle, its log or its store isn't read.

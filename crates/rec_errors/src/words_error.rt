@@ -2,8 +2,8 @@
 
 use thiserror::Error;
 
-/// Names the first fault of the words, from the left. `at` is the index of a word, the first being 0, or
-/// the number of the words where one is missing.
+/// Names the first fault of the words, from the left. `at` is the index of a word, the first being
+/// 0, or the number of the words where one is missing.
 #[derive(Clone, Copy, Debug, PartialEq, Eq, Error)]
 pub enum WordsError {
     /// There is no word.
@@ -27,7 +27,8 @@ pub enum WordsError {
     /// The value of the last option is missing.
     #[error("missing value at word {at}")]
     MissingValue { at: usize },
-    /// The value is no word that its option takes, or no number of decimal digits up to u64's greatest.
+    /// The value is no word that its option takes,
+    /// or no number of decimal digits up to u64's greatest.
     #[error("bad value at word {at}")]
     BadValue { at: usize },
 }

@@ -1,4 +1,5 @@
--- The order of tests, by which maps and sets find them, finds the same test; and a test is the same as itself alone.
+-- The order of tests, by which maps and sets find them, finds the same test;
+-- and a test is the same as itself alone.
 use Rattle.std.proofs.Common.{◌≡◌, ◌&&◌, true, refl, ◌∙◌, ap, bytes_eq}
 use Rattle.std.proofs.lemmas.Bool.{and_parts, and_from}
 use Rattle.std.proofs.lemmas.Map.Text.{is_eq-slice_cmp}
@@ -20,8 +21,10 @@ is_eq-then Greater b = refl
 
 pub same_test : (s t : OwnedTestInstanceId) → is_at (tests.cmp-value.it s) t ≡ test_eq s t
 same_test s t =
-    is_eq-then (slice_cmp nat_cmp s.binary_id t.binary_id) (slice_cmp nat_cmp s.test_name t.test_name)
-    ∙ ap (λ b. b && is_eq (slice_cmp nat_cmp s.test_name t.test_name)) (is_eq-slice_cmp s.binary_id t.binary_id)
+    is_eq-then (slice_cmp nat_cmp s.binary_id t.binary_id)
+    (slice_cmp nat_cmp s.test_name t.test_name)
+    ∙ ap (λ b. b && is_eq (slice_cmp nat_cmp s.test_name t.test_name))
+    (is_eq-slice_cmp s.binary_id t.binary_id)
     ∙ ap (λ b. bytes_eq s.binary_id t.binary_id && b) (is_eq-slice_cmp s.test_name t.test_name)
 
 pub tests_at : (λ (s t : OwnedTestInstanceId). is_at (tests.cmp-value.it s) t) ≡ test_eq
@@ -37,4 +40,7 @@ test_eq-true s t e =
 
 -- a test is the same as itself
 pub test_eq-self : (t : OwnedTestInstanceId) → test_eq t t ≡ true
-test_eq-self t = and_from (bytes_eq t.binary_id t.binary_id) (bytes_eq t.test_name t.test_name) ((bytes_eq-Decides t.binary_id t.binary_id).1 refl) ((bytes_eq-Decides t.test_name t.test_name).1 refl)
+test_eq-self t =
+    and_from (bytes_eq t.binary_id t.binary_id) (bytes_eq t.test_name t.test_name)
+    ((bytes_eq-Decides t.binary_id t.binary_id).1 refl)
+    ((bytes_eq-Decides t.test_name t.test_name).1 refl)

@@ -1,20 +1,32 @@
 -- Events with their outputs replaced, and what is gathered of these.
 use Rattle.std.specs.List.{flat_map}
 use Rattle.std.specs.Prelude.{List, [], map}
-use Rattle.rec_events.specs.declared.events.OutputEventKind.TheVariants.{SetupScriptFinished, TestAttemptFailedWillRetry, TestFinished}
+use Rattle.rec_events.specs.declared.events.OutputEventKind.TheVariants.{
+  SetupScriptFinished,
+  TestAttemptFailedWillRetry,
+  TestFinished,
+}
 use Rattle.rec_events.specs.declared.events.OutputEventKind.{OutputEventKind}
 use Rattle.rec_events.specs.declared.events.TestEventKindSummary.TheVariants as event
 use Rattle.rec_events.specs.declared.events.TestEventKindSummary.{TestEventKindSummary}
 use Rattle.rec_events.specs.declared.events.TestEventSummary.{TestEventSummary}
-use Rattle.rec_events.specs.declared.outputs.ChildExecutionOutputDescription.TheVariants.{Output, StartError}
-use Rattle.rec_events.specs.declared.outputs.ChildExecutionOutputDescription.{ChildExecutionOutputDescription}
-use Rattle.rec_events.specs.declared.script_statuses.SetupScriptExecuteStatus.{SetupScriptExecuteStatus}
+use Rattle.rec_events.specs.declared.outputs.ChildExecutionOutputDescription.TheVariants.{
+  Output,
+  StartError,
+}
+use Rattle.rec_events.specs.declared.outputs.ChildExecutionOutputDescription.{
+  ChildExecutionOutputDescription,
+}
+use Rattle.rec_events.specs.declared.script_statuses.SetupScriptExecuteStatus.{
+  SetupScriptExecuteStatus,
+}
 use Rattle.rec_events.specs.declared.statuses.ExecuteStatus.{ExecuteStatus}
 use Rattle.rec_events.specs.declared.statuses.ExecutionStatuses.{ExecutionStatuses}
 
 -- each output is replaced by what f makes of it, and all else stays
 module _ {S O T P : Type 0} (f : O → P) where
-  abbrev pub execution_with : ChildExecutionOutputDescription S O → ChildExecutionOutputDescription T P
+  abbrev pub execution_with : ChildExecutionOutputDescription S O
+      → ChildExecutionOutputDescription T P
   execution_with (Output result output errors) = Output result (f output) errors
   execution_with (StartError message) = StartError message
 
@@ -48,11 +60,14 @@ module _ {S O T P : Type 0} (f : O → P) where
 
   abbrev pub output_kind_with : OutputEventKind S O → OutputEventKind T P
   output_kind_with (SetupScriptFinished stress index total script program args no_capture status) =
-      SetupScriptFinished stress index total script program args no_capture (script_status_with status)
+      SetupScriptFinished stress index total script program args no_capture
+      (script_status_with status)
   output_kind_with (TestAttemptFailedWillRetry stress test status delay failure running) =
       TestAttemptFailedWillRetry stress test (status_with status) delay failure running
-  output_kind_with (TestFinished stress test success failure store_success store_failure flaky statuses stats running) =
-      TestFinished stress test success failure store_success store_failure flaky (statuses_with statuses) stats running
+  output_kind_with (TestFinished stress test success failure store_success store_failure flaky
+      statuses stats running) =
+      TestFinished stress test success failure store_success store_failure flaky
+      (statuses_with statuses) stats running
 
   abbrev pub kind_with : TestEventKindSummary S O → TestEventKindSummary T P
   kind_with (event.Core kind) = event.Core kind
@@ -71,9 +86,13 @@ module _ {S O A : Type 0} (f : O → List A) where
   of_status s = of_execution s.output
 
   abbrev pub of_output_kind : OutputEventKind S O → List A
-  of_output_kind (SetupScriptFinished stress index total script program args no_capture status) = of_execution status.output
-  of_output_kind (TestAttemptFailedWillRetry stress test status delay failure running) = of_status status
-  of_output_kind (TestFinished stress test success failure store_success store_failure flaky statuses stats running) = flat_map of_status statuses.statuses
+  of_output_kind (SetupScriptFinished stress index total script program args no_capture status) =
+      of_execution status.output
+  of_output_kind (TestAttemptFailedWillRetry stress test status delay failure running) =
+      of_status status
+  of_output_kind (TestFinished stress test success failure store_success store_failure flaky
+      statuses stats running) =
+      flat_map of_status statuses.statuses
 
   abbrev pub of_kind : TestEventKindSummary S O → List A
   of_kind (event.Core kind) = []

@@ -18,4 +18,5 @@ KeysRise ps = Rise (keys ps)
 -- a map with x at k
 abbrev pub put_pair : {V : Type 0} → List ℕ → V → List (List ℕ × V) → List (List ℕ × V)
 put_pair k x [] = (k, x) ∷ []
-put_pair k x (p ∷ ps) = match_ordering (slice_cmp nat_cmp k p.0) ((k, x) ∷ p ∷ ps) ((p.0, x) ∷ ps) (p ∷ put_pair k x ps)
+put_pair k x (p ∷ ps) =
+    match_ordering (slice_cmp nat_cmp k p.0) ((k, x) ∷ p ∷ ps) ((p.0, x) ∷ ps) (p ∷ put_pair k x ps)

@@ -1,6 +1,15 @@
 -- How a run ended, by its counts.
 use Rattle.std.specs.Prelude.{◌==◌, nat_lt, ◌||◌, Bool, Option, Some, None, if◌then◌else◌}
-use Rattle.rec_events.specs.declared.reporting.CancelReason.TheVariants.{SetupScriptFailure, TestFailure, ReportError, GlobalTimeout, TestFailureImmediate, Signal, Interrupt, SecondSignal}
+use Rattle.rec_events.specs.declared.reporting.CancelReason.TheVariants.{
+  SetupScriptFailure,
+  TestFailure,
+  ReportError,
+  GlobalTimeout,
+  TestFailureImmediate,
+  Signal,
+  Interrupt,
+  SecondSignal,
+}
 use Rattle.rec_events.specs.declared.reporting.CancelReason.{CancelReason}
 use Rattle.rec_events.specs.declared.run_ends.FinalRunStats.TheVariants as run
 use Rattle.rec_events.specs.declared.run_ends.FinalRunStats.{FinalRunStats}
@@ -10,7 +19,9 @@ use Rattle.rec_events.specs.declared.run_ends.StressRunStats.{StressRunStats}
 use Rattle.rec_events.specs.declared.stats.RunStats.{RunStats}
 
 abbrev pub has_failed_script : RunStats → Bool
-has_failed_script s = nat_lt 0 s.setup_scripts_failed || nat_lt 0 s.setup_scripts_exec_failed || nat_lt 0 s.setup_scripts_timed_out
+has_failed_script s =
+    nat_lt 0 s.setup_scripts_failed || nat_lt 0 s.setup_scripts_exec_failed
+    || nat_lt 0 s.setup_scripts_timed_out
 
 abbrev pub has_failed_test : RunStats → Bool
 has_failed_test s = nat_lt 0 s.failed || nat_lt 0 s.exec_failed || nat_lt 0 s.failed_timed_out
@@ -45,4 +56,5 @@ last_summary run.Failed = stress.Success
 last_summary run.Cancelled = stress.Cancelled
 
 abbrev pub stress_summary : StressRunStats → StressFinalRunStats
-stress_summary s = if nat_lt 0 s.failed_count then stress.Failed else last_summary s.last_final_stats
+stress_summary s =
+    if nat_lt 0 s.failed_count then stress.Failed else last_summary s.last_final_stats

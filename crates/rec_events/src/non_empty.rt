@@ -1,5 +1,6 @@
 //! A list that is not empty.
-ghost use Rattle.std.specs.Prelude.{◌≡◌, ◌++◌, ◌<◌, ◌-◌, List, [], ◌∷◌, length, slice_get, nat_lt, if◌then◌else◌, Some, None};
+ghost use Rattle.std.specs.Prelude.{◌≡◌, ◌++◌, ◌<◌, ◌-◌, List, [], ◌∷◌, length};
+ghost use Rattle.std.specs.Prelude.{slice_get, nat_lt, if◌then◌else◌, Some, None};
 
 use crate::Items;
 use std::marker::Model;

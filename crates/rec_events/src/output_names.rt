@@ -1,7 +1,8 @@
 //! The names under which outputs are stored.
 ghost use Rattle.std.specs.Prelude.{◌≡◌, ◌<◌, ◌^◌, Some, IfOk, IfSome, option_map, string_bytes};
 ghost use Rattle.rec_events.specs.declared.output_names.OutputFileName.{OutputFileName};
-ghost use Rattle.rec_events.specs.OutputNames.{kind_suffix, kind_of, file_name_text, file_name_of, number_of};
+ghost use Rattle.rec_events.specs.OutputNames.{kind_suffix, kind_of, file_name_text};
+ghost use Rattle.rec_events.specs.OutputNames.{file_name_of, number_of};
 
 use std::alloc::{AllocError, Global};
 

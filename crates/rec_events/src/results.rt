@@ -34,7 +34,8 @@ impl FlakyResult {
         match self {
             FlakyResult::Pass => Ok(None),
             FlakyResult::Fail => Ok(Some(format!(in alloc;
-                "test passed on attempt {attempt}/{total_attempts} but is configured to fail when flaky"
+                "test passed on attempt {attempt}/{total_attempts} but is configured to fail \
+                when flaky"
             )?)),
         }
     }

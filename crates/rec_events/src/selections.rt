@@ -1,6 +1,7 @@
 //! What of a workspace is built.
 ghost use Rattle.std.specs.Prelude.{◌≡◌};
-ghost use Rattle.rec_events.specs.Selections.{no_named_targets, no_package_selection, no_target_selection, no_feature_selection};
+ghost use Rattle.rec_events.specs.Selections.{no_named_targets, no_package_selection};
+ghost use Rattle.rec_events.specs.Selections.{no_target_selection, no_feature_selection};
 
 use crate::{Items, Text, TryClone, clone_both};
 use std::alloc::{AllocError, Global};

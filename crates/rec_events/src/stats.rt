@@ -1,7 +1,8 @@
 //! The counts of a run.
 ghost use Rattle.std.specs.Prelude.{◌≡◌, ◌↔◌, ◌<◌, ◌^◌, IsSome, IfSome};
 ghost use Rattle.rec_events.specs.Stats.{no_stats, failures};
-ghost use Rattle.rec_events.specs.Summaries.{failed_or_cancelled, has_failed_script, has_failed_test, summary};
+ghost use Rattle.rec_events.specs.Summaries.{failed_or_cancelled, has_failed_script};
+ghost use Rattle.rec_events.specs.Summaries.{has_failed_test, summary};
 
 use crate::{CancelReason, FinalRunStats};
 
@@ -18,7 +19,8 @@ pub struct RunStats {
     pub setup_scripts_finished_count: usize,
     /// How many setup scripts passed.
     pub setup_scripts_passed: usize,
-    /// How many setup scripts failed, without `setup_scripts_exec_failed` and `setup_scripts_timed_out`.
+    /// How many setup scripts failed, without `setup_scripts_exec_failed` and
+    /// `setup_scripts_timed_out`.
     pub setup_scripts_failed: usize,
     /// How many setup scripts could not be started.
     pub setup_scripts_exec_failed: usize,

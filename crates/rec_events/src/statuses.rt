@@ -28,7 +28,8 @@ pub struct ExecuteStatus<S: OutputSpec> {
     pub error_summary: Option<ErrorSummary>,
     /// The piece of its output that shows the error, where there is one.
     pub output_error_slice: Option<OutputErrorSlice>,
-    /// How long it kept processors busy, where that is known. What wrote stores before 3.1 didn't say it.
+    /// How long it kept processors busy, where that is known.
+    /// What wrote stores before 3.1 didn't say it.
     pub cpu_time: Option<Duration>,
 }
 

@@ -90,7 +90,8 @@ fn described(statuses: &ExecutionStatuses<LiveSpec>) -> Described {
     }
 }
 
-// Whether there are so many attempts, found by their places, which count as failed where they are flaky.
+// Whether there are so many attempts, found by their places,
+// which count as failed where they are flaky.
 fn are_numbered(statuses: &ExecutionStatuses<LiveSpec>, count: usize) -> bool {
     count > 0
         && statuses.len() == count

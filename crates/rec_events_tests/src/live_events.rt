@@ -50,7 +50,8 @@ fn is_left_out(summary: &Recorded) -> bool {
     matches!(summary, Ok(None))
 }
 
-// Here and below a value of that many kinds is lent, and goes by a call: let go in place it is a case for each kind.
+// Here and below a value of that many kinds is lent, and goes by a call:
+// let go in place it is a case for each kind.
 #[test]
 fn what_only_informs_is_not_recorded(rt: HostRuntime) {
     for number in 0..5 {

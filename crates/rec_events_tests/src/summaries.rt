@@ -117,7 +117,8 @@ fn of_cancelled(reason: CancelReason, failed: usize, setup_scripts_failed: usize
     stats.summarize_final()
 }
 
-// Such runs end as stands beside the reason where something failed, and are a success where nothing did.
+// Such runs end as stands beside the reason where something failed,
+// and are a success where nothing did.
 fn check_cancelled(rt: &impl Abort, rows: &[(CancelReason, FinalRunStats)]) {
     for (reason, want) in rows {
         assert!(rt; of_cancelled(*reason, 0, 0) == FinalRunStats::Success);

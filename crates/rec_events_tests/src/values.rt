@@ -1,4 +1,5 @@
-//! What the small types say of their values: which are equal, which comes first, and which names are taken.
+//! What the small types say of their values: which are equal, which comes first,
+//! and which names are taken.
 
 use rec_events::{
     Items, NamedTargets, OutputFileName, OutputKind, OwnedTestInstanceId, RustBinaryId, ScriptId,

@@ -14,4 +14,5 @@ AllAtMost n bs = AllByRecursion (λ b. length b ≤ n) bs
 
 pub all_longer : (n m : ℕ) (bs : List (List ℕ)) → AllAtMost m bs → m ≤ n → AllAtMost n bs
 all_longer n m [] h le = tt
-all_longer n m (b ∷ bs) h le = (let first = h.0 in omega (arith, le, first), all_longer n m bs h.1 le)
+all_longer n m (b ∷ bs) h le =
+    (let first = h.0 in omega (arith, le, first), all_longer n m bs h.1 le)

@@ -9,7 +9,8 @@ use Rattle.rec_trace.proofs.Arrows.{arrows-pair}
 use Rattle.rec_trace.proofs.Marks.{marks-of-trace}
 use Rattle.rec_export.specs.Timelines.{DrawsTimeline}
 
-pub draws_timeline : (version : Parts) (g : ChromeTraceGroupBy) (events : List PlainEvent) → events_refusal g events ≡ None → DrawsTimeline version g events
+pub draws_timeline : (version : Parts) (g : ChromeTraceGroupBy) (events : List PlainEvent)
+    → events_refusal g events ≡ None → DrawsTimeline version g events
 draws_timeline version g events accepted = record {
   marks = marks-of-trace version g events;
   timeline = timeline g events accepted;

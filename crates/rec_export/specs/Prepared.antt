@@ -19,10 +19,13 @@ prepared_bundle p = bundle_of_contents p.manifest.items p.log.bytes (spell p.sto
 
 -- why a bundle is refused, if it is: its length is no u64
 abbrev pub length_refusal : List ℕ → Option RecordExportError
-length_refusal bundle = if nat_lt (length bundle) (2 ^ 64) then None else Some (CountOutOfRange None)
+length_refusal bundle =
+    if nat_lt (length bundle) (2 ^ 64) then None else Some (CountOutOfRange None)
 
--- why a bundle is refused, if it is, before the store's entries are judged: its length, then the manifest, then the log
+-- why a bundle is refused, if it is, before the store's entries are judged: its length,
+-- then the manifest, then the log
 abbrev pub contents_refusal : ℕ → List ℕ → List ℕ → List ℕ → Option RecordExportError
 contents_refusal limit manifest log store =
     option_or (length_refusal (bundle_of_contents manifest log store))
-    (option_or (entry_refusal limit (entry_named manifest_name manifest)) (entry_refusal limit (entry_named log_name log)))
+    (option_or (entry_refusal limit (entry_named manifest_name manifest))
+    (entry_refusal limit (entry_named log_name log)))

@@ -1,7 +1,10 @@
 -- Which refusals of a recorder in memory come of a session, and what they become.
 use Rattle.rec_store.specs.declared.error.RunStoreError.TheVariants as store
 use Rattle.rec_store.specs.declared.error.RunStoreError.{RunStoreError}
-use Rattle.rec_errors.specs.declared.export_error.RecordExportError.TheVariants.{NameCollision, OutOfMemory}
+use Rattle.rec_errors.specs.declared.export_error.RecordExportError.TheVariants.{
+  NameCollision,
+  OutOfMemory,
+}
 use Rattle.rec_errors.specs.declared.export_error.RecordExportError.{RecordExportError}
 
 -- of an event that is loaded, where no sink has failed

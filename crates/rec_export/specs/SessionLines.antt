@@ -1,7 +1,8 @@
 -- The lines of a session that are left, in blocks.
 use Rattle.std.specs.declared.alloc.Global.{Global}
 use Rattle.std.specs.List.{AllByRecursion}
-use Rattle.std.specs.Prelude.{◌≡◌, ℕ, ◌+◌, ◌-◌, ◌<◌, ◌≤◌, ◌^◌, ◌⊎◌, List, [], ◌∷◌, ◌++◌, length, take, drop, Vec}
+use Rattle.std.specs.Prelude.{◌≡◌, ℕ, ◌+◌, ◌-◌, ◌<◌, ◌≤◌, ◌^◌, ◌⊎◌, List}
+use Rattle.std.specs.Prelude.{[], ◌∷◌, ◌++◌, length, take, drop, Vec}
 use Rattle.rec_codec.specs.Lines.{NumberedLine, lines, numbered}
 
 -- the lines of blocks, of which the last one stands first
@@ -16,10 +17,13 @@ block_bytes (block ∷ blocks) = block_bytes blocks + length block.items
 
 -- the lines of a block from this place on, and of the blocks after it
 abbrev pub lines_left : ℕ → ℕ → List ℕ → List (Vec ℕ Global) → List NumberedLine
-lines_left number start block later = numbered number (lines (drop start block) ++ block_lines later)
+lines_left number start block later =
+    numbered number (lines (drop start block) ++ block_lines later)
 
--- the place is in the block, and no other block is left where it is at its end; none of them is empty; and the number of each line is a u64
-pub record AreBlocks (number start : ℕ) (block : List ℕ) (later : List (Vec ℕ Global)) : Type 0 where
+-- the place is in the block, and no other block is left where it is at its end; none of them is
+-- empty; and the number of each line is a u64
+pub record AreBlocks (number start : ℕ) (block : List ℕ)
+    (later : List (Vec ℕ Global)) : Type 0 where
   pub inside : start ≤ length block
   pub left : (start < length block) ⊎ (later ≡ [])
   pub filled : AllByRecursion (λ (b : Vec ℕ Global). 0 < length b.items) later

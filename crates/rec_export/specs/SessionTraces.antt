@@ -1,6 +1,7 @@
 -- The trace of a session's events.
 use Rattle.std.specs.declared.alloc.Global.{Global}
-use Rattle.std.specs.Prelude.{◌≡◌, ◌⊎◌, List, ℕ, map, Option, None, Some, option_map, Result, Ok, Err, Vec}
+use Rattle.std.specs.Prelude.{◌≡◌, ◌⊎◌, List, ℕ, map, Option, None}
+use Rattle.std.specs.Prelude.{Some, option_map, Result, Ok, Err, Vec}
 use Rattle.semver.specs.Parse.{Parts}
 use Rattle.rec_format.specs.declared.head.SessionHead.{SessionHead}
 use Rattle.rec_codec.specs.Event.{LiveEvent}
@@ -19,22 +20,29 @@ use Rattle.rec_export.specs.declared.trace.SessionTrace.{SessionTrace}
 
 -- why events have no trace, if they have none
 abbrev pub trace_refusal : Settings → List LiveEvent → Option RecordExportError
-trace_refusal settings events = option_map trace_fault (events_refusal settings.group_by (map plain events))
+trace_refusal settings events =
+    option_map trace_fault (events_refusal settings.group_by (map plain events))
 
 -- the text of the trace of a run with this head and these events
 unfoldable pub run_trace : Settings → SessionHead → List LiveEvent → List ℕ
-run_trace settings head events = trace_text settings.message_format settings.group_by head.nextest_version (map plain events)
+run_trace settings head events =
+    trace_text settings.message_format settings.group_by head.nextest_version (map plain events)
 
 -- these events are traced, or they are refused
-abbrev pub IsTracedOr : ChromeTraceMessageFormat → ChromeTraceGroupBy → Parts → List PlainEvent → PrintedTrace → Option ChromeTraceError → Type 0
+abbrev pub IsTracedOr : ChromeTraceMessageFormat → ChromeTraceGroupBy → Parts → List PlainEvent
+    → PrintedTrace → Option ChromeTraceError → Type 0
 IsTracedOr format g version events trace None = HasTraced format g version events trace
 IsTracedOr format g version events trace (Some refusal) = events_refusal g events ≡ Some refusal
 
--- this is the trace of these events, of runs by this version of the runner, or it holds why there is none
-abbrev pub IsTraceOf : ChromeTraceMessageFormat → ChromeTraceGroupBy → Parts → List PlainEvent → SessionTrace → Type 0
+-- this is the trace of these events, of runs by this version of the runner,
+-- or it holds why there is none
+abbrev pub IsTraceOf : ChromeTraceMessageFormat → ChromeTraceGroupBy → Parts → List PlainEvent
+    → SessionTrace → Type 0
 IsTraceOf format g version events t = IsTracedOr format g version events t.trace t.refusal
 
 -- the text of the trace of these events is answered, or why there is none, or memory ran out
-abbrev pub AnswersTrace : ChromeTraceGroupBy → List PlainEvent → List ℕ → Result (Vec ℕ Global) RecordExportError → Type 0
+abbrev pub AnswersTrace : ChromeTraceGroupBy → List PlainEvent → List ℕ
+    → Result (Vec ℕ Global) RecordExportError → Type 0
 AnswersTrace g events text (Ok t) = (events_refusal g events ≡ None) × (t.items ≡ text)
-AnswersTrace g events text (Err e) = (e ≡ OutOfMemory) ⊎ (option_map trace_fault (events_refusal g events) ≡ Some e)
+AnswersTrace g events text (Err e) =
+    (e ≡ OutOfMemory) ⊎ (option_map trace_fault (events_refusal g events) ≡ Some e)

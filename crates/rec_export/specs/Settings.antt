@@ -4,4 +4,10 @@ use Rattle.rec_trace.specs.declared.settings.ChromeTraceMessageFormat.TheVariant
 use Rattle.rec_export.specs.declared.settings.Settings.{Settings}
 
 abbrev pub default_settings : Settings
-default_settings = record { group_by = Binary; message_format = Json; max_output = 10485760; read_limit = 268435456; session_limit = 268435456 }
+default_settings = record {
+  group_by = Binary;
+  message_format = Json;
+  max_output = 10485760;
+  read_limit = 268435456;
+  session_limit = 268435456;
+}

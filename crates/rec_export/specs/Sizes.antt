@@ -3,7 +3,10 @@ use Rattle.std.specs.Prelude.{◌≡◌, List, ℕ, Option, None, option_map, Re
 use Rattle.rec_container.specs.Container.{Entry}
 use Rattle.rec_store.specs.declared.sizes_judged.TooLarge.{TooLarge}
 use Rattle.rec_store.specs.SizesJudged.{first_too_large, too_large}
-use Rattle.rec_errors.specs.declared.export_error.RecordExportError.TheVariants.{FileTooLarge, OutOfMemory}
+use Rattle.rec_errors.specs.declared.export_error.RecordExportError.TheVariants.{
+  FileTooLarge,
+  OutOfMemory,
+}
 use Rattle.rec_errors.specs.declared.export_error.RecordExportError.{RecordExportError}
 
 abbrev pub size_fault : TooLarge → RecordExportError
@@ -18,6 +21,7 @@ abbrev pub entries_refusal : ℕ → List Entry → Option RecordExportError
 entries_refusal limit es = option_map size_fault (first_too_large limit es)
 
 -- a refusal is answered, exactly where there is one; or memory runs out
-abbrev pub AnswersRefusal : {T : Type 0} → Result T RecordExportError → Option RecordExportError → Type 0
+abbrev pub AnswersRefusal : {T : Type 0} → Result T RecordExportError → Option RecordExportError
+    → Type 0
 AnswersRefusal (Ok x) refusal = refusal ≡ None
 AnswersRefusal (Err e) refusal = (e ≡ OutOfMemory) ⊎ (refusal ≡ Some e)

@@ -13,8 +13,8 @@ use rec_store::write_recorded_bundle;
 ///
 /// # Errors
 ///
-/// `BundleFault` comes where the bundle's sink fails, and `TraceFault` where the trace's does, after
-/// the whole bundle was written.
+/// `BundleFault` comes where the bundle's sink fails, and `TraceFault` where the trace's does,
+/// after the whole bundle was written.
 pub fn deliver<B: Sink, T: Sink>(
     prepared: &Prepared,
     bundle: &mut B,

@@ -17,24 +17,25 @@ use std::alloc::Global;
 
 /// Reads a session from the source to its end, and writes its bundle and then its trace.
 ///
-/// The whole session is judged, and the contents of both are made, before the first byte is written.
-/// Writing takes no memory.
+/// The whole session is judged, and the contents of both are made, before the first byte is
+/// written. Writing takes no memory.
 ///
 /// # Errors
 ///
 /// The error is the first cause in this order:
 ///
-/// - `SourceFault` comes where the source failed, and `SessionTooLarge` where it gave one byte more than
-///   `session_limit` and had not failed.
+/// - `SourceFault` comes where the source failed, and `SessionTooLarge` where it gave one byte more
+///   than `session_limit` and had not failed.
 /// - `ParseHead`, `ReadRunLog`, `ParseEvent` and `NameCollision` come for the first line that is no
 ///   head, no text, no event, or has an output that clashes with one before.
 /// - `CountOutOfRange` without an event comes where the bundle would have 2^64 bytes or more, and
-///   `FileTooLarge` where the manifest, the log or an entry of the store has more than `read_limit`.
+///   `FileTooLarge` where the manifest, the log or an entry of the store has more than
+///   `read_limit`.
 /// - What else names an event says why the trace can't be drawn.
-/// - `BundleFault` and `TraceFault` come where a sink failed. All errors but these leave both sinks as
-///   they were.
-/// - `OutOfMemory` may come at any time before the first byte is written. Then too the source gave at
-///   most one byte more than `session_limit`, and had not failed.
+/// - `BundleFault` and `TraceFault` come where a sink failed. All errors but these leave both sinks
+///   as they were.
+/// - `OutOfMemory` may come at any time before the first byte is written. Then too the source gave
+///   at most one byte more than `session_limit`, and had not failed.
 ///
 /// # Examples
 ///

@@ -2,7 +2,10 @@
 ghost use Rattle.std.specs.Option.{option_map};
 ghost use Rattle.std.specs.Prelude.{◌≡◌, ◌⊎◌, None, Some, IfOk, IfErr};
 ghost use Rattle.rec_format.specs.HeadForms.{IsHead};
-ghost use Rattle.rec_errors.specs.declared.export_error.RecordExportError.TheVariants.{OutOfMemory, ParseHead};
+ghost use Rattle.rec_errors.specs.declared.export_error.RecordExportError.TheVariants.{
+  OutOfMemory,
+  ParseHead,
+};
 ghost use Rattle.rec_export.specs.Bundle.{head_in};
 ghost use Rattle.rec_export.specs.Session.{head_text};
 

@@ -9,8 +9,8 @@ ghost use Rattle.rec_export.specs.Session.{event_lines, lines_refusal, session_l
 
 /// States that the bundle of a session is read as what was recorded of it: its head, and its events
 /// with each output cut. Line 1 is a head, no other line is refused, and the bundle's length, the
-/// session's and the numbers of outputs are u64s. It holds whatever a reader's limit is, and also where
-/// the session has no trace.
+/// session's and the numbers of outputs are u64s. It holds whatever a reader's limit is, and also
+/// where the session has no trace.
 pub fn bundles_of_sessions_read()
     ensures { (number : List ℕ → ℕ) (settings : Settings) (session : List ℕ) (head : SessionHead)
         → ((bytes : List ℕ) → number bytes < 2 ^ 64)

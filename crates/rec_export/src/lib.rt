@@ -1,7 +1,8 @@
-//! The recording of a session and its export: `record_and_export` reads a session, writes its bundle, and draws its trace.
+//! The recording of a session and its export: `record_and_export` reads a session, writes its
+//! bundle, and draws its trace.
 //!
-//! All is judged and all memory is taken before the first byte is written, so that a session that is refused leaves both sinks
-//! as they were.
+//! All is judged and all memory is taken before the first byte is written, so that a session that
+//! is refused leaves both sinks as they were.
 #![tactic(auto)]
 
 mod bundle;

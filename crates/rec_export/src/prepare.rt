@@ -1,6 +1,7 @@
 //! The judging of a session, and what is exported of it, in memory.
 ghost use Rattle.std.specs.Option.{option_or};
-ghost use Rattle.std.specs.Prelude.{◌≡◌, ◌⊎◌, ◌<◌, ◌^◌, [], length, map, Some, None, IfOk, IfErr, OnOk, List, ℕ};
+ghost use Rattle.std.specs.Prelude.{◌≡◌, ◌⊎◌, ◌<◌, ◌^◌, [], length, map};
+ghost use Rattle.std.specs.Prelude.{Some, None, IfOk, IfErr, OnOk, List, ℕ};
 ghost use Rattle.serde_json.specs.Written.{compact_text};
 ghost use Rattle.rec_container.specs.Container.{spell};
 ghost use Rattle.rec_format.specs.HeadForms.{IsHead};

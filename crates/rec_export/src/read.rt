@@ -11,8 +11,8 @@ use std::alloc::Global;
 ///
 /// # Errors
 ///
-/// `SourceFault` comes where the source failed, `SessionTooLarge` where it gave `limit + 1` bytes, and
-/// `OutOfMemory` where memory ran out. In the last two cases the source had not failed.
+/// `SourceFault` comes where the source failed, `SessionTooLarge` where it gave `limit + 1` bytes,
+/// and `OutOfMemory` where memory ran out. In the last two cases the source had not failed.
 pub fn read_session<S: Source>(
     alloc: Global,
     limit: u64,

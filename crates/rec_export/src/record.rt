@@ -1,6 +1,7 @@
 //! Records a session into memory.
 ghost use Rattle.std.specs.Option.{option_to_list};
-ghost use Rattle.std.specs.Prelude.{◌≡◌, ◌⊎◌, ◌++◌, ◌∷◌, [], List, map, ℕ, false, true, None, Some, Ok, length, IfOk, IfErr, OnOk};
+ghost use Rattle.std.specs.Prelude.{◌≡◌, ◌⊎◌, ◌++◌, ◌∷◌, [], List, map, ℕ, false};
+ghost use Rattle.std.specs.Prelude.{true, None, Some, Ok, length, IfOk, IfErr, OnOk};
 ghost use Rattle.semver.specs.Parse.{Parts};
 ghost use Rattle.rec_format.specs.declared.head.SessionHead.{SessionHead};
 ghost use Rattle.rec_codec.specs.Event.{LiveEvent};
@@ -12,10 +13,13 @@ ghost use Rattle.rec_store.specs.Recording.{Stores, has_failed};
 ghost use Rattle.rec_store.specs.Store.{store_entries};
 ghost use Rattle.rec_spans.specs.declared.settings.ChromeTraceGroupBy.{ChromeTraceGroupBy};
 ghost use Rattle.rec_spans.specs.Plain.{PlainEvent, plain};
-ghost use Rattle.rec_trace.specs.declared.settings.ChromeTraceMessageFormat.{ChromeTraceMessageFormat};
+ghost use Rattle.rec_trace.specs.declared.settings.ChromeTraceMessageFormat.{
+  ChromeTraceMessageFormat,
+};
 ghost use Rattle.rec_errors.specs.declared.export_error.RecordExportError.TheVariants.{OutOfMemory};
 ghost use Rattle.rec_export.specs.declared.discarding.DiscardingSink.{DiscardingSink};
-ghost use Rattle.rec_export.specs.Recorded.{HasRecorded, IsRunOf, RecordsEvent, RecordsLine, RecordsLines};
+ghost use Rattle.rec_export.specs.Recorded.{HasRecorded, IsRunOf, RecordsEvent};
+ghost use Rattle.rec_export.specs.Recorded.{RecordsLine, RecordsLines};
 ghost use Rattle.rec_export.specs.RecorderFaults.{ComesOfEvent, ComesOfHead, event_fault};
 ghost use Rattle.rec_export.specs.Session.{event_at, events_of, lines_refusal};
 ghost use Rattle.rec_export.specs.SessionTraces.{IsTraceOf};
@@ -57,8 +61,8 @@ type MemoryRecorder<'n, N> = RunRecorder<'n, DiscardingSink, GrowingSink, N>;
 ///
 /// # Errors
 ///
-/// The first line's refusal, or `OutOfMemory`. Sinks in memory fail only for want of it, and a log or
-/// store of more bytes than a u64 counts doesn't fit into it.
+/// The first line's refusal, or `OutOfMemory`. Sinks in memory fail only for want of it, and a log
+/// or store of more bytes than a u64 counts doesn't fit into it.
 pub fn record_run<N: OutputNamer>(
     alloc: Global,
     settings: &Settings,
@@ -88,7 +92,8 @@ pub fn record_run<N: OutputNamer>(
         namer,
         settings.max_output,
     );
-    // Recorder and trace are let go of by calls: in place, each of their parts would be a case of the proof.
+    // Recorder and trace are let go of by calls: in place,
+    // each of their parts would be a case of the proof.
     let Ok(()) = record_head(&mut recorder, head) else {
         drop(recorder);
         trace.discard();

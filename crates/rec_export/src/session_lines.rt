@@ -1,6 +1,7 @@
 //! The lines of a session, whose text is let go as they are taken.
 ghost use Rattle.std.specs.Option.{option_map};
-ghost use Rattle.std.specs.Prelude.{◌≡◌, ◌<◌, ◌≤◌, length, take, drop, slice_get, IfOk, IfSome, OnOk};
+ghost use Rattle.std.specs.Prelude.{◌≡◌, ◌<◌, ◌≤◌, length, take, drop};
+ghost use Rattle.std.specs.Prelude.{slice_get, IfOk, IfSome, OnOk};
 ghost use Rattle.rec_codec.specs.Lines.{lines, numbered};
 ghost use Rattle.rec_codec.specs.LineView.{line_view};
 ghost use Rattle.rec_export.specs.Session.{event_lines};

@@ -2,7 +2,8 @@
 ghost use Rattle.std.specs.Option.{option_map};
 ghost use Rattle.std.specs.Prelude.{◌≡◌, IfOk};
 ghost use Rattle.rec_container.specs.Writing.{entry_named};
-ghost use Rattle.rec_export.specs.Sizes.{entries_refusal, entry_refusal, size_fault, AnswersRefusal};
+ghost use Rattle.rec_export.specs.Sizes.{entries_refusal, entry_refusal};
+ghost use Rattle.rec_export.specs.Sizes.{size_fault, AnswersRefusal};
 
 use crate::discarding::DiscardingSink;
 use rec_container::ContainerWriter;
@@ -30,8 +31,8 @@ pub fn first_too_large(
 ///
 /// # Errors
 ///
-/// `FileTooLarge` comes exactly where the content is longer than the limit, `OutOfMemory` where memory
-/// for its name ran out.
+/// `FileTooLarge` comes exactly where the content is longer than the limit, `OutOfMemory` where
+/// memory for its name ran out.
 pub fn judge_size(
     alloc: Global,
     limit: u64,

@@ -4,7 +4,9 @@ ghost use Rattle.semver.specs.Parse.{Parts};
 ghost use Rattle.rec_spans.specs.declared.errors.ChromeTraceError.TheVariants.{OutOfMemory};
 ghost use Rattle.rec_spans.specs.declared.settings.ChromeTraceGroupBy.{ChromeTraceGroupBy};
 ghost use Rattle.rec_spans.specs.Plain.{PlainEvent, plain};
-ghost use Rattle.rec_trace.specs.declared.settings.ChromeTraceMessageFormat.{ChromeTraceMessageFormat};
+ghost use Rattle.rec_trace.specs.declared.settings.ChromeTraceMessageFormat.{
+  ChromeTraceMessageFormat,
+};
 ghost use Rattle.rec_trace.specs.Traces.{trace_text};
 ghost use Rattle.rec_export.specs.SessionTraces.{IsTraceOf, AnswersTrace};
 
@@ -13,8 +15,8 @@ use rec_events::{LiveSpec, TestEventSummary, Version};
 use rec_trace::{ChromeTraceError, ChromeTraceGroupBy, ChromeTraceMessageFormat, PrintedTrace};
 use std::alloc::{AllocError, Global};
 
-/// Holds the trace of the events so far, or why they have none. A refusal is kept while further lines are
-/// read, since a line that fails comes before it.
+/// Holds the trace of the events so far, or why they have none. A refusal is kept while further
+/// lines are read, since a line that fails comes before it.
 #[derive(Drop)]
 pub struct SessionTrace {
     trace: PrintedTrace,
@@ -22,7 +24,8 @@ pub struct SessionTrace {
 }
 
 impl SessionTrace {
-    /// Makes the trace of no event, of runs by this version of the runner, which is written in this form.
+    /// Makes the trace of no event, of runs by this version of the runner,
+    /// which is written in this form.
     pub fn new(
         alloc: Global,
         version: Version,

@@ -5,13 +5,42 @@ use Rattle.rec_container.specs.declared.errors.ContainerError.TheVariants as con
 use Rattle.rec_container.specs.declared.errors.ContainerError.{ContainerError}
 use Rattle.rec_spans.specs.declared.spans.SpanKey.TheVariants as spans
 use Rattle.rec_spans.specs.declared.spans.SpanKey.{SpanKey}
-use Rattle.rec_errors.specs.declared.export_error.RecordExportError.TheVariants.{SourceFault, SessionTooLarge, ParseHead, ReadRunLog, ParseEvent, NameCollision, CountOutOfRange, FileTooLarge, MissingTestStart, MissingScriptStart, MissingStressSubRunStart, SpanAlreadyOpen, SlotBusy, TimestampOutOfRange, RowOutOfRange, BundleFault, TraceFault, OutOfMemory}
+use Rattle.rec_errors.specs.declared.export_error.RecordExportError.TheVariants.{
+  SourceFault,
+  SessionTooLarge,
+  ParseHead,
+  ReadRunLog,
+  ParseEvent,
+  NameCollision,
+  CountOutOfRange,
+  FileTooLarge,
+  MissingTestStart,
+  MissingScriptStart,
+  MissingStressSubRunStart,
+  SpanAlreadyOpen,
+  SlotBusy,
+  TimestampOutOfRange,
+  RowOutOfRange,
+  BundleFault,
+  TraceFault,
+  OutOfMemory,
+}
 use Rattle.rec_errors.specs.declared.export_error.RecordExportError.{RecordExportError}
-use Rattle.rec_errors.specs.declared.words_error.WordsError.TheVariants.{NoCommand, UnknownCommand, MissingPositional, BadNumber, UnknownOption, RepeatedOption, MissingValue, BadValue}
+use Rattle.rec_errors.specs.declared.words_error.WordsError.TheVariants.{
+  NoCommand,
+  UnknownCommand,
+  MissingPositional,
+  BadNumber,
+  UnknownOption,
+  RepeatedOption,
+  MissingValue,
+  BadValue,
+}
 use Rattle.rec_errors.specs.declared.words_error.WordsError.{WordsError}
 
 mutual
-  -- what a line shows: a text or an id, a number, or a variant with its fields in order of declaration
+  -- what a line shows: a text or an id, a number,
+  -- or a variant with its fields in order of declaration
   pub data Shown : Type 0 where
     text : List ℕ → Shown
     number : ℕ → Shown
@@ -33,7 +62,8 @@ abbrev mutual
   -- ` name=value` for each field, or ` value` where it has no name
   pub fields_text : Fields → List ℕ → List ℕ
   fields_text no_fields rest = rest
-  fields_text (field name value fields) rest = 32 ∷ (name ++ (61 ∷ shown_text value (fields_text fields rest)))
+  fields_text (field name value fields) rest =
+      32 ∷ (name ++ (61 ∷ shown_text value (fields_text fields rest)))
   fields_text (unnamed value fields) rest = 32 ∷ shown_text value (fields_text fields rest)
 
 -- the line of a fault, with its LF
@@ -50,7 +80,9 @@ abbrev pub span_shown : SpanKey → Shown
 span_shown spans.Run = variant (codes "Run") no_fields
 span_shown spans.SubRun = variant (codes "SubRun") no_fields
 span_shown (spans.Script index) = variant (codes "Script") (unnamed (number index) no_fields)
-span_shown (spans.Test test) = variant (codes "Test") (field (codes "binary_id") (text test.binary_id) (field (codes "test_name") (text test.test_name) no_fields))
+span_shown (spans.Test test) =
+    variant (codes "Test") (field (codes "binary_id") (text test.binary_id)
+    (field (codes "test_name") (text test.test_name) no_fields))
 
 -- the index of a word or of a byte
 abbrev pub at_place : ℕ → Fields
@@ -80,24 +112,39 @@ container_shown containers.OutOfMemory = variant (codes "OutOfMemory") no_fields
 -- the refusal of a session
 abbrev pub export_shown : RecordExportError → Shown
 export_shown SourceFault = variant (codes "SourceFault") no_fields
-export_shown (SessionTooLarge limit) = variant (codes "SessionTooLarge") (field (codes "limit") (number limit) no_fields)
+export_shown (SessionTooLarge limit) =
+    variant (codes "SessionTooLarge") (field (codes "limit") (number limit) no_fields)
 export_shown ParseHead = variant (codes "ParseHead") no_fields
-export_shown (ReadRunLog line_number) = variant (codes "ReadRunLog") (field (codes "line_number") (number line_number) no_fields)
-export_shown (ParseEvent line_number) = variant (codes "ParseEvent") (field (codes "line_number") (number line_number) no_fields)
-export_shown (NameCollision file_name) = variant (codes "NameCollision") (field (codes "file_name") (text file_name) no_fields)
-export_shown (CountOutOfRange event) = variant (codes "CountOutOfRange") (field (codes "event") (optional_number event) no_fields)
+export_shown (ReadRunLog line_number) =
+    variant (codes "ReadRunLog") (field (codes "line_number") (number line_number) no_fields)
+export_shown (ParseEvent line_number) =
+    variant (codes "ParseEvent") (field (codes "line_number") (number line_number) no_fields)
+export_shown (NameCollision file_name) =
+    variant (codes "NameCollision") (field (codes "file_name") (text file_name) no_fields)
+export_shown (CountOutOfRange event) =
+    variant (codes "CountOutOfRange") (field (codes "event") (optional_number event) no_fields)
 export_shown (FileTooLarge file_name size limit) =
-    variant (codes "FileTooLarge") (field (codes "file_name") (text file_name) (field (codes "size") (number size) (field (codes "limit") (number limit) no_fields)))
+    variant (codes "FileTooLarge") (field (codes "file_name") (text file_name)
+    (field (codes "size") (number size) (field (codes "limit") (number limit) no_fields)))
 export_shown (MissingTestStart event binary_id test_name) =
-    variant (codes "MissingTestStart") (field (codes "event") (number event) (field (codes "binary_id") (text binary_id) (field (codes "test_name") (text test_name) no_fields)))
+    variant (codes "MissingTestStart") (field (codes "event") (number event) (field
+    (codes "binary_id") (text binary_id) (field (codes "test_name") (text test_name) no_fields)))
 export_shown (MissingScriptStart event script_id) =
-    variant (codes "MissingScriptStart") (field (codes "event") (number event) (field (codes "script_id") (text script_id) no_fields))
-export_shown (MissingStressSubRunStart event) = variant (codes "MissingStressSubRunStart") (field (codes "event") (number event) no_fields)
+    variant (codes "MissingScriptStart")
+    (field (codes "event") (number event) (field (codes "script_id") (text script_id) no_fields))
+export_shown (MissingStressSubRunStart event) =
+    variant (codes "MissingStressSubRunStart") (field (codes "event") (number event) no_fields)
 export_shown (SpanAlreadyOpen event span) =
-    variant (codes "SpanAlreadyOpen") (field (codes "event") (number event) (field (codes "span") (span_shown span) no_fields))
-export_shown (SlotBusy event slot) = variant (codes "SlotBusy") (field (codes "event") (number event) (field (codes "slot") (number slot) no_fields))
-export_shown (TimestampOutOfRange event) = variant (codes "TimestampOutOfRange") (field (codes "event") (number event) no_fields)
-export_shown (RowOutOfRange event row) = variant (codes "RowOutOfRange") (field (codes "event") (number event) (field (codes "number") (number row) no_fields))
+    variant (codes "SpanAlreadyOpen")
+    (field (codes "event") (number event) (field (codes "span") (span_shown span) no_fields))
+export_shown (SlotBusy event slot) =
+    variant (codes "SlotBusy")
+    (field (codes "event") (number event) (field (codes "slot") (number slot) no_fields))
+export_shown (TimestampOutOfRange event) =
+    variant (codes "TimestampOutOfRange") (field (codes "event") (number event) no_fields)
+export_shown (RowOutOfRange event row) =
+    variant (codes "RowOutOfRange")
+    (field (codes "event") (number event) (field (codes "number") (number row) no_fields))
 export_shown BundleFault = variant (codes "BundleFault") no_fields
 export_shown TraceFault = variant (codes "TraceFault") no_fields
 export_shown OutOfMemory = variant (codes "OutOfMemory") no_fields

@@ -3,15 +3,37 @@ use Rattle.std.specs.Prelude.{ℕ}
 use Rattle.rec_store.specs.declared.read_error.RecordReadError.TheVariants as parts
 use Rattle.rec_store.specs.declared.read_error.RecordReadError.{RecordReadError}
 use Rattle.rec_portable.specs.declared.errors.PortableRecordingReadError.TheVariants as bundles
-use Rattle.rec_portable.specs.declared.errors.PortableRecordingReadError.{PortableRecordingReadError}
-use Rattle.rec_replay.specs.declared.conversion_error.ReplayConversionError.TheVariants as conversions
+use Rattle.rec_portable.specs.declared.errors.PortableRecordingReadError.{
+  PortableRecordingReadError,
+}
+use Rattle.rec_replay.specs.declared.conversion_error.ReplayConversionError.TheVariants
+    as conversions
 use Rattle.rec_replay.specs.declared.conversion_error.ReplayConversionError.{ReplayConversionError}
 use Rattle.rec_junit.specs.declared.errors.JunitError.TheVariants as reports
 use Rattle.rec_junit.specs.declared.errors.JunitError.{JunitError}
 use Rattle.rec_spans.specs.declared.errors.ChromeTraceError.{ChromeTraceError}
 use Rattle.rec_slots.specs.declared.report.SlotError.TheVariants as slots
 use Rattle.rec_slots.specs.declared.report.SlotError.{SlotError}
-use Rattle.rec_errors.specs.declared.export_error.RecordExportError.TheVariants.{SourceFault, SessionTooLarge, ParseHead, ReadRunLog, ParseEvent, NameCollision, CountOutOfRange, FileTooLarge, MissingTestStart, MissingScriptStart, MissingStressSubRunStart, SpanAlreadyOpen, SlotBusy, TimestampOutOfRange, RowOutOfRange, BundleFault, TraceFault, OutOfMemory}
+use Rattle.rec_errors.specs.declared.export_error.RecordExportError.TheVariants.{
+  SourceFault,
+  SessionTooLarge,
+  ParseHead,
+  ReadRunLog,
+  ParseEvent,
+  NameCollision,
+  CountOutOfRange,
+  FileTooLarge,
+  MissingTestStart,
+  MissingScriptStart,
+  MissingStressSubRunStart,
+  SpanAlreadyOpen,
+  SlotBusy,
+  TimestampOutOfRange,
+  RowOutOfRange,
+  BundleFault,
+  TraceFault,
+  OutOfMemory,
+}
 use Rattle.rec_errors.specs.declared.export_error.RecordExportError.{RecordExportError}
 use Rattle.rec_errors.specs.declared.reading_error.ReadingError.TheVariants as reading
 use Rattle.rec_errors.specs.declared.reading_error.ReadingError.{ReadingError}
@@ -62,7 +84,8 @@ bundle_status bundles.OutOfMemory = 70
 abbrev pub trace_status : ChromeTraceError → ℕ
 trace_status e = export_status (trace_fault e)
 
--- the status for a part of a store that isn't read: the bundle lacks it, or it stands for nothing, but for one that is longer than the limit
+-- the status for a part of a store that isn't read: the bundle lacks it, or it stands for nothing,
+-- but for one that is longer than the limit
 abbrev pub part_status : RecordReadError → ℕ
 part_status (parts.RunNotFound path) = 12
 part_status (parts.OpenArchive path) = 12
@@ -92,7 +115,8 @@ junit_status reports.NotLoadedOutput = 13
 junit_status reports.SuccessAsFailure = 13
 junit_status reports.OutOfMemory = 70
 
--- the status for events that have no report of their slots; those that are refused have that of a log without a trace
+-- the status for events that have no report of their slots;
+-- those that are refused have that of a log without a trace
 abbrev pub slots_status : SlotError → ℕ
 slots_status (slots.Refused e) = trace_status e
 slots_status slots.NotOneRun = 14
@@ -100,7 +124,8 @@ slots_status (slots.AttemptOutside event) = 14
 slots_status (slots.StampFell event) = 14
 slots_status slots.OutOfMemory = 70
 
--- the status for a bundle of which a command prints nothing; a line has that of a session which is refused for it
+-- the status for a bundle of which a command prints nothing;
+-- a line has that of a session which is refused for it
 abbrev pub reading_status : ReadingError → ℕ
 reading_status (reading.Bundle e) = bundle_status e
 reading_status (reading.Trace e) = trace_status e

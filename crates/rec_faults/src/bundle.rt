@@ -1,6 +1,9 @@
 //! A bundle that isn't read.
 ghost use Rattle.std.specs.Prelude.{◌≡◌};
-ghost use Rattle.rec_portable.specs.declared.errors.PortableRecordingReadError.TheVariants.{UnsupportedFormatVersion, UnsupportedStoreFormatVersion};
+ghost use Rattle.rec_portable.specs.declared.errors.PortableRecordingReadError.TheVariants.{
+  UnsupportedFormatVersion,
+  UnsupportedStoreFormatVersion,
+};
 ghost use Rattle.rec_faults.specs.FaultLine.{shown_text};
 ghost use Rattle.rec_faults.specs.ReadingLine.{bundle_shown};
 ghost use Rattle.rec_faults.specs.Status.{bundle_status};
@@ -84,7 +87,8 @@ impl Refusal for PortableRecordingReadError {
     }
 }
 
-/// Writes the version of a bundle that was found and the one that is supported, and why they don't fit.
+/// Writes the version of a bundle that was found and the one that is supported,
+/// and why they don't fit.
 fn unsupported_bundle<G: Sink>(
     line: Line,
     found: PortableRecordingFormatVersion,

@@ -1,9 +1,11 @@
-//! A log that has no trace or no report of its slots, and an event that isn't read, replayed or reported.
+//! A log that has no trace or no report of its slots, and an event that isn't read,
+//! replayed or reported.
 ghost use Rattle.std.specs.Prelude.{◌≡◌};
 ghost use Rattle.rec_errors.specs.LineFaults.{line_fault};
 ghost use Rattle.rec_faults.specs.ReadingLine.{line_shown, slots_shown, trace_shown};
 ghost use Rattle.rec_faults.specs.ReplayLine.{conversion_shown, junit_shown};
-ghost use Rattle.rec_faults.specs.Status.{conversion_status, export_status, junit_status, slots_status, trace_status};
+ghost use Rattle.rec_faults.specs.Status.{conversion_status, export_status};
+ghost use Rattle.rec_faults.specs.Status.{junit_status, slots_status, trace_status};
 
 use crate::line::Line;
 use crate::marks::{event_number, missing_script, missing_test, open_span};

@@ -1,6 +1,8 @@
 //! A session that isn't exported.
 ghost use Rattle.std.specs.Prelude.{◌≡◌};
-ghost use Rattle.rec_errors.specs.declared.export_error.RecordExportError.TheVariants.{CountOutOfRange};
+ghost use Rattle.rec_errors.specs.declared.export_error.RecordExportError.TheVariants.{
+  CountOutOfRange,
+};
 ghost use Rattle.rec_faults.specs.FaultLine.{export_shown, shown_text};
 ghost use Rattle.rec_faults.specs.Status.{export_status};
 ghost use Rattle.rec_faults.specs.WritingFaults.{Writes};

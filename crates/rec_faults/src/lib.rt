@@ -1,4 +1,5 @@
-//! What the program says where it doesn't do what it is asked: the line of each refusal, its fields, and the status.
+//! What the program says where it doesn't do what it is asked: the line of each refusal,
+//! its fields, and the status.
 #![tactic(auto)]
 
 mod bundle;

@@ -10,7 +10,8 @@ use rec_format::Release;
 
 /// Writes the pieces of a line, up to the first fault of the sink. Nothing is written after it.
 ///
-/// A label is what stands before a value: a space, and the name of the field with `=` where it has one.
+/// A label is what stands before a value: a space, and the name of the field with `=` where it has
+/// one.
 #[derive(Clone, Copy)]
 pub struct Line {
     is_failed: bool,

@@ -1,7 +1,11 @@
 //! What the lines of a session and of a trace that are refused have in common.
 ghost use Rattle.std.specs.Prelude.{◌≡◌, ◌++◌, ℕ, List, codes, decimal};
 ghost use Rattle.rec_spans.specs.declared.spans.SpanKey.{SpanKey};
-ghost use Rattle.rec_errors.specs.declared.export_error.RecordExportError.TheVariants.{MissingScriptStart, MissingTestStart, SpanAlreadyOpen};
+ghost use Rattle.rec_errors.specs.declared.export_error.RecordExportError.TheVariants.{
+  MissingScriptStart,
+  MissingTestStart,
+  SpanAlreadyOpen,
+};
 ghost use Rattle.rec_faults.specs.FaultLine.{export_shown, shown_text, span_shown};
 ghost use Rattle.rec_faults.specs.WritingFaults.{Writes};
 

@@ -8,8 +8,8 @@ use rec_container::Sink;
 
 /// Gives a refusal its line and its status, as `docs/CLI.md#statuses-and-lines` lists them.
 ///
-/// The line is the name of the refusal, ` name=value` for each field in order of declaration, and LF. A value
-/// may be a refusal again: then its name stands there, and its fields follow.
+/// The line is the name of the refusal, ` name=value` for each field in order of declaration, and
+/// LF. A value may be a refusal again: then its name stands there, and its fields follow.
 pub trait Refusal {
     /// Names what the line shows.
     ghost shown: { Self → Shown };
@@ -17,7 +17,8 @@ pub trait Refusal {
     /// Names the status that the program ends with.
     ghost status_of: { Self → ℕ };
 
-    /// Writes the line without its LF, alone or within the line of another refusal. It takes no memory.
+    /// Writes the line without its LF, alone or within the line of another refusal.
+    /// It takes no memory.
     fn write<G: Sink>(&self, line: Line, diag: &mut G) -> Line
         ensures { Writes G.taken G.faults (shown_text (shown self.now)) line.is_failed diag.old
             result.is_failed diag.new };

@@ -2,7 +2,8 @@
 ghost use Rattle.std.specs.Prelude.{◌++◌, ℕ, List, codes, decimal};
 ghost use Rattle.rec_format.specs.Versions.{version_text};
 ghost use Rattle.rec_faults.specs.FaultLine.{fields_text, no_fields, shown_text};
-ghost use Rattle.rec_faults.specs.ReadingLine.{bundle_version_shown, guidance_shown, majors, store_version_shown};
+ghost use Rattle.rec_faults.specs.ReadingLine.{bundle_version_shown, guidance_shown};
+ghost use Rattle.rec_faults.specs.ReadingLine.{majors, store_version_shown};
 ghost use Rattle.rec_faults.specs.WritingFaults.{Writes};
 
 use crate::line::Line;

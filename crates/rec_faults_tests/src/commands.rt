@@ -6,7 +6,8 @@ use rec_words::{Command, bundle_path, read_words};
 use std::alloc::{AllocError, Global};
 use std::test::Fail;
 
-/// The name of a command, the file that it writes, and its settings; none where it prints a text of its own.
+/// The name of a command, the file that it writes, and its settings;
+/// none where it prints a text of its own.
 fn asked(command: Command<'_>) -> Option<(&'static str, &str, Settings)> {
     match command {
         Command::Record { bundle, settings } => Some(("record", bundle, settings)),
@@ -57,10 +58,13 @@ record b --session-limit 3 --max-output 1 --read-limit 2|b|record b 1 2 3 Binary
 record b --max-output 0|b|record b 0 268435456 268435456 Binary Json
 record b --max-output 007|b|record b 7 268435456 268435456 Binary Json
 record b --max-output 00000000000000000000000|b|record b 0 268435456 268435456 Binary Json
-record b --read-limit 18446744073709551615|b|record b 10485760 18446744073709551615 268435456 Binary Json
-record b --session-limit 0018446744073709551615|b|record b 10485760 268435456 18446744073709551615 Binary Json
+record b --read-limit 18446744073709551615|b|\
+record b 10485760 18446744073709551615 268435456 Binary Json
+record b --session-limit 0018446744073709551615|b|\
+record b 10485760 268435456 18446744073709551615 Binary Json
 record ||record  10485760 268435456 268435456 Binary Json
-record --max-output --max-output 1|--max-output|record --max-output 1 268435456 268435456 Binary Json
+record --max-output --max-output 1|--max-output|\
+record --max-output 1 268435456 268435456 Binary Json
 record --help|--help|record --help 10485760 268435456 268435456 Binary Json
 record b --group-by binary|b|record b 10485760 268435456 268435456 Binary Json
 record b --group-by slot|b|record b 10485760 268435456 268435456 Slot Json
@@ -72,7 +76,8 @@ trace --read-limit 2|none|trace none 10485760 2 268435456 Binary Json
 trace --group-by slot --read-limit 1|none|trace none 10485760 1 268435456 Slot Json
 trace --message-format json|none|trace none 10485760 268435456 268435456 Binary Json
 trace --message-format json-pretty|none|trace none 10485760 268435456 268435456 Binary JsonPretty
-trace --message-format json-pretty --group-by slot|none|trace none 10485760 268435456 268435456 Slot JsonPretty
+trace --message-format json-pretty --group-by slot|none|\
+trace none 10485760 268435456 268435456 Slot JsonPretty
 info|none|info none 10485760 268435456 268435456 Binary Json
 info --session-limit 3|none|info none 10485760 268435456 3 Binary Json
 info --session-limit 3 --read-limit 2|none|info none 10485760 2 3 Binary Json
@@ -100,7 +105,8 @@ rerun|none|rerun none 10485760 268435456 268435456 Binary Json
 rerun --read-limit 2|none|rerun none 10485760 2 268435456 Binary Json
 upgrade b|b|upgrade b 10485760 268435456 268435456 Binary Json
 upgrade b --read-limit 2|b|upgrade b 10485760 2 268435456 Binary Json
-upgrade --read-limit --session-limit 3|--read-limit|upgrade --read-limit 10485760 268435456 3 Binary Json
+upgrade --read-limit --session-limit 3|--read-limit|\
+upgrade --read-limit 10485760 268435456 3 Binary Json
 salvage b|b|salvage b 10485760 268435456 268435456 Binary Json
 salvage b --session-limit 3 --read-limit 2|b|salvage b 10485760 2 3 Binary Json
 --help|none|a text

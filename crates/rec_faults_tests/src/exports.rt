@@ -1,4 +1,5 @@
-//! The export of a session by a caller of its own: a namer that doesn't tell outputs apart, and counts.
+//! The export of a session by a caller of its own: a namer that doesn't tell outputs apart,
+//! and counts.
 
 use crate::lines::shown;
 use crate::sessions::{session_of, test_lines};
@@ -17,7 +18,8 @@ struct Sinks {
     trace: GrowingSink,
 }
 
-/// Exports a session whose outputs have one name, and returns how many events and outputs were counted.
+/// Exports a session whose outputs have one name,
+/// and returns how many events and outputs were counted.
 fn counts(
     alloc: Global,
     session: &str,

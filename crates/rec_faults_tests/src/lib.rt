@@ -1,5 +1,5 @@
-//! The tests of `rec_words`, `rec_export` and `rec_faults`: the settings that words ask for, a session whose outputs clash, and
-//! lines of refusals that no input of the program brings about.
+//! The tests of `rec_words`, `rec_export` and `rec_faults`: the settings that words ask for, a
+//! session whose outputs clash, and lines of refusals that no input of the program brings about.
 #![tactic(auto)]
 
 #[cfg(test)]

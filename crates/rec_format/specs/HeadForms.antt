@@ -4,7 +4,8 @@ use Rattle.serde_json.specs.Data.{Data, string, Members}
 use Rattle.serde_json.specs.Find.{as_object}
 use Rattle.rec_events.specs.Names.{IsText}
 use Rattle.rec_forms.specs.Ids.{uuid_value, uuid_form, IsUuid}
-use Rattle.rec_forms.specs.Recording.{test_list_value, test_list_form, IsTestList, record_opts_value, record_opts_form}
+use Rattle.rec_forms.specs.Recording.{test_list_value, test_list_form, IsTestList}
+use Rattle.rec_forms.specs.Recording.{record_opts_value, record_opts_form}
 use Rattle.rec_forms.specs.Shape.{◌>>=◌, Field, field, optional, struct, required, maybe, text_of}
 use Rattle.rec_forms.specs.Times.{stamp_value, stamp_form, IsStamp}
 use Rattle.rec_format.specs.declared.forms.head.Contents.{Contents}
@@ -80,7 +81,9 @@ head_contents h = record {
 }
 
 abbrev pub head_value : SessionHead → Data
-head_value h = struct (build_fields h ++ invocation_fields (head_invocation h) ++ contents_fields (head_contents h))
+head_value h =
+    struct
+    (build_fields h ++ invocation_fields (head_invocation h) ++ contents_fields (head_contents h))
 
 unfoldable pub head_form : Data → Option SessionHead
 head_form d = do

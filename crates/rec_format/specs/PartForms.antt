@@ -1,4 +1,5 @@
--- The fields that a head and a run share, and those that both kinds of runs share. They stand in the order of their keys.
+-- The fields that a head and a run share, and those that both kinds of runs share. They stand in
+-- the order of their keys.
 use Rattle.std.specs.Prelude.{List, [], ◌∷◌, Option, Some, IfSome, codes}
 use Rattle.serde_json.specs.Data.{string, Members}
 use Rattle.rec_events.specs.Names.{IsText, AreTexts}
@@ -6,8 +7,10 @@ use Rattle.rec_events.specs.Versions.{IsVersion}
 use Rattle.rec_forms.specs.Ids.{uuid_value, uuid_form, IsUuid, version_value, version_form}
 use Rattle.rec_forms.specs.Lists.{list_value, list_form}
 use Rattle.rec_forms.specs.Maps.{map_value, map_form, IsMap}
-use Rattle.rec_forms.specs.Shape.{◌>>=◌, Field, field, optional, required, maybe, defaulted, text_of}
-use Rattle.rec_forms.specs.Times.{stamp_value, stamp_form, IsStamp, duration_value, duration_form, IsDuration}
+use Rattle.rec_forms.specs.Shape.{◌>>=◌, Field, field, optional}
+use Rattle.rec_forms.specs.Shape.{required, maybe, defaulted, text_of}
+use Rattle.rec_forms.specs.Times.{stamp_value, stamp_form, IsStamp}
+use Rattle.rec_forms.specs.Times.{duration_value, duration_form, IsDuration}
 use Rattle.rec_format.specs.declared.forms.parts.Invocation.{Invocation}
 use Rattle.rec_format.specs.declared.forms.parts.Outcome.{Outcome}
 use Rattle.rec_format.specs.SizeForms.{sizes_format_value, sizes_format_form, IsSizesFormat}

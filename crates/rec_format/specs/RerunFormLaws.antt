@@ -9,29 +9,48 @@ use Rattle.rec_forms.specs.WellFormedLaws.{object_then, required_then}
 use Rattle.rec_forms.specs.Writable.{IsWritable, weaker, struct_writable}
 use Rattle.rec_format.specs.declared.rerun.RerunInfo.{RerunInfo}
 use Rattle.rec_format.specs.declared.rerun.RerunRootInfo.{RerunRootInfo}
-use Rattle.rec_format.specs.RerunForms.{rerun_root_value, rerun_root_form, IsRerunRoot, rerun_info_value, rerun_info_form, IsRerunInfo}
-use Rattle.rec_format.specs.ScopeFormLaws.{recorded_scope_back, recorded_scope_writable, recorded_scope_well_formed}
+use Rattle.rec_format.specs.RerunForms.{rerun_root_value, rerun_root_form, IsRerunRoot}
+use Rattle.rec_format.specs.RerunForms.{rerun_info_value, rerun_info_form, IsRerunInfo}
+use Rattle.rec_format.specs.ScopeFormLaws.{
+  recorded_scope_back,
+  recorded_scope_writable,
+  recorded_scope_well_formed,
+}
 use Rattle.rec_format.specs.ScopeForms.{recorded_scope_form}
 use Rattle.rec_format.specs.SuiteFormLaws.{suites_back, suites_writable, suites_well_formed}
 use Rattle.rec_format.specs.SuiteForms.{suites_form}
 
-pub rerun_root_back : (r : RerunRootInfo) → IsRerunRoot r → rerun_root_form (rerun_root_value r) ≡ Some r
+pub rerun_root_back : (r : RerunRootInfo) → IsRerunRoot r
+    → rerun_root_form (rerun_root_value r) ≡ Some r
 unfolding rerun_root_form
-rerun_root_back r h = simp (get_member-members_of, uuid_back _ h.run_id, recorded_scope_back _ h.build_scope)
+rerun_root_back r h =
+    simp (get_member-members_of, uuid_back _ h.run_id, recorded_scope_back _ h.build_scope)
 
 pub rerun_root_writable : (r : RerunRootInfo) → IsRerunRoot r → IsWritable 6 (rerun_root_value r)
 rerun_root_writable r h =
-    struct_writable _ refl (weaker 0 5 (omega arith) (uuid_writable r.run_id h.run_id), (recorded_scope_writable r.build_scope h.build_scope, tt))
+    struct_writable _ refl (
+      weaker 0 5 (omega arith) (uuid_writable r.run_id h.run_id),
+      (recorded_scope_writable r.build_scope h.build_scope, tt),
+    )
 
-pub rerun_info_back : (r : RerunInfo) → IsRerunInfo r → rerun_info_form (rerun_info_value r) ≡ Some r
+pub rerun_info_back : (r : RerunInfo) → IsRerunInfo r
+    → rerun_info_form (rerun_info_value r) ≡ Some r
 unfolding rerun_info_form
-rerun_info_back r h = simp (get_member-members_of, uuid_back _ h.parent_run_id, rerun_root_back _ h.root_info, suites_back _ h.test_suites)
+rerun_info_back r h = simp (
+  get_member-members_of,
+  uuid_back _ h.parent_run_id,
+  rerun_root_back _ h.root_info,
+  suites_back _ h.test_suites,
+)
 
 pub rerun_info_writable : (r : RerunInfo) → IsRerunInfo r → IsWritable 7 (rerun_info_value r)
 rerun_info_writable r h =
     struct_writable _ refl (
       weaker 0 6 (omega arith) (uuid_writable r.parent_run_id h.parent_run_id),
-      (rerun_root_writable r.root_info h.root_info, (weaker 3 6 (omega arith) (suites_writable r.test_suites h.test_suites), tt)),
+      (
+        rerun_root_writable r.root_info h.root_info,
+        (weaker 3 6 (omega arith) (suites_writable r.test_suites h.test_suites), tt),
+      ),
     )
 
 -- ---- what is read is well-formed
@@ -42,7 +61,8 @@ rerun_root_well_formed = record {
   each = λ d.
       object_then d _ (λ ms.
       required_then uuid_form (codes "run-id") ms _ uuid_well_formed (λ run_id run_id_is.
-      required_then recorded_scope_form (codes "build-scope") ms _ recorded_scope_well_formed (λ build_scope build_scope_is.
+      required_then recorded_scope_form (codes "build-scope") ms _ recorded_scope_well_formed
+      (λ build_scope build_scope_is.
       record { is = record { run_id = run_id_is; build_scope = build_scope_is } })));
 }
 
@@ -51,8 +71,17 @@ unfolding rerun_info_form
 rerun_info_well_formed = record {
   each = λ d.
       object_then d _ (λ ms.
-      required_then uuid_form (codes "parent-run-id") ms _ uuid_well_formed (λ parent_run_id parent_run_id_is.
-      required_then rerun_root_form (codes "root-info") ms _ rerun_root_well_formed (λ root_info root_info_is.
-      required_then suites_form (codes "test-suites") ms _ suites_well_formed (λ test_suites test_suites_is.
-      record { is = record { parent_run_id = parent_run_id_is; root_info = root_info_is; test_suites = test_suites_is } }))));
+      required_then uuid_form (codes "parent-run-id") ms _ uuid_well_formed
+      (λ parent_run_id parent_run_id_is.
+      required_then rerun_root_form (codes "root-info") ms _ rerun_root_well_formed
+      (λ root_info root_info_is.
+      required_then suites_form (codes "test-suites") ms _ suites_well_formed
+      (λ test_suites test_suites_is.
+      record {
+        is = record {
+          parent_run_id = parent_run_id_is;
+          root_info = root_info_is;
+          test_suites = test_suites_is;
+        };
+      }))));
 }

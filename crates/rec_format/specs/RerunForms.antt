@@ -10,7 +10,9 @@ use Rattle.rec_format.specs.ScopeForms.{recorded_scope_value, recorded_scope_for
 use Rattle.rec_format.specs.SuiteForms.{suites_value, suites_form, AreSuites}
 
 abbrev pub rerun_root_value : RerunRootInfo → Data
-rerun_root_value r = struct (field (codes "run-id") (uuid_value r.run_id) ∷ field (codes "build-scope") (recorded_scope_value r.build_scope) ∷ [])
+rerun_root_value r =
+    struct (field (codes "run-id") (uuid_value r.run_id)
+    ∷ field (codes "build-scope") (recorded_scope_value r.build_scope) ∷ [])
 
 unfoldable pub rerun_root_form : Data → Option RerunRootInfo
 rerun_root_form d = do

@@ -9,11 +9,14 @@ use Rattle.rec_format.specs.declared.forms.parts.Outcome.{Outcome}
 use Rattle.rec_format.specs.declared.manifest.PortableManifest.{PortableManifest}
 use Rattle.rec_format.specs.declared.run.RecordedRun.{RecordedRun}
 use Rattle.rec_format.specs.declared.run.RecordedRunInfo.{RecordedRunInfo}
-use Rattle.rec_format.specs.PartForms.{invocation_fields, invocation_form, IsInvocation, outcome_fields, outcome_form, IsOutcome}
+use Rattle.rec_format.specs.PartForms.{invocation_fields, invocation_form, IsInvocation}
+use Rattle.rec_format.specs.PartForms.{outcome_fields, outcome_form, IsOutcome}
 use Rattle.rec_format.specs.Runs.{run_of}
 use Rattle.rec_format.specs.Sizes.{sizes_of}
 use Rattle.rec_format.specs.Status.{status_of}
-use Rattle.rec_format.specs.VersionForms.{IsNumber, store_version_value, store_version_form, IsStoreVersion, portable_version_value, portable_version_form, IsPortableVersion}
+use Rattle.rec_format.specs.VersionForms.{IsNumber, store_version_value, store_version_form}
+use Rattle.rec_format.specs.VersionForms.{IsStoreVersion, portable_version_value}
+use Rattle.rec_format.specs.VersionForms.{portable_version_form, IsPortableVersion}
 
 abbrev pub run_invocation : RecordedRun → Invocation
 run_invocation r = record {
@@ -26,7 +29,8 @@ run_invocation r = record {
 }
 
 abbrev pub run_outcome : RecordedRun → Outcome
-run_outcome r = record { run_id = r.run_id; sizes = r.sizes; started_at = r.started_at; status = r.status }
+run_outcome r =
+    record { run_id = r.run_id; sizes = r.sizes; started_at = r.started_at; status = r.status }
 
 -- the versions of its store
 abbrev pub store_fields : RecordedRun → List Field
@@ -36,7 +40,9 @@ store_fields r =
     ∷ []
 
 abbrev pub run_value : RecordedRun → Data
-run_value r = struct (invocation_fields (run_invocation r) ++ outcome_fields (run_outcome r) ++ store_fields r)
+run_value r =
+    struct
+    (invocation_fields (run_invocation r) ++ outcome_fields (run_outcome r) ++ store_fields r)
 
 unfoldable pub run_form : Data → Option RecordedRun
 run_form d = do
@@ -76,10 +82,13 @@ info_outcome i = run_outcome (run_of i)
 
 -- the version of its store
 abbrev pub info_fields : RecordedRunInfo → List Field
-info_fields i = field (codes "store-format-version") (store_version_value i.store_format_version) ∷ []
+info_fields i =
+    field (codes "store-format-version") (store_version_value i.store_format_version) ∷ []
 
 abbrev pub info_value : RecordedRunInfo → Data
-info_value i = struct (invocation_fields (info_invocation i) ++ outcome_fields (info_outcome i) ++ info_fields i)
+info_value i =
+    struct
+    (invocation_fields (info_invocation i) ++ outcome_fields (info_outcome i) ++ info_fields i)
 
 unfoldable pub info_form : Data → Option RecordedRunInfo
 info_form d = do
@@ -109,7 +118,9 @@ pub record IsInfo (i : RecordedRunInfo) : Type 0 where
 -- ---- of a manifest
 
 abbrev pub manifest_value : PortableManifest → Data
-manifest_value m = struct (field (codes "format-version") (portable_version_value m.format_version) ∷ field (codes "run") (run_value m.run) ∷ [])
+manifest_value m =
+    struct (field (codes "format-version") (portable_version_value m.format_version)
+    ∷ field (codes "run") (run_value m.run) ∷ [])
 
 unfoldable pub manifest_form : Data → Option PortableManifest
 manifest_form d = do

@@ -3,7 +3,8 @@ use Rattle.std.proofs.Common.{Less}
 use Rattle.std.specs.BTreeMap.{BTreeMap, get}
 use Rattle.std.specs.declared.alloc.Global.{Global}
 use Rattle.std.specs.List.{AllByRecursion, common_prefix_len}
-use Rattle.std.specs.Prelude.{◌≡◌, ◌⊎◌, ℕ, ◌≤◌, List, map, Some, IsSome, nat_eq, String, string_bytes}
+use Rattle.std.specs.Prelude.{◌≡◌, ◌⊎◌, ℕ, ◌≤◌, List, map, Some}
+use Rattle.std.specs.Prelude.{IsSome, nat_eq, String, string_bytes}
 use Rattle.std.specs.String.{string_cmp}
 use Rattle.uuid.specs.Text.{parsed}
 use Rattle.rec_format.specs.RunIds.{id_text}
@@ -25,9 +26,12 @@ abbrev pub common : String Global → String Global → ℕ
 common a b = common_prefix_len nat_eq (string_bytes a) (string_bytes b)
 
 -- so many bytes of the text are the most that a key on one side of it shares
-pub record IsMostShared (Beside : String Global → Type 0) (entries : BTreeMap (String Global) (List ℕ)) (text : String Global) (n : ℕ) : Type 0 where
-  pub bound : (key : String Global) → Beside key → IsSome (get string_cmp entries key) → common key text ≤ n
-  pub reached : (n ≡ 0) ⊎ ((key : String Global) × Beside key × IsSome (get string_cmp entries key) × (common key text ≡ n))
+pub record IsMostShared (Beside : String Global → Type 0)
+    (entries : BTreeMap (String Global) (List ℕ)) (text : String Global) (n : ℕ) : Type 0 where
+  pub bound : (key : String Global) → Beside key → IsSome (get string_cmp entries key)
+      → common key text ≤ n
+  pub reached : (n ≡ 0) ⊎ ((key : String Global) × Beside key × IsSome (get string_cmp entries key)
+      × (common key text ≡ n))
 
 -- a key below the text
 abbrev pub IsBelow : String Global → String Global → Type 0

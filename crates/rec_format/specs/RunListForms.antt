@@ -5,7 +5,8 @@ use Rattle.serde_json.specs.Data.{Data}
 use Rattle.serde_json.specs.Find.{as_object}
 use Rattle.rec_forms.specs.Lists.{list_value, list_form}
 use Rattle.rec_forms.specs.Numbers.{u32_form}
-use Rattle.rec_forms.specs.Shape.{◌>>=◌, natural, field, optional, struct, required, maybe, defaulted}
+use Rattle.rec_forms.specs.Shape.{◌>>=◌, natural, field, optional}
+use Rattle.rec_forms.specs.Shape.{struct, required, maybe, defaulted}
 use Rattle.rec_forms.specs.Times.{stamp_value, stamp_form, IsStamp}
 use Rattle.rec_format.specs.declared.run_list.RecordedRunList.{RecordedRunList}
 use Rattle.rec_format.specs.RunForms.{run_value, run_form, IsRun}

@@ -9,4 +9,5 @@ run_list_version = 3
 
 -- whether a list of this version is written back
 abbrev pub permission : ℕ → RunsJsonWritePermission
-permission version = if nat_lt run_list_version version then Denied version run_list_version else Allowed
+permission version =
+    if nat_lt run_list_version version then Denied version run_list_version else Allowed

@@ -43,7 +43,8 @@ run_of info = record {
 
 -- the version of a run's store
 abbrev pub store_version_in : RecordedRun → StoreFormatVersion
-store_version_in run = record { major = run.store_format_version; minor = run.store_format_minor_version }
+store_version_in run =
+    record { major = run.store_format_version; minor = run.store_format_minor_version }
 
 abbrev pub info_of : RecordedRun → RecordedRunInfo
 info_of run = record {

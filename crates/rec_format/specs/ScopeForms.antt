@@ -22,7 +22,9 @@ unfoldable pub build_kind_form : Data → Option BuildKind
 build_kind_form d = option_and_then (named build_kinds) (as_str d)
 
 abbrev pub recorded_scope_value : RecordedBuildScope → Data
-recorded_scope_value s = struct (field (codes "build-kind") (build_kind_value s.build_kind) ∷ field (codes "scope") (build_scope_value s.scope) ∷ [])
+recorded_scope_value s =
+    struct (field (codes "build-kind") (build_kind_value s.build_kind)
+    ∷ field (codes "scope") (build_scope_value s.scope) ∷ [])
 
 unfoldable pub recorded_scope_form : Data → Option RecordedBuildScope
 recorded_scope_form d = do

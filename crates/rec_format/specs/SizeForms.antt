@@ -31,7 +31,9 @@ pub record IsComponentFormat (s : ComponentSizesFormat) : Type 0 where
   pub entries : s.entries < 2 ^ 64
 
 abbrev pub sizes_format_value : RecordedSizesFormat → Data
-sizes_format_value s = struct (field (codes "log") (component_format_value s.log) ∷ field (codes "store") (component_format_value s.store) ∷ [])
+sizes_format_value s =
+    struct (field (codes "log") (component_format_value s.log)
+    ∷ field (codes "store") (component_format_value s.store) ∷ [])
 
 unfoldable pub sizes_format_form : Data → Option RecordedSizesFormat
 sizes_format_form d = do

@@ -5,13 +5,22 @@ use Rattle.rec_format.specs.declared.sizes.RecordedSizes.{RecordedSizes}
 use Rattle.rec_format.specs.declared.sizes.RecordedSizesFormat.{RecordedSizesFormat}
 
 abbrev pub component_format : ComponentSizes → ComponentSizesFormat
-component_format sizes = record { compressed = sizes.compressed; uncompressed = sizes.uncompressed; entries = sizes.entries }
+component_format sizes = record {
+  compressed = sizes.compressed;
+  uncompressed = sizes.uncompressed;
+  entries = sizes.entries;
+}
 
 abbrev pub component_of : ComponentSizesFormat → ComponentSizes
-component_of format = record { compressed = format.compressed; uncompressed = format.uncompressed; entries = format.entries }
+component_of format = record {
+  compressed = format.compressed;
+  uncompressed = format.uncompressed;
+  entries = format.entries;
+}
 
 abbrev pub sizes_format : RecordedSizes → RecordedSizesFormat
-sizes_format sizes = record { log = component_format sizes.log; store = component_format sizes.store }
+sizes_format sizes =
+    record { log = component_format sizes.log; store = component_format sizes.store }
 
 abbrev pub sizes_of : RecordedSizesFormat → RecordedSizes
 sizes_of format = record { log = component_of format.log; store = component_of format.store }

@@ -4,7 +4,8 @@ use Rattle.std.specs.Prelude.{◌^◌, ◌<◌, FitsSigned, List, [], ◌∷◌,
 use Rattle.serde_json.specs.Data.{Data, Members}
 use Rattle.serde_json.specs.Find.{as_object}
 use Rattle.rec_forms.specs.Numbers.{u32_form, u64_form, i32_form, count_form, IsCount}
-use Rattle.rec_forms.specs.Shape.{◌>>=◌, Field, natural, integer, field, optional, struct, required, maybe}
+use Rattle.rec_forms.specs.Shape.{◌>>=◌, Field, natural, integer, field}
+use Rattle.rec_forms.specs.Shape.{optional, struct, required, maybe}
 use Rattle.rec_format.specs.declared.status.CompletedRunStats.{CompletedRunStats}
 use Rattle.rec_format.specs.declared.status.StressCompletedRunStats.{StressCompletedRunStats}
 
@@ -24,7 +25,12 @@ completed_form ms = do
   passed ← required u64_form (codes "passed") ms
   failed ← required u64_form (codes "failed") ms
   exit_code ← required i32_form (codes "exit-code") ms
-  Some (record { initial_run_count = initial_run_count; passed = passed; failed = failed; exit_code = exit_code })
+  Some (record {
+    initial_run_count = initial_run_count;
+    passed = passed;
+    failed = failed;
+    exit_code = exit_code;
+  })
 
 pub record AreCompleted (s : CompletedRunStats) : Type 0 where
   pub initial_run_count : s.initial_run_count < 2 ^ 64

@@ -5,11 +5,19 @@ use Rattle.serde_json.specs.Data.{Data, string, Members}
 use Rattle.serde_json.specs.Find.{as_object, as_str}
 use Rattle.rec_forms.specs.Shape.{◌>>=◌, field, struct, required, named}
 use Rattle.rec_format.specs.declared.status.CompletedRunStats.{CompletedRunStats}
-use Rattle.rec_format.specs.declared.status.RecordedRunStatus.TheVariants.{Incomplete, Completed, Cancelled, StressCompleted, StressCancelled, Unknown}
+use Rattle.rec_format.specs.declared.status.RecordedRunStatus.TheVariants.{
+  Incomplete,
+  Completed,
+  Cancelled,
+  StressCompleted,
+  StressCancelled,
+  Unknown,
+}
 use Rattle.rec_format.specs.declared.status.RecordedRunStatus.{RecordedRunStatus}
 use Rattle.rec_format.specs.declared.status.RecordedRunStatusFormat.{RecordedRunStatusFormat}
 use Rattle.rec_format.specs.declared.status.StressCompletedRunStats.{StressCompletedRunStats}
-use Rattle.rec_format.specs.StatsForms.{completed_fields, completed_form, AreCompleted, stress_fields, stress_form, AreStress}
+use Rattle.rec_format.specs.StatsForms.{completed_fields, completed_form, AreCompleted}
+use Rattle.rec_format.specs.StatsForms.{stress_fields, stress_form, AreStress}
 use Rattle.rec_format.specs.Status.{status_format, status_of}
 
 -- a status with statistics beside it

@@ -1,6 +1,7 @@
 -- The values and forms of test suites.
 use Rattle.std.specs.List.{AllByRecursion}
-use Rattle.std.specs.Prelude.{List, [], ◌∷◌, Option, Some, None, is_some, if◌then◌else◌, option_and_then, codes}
+use Rattle.std.specs.Prelude.{List, [], ◌∷◌, Option, Some, None, is_some}
+use Rattle.std.specs.Prelude.{if◌then◌else◌, option_and_then, codes}
 use Rattle.serde_json.specs.Data.{Data, string, Items, no_items, item}
 use Rattle.serde_json.specs.Find.{as_object, as_array}
 use Rattle.rec_events.specs.Names.{IsText}
@@ -35,13 +36,17 @@ abbrev pub suites_value : List RerunTestSuiteInfo → Data
 suites_value = list_value suite_value
 
 -- the suites with another, whose binary none of them has
-abbrev pub joined_by : List RerunTestSuiteInfo → RerunTestSuiteInfo → Option (List RerunTestSuiteInfo)
-joined_by suites suite = if is_some (suite_of suite.binary_id suites) then None else Some (put_suite suite suites)
+abbrev pub joined_by : List RerunTestSuiteInfo → RerunTestSuiteInfo
+    → Option (List RerunTestSuiteInfo)
+joined_by suites suite =
+    if is_some (suite_of suite.binary_id suites) then None else Some (put_suite suite suites)
 
 -- the items put as suites, one after another, into those that are there
 abbrev pub suites_from : List RerunTestSuiteInfo → Items → Option (List RerunTestSuiteInfo)
 suites_from suites no_items = Some suites
-suites_from suites (item d ds) = option_and_then (λ s. option_and_then (λ more. suites_from more ds) (joined_by suites s)) (suite_form d)
+suites_from suites (item d ds) =
+    option_and_then (λ s. option_and_then (λ more. suites_from more ds) (joined_by suites s))
+    (suite_form d)
 
 -- suites in any order, but no two of one binary
 unfoldable pub suites_form : Data → Option (List RerunTestSuiteInfo)

@@ -14,7 +14,8 @@ SuitesRise suites = Rise (map (λ suite. suite.binary_id) suites)
 abbrev pub put_suite : RerunTestSuiteInfo → List RerunTestSuiteInfo → List RerunTestSuiteInfo
 put_suite suite [] = suite ∷ []
 put_suite suite (first ∷ more) =
-    match_ordering (slice_cmp nat_cmp suite.binary_id first.binary_id) (suite ∷ first ∷ more) (suite ∷ more) (first ∷ put_suite suite more)
+    match_ordering (slice_cmp nat_cmp suite.binary_id first.binary_id) (suite ∷ first ∷ more)
+    (suite ∷ more) (first ∷ put_suite suite more)
 
 -- the suite of a binary
 abbrev pub suite_of : List ℕ → List RerunTestSuiteInfo → Option RerunTestSuiteInfo

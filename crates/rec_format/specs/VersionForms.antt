@@ -4,7 +4,9 @@ use Rattle.serde_json.specs.Data.{Data}
 use Rattle.serde_json.specs.Find.{as_object}
 use Rattle.rec_forms.specs.Numbers.{u32_form}
 use Rattle.rec_forms.specs.Shape.{◌>>=◌, natural, field, struct, required}
-use Rattle.rec_format.specs.declared.versions.PortableRecordingFormatVersion.{PortableRecordingFormatVersion}
+use Rattle.rec_format.specs.declared.versions.PortableRecordingFormatVersion.{
+  PortableRecordingFormatVersion,
+}
 use Rattle.rec_format.specs.declared.versions.StoreFormatVersion.{StoreFormatVersion}
 
 -- a version number is its number
@@ -12,7 +14,8 @@ abbrev pub IsNumber : ℕ → Type 0
 IsNumber n = n < 2 ^ 32
 
 abbrev pub store_version_value : StoreFormatVersion → Data
-store_version_value v = struct (field (codes "major") (natural v.major) ∷ field (codes "minor") (natural v.minor) ∷ [])
+store_version_value v =
+    struct (field (codes "major") (natural v.major) ∷ field (codes "minor") (natural v.minor) ∷ [])
 
 unfoldable pub store_version_form : Data → Option StoreFormatVersion
 store_version_form d = do
@@ -26,7 +29,8 @@ pub record IsStoreVersion (v : StoreFormatVersion) : Type 0 where
   pub minor : IsNumber v.minor
 
 abbrev pub portable_version_value : PortableRecordingFormatVersion → Data
-portable_version_value v = struct (field (codes "major") (natural v.major) ∷ field (codes "minor") (natural v.minor) ∷ [])
+portable_version_value v =
+    struct (field (codes "major") (natural v.major) ∷ field (codes "minor") (natural v.minor) ∷ [])
 
 unfoldable pub portable_version_form : Data → Option PortableRecordingFormatVersion
 portable_version_form d = do

@@ -83,7 +83,8 @@ impl fmt::Display for StoreVersionIncompatibility {
                 let guidance = GuidanceLine(*guidance);
                 write!(
                     f,
-                    "recording has major version {recording_major}, but this nextest requires version {supported_major}{guidance}"
+                    "recording has major version {recording_major}, but this nextest requires \
+                    version {supported_major}{guidance}"
                 )
             }
             StoreVersionIncompatibility::RecordingTooNew {
@@ -91,7 +92,8 @@ impl fmt::Display for StoreVersionIncompatibility {
                 supported_major,
             } => write!(
                 f,
-                "recording has major version {recording_major}, but this nextest only supports version {supported_major} (upgrade nextest to replay this recording)"
+                "recording has major version {recording_major}, but this nextest only supports \
+                version {supported_major} (upgrade nextest to replay this recording)"
             ),
             StoreVersionIncompatibility::MinorTooNew {
                 recording_minor,
@@ -185,7 +187,8 @@ impl fmt::Display for GuidanceLine {
                 last_nextest_version,
             } => write!(
                 f,
-                "\n(recordings from nextest {last_nextest_version} and earlier are no longer supported; discard this recording and record a new run)"
+                "\n(recordings from nextest {last_nextest_version} and earlier are no longer \
+                supported; discard this recording and record a new run)"
             ),
             TooOldRecordingGuidance::Unknown => Ok(()),
         }

@@ -1,6 +1,7 @@
 //! The names of the parts of a recording, and what the name of a file says of it.
 ghost use Rattle.std.specs.Prelude.{◌≡◌, option_map};
-ghost use Rattle.rec_format.specs.Paths.{dict_of_name, dict_of_path, is_zip_name, is_zip_path, last_name as last_name_of};
+ghost use Rattle.rec_format.specs.Paths.{dict_of_name, dict_of_path, is_zip_name};
+ghost use Rattle.rec_format.specs.Paths.{is_zip_path, last_name as last_name_of};
 
 /// Names the store in a bundle, and in a run's directory.
 pub const STORE_ZIP_FILE_NAME: &str = "store.zip";
@@ -38,8 +39,9 @@ pub enum OutputDict {
 }
 
 impl OutputDict {
-    /// Returns the kind of output that a store's file holds: `None` where the path's first piece isn't
-    /// `out` or nothing is named below it. Otherwise the last piece decides, by `for_output_file_name`.
+    /// Returns the kind of output that a store's file holds: `None` where the path's first piece
+    /// isn't `out` or nothing is named below it. Otherwise the last piece decides,
+    /// by `for_output_file_name`.
     pub fn for_path(path: &str) -> Self
         ensures { result ≡ dict_of_path path.now }
     {
@@ -55,8 +57,8 @@ impl OutputDict {
         }
     }
 
-    /// Returns the kind of output by the end of a file's name: `-stdout` and `-combined` are standard
-    /// output, and `-stderr` is standard error.
+    /// Returns the kind of output by the end of a file's name: `-stdout` and `-combined` are
+    /// standard output, and `-stderr` is standard error.
     #[tactic(auto, using(std::proofs::lemmas::Str::Pattern::ends_text))]
     pub fn for_output_file_name(file_name: &str) -> Self
         ensures { result ≡ dict_of_name file_name.now }
@@ -71,8 +73,8 @@ impl OutputDict {
     }
 }
 
-/// Checks whether the file that a path names has the extension `zip`, in any ASCII case. A name that
-/// begins with its last dot has no extension.
+/// Checks whether the file that a path names has the extension `zip`, in any ASCII case. A name
+/// that begins with its last dot has no extension.
 pub fn has_zip_extension(path: &str) -> bool
     ensures { result ≡ is_zip_path path.now }
 {

@@ -1,6 +1,7 @@
 //! The test suites of a rerun, by their binaries.
 ghost use Rattle.std.specs.Option.{option_copied};
-ghost use Rattle.std.specs.Prelude.{◌≡◌, ◌<◌, List, [], length, map, slice_get, Some, IfOk, OnOk, OnErr, option_map};
+ghost use Rattle.std.specs.Prelude.{◌≡◌, ◌<◌, List, [], length, map, slice_get};
+ghost use Rattle.std.specs.Prelude.{Some, IfOk, OnOk, OnErr, option_map};
 ghost use Rattle.rec_format.specs.SuiteEntries.{suites_in};
 ghost use Rattle.rec_format.specs.Suites.{put_suite, suite_of, SuitesRise};
 

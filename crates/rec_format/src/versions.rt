@@ -1,6 +1,7 @@
 //! The versions of the two formats, and which recording is read by which program.
 ghost use Rattle.std.specs.Prelude.{◌≡◌, ◌≤◌, ◌↔◌, IsOk, option_map};
-ghost use Rattle.rec_format.specs.Versions.{store_readable, portable_readable, guidance, store_version_of, number_of};
+ghost use Rattle.rec_format.specs.Versions.{store_readable, portable_readable};
+ghost use Rattle.rec_format.specs.Versions.{guidance, store_version_of, number_of};
 
 use crate::{
     PortableRecordingVersionIncompatibility, Release, StoreVersionIncompatibility,
@@ -419,9 +420,9 @@ impl StoreFormatMajorVersion {
     }
 }
 
-/// Returns the store version that a new recording gets: that of the text, or the supported one where
-/// none is given. A text is two numbers of one or more decimal digits that fit 32 bits, with a dot
-/// between them; for any other the answer is `None`.
+/// Returns the store version that a new recording gets: that of the text, or the supported one
+/// where none is given. A text is two numbers of one or more decimal digits that fit 32 bits, with
+/// a dot between them; for any other the answer is `None`.
 pub fn store_format_version_for(text: Option<&str>) -> Option<StoreFormatVersion>
     ensures { result ≡ store_version_of (option_map (λ t. t.now) text.entry) }
 {

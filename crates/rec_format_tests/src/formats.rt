@@ -35,22 +35,29 @@ const STORES: [(u32, u32, &str); 8] = [
     (
         4,
         0,
-        "recording has major version 4, but this nextest only supports version 3 (upgrade nextest to replay this recording)",
+        "recording has major version 4, but this nextest only supports version 3 (upgrade \
+        nextest to replay this recording)",
     ),
     (
         2,
         0,
-        "recording has major version 2, but this nextest requires version 3\n(recordings from nextest 0.9.149 and earlier are no longer supported; discard this recording and record a new run)",
+        "recording has major version 2, but this nextest requires version 3\n\
+        (recordings from nextest 0.9.149 and earlier are no longer supported; discard this \
+        recording and record a new run)",
     ),
     (
         2,
         7,
-        "recording has major version 2, but this nextest requires version 3\n(recordings from nextest 0.9.149 and earlier are no longer supported; discard this recording and record a new run)",
+        "recording has major version 2, but this nextest requires version 3\n\
+        (recordings from nextest 0.9.149 and earlier are no longer supported; discard this \
+        recording and record a new run)",
     ),
     (
         1,
         0,
-        "recording has major version 1, but this nextest requires version 3\n(recordings from nextest 0.9.130 and earlier are no longer supported; discard this recording and record a new run)",
+        "recording has major version 1, but this nextest requires version 3\n\
+        (recordings from nextest 0.9.130 and earlier are no longer supported; discard this \
+        recording and record a new run)",
     ),
     (
         0,
@@ -96,8 +103,8 @@ fn versions_that_are_refused(rt: HostRuntime) -> Result<(), Fail> {
     Ok(())
 }
 
-const OLDER: &str =
-    "recording has major version 2, but this nextest requires version 3\n(use nextest <= 0.9.149 to replay this recording)";
+const OLDER: &str = "recording has major version 2, but this nextest requires version 3\n\
+    (use nextest <= 0.9.149 to replay this recording)";
 
 // What stands in the way of a store that an older program reads.
 fn older_store(alloc: Global) -> Result<String, AllocError> {
@@ -193,23 +200,78 @@ fn names_of_files(rt: HostRuntime) {
     }
 }
 
-const HEAD: &str =
-    r#"{"run-id":"550e8400-e29b-41d4-a716-446655440000","nextest-version":"0.9.111","started-at":{"secs":1000,"nanos":0,"offset":0},"last-written-at":{"secs":1011,"nanos":0,"offset":0},"status":{"status":"incomplete"},"cargo-metadata":"{}","test-list":{"suites":{}},"record-opts":{"run-mode":"test"},"build-scope":{"build-kind":"cargo","scope":{}}}"#;
+const HEAD: &str = concat!(
+    r#"{"run-id":"550e8400-e29b-41d4-a716-446655440000","nextest-version":"0.9.111","#,
+    r#""started-at":{"secs":1000,"nanos":0,"offset":0},"#,
+    r#""last-written-at":{"secs":1011,"nanos":0,"offset":0},"#,
+    r#""status":{"status":"incomplete"},"cargo-metadata":"{}","test-list":{"suites":{}},"#,
+    r#""record-opts":{"run-mode":"test"},"build-scope":{"build-kind":"cargo","scope":{}}}"#
+);
 
-const PLAIN: &str =
-    r#"{"build-scope":{"build-kind":"cargo","scope":{"features":{"all-features":false,"features":[],"no-default-features":false},"packages":{"exclude":[],"specs":[],"workspace":false},"targets":{"all-targets":false,"benches":{"all":false,"names":[]},"bins":{"all":false,"names":[]},"examples":{"all":false,"names":[]},"lib":false,"tests":{"all":false,"names":[]}}}},"cargo-metadata":"{}","cli-args":[],"env-vars":{},"last-written-at":{"nanos":0,"offset":0,"secs":1011},"nextest-version":"0.9.111","record-opts":{"run-mode":"test"},"run-id":"550e8400-e29b-41d4-a716-446655440000","started-at":{"nanos":0,"offset":0,"secs":1000},"status":{"status":"incomplete"},"test-list":{"suites":{}}}"#;
+const PLAIN: &str = concat!(
+    r#"{"build-scope":{"build-kind":"cargo","#,
+    r#""scope":{"features":{"all-features":false,"features":[],"no-default-features":false},"#,
+    r#""packages":{"exclude":[],"specs":[],"workspace":false},"#,
+    r#""targets":{"all-targets":false,"benches":{"all":false,"names":[]},"#,
+    r#""bins":{"all":false,"names":[]},"examples":{"all":false,"names":[]},"lib":false,"#,
+    r#""tests":{"all":false,"names":[]}}}},"cargo-metadata":"{}","cli-args":[],"#,
+    r#""env-vars":{},"last-written-at":{"nanos":0,"offset":0,"secs":1011},"#,
+    r#""nextest-version":"0.9.111","record-opts":{"run-mode":"test"},"#,
+    r#""run-id":"550e8400-e29b-41d4-a716-446655440000","#,
+    r#""started-at":{"nanos":0,"offset":0,"secs":1000},"status":{"status":"incomplete"},"#,
+    r#""test-list":{"suites":{}}}"#
+);
 
-const FIELDS: &str =
-    r#""duration":{"secs":11,"nanos":5},"cli-args":["b","a"],"env-vars":{"Z":"2","A":"1"},"parent-run-id":"650E8400E29B41D4A716446655440000","ignored":1e2,"status":"#;
+const FIELDS: &str = concat!(
+    r#""duration":{"secs":11,"nanos":5},"cli-args":["b","a"],"env-vars":{"Z":"2","A":"1"},"#,
+    r#""parent-run-id":"650E8400E29B41D4A716446655440000","ignored":1e2,"status":"#
+);
 
-const WITH_FIELDS: &str =
-    r#"{"build-scope":{"build-kind":"cargo","scope":{"features":{"all-features":false,"features":[],"no-default-features":false},"packages":{"exclude":[],"specs":[],"workspace":false},"targets":{"all-targets":false,"benches":{"all":false,"names":[]},"bins":{"all":false,"names":[]},"examples":{"all":false,"names":[]},"lib":false,"tests":{"all":false,"names":[]}}}},"cargo-metadata":"{}","cli-args":["b","a"],"duration":{"nanos":5,"secs":11},"env-vars":{"A":"1","Z":"2"},"last-written-at":{"nanos":0,"offset":0,"secs":1011},"nextest-version":"0.9.111","parent-run-id":"650e8400-e29b-41d4-a716-446655440000","record-opts":{"run-mode":"test"},"run-id":"550e8400-e29b-41d4-a716-446655440000","started-at":{"nanos":0,"offset":0,"secs":1000},"status":{"status":"incomplete"},"test-list":{"suites":{}}}"#;
+const WITH_FIELDS: &str = concat!(
+    r#"{"build-scope":{"build-kind":"cargo","#,
+    r#""scope":{"features":{"all-features":false,"features":[],"no-default-features":false},"#,
+    r#""packages":{"exclude":[],"specs":[],"workspace":false},"#,
+    r#""targets":{"all-targets":false,"benches":{"all":false,"names":[]},"#,
+    r#""bins":{"all":false,"names":[]},"examples":{"all":false,"names":[]},"lib":false,"#,
+    r#""tests":{"all":false,"names":[]}}}},"cargo-metadata":"{}","cli-args":["b","a"],"#,
+    r#""duration":{"nanos":5,"secs":11},"env-vars":{"A":"1","Z":"2"},"#,
+    r#""last-written-at":{"nanos":0,"offset":0,"secs":1011},"nextest-version":"0.9.111","#,
+    r#""parent-run-id":"650e8400-e29b-41d4-a716-446655440000","#,
+    r#""record-opts":{"run-mode":"test"},"run-id":"550e8400-e29b-41d4-a716-446655440000","#,
+    r#""started-at":{"nanos":0,"offset":0,"secs":1000},"status":{"status":"incomplete"},"#,
+    r#""test-list":{"suites":{}}}"#
+);
 
-const RERUN: &str =
-    r#""rerun-info":{"parent-run-id":"650e8400-e29b-41d4-a716-446655440000","root-info":{"run-id":"750e8400-e29b-41d4-a716-446655440000","build-scope":{"build-kind":"reused","scope":{}}},"test-suites":[{"binary_id":"b","passing":[],"outstanding":["t"]},{"binary_id":"a","passing":["u","t","u"],"outstanding":[]}]},"status":{"#;
+const RERUN: &str = concat!(
+    r#""rerun-info":{"parent-run-id":"650e8400-e29b-41d4-a716-446655440000","#,
+    r#""root-info":{"run-id":"750e8400-e29b-41d4-a716-446655440000","#,
+    r#""build-scope":{"build-kind":"reused","scope":{}}},"#,
+    r#""test-suites":[{"binary_id":"b","passing":[],"outstanding":["t"]},"#,
+    r#"{"binary_id":"a","passing":["u","t","u"],"outstanding":[]}]},"status":{"#
+);
 
-const WITH_RERUN: &str =
-    r#"{"build-scope":{"build-kind":"cargo","scope":{"features":{"all-features":false,"features":[],"no-default-features":false},"packages":{"exclude":[],"specs":[],"workspace":false},"targets":{"all-targets":false,"benches":{"all":false,"names":[]},"bins":{"all":false,"names":[]},"examples":{"all":false,"names":[]},"lib":false,"tests":{"all":false,"names":[]}}}},"cargo-metadata":"{}","cli-args":[],"env-vars":{},"last-written-at":{"nanos":0,"offset":0,"secs":1011},"nextest-version":"0.9.111","record-opts":{"run-mode":"test"},"rerun-info":{"parent-run-id":"650e8400-e29b-41d4-a716-446655440000","root-info":{"build-scope":{"build-kind":"reused","scope":{"features":{"all-features":false,"features":[],"no-default-features":false},"packages":{"exclude":[],"specs":[],"workspace":false},"targets":{"all-targets":false,"benches":{"all":false,"names":[]},"bins":{"all":false,"names":[]},"examples":{"all":false,"names":[]},"lib":false,"tests":{"all":false,"names":[]}}}},"run-id":"750e8400-e29b-41d4-a716-446655440000"},"test-suites":[{"binary_id":"a","outstanding":[],"passing":["t","u"]},{"binary_id":"b","outstanding":["t"],"passing":[]}]},"run-id":"550e8400-e29b-41d4-a716-446655440000","started-at":{"nanos":0,"offset":0,"secs":1000},"status":{"status":"incomplete"},"test-list":{"suites":{}}}"#;
+const WITH_RERUN: &str = concat!(
+    r#"{"build-scope":{"build-kind":"cargo","#,
+    r#""scope":{"features":{"all-features":false,"features":[],"no-default-features":false},"#,
+    r#""packages":{"exclude":[],"specs":[],"workspace":false},"#,
+    r#""targets":{"all-targets":false,"benches":{"all":false,"names":[]},"#,
+    r#""bins":{"all":false,"names":[]},"examples":{"all":false,"names":[]},"lib":false,"#,
+    r#""tests":{"all":false,"names":[]}}}},"cargo-metadata":"{}","cli-args":[],"#,
+    r#""env-vars":{},"last-written-at":{"nanos":0,"offset":0,"secs":1011},"#,
+    r#""nextest-version":"0.9.111","record-opts":{"run-mode":"test"},"#,
+    r#""rerun-info":{"parent-run-id":"650e8400-e29b-41d4-a716-446655440000","#,
+    r#""root-info":{"build-scope":{"build-kind":"reused","#,
+    r#""scope":{"features":{"all-features":false,"features":[],"no-default-features":false},"#,
+    r#""packages":{"exclude":[],"specs":[],"workspace":false},"#,
+    r#""targets":{"all-targets":false,"benches":{"all":false,"names":[]},"#,
+    r#""bins":{"all":false,"names":[]},"examples":{"all":false,"names":[]},"lib":false,"#,
+    r#""tests":{"all":false,"names":[]}}}},"run-id":"750e8400-e29b-41d4-a716-446655440000"},"#,
+    r#""test-suites":[{"binary_id":"a","outstanding":[],"passing":["t","u"]},"#,
+    r#"{"binary_id":"b","outstanding":["t"],"passing":[]}]},"#,
+    r#""run-id":"550e8400-e29b-41d4-a716-446655440000","#,
+    r#""started-at":{"nanos":0,"offset":0,"secs":1000},"status":{"status":"incomplete"},"#,
+    r#""test-list":{"suites":{}}}"#
+);
 
 #[test]
 fn heads(rt: HostRuntime) -> Result<(), Fail> {
@@ -228,8 +290,14 @@ fn heads(rt: HostRuntime) -> Result<(), Fail> {
 // A text, and what it is written as once it was read.
 const STATS: [(&str, &str); 5] = [
     (
-        r#"{"status":"failed","initial-run-count":18446744073709551615,"passed":2,"failed":1,"exit-code":-2147483648}"#,
-        r#"{"exit-code":-2147483648,"failed":1,"initial-run-count":18446744073709551615,"passed":2}"#,
+        concat!(
+            r#"{"status":"failed","initial-run-count":18446744073709551615,"passed":2,"#,
+            r#""failed":1,"exit-code":-2147483648}"#
+        ),
+        concat!(
+            r#"{"exit-code":-2147483648,"failed":1,"initial-run-count":18446744073709551615,"#,
+            r#""passed":2}"#
+        ),
     ),
     (
         r#"{"initial-run-count":3,"passed":2,"failed":1}"#,
@@ -252,7 +320,10 @@ const STRESS_STATS: [(&str, &str); 4] = [
         r#"{"exit-code":100,"failed-count":1,"initial-iteration-count":5,"success-count":4}"#,
     ),
     (
-        r#"{"initial-iteration-count":null,"success-count":4294967295,"failed-count":0,"exit-code":0}"#,
+        concat!(
+            r#"{"initial-iteration-count":null,"success-count":4294967295,"failed-count":0,"#,
+            r#""exit-code":0}"#
+        ),
         r#"{"exit-code":0,"failed-count":0,"success-count":4294967295}"#,
     ),
     (
@@ -280,11 +351,26 @@ fn statistics(rt: HostRuntime) {
 }
 
 // The information on a run, and what it is written as once it was read.
-const INFO: &str =
-    r#"{"run-id":"550e8400-e29b-41d4-a716-446655440000","store-format-version":{"major":3,"minor":0},"nextest-version":"0.9.111","started-at":{"secs":1000,"nanos":0,"offset":0},"last-written-at":{"secs":1011,"nanos":0,"offset":0},"sizes":{"log":{"compressed":1,"uncompressed":2},"store":{"compressed":4,"uncompressed":5,"entries":6}},"status":{"status":"completed","initial-run-count":1,"passed":1,"failed":0,"exit-code":0}}"#;
+const INFO: &str = concat!(
+    r#"{"run-id":"550e8400-e29b-41d4-a716-446655440000","#,
+    r#""store-format-version":{"major":3,"minor":0},"nextest-version":"0.9.111","#,
+    r#""started-at":{"secs":1000,"nanos":0,"offset":0},"#,
+    r#""last-written-at":{"secs":1011,"nanos":0,"offset":0},"#,
+    r#""sizes":{"log":{"compressed":1,"uncompressed":2},"#,
+    r#""store":{"compressed":4,"uncompressed":5,"entries":6}},"#,
+    r#""status":{"status":"completed","initial-run-count":1,"passed":1,"failed":0,"#,
+    r#""exit-code":0}}"#
+);
 
-const WRITTEN_INFO: &str =
-    r#"{"cli-args":[],"env-vars":{},"last-written-at":{"nanos":0,"offset":0,"secs":1011},"nextest-version":"0.9.111","run-id":"550e8400-e29b-41d4-a716-446655440000","sizes":{"log":{"compressed":1,"entries":0,"uncompressed":2},"store":{"compressed":4,"entries":6,"uncompressed":5}},"started-at":{"nanos":0,"offset":0,"secs":1000},"status":{"exit-code":0,"failed":0,"initial-run-count":1,"passed":1,"status":"completed"},"store-format-version":{"major":3,"minor":0}}"#;
+const WRITTEN_INFO: &str = concat!(
+    r#"{"cli-args":[],"env-vars":{},"last-written-at":{"nanos":0,"offset":0,"secs":1011},"#,
+    r#""nextest-version":"0.9.111","run-id":"550e8400-e29b-41d4-a716-446655440000","#,
+    r#""sizes":{"log":{"compressed":1,"entries":0,"uncompressed":2},"#,
+    r#""store":{"compressed":4,"entries":6,"uncompressed":5}},"#,
+    r#""started-at":{"nanos":0,"offset":0,"secs":1000},"#,
+    r#""status":{"exit-code":0,"failed":0,"initial-run-count":1,"passed":1,"#,
+    r#""status":"completed"},"store-format-version":{"major":3,"minor":0}}"#
+);
 
 #[test]
 fn run_info(rt: HostRuntime) -> Result<(), Fail> {

@@ -4,7 +4,8 @@ use std::alloc::Global;
 use std::process::Abort;
 use std::test::Fail;
 
-/// Whether an item is written so. It ends here, since one that is held over another exit is dear to prove.
+/// Whether an item is written so. It ends here, since one that is held over another exit is dear to
+/// prove.
 fn is_written<T: Form + Drop>(alloc: Global, item: T, want: &str) -> bool {
     let bytes = write_text(alloc, &item);
     drop(item);

@@ -42,12 +42,29 @@ fn permissions(rt: HostRuntime) -> Result<(), Fail> {
 
 // An older list of one run, whose store is older too, with members that nobody reads.
 fn older_list() -> &'static str {
-    r#"{"format-version":1,"more":true,"runs":[{"run-id":"550e8400-e29b-41d4-a716-446655440000","store-format-version":2,"store-format-minor-version":1,"nextest-version":"0.9.111","started-at":{"secs":1000,"nanos":0,"offset":0},"last-written-at":{"secs":1011,"nanos":0,"offset":0},"sizes":{"log":{"compressed":1,"uncompressed":2},"store":{"compressed":4,"uncompressed":5,"entries":6}},"status":{"status":"incomplete"},"more":[]}]}"#
+    concat!(
+        r#"{"format-version":1,"more":true,"#,
+        r#""runs":[{"run-id":"550e8400-e29b-41d4-a716-446655440000","store-format-version":2,"#,
+        r#""store-format-minor-version":1,"nextest-version":"0.9.111","#,
+        r#""started-at":{"secs":1000,"nanos":0,"offset":0},"#,
+        r#""last-written-at":{"secs":1011,"nanos":0,"offset":0},"#,
+        r#""sizes":{"log":{"compressed":1,"uncompressed":2},"#,
+        r#""store":{"compressed":4,"uncompressed":5,"entries":6}},"#,
+        r#""status":{"status":"incomplete"},"more":[]}]}"#
+    )
 }
 
 // The list as it is written back: its version stays.
 fn written_older_list() -> &'static str {
-    r#"{"format-version":1,"runs":[{"cli-args":[],"env-vars":{},"last-written-at":{"nanos":0,"offset":0,"secs":1011},"nextest-version":"0.9.111","run-id":"550e8400-e29b-41d4-a716-446655440000","sizes":{"log":{"compressed":1,"entries":0,"uncompressed":2},"store":{"compressed":4,"entries":6,"uncompressed":5}},"started-at":{"nanos":0,"offset":0,"secs":1000},"status":{"status":"incomplete"},"store-format-minor-version":1,"store-format-version":2}]}"#
+    concat!(
+        r#"{"format-version":1,"runs":[{"cli-args":[],"env-vars":{},"#,
+        r#""last-written-at":{"nanos":0,"offset":0,"secs":1011},"nextest-version":"0.9.111","#,
+        r#""run-id":"550e8400-e29b-41d4-a716-446655440000","#,
+        r#""sizes":{"log":{"compressed":1,"entries":0,"uncompressed":2},"#,
+        r#""store":{"compressed":4,"entries":6,"uncompressed":5}},"#,
+        r#""started-at":{"nanos":0,"offset":0,"secs":1000},"status":{"status":"incomplete"},"#,
+        r#""store-format-minor-version":1,"store-format-version":2}]}"#
+    )
 }
 
 #[test]

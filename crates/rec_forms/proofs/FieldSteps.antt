@@ -6,7 +6,8 @@ use Rattle.rec_forms.specs.Gives.{Refuses}
 use Rattle.rec_forms.specs.Several.{three, four}
 use Rattle.rec_forms.specs.Shape.{◌>>=◌}
 
-pub three_refused : {A B C T : Type 0} (e : FromValueError) (a : Option A) (b : Option B) (c : Option C) (k : A → B → C → Option T)
+pub three_refused : {A B C T : Type 0} (e : FromValueError) (a : Option A) (b : Option B)
+    (c : Option C) (k : A → B → C → Option T)
     → Refuses e (three a b c) → Refuses e (a >>= λ x. b >>= λ y. c >>= λ z. k x y z)
 three_refused OutOfMemory a b c k h = tt
 three_refused NotAValue None b c k h = refl
@@ -14,7 +15,8 @@ three_refused NotAValue (Some x) None c k h = refl
 three_refused NotAValue (Some x) (Some y) None k h = refl
 three_refused NotAValue (Some x) (Some y) (Some z) k h = absurd cc
 
-pub four_refused : {A B C D T : Type 0} (e : FromValueError) (a : Option A) (b : Option B) (c : Option C) (d : Option D) (k : A → B → C → D → Option T)
+pub four_refused : {A B C D T : Type 0} (e : FromValueError) (a : Option A) (b : Option B)
+    (c : Option C) (d : Option D) (k : A → B → C → D → Option T)
     → Refuses e (four a b c d) → Refuses e (a >>= λ x. b >>= λ y. c >>= λ z. d >>= λ u. k x y z u)
 four_refused OutOfMemory a b c d k h = tt
 four_refused NotAValue None b c d k h = refl

@@ -1,6 +1,9 @@
--- The values that a JSON text gives back: texts and keys are UTF-8, numbers are in range, and the keys of an object ascend.
+-- The values that a JSON text gives back: texts and keys are UTF-8, numbers are in range, and the
+-- keys of an object ascend.
 use Rattle.std.specs.Prelude.{ℕ, ◌<◌, ◌^◌, pos, negsuc, List, [], ◌∷◌, ⊤}
-use Rattle.serde_json.specs.Data.{Num, unsigned, negative, float, Data, null, boolean, number, string, array, object, Items, no_items, item, Members, no_members, member}
+use Rattle.serde_json.specs.Data.{Num, unsigned, negative, float, Data, null}
+use Rattle.serde_json.specs.Data.{boolean, number, string, array, object, Items}
+use Rattle.serde_json.specs.Data.{no_items, item, Members, no_members, member}
 use Rattle.rec_events.specs.Names.{IsText, AreTexts, Rise}
 
 -- an integer of 64 bits; only what is below 0 is written as negative
@@ -21,7 +24,8 @@ abbrev mutual
   IsCanonical (number n) = IsInRange n
   IsCanonical (string s) = IsText s
   IsCanonical (array ds) = AreCanonical ds
-  IsCanonical (object ms) = AreTexts (member_keys ms) × Rise (member_keys ms) × ValuesAreCanonical ms
+  IsCanonical (object ms) =
+      AreTexts (member_keys ms) × Rise (member_keys ms) × ValuesAreCanonical ms
 
   pub AreCanonical : Items → Type 0
   AreCanonical no_items = ⊤

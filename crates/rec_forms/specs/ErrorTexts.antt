@@ -11,7 +11,8 @@ use Rattle.rec_forms.specs.Shape.{◌>>=◌, natural, field, struct, required, t
 -- ErrorSummary
 abbrev pub error_summary_value : ErrorSummary → Data
 error_summary_value s =
-    struct (field (codes "short-message") (string s.short_message) ∷ field (codes "description") (string s.description) ∷ [])
+    struct (field (codes "short-message") (string s.short_message)
+    ∷ field (codes "description") (string s.description) ∷ [])
 
 unfoldable pub error_summary_form : Data → Option ErrorSummary
 error_summary_form d = do
@@ -26,7 +27,8 @@ pub record IsErrorSummary (s : ErrorSummary) : Type 0 where
 
 -- OutputErrorSlice
 abbrev pub error_slice_value : OutputErrorSlice → Data
-error_slice_value s = struct (field (codes "slice") (string s.slice) ∷ field (codes "start") (natural s.start) ∷ [])
+error_slice_value s =
+    struct (field (codes "slice") (string s.slice) ∷ field (codes "start") (natural s.start) ∷ [])
 
 unfoldable pub error_slice_form : Data → Option OutputErrorSlice
 error_slice_form d = do

@@ -13,7 +13,9 @@ use Rattle.rec_forms.specs.Shape.{◌>>=◌, natural, field, optional, struct, r
 
 -- OwnedTestInstanceId
 abbrev pub test_instance_value : OwnedTestInstanceId → Data
-test_instance_value t = struct (field (codes "binary-id") (string t.binary_id) ∷ field (codes "test-name") (string t.test_name) ∷ [])
+test_instance_value t =
+    struct (field (codes "binary-id") (string t.binary_id)
+    ∷ field (codes "test-name") (string t.test_name) ∷ [])
 
 unfoldable pub test_instance_form : Data → Option OwnedTestInstanceId
 test_instance_form d = do
@@ -49,7 +51,9 @@ pub record IsSlotAssignment (a : TestSlotAssignment) : Type 0 where
 
 -- RetryData
 abbrev pub retry_data_value : RetryData → Data
-retry_data_value r = struct (field (codes "attempt") (natural r.attempt) ∷ field (codes "total-attempts") (natural r.total_attempts) ∷ [])
+retry_data_value r =
+    struct (field (codes "attempt") (natural r.attempt)
+    ∷ field (codes "total-attempts") (natural r.total_attempts) ∷ [])
 
 unfoldable pub retry_data_form : Data → Option RetryData
 retry_data_form d = do
@@ -64,7 +68,9 @@ pub record IsRetryData (r : RetryData) : Type 0 where
 
 -- StressIndexSummary
 abbrev pub stress_index_value : StressIndexSummary → Data
-stress_index_value s = struct (field (codes "current") (natural s.current) ∷ optional (codes "total") natural s.total ∷ [])
+stress_index_value s =
+    struct
+    (field (codes "current") (natural s.current) ∷ optional (codes "total") natural s.total ∷ [])
 
 unfoldable pub stress_index_form : Data → Option StressIndexSummary
 stress_index_form d = do

@@ -1,5 +1,6 @@
 -- Lists, and the values of their items.
-use Rattle.std.specs.Prelude.{List, [], ◌∷◌, length, Option, Some, option_map, option_and_then, nat_lt}
+use Rattle.std.specs.Prelude.{List, [], ◌∷◌, length, Option, Some}
+use Rattle.std.specs.Prelude.{option_map, option_and_then, nat_lt}
 use Rattle.serde_json.specs.Data.{Data, Items, no_items, item}
 use Rattle.serde_json.specs.Find.{as_array}
 pub use Rattle.rec_json.specs.Fields.{list_value}

@@ -1,6 +1,7 @@
 -- The values and forms of maps from texts.
 use Rattle.std.specs.List.{AllByRecursion}
-use Rattle.std.specs.Prelude.{ℕ, List, [], ◌∷◌, map, Option, Some, None, option_and_then, if◌then◌else◌}
+use Rattle.std.specs.Prelude.{ℕ, List, [], ◌∷◌, map, Option, Some}
+use Rattle.std.specs.Prelude.{None, option_and_then, if◌then◌else◌}
 use Rattle.std.specs.Str.{is_utf8}
 use Rattle.serde_json.specs.Data.{Data, Members, no_members, member}
 use Rattle.serde_json.specs.Find.{as_object}
@@ -17,9 +18,11 @@ abbrev pub map_value : {V : Type 0} → (V → Data) → List (List ℕ × V) �
 map_value value ps = struct (map_fields value ps)
 
 -- the members put as pairs, one after another, into those that are there
-abbrev pub pairs_form : {V : Type 0} → (Data → Option V) → List (List ℕ × V) → Members → Option (List (List ℕ × V))
+abbrev pub pairs_form : {V : Type 0} → (Data → Option V) → List (List ℕ × V) → Members
+    → Option (List (List ℕ × V))
 pairs_form form ps no_members = Some ps
-pairs_form form ps (member k d ms) = if is_utf8 k then option_and_then (λ x. pairs_form form (put_pair k x ps) ms) (form d) else None
+pairs_form form ps (member k d ms) =
+    if is_utf8 k then option_and_then (λ x. pairs_form form (put_pair k x ps) ms) (form d) else None
 
 abbrev pub map_form : {V : Type 0} → (Data → Option V) → Data → Option (List (List ℕ × V))
 map_form form d = option_and_then (pairs_form form []) (as_object d)

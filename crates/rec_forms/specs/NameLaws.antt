@@ -28,18 +28,28 @@ merged_rising (k ∷ ks) done h =
 
 pub names_back : (ks : List (List ℕ)) → AreNames ks → names_form (names_value ks) ≡ Some ks
 unfolding names_form
-names_back ks h = rw (list_back IsText string text_of text_back ks h.texts, merged_rising ks [] h.rise)
+names_back ks h =
+    rw (list_back IsText string text_of text_back ks h.texts, merged_rising ks [] h.rise)
 
 pub names_writable : (ks : List (List ℕ)) → AreNames ks → IsWritable 1 (names_value ks)
 names_writable ks h = list_writable string string_writable ks h.texts
 
 -- ---- what is read is well-formed
 
-merged_well_formed : (ks done : List (List ℕ)) → AreTexts ks → AreNames done → AreNames (merged done ks)
+merged_well_formed : (ks done : List (List ℕ)) → AreTexts ks → AreNames done
+    → AreNames (merged done ks)
 merged_well_formed [] done texts h = h
 merged_well_formed (k ∷ ks) done texts h =
-    merged_well_formed ks (with_name done k) texts.1 (record { texts = AreTexts-with_name done k h.texts texts.0; rise = Rise-with_name done k h.rise })
+    merged_well_formed ks (with_name done k) texts.1 (record {
+      texts = AreTexts-with_name done k h.texts texts.0;
+      rise = Rise-with_name done k h.rise;
+    })
 
 pub names_well_formed : GivesWellFormed AreNames names_form
 unfolding names_form IsStrictlySortedBy
-names_well_formed = record { each = λ d. map_holds (merged []) (list_form text_of d) ((list_well_formed text_of text_well_formed).each d) (λ ks texts. merged_well_formed ks [] texts (record { texts = tt; rise = tt })) }
+names_well_formed = record {
+  each =
+      λ d. map_holds (merged []) (list_form text_of d)
+      ((list_well_formed text_of text_well_formed).each d)
+      (λ ks texts. merged_well_formed ks [] texts (record { texts = tt; rise = tt }));
+}

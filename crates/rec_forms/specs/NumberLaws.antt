@@ -3,14 +3,16 @@ use Rattle.std.proofs.Common.{arith}
 use Rattle.std.proofs.lemmas.Bool.Decides.{nat_tests}
 use Rattle.std.proofs.lemmas.Int.{ints}
 use Rattle.std.specs.Int.{w32, w64}
-use Rattle.std.specs.Prelude.{◌≡◌, ℕ, ◌<◌, ◌^◌, nat_lt, ℤ, pos, negsuc, true, List, Some, option_and_then, FitsSigned}
+use Rattle.std.specs.Prelude.{◌≡◌, ℕ, ◌<◌, ◌^◌, nat_lt, ℤ, pos, negsuc}
+use Rattle.std.specs.Prelude.{true, List, Some, option_and_then, FitsSigned}
 use Rattle.std.specs.Str.{is_utf8}
 use Rattle.serde_json.specs.Data.{string}
 use Rattle.serde_json.specs.Find.{as_number, as_str, as_u64, as_i64}
 use Rattle.rec_events.specs.Names.{IsText}
 use Rattle.rec_forms.specs.GivesWellFormed.{GivesWellFormed}
 use Rattle.rec_forms.specs.Numbers.{u32_form, u64_form, i32_form, i64_form, count_form, IsCount}
-use Rattle.rec_forms.specs.Shape.{only, natural, natural_below, integer, fits, integer_within, text_of}
+use Rattle.rec_forms.specs.Shape.{only, natural, natural_below, integer}
+use Rattle.rec_forms.specs.Shape.{fits, integer_within, text_of}
 use Rattle.rec_forms.specs.WellFormedLaws.{anything, and_then_holds, only_holds}
 use Rattle.rec_forms.specs.Writable.{IsWritable, natural_writable, integer_writable}
 
@@ -58,7 +60,8 @@ below_limit n limit h = grind (arith, nat_tests)
 below_well_formed : (limit : ℕ) → GivesWellFormed (λ n. n < limit) (natural_below limit)
 below_well_formed limit = record {
   each = λ d.
-      and_then_holds (λ n. only (nat_lt n limit) n) (option_and_then as_u64 (as_number d)) (anything (option_and_then as_u64 (as_number d))) (λ n _.
+      and_then_holds (λ n. only (nat_lt n limit) n) (option_and_then as_u64 (as_number d))
+      (anything (option_and_then as_u64 (as_number d))) (λ n _.
       only_holds (nat_lt n limit) n (below_limit n limit));
 }
 
@@ -76,10 +79,12 @@ fits_32 : (z : ℤ) → fits (2 ^ 31) z ≡ true → FitsSigned w32 z
 fits_32 (pos n) h = grind (arith, nat_tests, ints)
 fits_32 (negsuc n) h = grind (arith, nat_tests, ints)
 
-within_well_formed : (P : ℤ → Type 0) (limit : ℕ) → ((z : ℤ) → fits limit z ≡ true → P z) → GivesWellFormed P (integer_within limit)
+within_well_formed : (P : ℤ → Type 0) (limit : ℕ) → ((z : ℤ) → fits limit z ≡ true → P z)
+    → GivesWellFormed P (integer_within limit)
 within_well_formed P limit within = record {
   each = λ d.
-      and_then_holds (λ z. only (fits limit z) z) (option_and_then as_i64 (as_number d)) (anything (option_and_then as_i64 (as_number d))) (λ z _.
+      and_then_holds (λ z. only (fits limit z) z) (option_and_then as_i64 (as_number d))
+      (anything (option_and_then as_i64 (as_number d))) (λ z _.
       only_holds (fits limit z) z (within z));
 }
 
@@ -99,5 +104,6 @@ count_well_formed = record {
 pub text_well_formed : GivesWellFormed IsText text_of
 text_well_formed = record {
   each = λ d.
-      and_then_holds (λ s. only (is_utf8 s) s) (as_str d) (anything (as_str d)) (λ s _. only_holds (is_utf8 s) s (λ passed. passed));
+      and_then_holds (λ s. only (is_utf8 s) s) (as_str d) (anything (as_str d))
+      (λ s _. only_holds (is_utf8 s) s (λ passed. passed));
 }

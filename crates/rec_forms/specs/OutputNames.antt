@@ -18,7 +18,8 @@ abbrev pub output_kind_value : OutputKind → Data
 output_kind_value x = string (output_kind_name x)
 
 abbrev pub output_kinds : List (List ℕ × OutputKind)
-output_kinds = (codes "stdout", Stdout) ∷ (codes "stderr", Stderr) ∷ (codes "combined", Combined) ∷ []
+output_kinds =
+    (codes "stdout", Stdout) ∷ (codes "stderr", Stderr) ∷ (codes "combined", Combined) ∷ []
 
 unfoldable pub output_kind_form : Data → Option OutputKind
 output_kind_form d = option_and_then (named output_kinds) (as_str d)

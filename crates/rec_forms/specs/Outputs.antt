@@ -1,5 +1,6 @@
 -- The values and forms of outputs: of the bytes of one, and of those in a store.
-use Rattle.std.specs.Prelude.{ℕ, ◌^◌, ◌<◌, IfSome, List, [], ◌∷◌, Option, Some, option_map, option_and_then, codes}
+use Rattle.std.specs.Prelude.{ℕ, ◌^◌, ◌<◌, IfSome, List, [], ◌∷◌, Option}
+use Rattle.std.specs.Prelude.{Some, option_map, option_and_then, codes}
 use Rattle.std.specs.Result.{result_ok}
 use Rattle.hex.specs.Hex.{encode_lower, decode_of}
 use Rattle.serde_json.specs.Data.{Data, string}
@@ -10,7 +11,8 @@ use Rattle.rec_events.specs.declared.outputs.ZipStoreOutputDescription.TheVarian
 use Rattle.rec_events.specs.declared.outputs.ZipStoreOutputDescription.{ZipStoreOutputDescription}
 use Rattle.rec_forms.specs.Numbers.{u64_form}
 use Rattle.rec_forms.specs.OutputNames.{file_name_value, file_name_form, IsFileName}
-use Rattle.rec_forms.specs.Shape.{◌>>=◌, natural, field, optional, struct, required, maybe, tagged, variant}
+use Rattle.rec_forms.specs.Shape.{◌>>=◌, natural, field, optional, struct}
+use Rattle.rec_forms.specs.Shape.{required, maybe, tagged, variant}
 
 -- ChildSingleOutput: two hexadecimal digits a byte, read in either case
 abbrev pub output_bytes_value : List ℕ → Data
@@ -24,7 +26,8 @@ abbrev pub stored_output_value : ZipStoreOutput → Data
 stored_output_value output.Empty = string (codes "empty")
 stored_output_value (output.Full name) = tagged (codes "full") (file_name_value name)
 stored_output_value (output.Truncated name size) =
-    tagged (codes "truncated") (struct (field (codes "file-name") (file_name_value name) ∷ field (codes "original-size") (natural size) ∷ []))
+    tagged (codes "truncated") (struct (field (codes "file-name") (file_name_value name)
+    ∷ field (codes "original-size") (natural size) ∷ []))
 
 abbrev pub full_form : Data → Option ZipStoreOutput
 full_form d = option_map output.Full (file_name_form d)
@@ -37,7 +40,9 @@ truncated_form d = do
   Some (output.Truncated name size)
 
 unfoldable pub stored_output_form : Data → Option ZipStoreOutput
-stored_output_form = variant ((codes "empty", output.Empty) ∷ []) ((codes "full", full_form) ∷ (codes "truncated", truncated_form) ∷ [])
+stored_output_form =
+    variant ((codes "empty", output.Empty) ∷ [])
+    ((codes "full", full_form) ∷ (codes "truncated", truncated_form) ∷ [])
 
 abbrev pub IsStoredOutput : ZipStoreOutput → Type 0
 IsStoredOutput output.Empty = Unit {0}
@@ -47,7 +52,8 @@ IsStoredOutput (output.Truncated name size) = IsFileName name × (size < 2 ^ 64)
 -- ZipStoreOutputDescription
 abbrev pub stored_outputs_value : ZipStoreOutputDescription → Data
 stored_outputs_value (outputs.Split out err) =
-    tagged (codes "split") (struct (optional (codes "stdout") stored_output_value out ∷ optional (codes "stderr") stored_output_value err ∷ []))
+    tagged (codes "split") (struct (optional (codes "stdout") stored_output_value out
+    ∷ optional (codes "stderr") stored_output_value err ∷ []))
 stored_outputs_value (outputs.Combined o) = tagged (codes "combined") (stored_output_value o)
 
 unfoldable pub split_form : Data → Option ZipStoreOutputDescription
@@ -61,7 +67,8 @@ abbrev pub combined_form : Data → Option ZipStoreOutputDescription
 combined_form d = option_map outputs.Combined (stored_output_form d)
 
 unfoldable pub stored_outputs_form : Data → Option ZipStoreOutputDescription
-stored_outputs_form = variant [] ((codes "split", split_form) ∷ (codes "combined", combined_form) ∷ [])
+stored_outputs_form =
+    variant [] ((codes "split", split_form) ∷ (codes "combined", combined_form) ∷ [])
 
 abbrev pub IsStoredOutputs : ZipStoreOutputDescription → Type 0
 IsStoredOutputs (outputs.Split out err) = IfSome out IsStoredOutput × IfSome err IsStoredOutput

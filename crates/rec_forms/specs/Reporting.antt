@@ -2,11 +2,21 @@
 use Rattle.std.specs.Prelude.{ℕ, List, [], ◌∷◌, Option, option_and_then, codes}
 use Rattle.serde_json.specs.Data.{Data, string}
 use Rattle.serde_json.specs.Find.{as_str}
-use Rattle.rec_events.specs.declared.reporting.CancelReason.TheVariants.{SetupScriptFailure, TestFailure, ReportError, GlobalTimeout, TestFailureImmediate, Signal, Interrupt, SecondSignal}
+use Rattle.rec_events.specs.declared.reporting.CancelReason.TheVariants.{
+  SetupScriptFailure,
+  TestFailure,
+  ReportError,
+  GlobalTimeout,
+  TestFailureImmediate,
+  Signal,
+  Interrupt,
+  SecondSignal,
+}
 use Rattle.rec_events.specs.declared.reporting.CancelReason.{CancelReason}
 use Rattle.rec_events.specs.declared.reporting.JunitFlakyFailStatus.TheVariants.{Failure, Success}
 use Rattle.rec_events.specs.declared.reporting.JunitFlakyFailStatus.{JunitFlakyFailStatus}
-use Rattle.rec_events.specs.declared.reporting.TestOutputDisplay.TheVariants.{Immediate, Final, ImmediateFinal, Never}
+use Rattle.rec_events.specs.declared.reporting.TestOutputDisplay.TheVariants.{Immediate, Final}
+use Rattle.rec_events.specs.declared.reporting.TestOutputDisplay.TheVariants.{ImmediateFinal, Never}
 use Rattle.rec_events.specs.declared.reporting.TestOutputDisplay.{TestOutputDisplay}
 use Rattle.rec_forms.specs.Shape.{named}
 

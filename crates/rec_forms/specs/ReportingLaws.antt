@@ -1,15 +1,28 @@
 -- How outcomes are shown and reported reads back, and is writable.
 use Rattle.std.specs.Prelude.{◌≡◌, Some, refl}
-use Rattle.rec_events.specs.declared.reporting.CancelReason.TheVariants.{SetupScriptFailure, TestFailure, ReportError, GlobalTimeout, TestFailureImmediate, Signal, Interrupt, SecondSignal}
+use Rattle.rec_events.specs.declared.reporting.CancelReason.TheVariants.{
+  SetupScriptFailure,
+  TestFailure,
+  ReportError,
+  GlobalTimeout,
+  TestFailureImmediate,
+  Signal,
+  Interrupt,
+  SecondSignal,
+}
 use Rattle.rec_events.specs.declared.reporting.CancelReason.{CancelReason}
 use Rattle.rec_events.specs.declared.reporting.JunitFlakyFailStatus.TheVariants.{Failure, Success}
 use Rattle.rec_events.specs.declared.reporting.JunitFlakyFailStatus.{JunitFlakyFailStatus}
-use Rattle.rec_events.specs.declared.reporting.TestOutputDisplay.TheVariants.{Immediate, Final, ImmediateFinal, Never}
+use Rattle.rec_events.specs.declared.reporting.TestOutputDisplay.TheVariants.{Immediate, Final}
+use Rattle.rec_events.specs.declared.reporting.TestOutputDisplay.TheVariants.{ImmediateFinal, Never}
 use Rattle.rec_events.specs.declared.reporting.TestOutputDisplay.{TestOutputDisplay}
-use Rattle.rec_forms.specs.Reporting.{output_display_value, output_display_form, flaky_fail_status_value, flaky_fail_status_form, cancel_reason_value, cancel_reason_form}
+use Rattle.rec_forms.specs.Reporting.{output_display_value, output_display_form}
+use Rattle.rec_forms.specs.Reporting.{flaky_fail_status_value, flaky_fail_status_form}
+use Rattle.rec_forms.specs.Reporting.{cancel_reason_value, cancel_reason_form}
 use Rattle.rec_forms.specs.Writable.{IsWritable, word_writable}
 
-pub output_display_back : (x : TestOutputDisplay) → output_display_form (output_display_value x) ≡ Some x
+pub output_display_back : (x : TestOutputDisplay)
+    → output_display_form (output_display_value x) ≡ Some x
 unfolding output_display_form
 output_display_back Immediate = refl
 output_display_back Final = refl
@@ -22,12 +35,14 @@ output_display_writable Final = word_writable _ refl
 output_display_writable ImmediateFinal = word_writable _ refl
 output_display_writable Never = word_writable _ refl
 
-pub flaky_fail_status_back : (x : JunitFlakyFailStatus) → flaky_fail_status_form (flaky_fail_status_value x) ≡ Some x
+pub flaky_fail_status_back : (x : JunitFlakyFailStatus)
+    → flaky_fail_status_form (flaky_fail_status_value x) ≡ Some x
 unfolding flaky_fail_status_form
 flaky_fail_status_back Failure = refl
 flaky_fail_status_back Success = refl
 
-pub flaky_fail_status_writable : (x : JunitFlakyFailStatus) → IsWritable 0 (flaky_fail_status_value x)
+pub flaky_fail_status_writable : (x : JunitFlakyFailStatus)
+    → IsWritable 0 (flaky_fail_status_value x)
 flaky_fail_status_writable Failure = word_writable _ refl
 flaky_fail_status_writable Success = word_writable _ refl
 

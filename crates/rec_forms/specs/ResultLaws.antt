@@ -17,12 +17,20 @@ use Rattle.rec_events.specs.Names.{IsText}
 use Rattle.rec_forms.specs.GivesWellFormed.{GivesWellFormed}
 use Rattle.rec_forms.specs.ListLaws.{maybe_back}
 use Rattle.rec_forms.specs.Members.{get_member-members_of}
-use Rattle.rec_forms.specs.NumberLaws.{i32_back, text_back, i32_writable, i32_well_formed, text_well_formed}
+use Rattle.rec_forms.specs.NumberLaws.{i32_back, text_back, i32_writable}
+use Rattle.rec_forms.specs.NumberLaws.{i32_well_formed, text_well_formed}
 use Rattle.rec_forms.specs.Numbers.{i32_form}
-use Rattle.rec_forms.specs.Results.{flaky_result_value, flaky_result_form, leak_result_value, leak_result_form, slow_result_value, slow_result_form, failure_value, failure_form, abort_form, IsFailure, execution_result_value, execution_result_form, fail_form, IsExecutionResult, exit_code_form, leak_form, timeout_form}
+use Rattle.rec_forms.specs.Results.{flaky_result_value, flaky_result_form, leak_result_value}
+use Rattle.rec_forms.specs.Results.{leak_result_form, slow_result_value, slow_result_form}
+use Rattle.rec_forms.specs.Results.{failure_value, failure_form, abort_form, IsFailure}
+use Rattle.rec_forms.specs.Results.{execution_result_value, execution_result_form, fail_form}
+use Rattle.rec_forms.specs.Results.{IsExecutionResult, exit_code_form, leak_form, timeout_form}
 use Rattle.rec_forms.specs.Shape.{text_of}
-use Rattle.rec_forms.specs.WellFormedLaws.{anything, any_well_formed, map_holds, object_then, required_then, maybe_then, variant_well_formed}
-use Rattle.rec_forms.specs.Writable.{IsWritable, struct_writable, tagged_writable, optional_writable, string_writable, word_writable, boolean_writable, weaker}
+use Rattle.rec_forms.specs.WellFormedLaws.{anything, any_well_formed, map_holds, object_then}
+use Rattle.rec_forms.specs.WellFormedLaws.{required_then, maybe_then, variant_well_formed}
+use Rattle.rec_forms.specs.Writable.{IsWritable, struct_writable, tagged_writable}
+use Rattle.rec_forms.specs.Writable.{optional_writable, string_writable}
+use Rattle.rec_forms.specs.Writable.{word_writable, boolean_writable, weaker}
 
 pub flaky_result_back : (x : FlakyResult) → flaky_result_form (flaky_result_value x) ≡ Some x
 unfolding flaky_result_form
@@ -55,14 +63,21 @@ pub failure_back : (f : FailureDescription) → IsFailure f → failure_form (fa
 unfolding failure_form abort_form
 failure_back (failure.ExitCode code) h = rw (i32_back code h)
 failure_back (failure.Abort signal name) h =
-    simp (get_member-members_of, i32_back signal h.0, maybe_back {n = 0} IsText string text_of text_back string_writable name h.1)
+    simp (
+      get_member-members_of,
+      i32_back signal h.0,
+      maybe_back {n = 0} IsText string text_of text_back string_writable name h.1,
+    )
 
 pub failure_writable : (f : FailureDescription) → IsFailure f → IsWritable 2 (failure_value f)
-failure_writable (failure.ExitCode code) h = tagged_writable (codes "exit-code") _ refl (i32_writable code h)
+failure_writable (failure.ExitCode code) h =
+    tagged_writable (codes "exit-code") _ refl (i32_writable code h)
 failure_writable (failure.Abort signal name) h =
-    tagged_writable (codes "abort") _ refl (struct_writable _ refl (i32_writable signal h.0, (optional_writable string string_writable name h.1, tt)))
+    tagged_writable (codes "abort") _ refl (struct_writable _ refl
+    (i32_writable signal h.0, (optional_writable string string_writable name h.1, tt)))
 
-pub execution_result_back : (r : ExecutionResultDescription) → IsExecutionResult r → execution_result_form (execution_result_value r) ≡ Some r
+pub execution_result_back : (r : ExecutionResultDescription) → IsExecutionResult r
+    → execution_result_form (execution_result_value r) ≡ Some r
 unfolding execution_result_form fail_form
 execution_result_back result.Pass h = refl
 execution_result_back (result.Leak r) h = rw (leak_result_back r)
@@ -70,13 +85,17 @@ execution_result_back (result.Fail f leaked) h = simp (get_member-members_of, fa
 execution_result_back result.ExecFail h = refl
 execution_result_back (result.Timeout r) h = rw (slow_result_back r)
 
-pub execution_result_writable : (r : ExecutionResultDescription) → IsExecutionResult r → IsWritable 4 (execution_result_value r)
+pub execution_result_writable : (r : ExecutionResultDescription) → IsExecutionResult r
+    → IsWritable 4 (execution_result_value r)
 execution_result_writable result.Pass h = word_writable _ refl
-execution_result_writable (result.Leak r) h = tagged_writable (codes "leak") _ refl (weaker 0 3 (omega arith) (leak_result_writable r))
+execution_result_writable (result.Leak r) h =
+    tagged_writable (codes "leak") _ refl (weaker 0 3 (omega arith) (leak_result_writable r))
 execution_result_writable (result.Fail f leaked) h =
-    tagged_writable (codes "fail") _ refl (struct_writable _ refl (failure_writable f h, (boolean_writable leaked, tt)))
+    tagged_writable (codes "fail") _ refl
+    (struct_writable _ refl (failure_writable f h, (boolean_writable leaked, tt)))
 execution_result_writable result.ExecFail h = word_writable _ refl
-execution_result_writable (result.Timeout r) h = tagged_writable (codes "timeout") _ refl (weaker 0 3 (omega arith) (slow_result_writable r))
+execution_result_writable (result.Timeout r) h =
+    tagged_writable (codes "timeout") _ refl (weaker 0 3 (omega arith) (slow_result_writable r))
 
 -- ---- what is read is well-formed
 
@@ -91,17 +110,29 @@ abort_well_formed = record {
 }
 
 exit_code_well_formed : GivesWellFormed IsFailure exit_code_form
-exit_code_well_formed = record { each = λ d. map_holds failure.ExitCode (i32_form d) (i32_well_formed.each d) (λ code fits. fits) }
+exit_code_well_formed = record {
+  each = λ d. map_holds failure.ExitCode (i32_form d) (i32_well_formed.each d) (λ code fits. fits);
+}
 
 pub failure_well_formed : GivesWellFormed IsFailure failure_form
 unfolding failure_form
-failure_well_formed = variant_well_formed IsFailure [] ((codes "exit-code", exit_code_form) ∷ (codes "abort", abort_form) ∷ []) tt (exit_code_well_formed, (abort_well_formed, tt))
+failure_well_formed =
+    variant_well_formed IsFailure []
+    ((codes "exit-code", exit_code_form) ∷ (codes "abort", abort_form) ∷ []) tt
+    (exit_code_well_formed, (abort_well_formed, tt))
 
 leak_well_formed : GivesWellFormed IsExecutionResult leak_form
-leak_well_formed = record { each = λ d. map_holds result.Leak (leak_result_form d) (anything (leak_result_form d)) (λ r _. tt) }
+leak_well_formed = record {
+  each =
+      λ d. map_holds result.Leak (leak_result_form d) (anything (leak_result_form d)) (λ r _. tt);
+}
 
 timeout_well_formed : GivesWellFormed IsExecutionResult timeout_form
-timeout_well_formed = record { each = λ d. map_holds result.Timeout (slow_result_form d) (anything (slow_result_form d)) (λ r _. tt) }
+timeout_well_formed = record {
+  each =
+      λ d.
+      map_holds result.Timeout (slow_result_form d) (anything (slow_result_form d)) (λ r _. tt);
+}
 
 fail_well_formed : GivesWellFormed IsExecutionResult fail_form
 unfolding fail_form

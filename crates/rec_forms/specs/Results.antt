@@ -1,6 +1,7 @@
 -- The values and forms of how tests, scripts and attempts ended.
 use Rattle.std.specs.Int.{w32}
-use Rattle.std.specs.Prelude.{ℕ, List, [], ◌∷◌, Option, Some, FitsSigned, IfSome, option_map, option_and_then, codes}
+use Rattle.std.specs.Prelude.{ℕ, List, [], ◌∷◌, Option, Some, FitsSigned}
+use Rattle.std.specs.Prelude.{IfSome, option_map, option_and_then, codes}
 use Rattle.serde_json.specs.Data.{Data, string, boolean}
 use Rattle.serde_json.specs.Find.{as_object, as_str, as_bool}
 use Rattle.rec_events.specs.declared.results.ExecutionResultDescription.TheVariants as result
@@ -15,7 +16,8 @@ use Rattle.rec_events.specs.declared.results.SlowTimeoutResult.TheVariants as sl
 use Rattle.rec_events.specs.declared.results.SlowTimeoutResult.{SlowTimeoutResult}
 use Rattle.rec_events.specs.Names.{IsText}
 use Rattle.rec_forms.specs.Numbers.{i32_form}
-use Rattle.rec_forms.specs.Shape.{◌>>=◌, integer, field, optional, struct, required, maybe, text_of, named, tagged, variant}
+use Rattle.rec_forms.specs.Shape.{◌>>=◌, integer, field, optional, struct}
+use Rattle.rec_forms.specs.Shape.{required, maybe, text_of, named, tagged, variant}
 
 -- FlakyResult
 abbrev pub flaky_result_name : FlakyResult → List ℕ
@@ -63,7 +65,8 @@ slow_result_form d = option_and_then (named slow_results) (as_str d)
 abbrev pub failure_value : FailureDescription → Data
 failure_value (failure.ExitCode code) = tagged (codes "exit-code") (integer code)
 failure_value (failure.Abort signal name) =
-    tagged (codes "abort") (struct (field (codes "signal") (integer signal) ∷ optional (codes "name") string name ∷ []))
+    tagged (codes "abort")
+    (struct (field (codes "signal") (integer signal) ∷ optional (codes "name") string name ∷ []))
 
 abbrev pub exit_code_form : Data → Option FailureDescription
 exit_code_form d = option_map failure.ExitCode (i32_form d)
@@ -87,7 +90,8 @@ abbrev pub execution_result_value : ExecutionResultDescription → Data
 execution_result_value result.Pass = string (codes "pass")
 execution_result_value (result.Leak r) = tagged (codes "leak") (leak_result_value r)
 execution_result_value (result.Fail f leaked) =
-    tagged (codes "fail") (struct (field (codes "failure") (failure_value f) ∷ field (codes "leaked") (boolean leaked) ∷ []))
+    tagged (codes "fail") (struct
+    (field (codes "failure") (failure_value f) ∷ field (codes "leaked") (boolean leaked) ∷ []))
 execution_result_value result.ExecFail = string (codes "exec-fail")
 execution_result_value (result.Timeout r) = tagged (codes "timeout") (slow_result_value r)
 

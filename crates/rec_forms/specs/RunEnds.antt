@@ -1,9 +1,11 @@
 -- The values and forms of how a run ended.
 use Rattle.std.specs.List.{AllByRecursion}
-use Rattle.std.specs.Prelude.{ℕ, ◌^◌, ◌<◌, List, [], ◌∷◌, Option, Some, option_map, option_and_then, codes}
+use Rattle.std.specs.Prelude.{ℕ, ◌^◌, ◌<◌, List, [], ◌∷◌, Option, Some}
+use Rattle.std.specs.Prelude.{option_map, option_and_then, codes}
 use Rattle.serde_json.specs.Data.{Data, string}
 use Rattle.serde_json.specs.Find.{as_object, as_str}
-use Rattle.rec_events.specs.declared.run_ends.FinalRunStats.TheVariants.{Success, NoTestsRun, Failed, Cancelled}
+use Rattle.rec_events.specs.declared.run_ends.FinalRunStats.TheVariants.{Success, NoTestsRun}
+use Rattle.rec_events.specs.declared.run_ends.FinalRunStats.TheVariants.{Failed, Cancelled}
 use Rattle.rec_events.specs.declared.run_ends.FinalRunStats.{FinalRunStats}
 use Rattle.rec_events.specs.declared.run_ends.RunFinishedStats.TheVariants.{Single, Stress}
 use Rattle.rec_events.specs.declared.run_ends.RunFinishedStats.{RunFinishedStats}
@@ -11,7 +13,8 @@ use Rattle.rec_events.specs.declared.run_ends.StressFinalRunStats.TheVariants as
 use Rattle.rec_events.specs.declared.run_ends.StressFinalRunStats.{StressFinalRunStats}
 use Rattle.rec_events.specs.declared.run_ends.StressRunStats.{StressRunStats}
 use Rattle.rec_events.specs.declared.run_ends.TestsNotSeenSummary.{TestsNotSeenSummary}
-use Rattle.rec_forms.specs.Instances.{stress_index_value, stress_index_form, IsStressIndex, test_instance_value, test_instance_form, IsTestInstance}
+use Rattle.rec_forms.specs.Instances.{stress_index_value, stress_index_form, IsStressIndex}
+use Rattle.rec_forms.specs.Instances.{test_instance_value, test_instance_form, IsTestInstance}
 use Rattle.rec_forms.specs.Lists.{list_value, list_form}
 use Rattle.rec_forms.specs.Numbers.{u32_form, u64_form}
 use Rattle.rec_forms.specs.Shape.{◌>>=◌, natural, field, struct, required, named, tagged, variant}
@@ -99,7 +102,8 @@ abbrev pub stress_stats_form : Data → Option RunFinishedStats
 stress_stats_form d = option_map Stress (stress_run_stats_form d)
 
 unfoldable pub run_finished_stats_form : Data → Option RunFinishedStats
-run_finished_stats_form = variant [] ((codes "single", single_stats_form) ∷ (codes "stress", stress_stats_form) ∷ [])
+run_finished_stats_form =
+    variant [] ((codes "single", single_stats_form) ∷ (codes "stress", stress_stats_form) ∷ [])
 
 abbrev pub IsRunFinishedStats : RunFinishedStats → Type 0
 IsRunFinishedStats (Single s) = IsRunStats s
@@ -107,7 +111,9 @@ IsRunFinishedStats (Stress s) = IsStressRunStats s
 
 -- TestsNotSeenSummary
 abbrev pub tests_not_seen_value : TestsNotSeenSummary → Data
-tests_not_seen_value t = struct (field (codes "not-seen") (list_value test_instance_value t.not_seen) ∷ field (codes "total-not-seen") (natural t.total_not_seen) ∷ [])
+tests_not_seen_value t =
+    struct (field (codes "not-seen") (list_value test_instance_value t.not_seen)
+    ∷ field (codes "total-not-seen") (natural t.total_not_seen) ∷ [])
 
 unfoldable pub tests_not_seen_form : Data → Option TestsNotSeenSummary
 tests_not_seen_form d = do

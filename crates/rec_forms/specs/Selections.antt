@@ -8,13 +8,16 @@ use Rattle.rec_events.specs.declared.selections.NamedTargets.{NamedTargets}
 use Rattle.rec_events.specs.declared.selections.PackageSelection.{PackageSelection}
 use Rattle.rec_events.specs.declared.selections.TargetSelection.{TargetSelection}
 use Rattle.rec_events.specs.Names.{AreTexts}
-use Rattle.rec_events.specs.Selections.{no_named_targets, no_package_selection, no_target_selection, no_feature_selection}
+use Rattle.rec_events.specs.Selections.{no_named_targets, no_package_selection}
+use Rattle.rec_events.specs.Selections.{no_target_selection, no_feature_selection}
 use Rattle.rec_forms.specs.Lists.{list_value, list_form}
 use Rattle.rec_forms.specs.Shape.{◌>>=◌, field, struct, defaulted, text_of}
 
 -- NamedTargets
 abbrev pub named_targets_value : NamedTargets → Data
-named_targets_value t = struct (field (codes "names") (list_value string t.names) ∷ field (codes "all") (boolean t.all) ∷ [])
+named_targets_value t =
+    struct
+    (field (codes "names") (list_value string t.names) ∷ field (codes "all") (boolean t.all) ∷ [])
 
 unfoldable pub named_targets_form : Data → Option NamedTargets
 named_targets_form d = do
@@ -66,7 +69,14 @@ target_selection_form d = do
   examples ← defaulted no_named_targets named_targets_form (codes "examples") ms
   tests ← defaulted no_named_targets named_targets_form (codes "tests") ms
   benches ← defaulted no_named_targets named_targets_form (codes "benches") ms
-  Some (record { lib = lib; bins = bins; examples = examples; tests = tests; benches = benches; all_targets = all_targets })
+  Some (record {
+    lib = lib;
+    bins = bins;
+    examples = examples;
+    tests = tests;
+    benches = benches;
+    all_targets = all_targets;
+  })
 
 pub record IsTargetSelection (s : TargetSelection) : Type 0 where
   pub bins : IsNamedTargets s.bins
@@ -88,7 +98,11 @@ feature_selection_form d = do
   features ← defaulted [] (list_form text_of) (codes "features") ms
   all_features ← defaulted false as_bool (codes "all-features") ms
   no_default_features ← defaulted false as_bool (codes "no-default-features") ms
-  Some (record { features = features; all_features = all_features; no_default_features = no_default_features })
+  Some (record {
+    features = features;
+    all_features = all_features;
+    no_default_features = no_default_features;
+  })
 
 pub record IsFeatureSelection (s : FeatureSelection) : Type 0 where
   pub features : AreTexts s.features

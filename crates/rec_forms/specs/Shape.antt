@@ -1,5 +1,6 @@
 -- The parts of which each type's `value` and `form` are made.
-use Rattle.std.specs.Prelude.{ℕ, ℤ, pos, negsuc, Bool, List, [], ◌∷◌, Option, Some, None, option_map, option_and_then, nat_lt, if◌then◌else◌}
+use Rattle.std.specs.Prelude.{ℕ, ℤ, pos, negsuc, Bool, List, [], ◌∷◌, Option, Some}
+use Rattle.std.specs.Prelude.{None, option_map, option_and_then, nat_lt, if◌then◌else◌}
 use Rattle.std.specs.Str.{is_utf8, bytes_eq}
 use Rattle.serde_json.specs.Data.{Data, null, boolean, number, string, array, object, Members}
 use Rattle.serde_json.specs.Find.{as_number, as_str, as_u64, as_i64, get_member}
@@ -19,7 +20,8 @@ only b x = if b then Some x else None
 -- ---- numbers, truth values and texts
 
 abbrev pub natural_below : ℕ → Data → Option ℕ
-natural_below limit d = option_and_then (λ n. only (nat_lt n limit) n) (option_and_then as_u64 (as_number d))
+natural_below limit d =
+    option_and_then (λ n. only (nat_lt n limit) n) (option_and_then as_u64 (as_number d))
 
 -- from -limit to limit - 1
 abbrev pub fits : ℕ → ℤ → Bool
@@ -27,7 +29,8 @@ fits limit (pos n) = nat_lt n limit
 fits limit (negsuc n) = nat_lt n limit
 
 abbrev pub integer_within : ℕ → Data → Option ℤ
-integer_within limit d = option_and_then (λ z. only (fits limit z) z) (option_and_then as_i64 (as_number d))
+integer_within limit d =
+    option_and_then (λ z. only (fits limit z) z) (option_and_then as_i64 (as_number d))
 
 abbrev pub text_of : Data → Option (List ℕ)
 text_of d = option_and_then (λ s. only (is_utf8 s) s) (as_str d)
@@ -70,9 +73,11 @@ named (t ∷ ts) s = if bytes_eq s t.0 then Some t.1 else named ts s
 
 -- what a tag has beside it
 abbrev pub cased : {T : Type 0} → List (List ℕ × (Data → Option T)) → Members → Option T
-cased cases ms = option_and_then (λ m. option_and_then (λ form. form m.1) (named cases m.0)) (only_of ms)
+cased cases ms =
+    option_and_then (λ m. option_and_then (λ form. form m.1) (named cases m.0)) (only_of ms)
 
-abbrev pub variant : {T : Type 0} → List (List ℕ × T) → List (List ℕ × (Data → Option T)) → Data → Option T
+abbrev pub variant : {T : Type 0} → List (List ℕ × T) → List (List ℕ × (Data → Option T)) → Data
+    → Option T
 variant units cases null = None
 variant units cases (boolean b) = None
 variant units cases (number n) = None

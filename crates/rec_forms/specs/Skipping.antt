@@ -45,7 +45,8 @@ abbrev pub skip_policy_value : ReportSkipPolicy → Data
 skip_policy_value x = string (skip_policy_name x)
 
 abbrev pub skip_policies : List (List ℕ × ReportSkipPolicy)
-skip_policies = (codes "none", policy.None) ∷ (codes "ignored", policy.Ignored) ∷ (codes "all", policy.All) ∷ []
+skip_policies =
+    (codes "none", policy.None) ∷ (codes "ignored", policy.Ignored) ∷ (codes "all", policy.All) ∷ []
 
 unfoldable pub skip_policy_form : Data → Option ReportSkipPolicy
 skip_policy_form d = option_and_then (named skip_policies) (as_str d)

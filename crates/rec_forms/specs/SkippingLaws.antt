@@ -4,10 +4,12 @@ use Rattle.rec_events.specs.declared.skipping.MismatchReason.TheVariants as reas
 use Rattle.rec_events.specs.declared.skipping.MismatchReason.{MismatchReason}
 use Rattle.rec_events.specs.declared.skipping.ReportSkipPolicy.TheVariants as policy
 use Rattle.rec_events.specs.declared.skipping.ReportSkipPolicy.{ReportSkipPolicy}
-use Rattle.rec_forms.specs.Skipping.{mismatch_reason_value, mismatch_reason_form, skip_policy_value, skip_policy_form}
+use Rattle.rec_forms.specs.Skipping.{mismatch_reason_value, mismatch_reason_form}
+use Rattle.rec_forms.specs.Skipping.{skip_policy_value, skip_policy_form}
 use Rattle.rec_forms.specs.Writable.{IsWritable, word_writable}
 
-pub mismatch_reason_back : (x : MismatchReason) → mismatch_reason_form (mismatch_reason_value x) ≡ Some x
+pub mismatch_reason_back : (x : MismatchReason)
+    → mismatch_reason_form (mismatch_reason_value x) ≡ Some x
 unfolding mismatch_reason_form
 mismatch_reason_back reason.NotBenchmark = refl
 mismatch_reason_back reason.Ignored = refl

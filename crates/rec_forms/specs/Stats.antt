@@ -127,7 +127,9 @@ abbrev pub reason_fields : RunStats → List Field
 reason_fields s = optional (codes "cancel-reason") cancel_reason_value s.cancel_reason ∷ []
 
 abbrev pub run_stats_value : RunStats → Data
-run_stats_value s = struct (reason_fields s ++ first_counts_fields s ++ middle_counts_fields s ++ last_counts_fields s)
+run_stats_value s =
+    struct
+    (reason_fields s ++ first_counts_fields s ++ middle_counts_fields s ++ last_counts_fields s)
 
 unfoldable pub run_stats_form : Data → Option RunStats
 run_stats_form d = do

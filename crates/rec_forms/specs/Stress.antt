@@ -7,7 +7,8 @@ use Rattle.rec_events.specs.declared.stress.StressConditionSummary.{StressCondit
 use Rattle.rec_events.specs.declared.stress.StressProgress.TheVariants as progress
 use Rattle.rec_events.specs.declared.stress.StressProgress.{StressProgress}
 use Rattle.rec_forms.specs.Numbers.{u32_form}
-use Rattle.rec_forms.specs.Shape.{◌>>=◌, natural, field, optional, struct, required, maybe, tagged, variant, if_there}
+use Rattle.rec_forms.specs.Shape.{◌>>=◌, natural, field, optional, struct}
+use Rattle.rec_forms.specs.Shape.{required, maybe, tagged, variant, if_there}
 use Rattle.rec_forms.specs.Times.{duration_value, duration_form, IsDuration}
 
 -- StressConditionSummary
@@ -28,7 +29,8 @@ abbrev pub stress_duration_form : Data → Option StressConditionSummary
 stress_duration_form d = option_map Duration (duration_form d)
 
 unfoldable pub stress_condition_form : Data → Option StressConditionSummary
-stress_condition_form = variant [] ((codes "count", stress_count_form) ∷ (codes "duration", stress_duration_form) ∷ [])
+stress_condition_form =
+    variant [] ((codes "count", stress_count_form) ∷ (codes "duration", stress_duration_form) ∷ [])
 
 abbrev pub IsStressCondition : StressConditionSummary → Type 0
 IsStressCondition (Count count) = IfSome count (λ n. n < 2 ^ 32)
@@ -66,8 +68,11 @@ time_progress_form d = do
   Some (progress.Time total elapsed completed)
 
 unfoldable pub stress_progress_form : Data → Option StressProgress
-stress_progress_form = variant [] ((codes "count", count_progress_form) ∷ (codes "time", time_progress_form) ∷ [])
+stress_progress_form =
+    variant [] ((codes "count", count_progress_form) ∷ (codes "time", time_progress_form) ∷ [])
 
 abbrev pub IsStressProgress : StressProgress → Type 0
-IsStressProgress (progress.Count total elapsed completed) = IfSome total (λ n. n < 2 ^ 32) × IsDuration elapsed × (completed < 2 ^ 32)
-IsStressProgress (progress.Time total elapsed completed) = IsDuration total × IsDuration elapsed × (completed < 2 ^ 32)
+IsStressProgress (progress.Count total elapsed completed) =
+    IfSome total (λ n. n < 2 ^ 32) × IsDuration elapsed × (completed < 2 ^ 32)
+IsStressProgress (progress.Time total elapsed completed) =
+    IsDuration total × IsDuration elapsed × (completed < 2 ^ 32)

@@ -5,11 +5,13 @@ use Rattle.std.proofs.lemmas.Bool.{and_parts}
 use Rattle.std.proofs.lemmas.Str.{IsUtf8-append, IsUtf8-from_is_utf8, is_utf8-from_IsUtf8}
 use Rattle.std.specs.Fmt.{decimal, digits, digits_onto, digit_glyph}
 use Rattle.std.specs.List.{list_all}
-use Rattle.std.specs.Prelude.{◌≡◌, ◌==◌, ◌/◌, ◌%◌, ◌<◌, ℕ, zero, suc, Bool, true, false, if◌then◌else◌, List, [], ◌∷◌, ◌++◌, slice_index, refl}
+use Rattle.std.specs.Prelude.{◌≡◌, ◌==◌, ◌/◌, ◌%◌, ◌<◌, ℕ, zero, suc, Bool, true, false}
+use Rattle.std.specs.Prelude.{if◌then◌else◌, List, [], ◌∷◌, ◌++◌, slice_index, refl}
 use Rattle.hex.specs.Hex.{encode_with, encode_lower, lower_digits}
 use Rattle.json.proofs.Printed.Utf8.{are_ascii, IsUtf8-are_ascii}
 use Rattle.semver.proofs.Grammar.{version_parts-sound}
-use Rattle.semver.specs.Grammar.{is_identifier_byte, is_build_identifier, is_pre_identifier, is_pre_release, is_build}
+use Rattle.semver.specs.Grammar.{is_identifier_byte, is_build_identifier}
+use Rattle.semver.specs.Grammar.{is_pre_identifier, is_pre_release, is_build}
 use Rattle.semver.specs.Identifiers.{marked, parts_text}
 use Rattle.semver.specs.Order.{parts}
 use Rattle.semver.specs.OrderLaws.{join_dots, join-parts}
@@ -21,14 +23,17 @@ pub IsText-are_ascii : (s : List ℕ) → are_ascii s ≡ true → IsText s
 IsText-are_ascii s h = is_utf8-from_IsUtf8 s (IsUtf8-are_ascii s h)
 
 pub IsText-append : (s t : List ℕ) → IsText s → IsText t → IsText (s ++ t)
-IsText-append s t h k = is_utf8-from_IsUtf8 (s ++ t) (IsUtf8-append s t (IsUtf8-from_is_utf8 s h) (IsUtf8-from_is_utf8 t k))
+IsText-append s t h k =
+    is_utf8-from_IsUtf8 (s ++ t)
+    (IsUtf8-append s t (IsUtf8-from_is_utf8 s h) (IsUtf8-from_is_utf8 t k))
 
 ascii_cons : (b : ℕ) (s : List ℕ) → b < 128 → are_ascii s ≡ true → are_ascii (b ∷ s) ≡ true
 ascii_cons b s small h = rw (lt-ltb b 128 small, h) refl
 
 ascii_append : (s t : List ℕ) → are_ascii s ≡ true → are_ascii t ≡ true → are_ascii (s ++ t) ≡ true
 ascii_append [] t h k = k
-ascii_append (b ∷ s) t h k = let p = and_parts _ _ h in ascii_cons b (s ++ t) (ltb-true _ _ p.0) (ascii_append s t p.1 k)
+ascii_append (b ∷ s) t h k =
+    let p = and_parts _ _ h in ascii_cons b (s ++ t) (ltb-true _ _ p.0) (ascii_append s t p.1 k)
 
 -- ---- hexadecimal digits
 
@@ -37,27 +42,32 @@ entry_small [] i h = omega arith
 entry_small (b ∷ table) zero h = ltb-true _ _ (and_parts _ _ h).0
 entry_small (b ∷ table) (suc i) h = entry_small table i (and_parts _ _ h).1
 
-hex_ascii : (table bytes : List ℕ) → are_ascii table ≡ true → are_ascii (encode_with table bytes) ≡ true
+hex_ascii : (table bytes : List ℕ) → are_ascii table ≡ true
+    → are_ascii (encode_with table bytes) ≡ true
 unfolding encode_with
 hex_ascii table [] h = refl
 hex_ascii table (b ∷ bytes) h =
     let rest = encode_with table bytes in
-    ascii_cons (slice_index table (b / 16)) (slice_index table (b % 16) ∷ rest) (entry_small table (b / 16) h)
-    (ascii_cons (slice_index table (b % 16)) rest (entry_small table (b % 16) h) (hex_ascii table bytes h))
+    ascii_cons (slice_index table (b / 16)) (slice_index table (b % 16) ∷ rest)
+    (entry_small table (b / 16) h)
+    (ascii_cons (slice_index table (b % 16)) rest (entry_small table (b % 16) h)
+    (hex_ascii table bytes h))
 
 pub IsText-encode_lower : (bytes : List ℕ) → IsText (encode_lower bytes)
 IsText-encode_lower bytes = IsText-are_ascii _ (hex_ascii lower_digits bytes refl)
 
 -- ---- decimal digits
 
-if_ascii : (b : Bool) (s t : List ℕ) → are_ascii s ≡ true → are_ascii t ≡ true → are_ascii (if b then s else t) ≡ true
+if_ascii : (b : Bool) (s t : List ℕ) → are_ascii s ≡ true → are_ascii t ≡ true
+    → are_ascii (if b then s else t) ≡ true
 if_ascii true s t h k = h
 if_ascii false s t h k = k
 
 digit_small : (n : ℕ) → digit_glyph false (n % 10) < 128
 digit_small n = let small : n % 10 < 10 = omega arith in rw (lt-ltb (n % 10) 10 small) (omega arith)
 
-digits_ascii : (k n : ℕ) (s : List ℕ) → are_ascii s ≡ true → are_ascii (digits_onto k 10 false n s) ≡ true
+digits_ascii : (k n : ℕ) (s : List ℕ) → are_ascii s ≡ true
+    → are_ascii (digits_onto k 10 false n s) ≡ true
 digits_ascii zero n s h = h
 digits_ascii (suc k) n s h =
     let more = ascii_cons _ s (digit_small n) h in
@@ -74,19 +84,24 @@ byte_small b h = grind (arith, nat_tests)
 
 identifier_ascii : (s : List ℕ) → list_all is_identifier_byte s ≡ true → are_ascii s ≡ true
 identifier_ascii [] h = refl
-identifier_ascii (b ∷ s) h = let p = and_parts _ _ h in ascii_cons b s (byte_small b p.0) (identifier_ascii s p.1)
+identifier_ascii (b ∷ s) h =
+    let p = and_parts _ _ h in ascii_cons b s (byte_small b p.0) (identifier_ascii s p.1)
 
 -- the parts of a text, with the dots between them
-joined_ascii : (is_part : List ℕ → Bool) → ((p : List ℕ) → is_part p ≡ true → are_ascii p ≡ true) → (ps : List (List ℕ)) → list_all is_part ps ≡ true → are_ascii (join_dots ps) ≡ true
+joined_ascii : (is_part : List ℕ → Bool) → ((p : List ℕ) → is_part p ≡ true → are_ascii p ≡ true)
+    → (ps : List (List ℕ)) → list_all is_part ps ≡ true → are_ascii (join_dots ps) ≡ true
 unfolding join_dots
 joined_ascii is_part small [] h = refl
 joined_ascii is_part small (p ∷ []) h = small p (and_parts _ _ h).0
 joined_ascii is_part small (p ∷ q ∷ ps) h =
     let both = and_parts _ _ h in
-    ascii_append p (46 ∷ join_dots (q ∷ ps)) (small p both.0) (joined_ascii is_part small (q ∷ ps) both.1)
+    ascii_append p (46 ∷ join_dots (q ∷ ps)) (small p both.0)
+    (joined_ascii is_part small (q ∷ ps) both.1)
 
-text_ascii : (is_part : List ℕ → Bool) → ((p : List ℕ) → is_part p ≡ true → are_ascii p ≡ true) → (s : List ℕ) → list_all is_part (parts s) ≡ true → are_ascii s ≡ true
-text_ascii is_part small s h = subst (λ t. are_ascii t ≡ true) (join-parts s) (joined_ascii is_part small (parts s) h)
+text_ascii : (is_part : List ℕ → Bool) → ((p : List ℕ) → is_part p ≡ true → are_ascii p ≡ true)
+    → (s : List ℕ) → list_all is_part (parts s) ≡ true → are_ascii s ≡ true
+text_ascii is_part small s h =
+    subst (λ t. are_ascii t ≡ true) (join-parts s) (joined_ascii is_part small (parts s) h)
 
 build_part_ascii : (p : List ℕ) → is_build_identifier p ≡ true → are_ascii p ≡ true
 build_part_ascii p h = identifier_ascii p (and_parts _ _ h).1
@@ -109,4 +124,5 @@ IsText-parts_text p h =
     (ascii_append (decimal p.0) _ (decimal_ascii p.0)
     (ascii_append (decimal p.1) _ (decimal_ascii p.1)
     (ascii_append (decimal p.2) _ (decimal_ascii p.2)
-    (ascii_append (marked 45 p.3) (marked 43 p.4) (pre_ascii p.3 valid.3) (build_ascii p.4 valid.4)))))
+    (ascii_append (marked 45 p.3) (marked 43 p.4) (pre_ascii p.3 valid.3)
+    (build_ascii p.4 valid.4)))))

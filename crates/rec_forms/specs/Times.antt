@@ -9,7 +9,8 @@ use Rattle.rec_forms.specs.Shape.{◌>>=◌, only, natural, integer, field, stru
 
 abbrev pub stamp_value : Moment → Data
 stamp_value s =
-    struct (field (codes "secs") (integer s.secs) ∷ field (codes "nanos") (natural s.nanos) ∷ field (codes "offset") (integer s.offset) ∷ [])
+    struct (field (codes "secs") (integer s.secs) ∷ field (codes "nanos") (natural s.nanos)
+    ∷ field (codes "offset") (integer s.offset) ∷ [])
 
 unfoldable pub stamp_form : Data → Option Moment
 stamp_form d = do
@@ -25,7 +26,8 @@ pub record IsStamp (s : Moment) : Type 0 where
   pub offset : FitsSigned w32 s.offset
 
 abbrev pub duration_value : Span → Data
-duration_value s = struct (field (codes "secs") (natural s.secs) ∷ field (codes "nanos") (natural s.nanos) ∷ [])
+duration_value s =
+    struct (field (codes "secs") (natural s.secs) ∷ field (codes "nanos") (natural s.nanos) ∷ [])
 
 unfoldable pub duration_form : Data → Option Span
 duration_form d = do

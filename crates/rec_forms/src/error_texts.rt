@@ -8,8 +8,16 @@ use std::alloc::{AllocError, Global};
 
 impl Form for ErrorSummary {
     ghost use Rattle.std.specs.Prelude.{refl};
-    ghost use Rattle.rec_forms.specs.ErrorTextLaws.{error_summary_back, error_summary_writable, error_summary_well_formed};
-    ghost use Rattle.rec_forms.specs.ErrorTexts.{error_summary_value, error_summary_form, IsErrorSummary};
+    ghost use Rattle.rec_forms.specs.ErrorTextLaws.{
+      error_summary_back,
+      error_summary_writable,
+      error_summary_well_formed,
+    };
+    ghost use Rattle.rec_forms.specs.ErrorTexts.{
+      error_summary_value,
+      error_summary_form,
+      IsErrorSummary,
+    };
     ghost use Rattle.rec_forms.specs.Writable.{within_depth};
 
     ghost well_formed = { IsErrorSummary };
@@ -52,7 +60,11 @@ impl Form for ErrorSummary {
 
 impl Form for OutputErrorSlice {
     ghost use Rattle.std.specs.Prelude.{refl};
-    ghost use Rattle.rec_forms.specs.ErrorTextLaws.{error_slice_back, error_slice_writable, error_slice_well_formed};
+    ghost use Rattle.rec_forms.specs.ErrorTextLaws.{
+      error_slice_back,
+      error_slice_writable,
+      error_slice_well_formed,
+    };
     ghost use Rattle.rec_forms.specs.ErrorTexts.{error_slice_value, error_slice_form, IsErrorSlice};
     ghost use Rattle.rec_forms.specs.Writable.{within_depth};
 

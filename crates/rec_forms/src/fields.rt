@@ -110,7 +110,8 @@ pub fn optional_field<'a, T: Form>(
     }
 }
 
-/// Reads a field that is `missing` where its member is missing. A member that is `null` is not missing.
+/// Reads a field that is `missing` where its member is missing.
+/// A member that is `null` is not missing.
 ///
 /// # Errors
 ///

@@ -40,8 +40,8 @@ pub trait Form: Sized {
         ensures written { OnOk result (text.new ≡ text.old ++ value_tokens (value_of self.now)) }
         ensures known { OnOk result (well_formed self.now) };
 
-    /// Makes the value of the item, which is the value of its text. Where only the text is wanted, `write`
-    /// does without a value.
+    /// Makes the value of the item, which is the value of its text. Where only the text is wanted,
+    /// `write` does without a value.
     ///
     /// # Errors
     ///
@@ -65,8 +65,8 @@ pub trait Form: Sized {
     fn from_node(alloc: Global, node: &Node<'_>) -> Result<Self, FromValueError>
         ensures read_node { Gives result (form_of (node_view node.now)) };
 
-    /// Reads the item for which `value` stands, a value that is there already. A text is read as a node,
-    /// without a value in between.
+    /// Reads the item for which `value` stands, a value that is there already. A text is read as a
+    /// node, without a value in between.
     ///
     /// # Errors
     ///

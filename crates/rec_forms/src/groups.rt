@@ -6,7 +6,11 @@ use std::alloc::{AllocError, Global};
 
 impl Form for TestGroup {
     ghost use Rattle.std.specs.Prelude.{refl};
-    ghost use Rattle.rec_forms.specs.GroupLaws.{test_group_back, test_group_writable, test_group_well_formed};
+    ghost use Rattle.rec_forms.specs.GroupLaws.{
+      test_group_back,
+      test_group_writable,
+      test_group_well_formed,
+    };
     ghost use Rattle.rec_forms.specs.Groups.{test_group_value, test_group_form, IsTestGroup};
     ghost use Rattle.rec_forms.specs.Writable.{within_depth};
 

@@ -4,8 +4,8 @@ ghost use Rattle.std.specs.Prelude.{IfSome};
 use crate::Form;
 
 /// Says of a type that each of its items that a program holds is well-formed, whether it is ever
-/// written or not. What a bundle's manifest is made of has it: what is written of it is then read as
-/// it, with no premise on the run.
+/// written or not. What a bundle's manifest is made of has it: what is written of it is then read
+/// as it, with no premise on the run.
 pub trait Held: Form {
     /// States that the item is well-formed. It does nothing.
     fn held(&self)

@@ -9,8 +9,16 @@ use std::alloc::{AllocError, Global};
 
 impl Form for OwnedTestInstanceId {
     ghost use Rattle.std.specs.Prelude.{refl};
-    ghost use Rattle.rec_forms.specs.InstanceLaws.{test_instance_back, test_instance_writable, test_instance_well_formed};
-    ghost use Rattle.rec_forms.specs.Instances.{test_instance_value, test_instance_form, IsTestInstance};
+    ghost use Rattle.rec_forms.specs.InstanceLaws.{
+      test_instance_back,
+      test_instance_writable,
+      test_instance_well_formed,
+    };
+    ghost use Rattle.rec_forms.specs.Instances.{
+      test_instance_value,
+      test_instance_form,
+      IsTestInstance,
+    };
     ghost use Rattle.rec_forms.specs.Writable.{within_depth};
 
     ghost well_formed = { IsTestInstance };
@@ -55,8 +63,16 @@ impl ItemForm for OwnedTestInstanceId {
 
 impl Form for TestSlotAssignment {
     ghost use Rattle.std.specs.Prelude.{refl};
-    ghost use Rattle.rec_forms.specs.InstanceLaws.{slot_assignment_back, slot_assignment_writable, slot_assignment_well_formed};
-    ghost use Rattle.rec_forms.specs.Instances.{slot_assignment_value, slot_assignment_form, IsSlotAssignment};
+    ghost use Rattle.rec_forms.specs.InstanceLaws.{
+      slot_assignment_back,
+      slot_assignment_writable,
+      slot_assignment_well_formed,
+    };
+    ghost use Rattle.rec_forms.specs.Instances.{
+      slot_assignment_value,
+      slot_assignment_form,
+      IsSlotAssignment,
+    };
     ghost use Rattle.rec_forms.specs.Writable.{within_depth};
 
     ghost well_formed = { IsSlotAssignment };
@@ -98,7 +114,11 @@ impl Form for TestSlotAssignment {
 
 impl Form for RetryData {
     ghost use Rattle.std.specs.Prelude.{refl};
-    ghost use Rattle.rec_forms.specs.InstanceLaws.{retry_data_back, retry_data_writable, retry_data_well_formed};
+    ghost use Rattle.rec_forms.specs.InstanceLaws.{
+      retry_data_back,
+      retry_data_writable,
+      retry_data_well_formed,
+    };
     ghost use Rattle.rec_forms.specs.Instances.{retry_data_value, retry_data_form, IsRetryData};
     ghost use Rattle.rec_forms.specs.Writable.{within_depth};
 
@@ -137,8 +157,16 @@ impl Form for RetryData {
 
 impl Form for StressIndexSummary {
     ghost use Rattle.std.specs.Prelude.{refl};
-    ghost use Rattle.rec_forms.specs.InstanceLaws.{stress_index_back, stress_index_writable, stress_index_well_formed};
-    ghost use Rattle.rec_forms.specs.Instances.{stress_index_value, stress_index_form, IsStressIndex};
+    ghost use Rattle.rec_forms.specs.InstanceLaws.{
+      stress_index_back,
+      stress_index_writable,
+      stress_index_well_formed,
+    };
+    ghost use Rattle.rec_forms.specs.Instances.{
+      stress_index_value,
+      stress_index_form,
+      IsStressIndex,
+    };
     ghost use Rattle.rec_forms.specs.Writable.{within_depth};
 
     ghost well_formed = { IsStressIndex };

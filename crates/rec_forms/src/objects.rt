@@ -1,5 +1,6 @@
 //! Objects that are written field by field, and judged once at the end.
-ghost use Rattle.std.specs.Prelude.{◌≡◌, [], ◌∷◌, ◌++◌, List, ℕ, IfSome, OnOk, Some, ⊤, false, option_map};
+ghost use Rattle.std.specs.Prelude.{◌≡◌, [], ◌∷◌, ◌++◌, List, ℕ, IfSome};
+ghost use Rattle.std.specs.Prelude.{OnOk, Some, ⊤, false, option_map};
 ghost use Rattle.json.specs.Token as token;
 ghost use Rattle.json.specs.Token.{Token, begin_object};
 ghost use Rattle.serde_json.specs.Data.{null, string};
@@ -14,8 +15,9 @@ use rec_json::JsonText;
 use std::alloc::{AllocError, Global};
 use std::marker::Model;
 
-/// Writes the fields of an object, in the order of the bytes of their keys. Once memory runs out nothing more
-/// is written, and what ends the object answers it. A clause sees whether memory ran out.
+/// Writes the fields of an object, in the order of the bytes of their keys. Once memory runs out
+/// nothing more is written, and what ends the object answers it.
+/// A clause sees whether memory ran out.
 ///
 /// # Examples
 ///

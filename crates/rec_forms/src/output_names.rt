@@ -52,7 +52,11 @@ impl Form for OutputKind {
 
 impl Form for OutputFileName {
     ghost use Rattle.std.specs.Prelude.{refl};
-    ghost use Rattle.rec_forms.specs.OutputNameLaws.{file_name_back, file_name_writable, file_name_well_formed};
+    ghost use Rattle.rec_forms.specs.OutputNameLaws.{
+      file_name_back,
+      file_name_writable,
+      file_name_well_formed,
+    };
     ghost use Rattle.rec_forms.specs.OutputNames.{file_name_value, file_name_form, IsFileName};
     ghost use Rattle.rec_forms.specs.Writable.{within_depth};
 

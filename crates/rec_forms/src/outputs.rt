@@ -4,7 +4,8 @@ ghost use Rattle.rec_json.specs.Nodes.{view};
 ghost use Rattle.rec_json.specs.Tokens.{value_tokens};
 ghost use Rattle.rec_events.specs.declared.outputs.ZipStoreOutput.TheVariants.{Truncated};
 ghost use Rattle.rec_forms.specs.Gives.{Gives};
-ghost use Rattle.rec_forms.specs.Outputs.{stored_output_value, truncated_form, split_form, IsStoredOutput};
+ghost use Rattle.rec_forms.specs.Outputs.{stored_output_value, truncated_form};
+ghost use Rattle.rec_forms.specs.Outputs.{split_form, IsStoredOutput};
 
 use crate::fields::{optional_field, write_tagged};
 use crate::objects::ObjectWriter;
@@ -18,7 +19,11 @@ use std::alloc::{AllocError, Global};
 impl Form for ChildSingleOutput {
     ghost use Rattle.std.specs.Prelude.{refl};
     ghost use Rattle.hex.specs.Hex.{IsBytes};
-    ghost use Rattle.rec_forms.specs.OutputLaws.{output_bytes_back, output_bytes_writable, output_bytes_well_formed};
+    ghost use Rattle.rec_forms.specs.OutputLaws.{
+      output_bytes_back,
+      output_bytes_writable,
+      output_bytes_well_formed,
+    };
     ghost use Rattle.rec_forms.specs.Outputs.{output_bytes_value, output_bytes_form};
     ghost use Rattle.rec_forms.specs.Writable.{within_depth};
 
@@ -101,8 +106,16 @@ fn write_truncated(
 
 impl Form for ZipStoreOutput {
     ghost use Rattle.std.specs.Prelude.{refl};
-    ghost use Rattle.rec_forms.specs.OutputLaws.{stored_output_back, stored_output_writable, stored_output_well_formed};
-    ghost use Rattle.rec_forms.specs.Outputs.{stored_output_value, stored_output_form, IsStoredOutput};
+    ghost use Rattle.rec_forms.specs.OutputLaws.{
+      stored_output_back,
+      stored_output_writable,
+      stored_output_well_formed,
+    };
+    ghost use Rattle.rec_forms.specs.Outputs.{
+      stored_output_value,
+      stored_output_form,
+      IsStoredOutput,
+    };
     ghost use Rattle.rec_forms.specs.Writable.{within_depth};
 
     ghost well_formed = { IsStoredOutput };
@@ -155,8 +168,16 @@ impl Form for ZipStoreOutput {
 
 impl Form for ZipStoreOutputDescription {
     ghost use Rattle.std.specs.Prelude.{refl};
-    ghost use Rattle.rec_forms.specs.OutputLaws.{stored_outputs_back, stored_outputs_writable, stored_outputs_well_formed};
-    ghost use Rattle.rec_forms.specs.Outputs.{stored_outputs_value, stored_outputs_form, IsStoredOutputs};
+    ghost use Rattle.rec_forms.specs.OutputLaws.{
+      stored_outputs_back,
+      stored_outputs_writable,
+      stored_outputs_well_formed,
+    };
+    ghost use Rattle.rec_forms.specs.Outputs.{
+      stored_outputs_value,
+      stored_outputs_form,
+      IsStoredOutputs,
+    };
     ghost use Rattle.rec_forms.specs.Writable.{within_depth};
 
     ghost well_formed = { IsStoredOutputs };

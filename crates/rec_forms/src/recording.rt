@@ -93,7 +93,11 @@ impl Form for RecordOpts {
 impl Form for TestListSummary {
     ghost use Rattle.std.specs.Prelude.{refl};
     ghost use Rattle.rec_forms.specs.Recording.{test_list_value, test_list_form, IsTestList};
-    ghost use Rattle.rec_forms.specs.RecordingLaws.{test_list_back, test_list_writable, test_list_well_formed};
+    ghost use Rattle.rec_forms.specs.RecordingLaws.{
+      test_list_back,
+      test_list_writable,
+      test_list_well_formed,
+    };
     ghost use Rattle.rec_forms.specs.Writable.{within_depth};
 
     ghost well_formed = { IsTestList };

@@ -55,7 +55,10 @@ impl Form for TestOutputDisplay {
 impl Form for JunitFlakyFailStatus {
     ghost use Rattle.std.specs.Prelude.{refl};
     ghost use Rattle.rec_forms.specs.Reporting.{flaky_fail_status_value, flaky_fail_status_form};
-    ghost use Rattle.rec_forms.specs.ReportingLaws.{flaky_fail_status_back, flaky_fail_status_writable};
+    ghost use Rattle.rec_forms.specs.ReportingLaws.{
+      flaky_fail_status_back,
+      flaky_fail_status_writable,
+    };
     ghost use Rattle.rec_forms.specs.WellFormedLaws.{any_well_formed};
     ghost use Rattle.rec_forms.specs.Writable.{within_depth};
 

@@ -144,7 +144,11 @@ impl Form for SlowTimeoutResult {
 
 impl Form for FailureDescription {
     ghost use Rattle.std.specs.Prelude.{refl};
-    ghost use Rattle.rec_forms.specs.ResultLaws.{failure_back, failure_writable, failure_well_formed};
+    ghost use Rattle.rec_forms.specs.ResultLaws.{
+      failure_back,
+      failure_writable,
+      failure_well_formed,
+    };
     ghost use Rattle.rec_forms.specs.Results.{failure_value, failure_form, IsFailure};
     ghost use Rattle.rec_forms.specs.Writable.{within_depth};
 
@@ -209,8 +213,16 @@ fn abort_from(alloc: Global, node: &Node<'_>) -> Result<FailureDescription, From
 
 impl Form for ExecutionResultDescription {
     ghost use Rattle.std.specs.Prelude.{refl};
-    ghost use Rattle.rec_forms.specs.ResultLaws.{execution_result_back, execution_result_writable, execution_result_well_formed};
-    ghost use Rattle.rec_forms.specs.Results.{execution_result_value, execution_result_form, IsExecutionResult};
+    ghost use Rattle.rec_forms.specs.ResultLaws.{
+      execution_result_back,
+      execution_result_writable,
+      execution_result_well_formed,
+    };
+    ghost use Rattle.rec_forms.specs.Results.{
+      execution_result_value,
+      execution_result_form,
+      IsExecutionResult,
+    };
     ghost use Rattle.rec_forms.specs.Writable.{within_depth};
 
     ghost well_formed = { IsExecutionResult };

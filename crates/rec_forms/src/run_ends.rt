@@ -60,7 +60,10 @@ impl Form for FinalRunStats {
 
 impl Form for StressFinalRunStats {
     ghost use Rattle.std.specs.Prelude.{refl};
-    ghost use Rattle.rec_forms.specs.RunEndLaws.{stress_final_stats_back, stress_final_stats_writable};
+    ghost use Rattle.rec_forms.specs.RunEndLaws.{
+      stress_final_stats_back,
+      stress_final_stats_writable,
+    };
     ghost use Rattle.rec_forms.specs.RunEnds.{stress_final_stats_value, stress_final_stats_form};
     ghost use Rattle.rec_forms.specs.WellFormedLaws.{any_well_formed};
     ghost use Rattle.rec_forms.specs.Writable.{within_depth};
@@ -107,8 +110,16 @@ impl Form for StressFinalRunStats {
 
 impl Form for StressRunStats {
     ghost use Rattle.std.specs.Prelude.{refl};
-    ghost use Rattle.rec_forms.specs.RunEndLaws.{stress_run_stats_back, stress_run_stats_writable, stress_run_stats_well_formed};
-    ghost use Rattle.rec_forms.specs.RunEnds.{stress_run_stats_value, stress_run_stats_form, IsStressRunStats};
+    ghost use Rattle.rec_forms.specs.RunEndLaws.{
+      stress_run_stats_back,
+      stress_run_stats_writable,
+      stress_run_stats_well_formed,
+    };
+    ghost use Rattle.rec_forms.specs.RunEnds.{
+      stress_run_stats_value,
+      stress_run_stats_form,
+      IsStressRunStats,
+    };
     ghost use Rattle.rec_forms.specs.Writable.{within_depth};
 
     ghost well_formed = { IsStressRunStats };
@@ -160,8 +171,16 @@ impl Form for StressRunStats {
 
 impl Form for RunFinishedStats {
     ghost use Rattle.std.specs.Prelude.{refl};
-    ghost use Rattle.rec_forms.specs.RunEndLaws.{run_finished_stats_back, run_finished_stats_writable, run_finished_stats_well_formed};
-    ghost use Rattle.rec_forms.specs.RunEnds.{run_finished_stats_value, run_finished_stats_form, IsRunFinishedStats};
+    ghost use Rattle.rec_forms.specs.RunEndLaws.{
+      run_finished_stats_back,
+      run_finished_stats_writable,
+      run_finished_stats_well_formed,
+    };
+    ghost use Rattle.rec_forms.specs.RunEnds.{
+      run_finished_stats_value,
+      run_finished_stats_form,
+      IsRunFinishedStats,
+    };
     ghost use Rattle.rec_forms.specs.Writable.{within_depth};
 
     ghost well_formed = { IsRunFinishedStats };
@@ -206,8 +225,16 @@ impl Form for RunFinishedStats {
 
 impl Form for TestsNotSeenSummary {
     ghost use Rattle.std.specs.Prelude.{refl};
-    ghost use Rattle.rec_forms.specs.RunEndLaws.{tests_not_seen_back, tests_not_seen_writable, tests_not_seen_well_formed};
-    ghost use Rattle.rec_forms.specs.RunEnds.{tests_not_seen_value, tests_not_seen_form, IsTestsNotSeen};
+    ghost use Rattle.rec_forms.specs.RunEndLaws.{
+      tests_not_seen_back,
+      tests_not_seen_writable,
+      tests_not_seen_well_formed,
+    };
+    ghost use Rattle.rec_forms.specs.RunEnds.{
+      tests_not_seen_value,
+      tests_not_seen_form,
+      IsTestsNotSeen,
+    };
     ghost use Rattle.rec_forms.specs.Writable.{within_depth};
 
     ghost well_formed = { IsTestsNotSeen };

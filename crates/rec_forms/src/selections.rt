@@ -10,8 +10,16 @@ use std::alloc::{AllocError, Global};
 
 impl Form for NamedTargets {
     ghost use Rattle.std.specs.Prelude.{refl};
-    ghost use Rattle.rec_forms.specs.SelectionLaws.{named_targets_back, named_targets_writable, named_targets_well_formed};
-    ghost use Rattle.rec_forms.specs.Selections.{named_targets_value, named_targets_form, IsNamedTargets};
+    ghost use Rattle.rec_forms.specs.SelectionLaws.{
+      named_targets_back,
+      named_targets_writable,
+      named_targets_well_formed,
+    };
+    ghost use Rattle.rec_forms.specs.Selections.{
+      named_targets_value,
+      named_targets_form,
+      IsNamedTargets,
+    };
     ghost use Rattle.rec_forms.specs.Writable.{within_depth};
 
     ghost well_formed = { IsNamedTargets };
@@ -54,8 +62,16 @@ impl Form for NamedTargets {
 
 impl Form for PackageSelection {
     ghost use Rattle.std.specs.Prelude.{refl};
-    ghost use Rattle.rec_forms.specs.SelectionLaws.{package_selection_back, package_selection_writable, package_selection_well_formed};
-    ghost use Rattle.rec_forms.specs.Selections.{package_selection_value, package_selection_form, IsPackageSelection};
+    ghost use Rattle.rec_forms.specs.SelectionLaws.{
+      package_selection_back,
+      package_selection_writable,
+      package_selection_well_formed,
+    };
+    ghost use Rattle.rec_forms.specs.Selections.{
+      package_selection_value,
+      package_selection_form,
+      IsPackageSelection,
+    };
     ghost use Rattle.rec_forms.specs.Writable.{within_depth};
 
     ghost well_formed = { IsPackageSelection };
@@ -104,8 +120,16 @@ impl Form for PackageSelection {
 
 impl Form for TargetSelection {
     ghost use Rattle.std.specs.Prelude.{refl};
-    ghost use Rattle.rec_forms.specs.SelectionLaws.{target_selection_back, target_selection_writable, target_selection_well_formed};
-    ghost use Rattle.rec_forms.specs.Selections.{target_selection_value, target_selection_form, IsTargetSelection};
+    ghost use Rattle.rec_forms.specs.SelectionLaws.{
+      target_selection_back,
+      target_selection_writable,
+      target_selection_well_formed,
+    };
+    ghost use Rattle.rec_forms.specs.Selections.{
+      target_selection_value,
+      target_selection_form,
+      IsTargetSelection,
+    };
     ghost use Rattle.rec_forms.specs.Writable.{within_depth};
 
     ghost well_formed = { IsTargetSelection };
@@ -167,8 +191,16 @@ impl Form for TargetSelection {
 
 impl Form for FeatureSelection {
     ghost use Rattle.std.specs.Prelude.{refl};
-    ghost use Rattle.rec_forms.specs.SelectionLaws.{feature_selection_back, feature_selection_writable, feature_selection_well_formed};
-    ghost use Rattle.rec_forms.specs.Selections.{feature_selection_value, feature_selection_form, IsFeatureSelection};
+    ghost use Rattle.rec_forms.specs.SelectionLaws.{
+      feature_selection_back,
+      feature_selection_writable,
+      feature_selection_well_formed,
+    };
+    ghost use Rattle.rec_forms.specs.Selections.{
+      feature_selection_value,
+      feature_selection_form,
+      IsFeatureSelection,
+    };
     ghost use Rattle.rec_forms.specs.Writable.{within_depth};
 
     ghost well_formed = { IsFeatureSelection };
@@ -217,7 +249,11 @@ impl Form for FeatureSelection {
 
 impl Form for BuildScope {
     ghost use Rattle.std.specs.Prelude.{refl};
-    ghost use Rattle.rec_forms.specs.SelectionLaws.{build_scope_back, build_scope_writable, build_scope_well_formed};
+    ghost use Rattle.rec_forms.specs.SelectionLaws.{
+      build_scope_back,
+      build_scope_writable,
+      build_scope_well_formed,
+    };
     ghost use Rattle.rec_forms.specs.Selections.{build_scope_value, build_scope_form, IsBuildScope};
     ghost use Rattle.rec_forms.specs.Writable.{within_depth};
 

@@ -83,7 +83,11 @@ struct MiddleCounts {
 }
 
 impl MiddleCounts {
-    ghost use Rattle.rec_forms.specs.Stats.{middle_counts_fields, middle_counts_form, AreMiddleCounts};
+    ghost use Rattle.rec_forms.specs.Stats.{
+      middle_counts_fields,
+      middle_counts_form,
+      AreMiddleCounts,
+    };
 
     /// Writes this part of `stats`.
     fn write(object: ObjectWriter, text: &mut JsonText, stats: &RunStats) -> ObjectWriter
@@ -216,7 +220,11 @@ impl LastCounts {
 impl Form for RunStats {
     ghost use Rattle.std.specs.Prelude.{refl};
     ghost use Rattle.rec_forms.specs.Stats.{run_stats_value, run_stats_form, IsRunStats};
-    ghost use Rattle.rec_forms.specs.StatsLaws.{run_stats_back, run_stats_writable, run_stats_well_formed};
+    ghost use Rattle.rec_forms.specs.StatsLaws.{
+      run_stats_back,
+      run_stats_writable,
+      run_stats_well_formed,
+    };
     ghost use Rattle.rec_forms.specs.Writable.{within_depth};
 
     ghost well_formed = { IsRunStats };

@@ -4,7 +4,8 @@ ghost use Rattle.rec_json.specs.Nodes.{view};
 ghost use Rattle.rec_json.specs.Tokens.{value_tokens};
 ghost use Rattle.rec_events.specs.declared.stress.StressProgress.TheVariants.{Count, Time};
 ghost use Rattle.rec_forms.specs.Gives.{Gives};
-ghost use Rattle.rec_forms.specs.Stress.{count_progress_form, time_progress_form, stress_progress_value, IsStressProgress};
+ghost use Rattle.rec_forms.specs.Stress.{count_progress_form, time_progress_form};
+ghost use Rattle.rec_forms.specs.Stress.{stress_progress_value, IsStressProgress};
 
 use crate::fields::{optional_field, write_tagged};
 use crate::objects::ObjectWriter;
@@ -16,8 +17,16 @@ use std::alloc::{AllocError, Global};
 
 impl Form for StressConditionSummary {
     ghost use Rattle.std.specs.Prelude.{refl};
-    ghost use Rattle.rec_forms.specs.Stress.{stress_condition_value, stress_condition_form, IsStressCondition};
-    ghost use Rattle.rec_forms.specs.StressLaws.{stress_condition_back, stress_condition_writable, stress_condition_well_formed};
+    ghost use Rattle.rec_forms.specs.Stress.{
+      stress_condition_value,
+      stress_condition_form,
+      IsStressCondition,
+    };
+    ghost use Rattle.rec_forms.specs.StressLaws.{
+      stress_condition_back,
+      stress_condition_writable,
+      stress_condition_well_formed,
+    };
     ghost use Rattle.rec_forms.specs.Writable.{within_depth};
 
     ghost well_formed = { IsStressCondition };
@@ -111,8 +120,16 @@ fn write_time(
 
 impl Form for StressProgress {
     ghost use Rattle.std.specs.Prelude.{refl};
-    ghost use Rattle.rec_forms.specs.Stress.{stress_progress_value, stress_progress_form, IsStressProgress};
-    ghost use Rattle.rec_forms.specs.StressLaws.{stress_progress_back, stress_progress_writable, stress_progress_well_formed};
+    ghost use Rattle.rec_forms.specs.Stress.{
+      stress_progress_value,
+      stress_progress_form,
+      IsStressProgress,
+    };
+    ghost use Rattle.rec_forms.specs.StressLaws.{
+      stress_progress_back,
+      stress_progress_writable,
+      stress_progress_well_formed,
+    };
     ghost use Rattle.rec_forms.specs.Writable.{within_depth};
 
     ghost well_formed = { IsStressProgress };

@@ -15,8 +15,8 @@ use std::alloc::{AllocError, Global};
 ///
 /// # Errors
 ///
-/// - `NotAValue` exactly where `bytes` are no UTF-8, are not the text of a JSON value, or are that of a
-///   value which stands for no item.
+/// - `NotAValue` exactly where `bytes` are no UTF-8, are not the text of a JSON value, or are that
+///   of a value which stands for no item.
 /// - `OutOfMemory` if memory runs out.
 ///
 /// # Examples
@@ -40,8 +40,8 @@ pub fn read_text<T: Form>(alloc: Global, bytes: &[u8]) -> Result<T, FromValueErr
     T::from_node(alloc, &node)
 }
 
-/// Reads the value of a JSON text as a node, which borrows its texts. `scratch` is where texts with escapes
-/// are put; it can be lent to one read after another.
+/// Reads the value of a JSON text as a node, which borrows its texts. `scratch` is where texts with
+/// escapes are put; it can be lent to one read after another.
 ///
 /// # Errors
 ///

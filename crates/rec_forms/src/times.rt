@@ -56,7 +56,11 @@ impl Held for Stamp {
 
 impl Form for Duration {
     ghost use Rattle.std.specs.Prelude.{refl};
-    ghost use Rattle.rec_forms.specs.TimeLaws.{duration_back, duration_writable, duration_well_formed};
+    ghost use Rattle.rec_forms.specs.TimeLaws.{
+      duration_back,
+      duration_writable,
+      duration_well_formed,
+    };
     ghost use Rattle.rec_forms.specs.Times.{duration_value, duration_form, IsDuration};
     ghost use Rattle.rec_forms.specs.Writable.{within_depth};
 

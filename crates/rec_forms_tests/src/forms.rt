@@ -1,4 +1,5 @@
-//! Values that stand in no session and in no bundle, as JSON, and items of values that are there already.
+//! Values that stand in no session and in no bundle, as JSON,
+//! and items of values that are there already.
 
 use rec_events::{
     Items, NonZeroCount, OutputKind, StressFinalRunStats, TestsNotSeenSummary, Text, TextMap,
@@ -9,7 +10,8 @@ use std::alloc::Global;
 use std::process::Abort;
 use std::test::Fail;
 
-// Whether an item is written so. It ends here, since one that is held over another exit is dear to prove.
+// Whether an item is written so. It ends here, since one that is held over another exit is dear to
+// prove.
 fn is_written<T: Form + Drop>(alloc: Global, item: T, want: &str) -> bool {
     let bytes = write_text(alloc, &item);
     drop(item);
@@ -60,7 +62,8 @@ const STRESS_ENDS: &[(&str, &str)] = &[
     ("3", "refused"),
 ];
 
-// Where a session or a manifest has a count above 0 or tests not seen, null says that there is none.
+// Where a session or a manifest has a count above 0 or tests not seen,
+// null says that there is none.
 const NULL: &[(&str, &str)] = &[("null", "refused")];
 
 #[test]

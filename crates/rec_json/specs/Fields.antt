@@ -2,8 +2,10 @@
 use Rattle.std.specs.Cmp.Lexicographic.{slice_cmp}
 use Rattle.std.specs.List.Sorted.{IsStrictlySortedBy}
 use Rattle.std.specs.Ordering.{nat_cmp, match_ordering}
-use Rattle.std.specs.Prelude.{ℕ, ℤ, Bool, false, true, List, [], ◌∷◌, map, Option, Some, None, option_map}
-use Rattle.serde_json.specs.Data.{Data, number, array, object, unsigned, Members, no_members, member, put}
+use Rattle.std.specs.Prelude.{ℕ, ℤ, Bool, false, true, List, [], ◌∷◌}
+use Rattle.std.specs.Prelude.{map, Option, Some, None, option_map}
+use Rattle.serde_json.specs.Data.{Data, number, array, object, unsigned}
+use Rattle.serde_json.specs.Data.{Members, no_members, member, put}
 use Rattle.serde_json.specs.Find.{of_integer}
 use Rattle.serde_json.specs.View.{items_of}
 
@@ -65,7 +67,9 @@ later (Some d) (Some e) = Some e
 -- the fields with this one at its place
 abbrev pub placed : Field → List Field → List Field
 placed f [] = f ∷ []
-placed f (g ∷ gs) = match_ordering (slice_cmp nat_cmp f.0 g.0) (f ∷ g ∷ gs) ((g.0, later g.1 f.1) ∷ gs) (g ∷ placed f gs)
+placed f (g ∷ gs) =
+    match_ordering (slice_cmp nat_cmp f.0 g.0) (f ∷ g ∷ gs) ((g.0, later g.1 f.1) ∷ gs)
+    (g ∷ placed f gs)
 
 abbrev pub placed_all : List Field → List Field → List Field
 placed_all gs [] = gs
@@ -85,7 +89,8 @@ KeysAscend fs = IsStrictlySortedBy (slice_cmp nat_cmp) (field_keys fs)
 -- whether each key is below the next one; of literal keys the test is decided by `refl`
 abbrev pub ascend_from : List ℕ → List Field → Bool
 ascend_from key [] = true
-ascend_from key (f ∷ fs) = match_ordering (slice_cmp nat_cmp key f.0) (ascend_from f.0 fs) false false
+ascend_from key (f ∷ fs) =
+    match_ordering (slice_cmp nat_cmp key f.0) (ascend_from f.0 fs) false false
 
 abbrev pub keys_ascend : List Field → Bool
 keys_ascend [] = true

@@ -1,7 +1,8 @@
 -- The data that a node stands for.
 use Rattle.std.specs.Borrow.{Bor}
 use Rattle.std.specs.Prelude.{ℕ, List, [], ◌∷◌, map}
-use Rattle.serde_json.specs.Data.{Data, null, boolean, number, string, array, object, Items, Members, member, no_members, put}
+use Rattle.serde_json.specs.Data.{Data, null, boolean, number, string, array}
+use Rattle.serde_json.specs.Data.{object, Items, Members, member, no_members, put}
 use Rattle.serde_json.specs.View.{items_of, number_view}
 use Rattle.rec_json.specs.declared.node.Node.TheOpen.{Node-F}
 use Rattle.rec_json.specs.declared.node.Node.{Node, fold-Node}

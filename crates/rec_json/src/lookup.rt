@@ -9,7 +9,8 @@ use crate::Node;
 use std::alloc::{AllocError, Global};
 use std::collections::BTreeMap;
 
-/// Returns the value at a key, the last one where the key stands more than once. It goes over the members.
+/// Returns the value at a key, the last one where the key stands more than once.
+/// It goes over the members.
 pub fn member<'n, 'a>(object: &'n [(&'a str, Node<'a>)], key: &str) -> Option<&'n Node<'a>>
     ensures { option_map (λ v. view v.now) result ≡ get_member key.now (members_view object.now) }
 {
@@ -24,8 +25,8 @@ pub fn member<'n, 'a>(object: &'n [(&'a str, Node<'a>)], key: &str) -> Option<&'
     None
 }
 
-/// Returns the key and the value of the only member, if the object has exactly one. Members with the same key
-/// count as one, which has the last of their values.
+/// Returns the key and the value of the only member, if the object has exactly one. Members with
+/// the same key count as one, which has the last of their values.
 pub fn only_member<'n, 'a>(object: &'n [(&'a str, Node<'a>)]) -> Option<(&'a str, &'n Node<'a>)>
     ensures { option_map (λ m. (m.0.now, view m.1.now)) result ≡ only_of (members_view object.now) }
 {

@@ -1,15 +1,16 @@
 //! A JSON value that borrows its texts.
 ghost use Rattle.std.specs.Prelude.{◌≡◌, option_and_then, option_map};
-ghost use Rattle.serde_json.specs.Find.{as_array, as_bool, as_i64, as_number, as_object, as_str, as_u64};
+ghost use Rattle.serde_json.specs.Find.{as_array, as_bool, as_i64, as_number};
+ghost use Rattle.serde_json.specs.Find.{as_object, as_str, as_u64};
 ghost use Rattle.rec_json.specs.Nodes.{items_view, members_view, view};
 
 use serde_json::Number;
 
-/// Holds a JSON value whose texts are borrowed: from the text that it was read from, or from the scratch
-/// memory of that read where they have escapes.
+/// Holds a JSON value whose texts are borrowed: from the text that it was read from, or from the
+/// scratch memory of that read where they have escapes.
 ///
-/// An object has its members in the order of the text, with each key as often as it stands there. Of equal
-/// keys the last one counts.
+/// An object has its members in the order of the text, with each key as often as it stands there.
+/// Of equal keys the last one counts.
 #[derive(Drop)]
 pub enum Node<'a> {
     /// Is `null`.

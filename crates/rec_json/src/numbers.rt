@@ -1,13 +1,14 @@
 //! The number that a JSON text writes.
-ghost use Rattle.std.specs.Prelude.{◌≡◌, ◌==◌, false, length, option_map, slice_index, true, IsTrue, ◌<◌};
+ghost use Rattle.std.specs.Prelude.{◌≡◌, ◌==◌, false, length, option_map};
+ghost use Rattle.std.specs.Prelude.{slice_index, true, IsTrue, ◌<◌};
 ghost use Rattle.serde_json.specs.Read.{float_of, number_from, number_of};
 ghost use Rattle.serde_json.specs.View.{number_view};
 
 use fast_float::Numeral;
 use serde_json::Number;
 
-/// Returns the number of a numeral, if a float holds it: an integer where it is one and fits 64 bits, and
-/// else the nearest float. `-0` is a float.
+/// Returns the number of a numeral, if a float holds it: an integer where it is one and fits 64
+/// bits, and else the nearest float. `-0` is a float.
 pub(crate) fn number(text: &str) -> Option<Number>
     ensures { option_map number_view result ≡ number_of text.now }
 {

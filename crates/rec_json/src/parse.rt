@@ -23,8 +23,8 @@ impl<'a> Node<'a> {
     ///
     /// # Errors
     ///
-    /// - `Invalid` exactly where `text` is not that of a JSON value, nests more than 127 levels, or has a
-    ///   number too large for a float.
+    /// - `Invalid` exactly where `text` is not that of a JSON value, nests more than 127 levels, or
+    ///   has a number too large for a float.
     /// - `OutOfMemory` if memory runs out.
     pub fn parse(
         alloc: Global,

@@ -6,17 +6,19 @@ ghost use Rattle.json.specs.Token.{Token, begin_array, begin_object, end_array, 
 ghost use Rattle.serde_json.specs.Data.{Data, array, boolean, null, string};
 ghost use Rattle.serde_json.specs.View.{items_of};
 ghost use Rattle.serde_json.specs.Written.{compact_text};
-ghost use Rattle.rec_json.specs.Fields.{Field, KeysAscend, in_order, integer, natural, struct, tagged};
+ghost use Rattle.rec_json.specs.Fields.{Field, KeysAscend, in_order};
+ghost use Rattle.rec_json.specs.Fields.{integer, natural, struct, tagged};
 ghost use Rattle.rec_json.specs.Tokens.{value_tokens, with_field, with_fields, with_items};
 
 use json::Writer;
 use std::alloc::{AllocError, Global};
 use std::marker::Model;
 
-/// Holds a JSON text that is being written, in one line and without spaces. A clause sees its tokens.
+/// Holds a JSON text that is being written, in one line and without spaces.
+/// A clause sees its tokens.
 ///
-/// It puts commas and colons. Whoever writes closes each object and each list that was opened, and writes
-/// the fields of an object in the order of the bytes of their keys.
+/// It puts commas and colons. Whoever writes closes each object and each list that was opened, and
+/// writes the fields of an object in the order of the bytes of their keys.
 ///
 /// # Examples
 ///
@@ -62,7 +64,8 @@ impl JsonText {
         }
     }
 
-    /// Returns the bytes that were written. Where they are those of one value, they are its compact text.
+    /// Returns the bytes that were written. Where they are those of one value,
+    /// they are its compact text.
     #[tactic(auto, using(crate::proofs::WriteLaws::print_value))]
     pub fn into_bytes(self) -> Vec<u8>
         ensures text { result.items ≡ print self }
@@ -98,8 +101,8 @@ impl JsonText {
         Ok(())
     }
 
-    /// Closes an object that was written field by field, with keys that ascend by their bytes, as those of a
-    /// map do.
+    /// Closes an object that was written field by field, with keys that ascend by their bytes, as
+    /// those of a map do.
     pub fn end_map(&mut self) -> Result<(), AllocError>
         ensures { (before : List Token) (fs : List Field) → KeysAscend fs
             → self.old ≡ with_fields (before ++ begin_object ∷ []) fs
@@ -109,8 +112,8 @@ impl JsonText {
         Ok(())
     }
 
-    /// Opens an object of one field, as a variant with fields is written. The value of the field is to
-    /// follow.
+    /// Opens an object of one field, as a variant with fields is written. The value of the field is
+    /// to follow.
     pub fn begin_tagged(&mut self, tag: &str) -> Result<(), AllocError>
         ensures { OnOk result (self.new ≡ (self.old ++ begin_object ∷ []) ++ key tag.now ∷ []) }
     {

@@ -1,5 +1,6 @@
 -- A new key goes last, and a key that is there leads to its suite.
-use Rattle.std.proofs.Common.{◌≡◌, ℕ, false, List, [], ◌∷◌, ◌++◌, Some, Result, Ok, Err, IfOk, OnOk, position, slice_index_or, slice_set, ◌&&◌, ap, refl, subst, ◌∙◌}
+use Rattle.std.proofs.Common.{◌≡◌, ℕ, false, List, [], ◌∷◌, ◌++◌, Some, Result, Ok, Err, IfOk, OnOk}
+use Rattle.std.proofs.Common.{position, slice_index_or, slice_set, ◌&&◌, ap, refl, subst, ◌∙◌}
 use Rattle.std.specs.List.{list_any}
 use Rattle.std.specs.Option.{option_eq}
 use Rattle.indexmap.specs.IndexSet.{insert_key}
@@ -10,7 +11,8 @@ use Rattle.rec_junit.specs.declared.suite_keys.SuiteKey.{SuiteKey}
 use Rattle.rec_junit.specs.declared.suite_keys.SuiteSubject.TheVariants.{Script, Binary}
 use Rattle.rec_junit.specs.declared.suite_keys.SuiteSubject.{SuiteSubject}
 use Rattle.rec_junit.specs.declared.suites.Addition.{Addition}
-use Rattle.rec_junit.specs.Suites.{Suites, same_key, same_stress, same_subject, new_suite, with_addition, with_more}
+use Rattle.rec_junit.specs.Suites.{Suites, same_key, same_stress, same_subject}
+use Rattle.rec_junit.specs.Suites.{new_suite, with_addition, with_more}
 
 -- ---- the derived test of keys is that of the definitions
 
@@ -21,7 +23,9 @@ same_subjects (Binary s) (Script t) = refl
 same_subjects (Binary s) (Binary t) = refl
 
 same_keys : (k j : SuiteKey) → derived.eq-value.it k j ≡ same_key k j
-same_keys k j = ap (λ b. b && option_eq same_stress k.stress_index j.stress_index) (same_subjects k.subject j.subject)
+same_keys k j =
+    ap (λ b. b && option_eq same_stress k.stress_index j.stress_index)
+    (same_subjects k.subject j.subject)
 
 pub keys : derived.eq-value.it ≡ same_key
 keys = λ i k j. same_keys k j i
@@ -37,13 +41,17 @@ pub ok_then : {A E P Q : Type 0} (r : Result A E) → (P → Q) → OnOk r P →
 ok_then (Ok x) f p = f p
 ok_then (Err e) f p = tt
 
-pub insert_key-new : (ks old : List SuiteKey) (k : SuiteKey) → ks ≡ old → list_any (same_key k) old ≡ false → insert_key derived.eq-value.it ks k ≡ old ++ (k ∷ [])
+pub insert_key-new : (ks old : List SuiteKey) (k : SuiteKey) → ks ≡ old
+    → list_any (same_key k) old ≡ false → insert_key derived.eq-value.it ks k ≡ old ++ (k ∷ [])
 insert_key-new ks old k same new = ap (λ eq. insert_key eq ks k) keys ∙ rw (same, new) refl
 
-pub with_addition-there : (a : Addition) (ss : Suites) (keys : List SuiteKey) (suites now : List JunitSuite) (i : ℕ)
+pub with_addition-there : (a : Addition) (ss : Suites) (keys : List SuiteKey)
+    (suites now : List JunitSuite) (i : ℕ)
     → record { keys = keys; suites = suites } ≡ ss
     → position (same_key a.key) keys ≡ Some i
-    → now ≡ slice_set suites i (with_more a.case a.properties (slice_index_or suites i (new_suite a.key a.case a.properties)))
+    → now ≡ slice_set suites i
+    (with_more a.case a.properties (slice_index_or suites i (new_suite a.key a.case a.properties)))
     → record { keys = keys; suites = now } ≡ with_addition a ss
 with_addition-there a ss keys suites now i is there set =
-    subst (λ (s : Suites). record { keys = keys; suites = now } ≡ with_addition a s) is (rw (there, set) refl)
+    subst (λ (s : Suites). record { keys = keys; suites = now } ≡ with_addition a s) is
+    (rw (there, set) refl)

@@ -7,7 +7,8 @@ use Rattle.rec_events.specs.declared.statuses.ExecutionDescription.{ExecutionDes
 use Rattle.rec_events.specs.Results.{succeeded}
 use Rattle.rec_junit.specs.Reruns.{Status}
 
--- one that passed; a last one that passed and those before it; a first one and its retries, the last of which failed
+-- one that passed; a last one that passed and those before it; a first one and its retries,
+-- the last of which failed
 pub data Attempts : Type 0 where
   Passed : Status → Attempts
   Flaky : Status → List Status → Attempts
@@ -23,7 +24,8 @@ passed [] last = Passed last
 passed (prior ∷ others) last = Flaky last (prior ∷ others)
 
 abbrev pub attempts_by : Status → List Status → List Status × Status → Attempts
-attempts_by first retries split = if succeeded split.1.result then passed split.0 split.1 else Failed first retries
+attempts_by first retries split =
+    if succeeded split.1.result then passed split.0 split.1 else Failed first retries
 
 -- none where there is no attempt
 abbrev pub attempts : List Status → Option Attempts

@@ -1,8 +1,13 @@
 -- What is said of an output whose attempt failed.
 use Rattle.std.specs.List.{join_by}
 use Rattle.std.specs.Prelude.{ℕ, List, [], ◌∷◌, codes, Option, Some, None}
-use Rattle.rec_events.specs.declared.outputs.ChildExecutionOutputDescription.TheVariants.{Output, StartError}
-use Rattle.rec_events.specs.declared.outputs.ChildExecutionOutputDescription.{ChildExecutionOutputDescription}
+use Rattle.rec_events.specs.declared.outputs.ChildExecutionOutputDescription.TheVariants.{
+  Output,
+  StartError,
+}
+use Rattle.rec_events.specs.declared.outputs.ChildExecutionOutputDescription.{
+  ChildExecutionOutputDescription,
+}
 use Rattle.rec_events.specs.declared.outputs.ChildOutputDescription.{ChildOutputDescription}
 use Rattle.rec_events.specs.declared.outputs.LiveSpec.{LiveSpec}
 use Rattle.rec_junit.specs.declared.describer.ErrorText.{ErrorText}
@@ -14,7 +19,8 @@ Execution = ChildExecutionOutputDescription LiveSpec ChildOutputDescription
 -- the first error, and all of them, each on its lines
 abbrev pub errors_text : List (List ℕ) → Option ErrorText
 errors_text [] = None
-errors_text (e ∷ es) = Some (record { message = e; description = join_by (λ text. text) (codes "\n") (e ∷ es) })
+errors_text (e ∷ es) =
+    Some (record { message = e; description = join_by (λ text. text) (codes "\n") (e ∷ es) })
 
 abbrev pub captured_text : Option (List (List ℕ)) → Option ErrorText
 captured_text None = None

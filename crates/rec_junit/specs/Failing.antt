@@ -3,7 +3,13 @@ use Rattle.std.specs.Fmt.{signed_decimal}
 use Rattle.std.specs.Prelude.{ℕ, List, [], ◌++◌, codes, Option, Some, None, Bool, true, false}
 use Rattle.rec_events.specs.declared.recording.NextestRunMode.TheVariants.{Test, Benchmark}
 use Rattle.rec_events.specs.declared.recording.NextestRunMode.{NextestRunMode}
-use Rattle.rec_events.specs.declared.results.ExecutionResultDescription.TheVariants.{Pass, Leak, Fail, ExecFail, Timeout}
+use Rattle.rec_events.specs.declared.results.ExecutionResultDescription.TheVariants.{
+  Pass,
+  Leak,
+  Fail,
+  ExecFail,
+  Timeout,
+}
 use Rattle.rec_events.specs.declared.results.ExecutionResultDescription.{ExecutionResultDescription}
 use Rattle.rec_events.specs.declared.results.FailureDescription.TheVariants.{ExitCode, Abort}
 use Rattle.rec_events.specs.declared.results.FailureDescription.{FailureDescription}
@@ -26,7 +32,8 @@ leaked_note true = codes " (leaked handles)"
 leaked_note false = []
 
 abbrev pub failure_text : List ℕ → FailureDescription → List ℕ → List ℕ
-failure_text unit (ExitCode code) note = unit ++ (codes " failure with exit code " ++ (signed_decimal code ++ note))
+failure_text unit (ExitCode code) note =
+    unit ++ (codes " failure with exit code " ++ (signed_decimal code ++ note))
 failure_text unit (Abort signal name) note = unit ++ (codes " abort" ++ note)
 
 abbrev pub failed : JunitKind → List ℕ → Option FailureKind
@@ -36,8 +43,10 @@ failed kind type_text = Some (record { kind = kind; type_text = type_text })
 abbrev pub failing : List ℕ → ExecutionResultDescription → Option FailureKind
 failing unit Pass = None
 failing unit (Leak leak.Pass) = failed kind.Error (unit ++ codes " passed but leaked handles")
-failing unit (Leak leak.Fail) = failed kind.Error (unit ++ codes " exited with code 0, but leaked handles so was marked failed")
-failing unit (Fail failure leaked) = failed kind.Failure (failure_text unit failure (leaked_note leaked))
+failing unit (Leak leak.Fail) =
+    failed kind.Error (unit ++ codes " exited with code 0, but leaked handles so was marked failed")
+failing unit (Fail failure leaked) =
+    failed kind.Failure (failure_text unit failure (leaked_note leaked))
 failing unit ExecFail = failed kind.Error (codes "execution failure")
 failing unit (Timeout slow.Pass) = None
 failing unit (Timeout slow.Fail) = failed kind.Failure (unit ++ codes " timeout")

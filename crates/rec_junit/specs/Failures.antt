@@ -19,7 +19,8 @@ use Rattle.rec_junit.specs.Failing.{failing}
 use Rattle.rec_junit.specs.Judging.{◌>>=◌, or_refused}
 use Rattle.rec_junit.specs.Suites.{suite_name}
 
-abbrev pub failure_of : List ℕ → (Execution → Option ErrorText) → ExecutionResultDescription → Execution → Result (FailureKind × Option ErrorText) JunitError
+abbrev pub failure_of : List ℕ → (Execution → Option ErrorText) → ExecutionResultDescription
+    → Execution → Result (FailureKind × Option ErrorText) JunitError
 failure_of unit text_of ending execution = do
   kind ← or_refused SuccessAsFailure (failing unit ending)
   Ok (kind, text_of execution)
@@ -38,7 +39,8 @@ case_of name classname start taken judged = record {
 
 -- the case of a script in the suite of this key, and what is said of the suite
 abbrev pub script_parts :
-    (Execution → Option ErrorText) → Storing → SuiteKey → List ℕ → List ℕ → List (List ℕ) → ScriptStatus → Result (JunitCase × List JunitProperty) JunitError
+    (Execution → Option ErrorText) → Storing → SuiteKey → List ℕ → List ℕ → List (List ℕ)
+    → ScriptStatus → Result (JunitCase × List JunitProperty) JunitError
 script_parts text_of storing key script program args ran = do
   case ← script_case text_of storing script (suite_name key) ran
   Ok (case, script_properties program args ran.env_map)

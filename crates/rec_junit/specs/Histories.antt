@@ -1,6 +1,7 @@
 -- What a report says of the events of a run.
 use Rattle.std.specs.List.{fold}
-use Rattle.std.specs.Prelude.{◌≡◌, ℕ, Bool, true, false, List, [], ◌∷◌, ◌++◌, Option, Some, None, if◌then◌else◌, Result, Ok, Err}
+use Rattle.std.specs.Prelude.{◌≡◌, ℕ, Bool, true, false, List, [], ◌∷◌, ◌++◌}
+use Rattle.std.specs.Prelude.{Option, Some, None, if◌then◌else◌, Result, Ok, Err}
 use Rattle.rec_events.specs.declared.live_events.TestEvent.{TestEvent}
 use Rattle.rec_events.specs.declared.live_events.TestEventKind.TheVariants.{RunFinished}
 use Rattle.rec_events.specs.declared.live_events.TestEventKind.{TestEventKind}
@@ -31,7 +32,13 @@ with_added suites (Ok (Some addition)) = with_addition addition suites
 -- the report of an event, if it is the end of a run with these suites
 abbrev pub report_with : List ℕ → Suites → TestEventKind → Option JunitReport
 report_with name suites (RunFinished run start elapsed stats not_seen) =
-    Some (record { name = name; run_id = run; timestamp = start; time = elapsed; suites = suites.suites })
+    Some (record {
+      name = name;
+      run_id = run;
+      timestamp = start;
+      time = elapsed;
+      suites = suites.suites;
+    })
 report_with name suites kind = None
 
 module _ (mode : NextestRunMode) (text_of : Execution → Option ErrorText) where

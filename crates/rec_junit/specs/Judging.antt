@@ -1,11 +1,16 @@
 -- What is refused, and what is answered where nothing is.
 use Rattle.std.specs.Prelude.{◌≡◌, List, ◌++◌, Option, Some, None, Result, Ok, Err}
-use Rattle.rec_junit.specs.declared.errors.JunitError.TheVariants.{NotLoadedOutput, SuccessAsFailure, OutOfMemory}
+use Rattle.rec_junit.specs.declared.errors.JunitError.TheVariants.{
+  NotLoadedOutput,
+  SuccessAsFailure,
+  OutOfMemory,
+}
 use Rattle.rec_junit.specs.declared.errors.JunitError.{JunitError}
 
 -- what can be refused; what comes first is judged first
 infixl 10 ◌>>=◌
-abbrev pub ◌>>=◌ : {A B : Type 0} → Result A JunitError → (A → Result B JunitError) → Result B JunitError
+abbrev pub ◌>>=◌ : {A B : Type 0} → Result A JunitError → (A → Result B JunitError)
+    → Result B JunitError
 (Ok x) >>= f = f x
 (Err e) >>= f = Err e
 

@@ -1,4 +1,5 @@
--- What holds of the parts of each report that a program has: its texts are UTF-8, its times and its id are in range.
+-- What holds of the parts of each report that a program has: its texts are UTF-8,
+-- its times and its id are in range.
 use Rattle.std.specs.List.{AllByRecursion}
 use Rattle.std.specs.Prelude.{IfSome}
 use Rattle.rec_events.specs.Names.{IsText}
@@ -23,7 +24,9 @@ pub record IsRerun (r : JunitRerun) : Type 0 where
 
 abbrev pub IsStatus : JunitStatus → Type 0
 IsStatus (Success reruns) = AllByRecursion IsRerun reruns
-IsStatus (NonSuccess kind type_text message description reruns rerun_kind) = IsText type_text × IfSome message IsText × IfSome description IsText × AllByRecursion IsRerun reruns
+IsStatus (NonSuccess kind type_text message description reruns rerun_kind) =
+    IsText type_text × IfSome message IsText × IfSome description IsText
+    × AllByRecursion IsRerun reruns
 IsStatus (Skipped message) = IsText message
 
 pub record IsCase (c : JunitCase) : Type 0 where

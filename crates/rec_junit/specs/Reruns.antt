@@ -36,7 +36,8 @@ rerun_with status text kind output = record {
   system_err = output.system_err;
 }
 
--- what a test or script is called, what is said of outputs, and whether the outputs of attempts that failed are stored
+-- what a test or script is called, what is said of outputs,
+-- and whether the outputs of attempts that failed are stored
 module _ (unit : List ℕ) (text_of : Execution → Option ErrorText) (stores_failure : Bool) where
   -- its kind is judged before its output
   abbrev pub rerun_of : Status → Result JunitRerun JunitError

@@ -1,6 +1,7 @@
 -- Words as a shell reads them.
 use Rattle.std.specs.List.{flat_map, list_any, join_by}
-use Rattle.std.specs.Prelude.{ℕ, nat_eq, nat_le, nat_lt, length, ◌&&◌, ◌||◌, Bool, true, List, [], ◌∷◌, ◌++◌, codes, if◌then◌else◌, encode_utf8}
+use Rattle.std.specs.Prelude.{ℕ, nat_eq, nat_le, nat_lt, length, ◌&&◌, ◌||◌, Bool, true}
+use Rattle.std.specs.Prelude.{List, [], ◌∷◌, ◌++◌, codes, if◌then◌else◌, encode_utf8}
 use Rattle.std.specs.Str.{chars}
 
 abbrev pub is_within : ℕ → ℕ → ℕ → Bool

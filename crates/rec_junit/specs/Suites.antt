@@ -1,7 +1,8 @@
 -- The suites of a report, in the order in which they first got a case.
 use Rattle.std.specs.Fmt.{decimal}
 use Rattle.std.specs.Option.{option_eq}
-use Rattle.std.specs.Prelude.{ℕ, nat_eq, ◌&&◌, Bool, false, List, [], ◌∷◌, ◌++◌, codes, Option, Some, None, option_map, bytes_eq, slice_set, slice_index_or, position}
+use Rattle.std.specs.Prelude.{ℕ, nat_eq, ◌&&◌, Bool, false, List, [], ◌∷◌, ◌++◌, codes, Option}
+use Rattle.std.specs.Prelude.{Some, None, option_map, bytes_eq, slice_set, slice_index_or, position}
 use Rattle.rec_events.specs.declared.live_stress.StressIndex.{StressIndex}
 use Rattle.rec_junit.specs.declared.report.JunitCase.{JunitCase}
 use Rattle.rec_junit.specs.declared.report.JunitProperty.{JunitProperty}
@@ -29,7 +30,8 @@ abbrev pub same_stress : StressKey → StressKey → Bool
 same_stress i j = nat_eq i.current j.current && option_eq nat_eq i.total j.total
 
 abbrev pub same_key : SuiteKey → SuiteKey → Bool
-same_key k j = same_subject k.subject j.subject && option_eq same_stress k.stress_index j.stress_index
+same_key k j =
+    same_subject k.subject j.subject && option_eq same_stress k.stress_index j.stress_index
 
 -- ---- names
 
@@ -56,15 +58,28 @@ no_suites = record { keys = []; suites = [] }
 
 -- a suite with a case more, and with these properties after its own
 abbrev pub with_more : JunitCase → List JunitProperty → JunitSuite → JunitSuite
-with_more case properties s = record { name = s.name; cases = s.cases ++ (case ∷ []); properties = s.properties ++ properties }
+with_more case properties s = record {
+  name = s.name;
+  cases = s.cases ++ (case ∷ []);
+  properties = s.properties ++ properties;
+}
 
 abbrev pub new_suite : SuiteKey → JunitCase → List JunitProperty → JunitSuite
-new_suite key case properties = record { name = suite_name key; cases = case ∷ []; properties = properties }
+new_suite key case properties =
+    record { name = suite_name key; cases = case ∷ []; properties = properties }
 
 abbrev pub with_addition_at : Addition → Suites → Option ℕ → Suites
-with_addition_at a ss None = record { keys = ss.keys ++ (a.key ∷ []); suites = ss.suites ++ (new_suite a.key a.case a.properties ∷ []) }
+with_addition_at a ss None = record {
+  keys = ss.keys ++ (a.key ∷ []);
+  suites = ss.suites ++ (new_suite a.key a.case a.properties ∷ []);
+}
 with_addition_at a ss (Some i) =
-    record { keys = ss.keys; suites = slice_set ss.suites i (with_more a.case a.properties (slice_index_or ss.suites i (new_suite a.key a.case a.properties))) }
+    record {
+      keys = ss.keys;
+      suites =
+          slice_set ss.suites i (with_more a.case a.properties
+          (slice_index_or ss.suites i (new_suite a.key a.case a.properties)));
+    }
 
 -- a case more in the suite of its key, or in a new one at the end
 abbrev pub with_addition : Addition → Suites → Suites

@@ -1,7 +1,9 @@
 //! What an event adds to a report.
 ghost use Rattle.std.specs.Prelude.{◌≡◌, ◌++◌, ◌∷◌, [], codes, Some, Ok, IfOk, OnOk};
 ghost use Rattle.rec_events.specs.LiveEvents.{kind_name};
-ghost use Rattle.rec_junit.specs.Additions.{addition_of, finished_addition, property, script_addition, script_properties, test_addition, variables};
+ghost use Rattle.rec_junit.specs.Additions.{addition_of, finished_addition, property};
+ghost use Rattle.rec_junit.specs.Additions.{script_addition, script_properties};
+ghost use Rattle.rec_junit.specs.Additions.{test_addition, variables};
 ghost use Rattle.rec_junit.specs.Cases.{script_case, skipped_case};
 ghost use Rattle.rec_junit.specs.Failing.{script_unit};
 ghost use Rattle.rec_junit.specs.Failures.{script_parts};

@@ -1,8 +1,10 @@
 //! The report of a run, built event by event.
-ghost use Rattle.std.specs.Prelude.{◌≡◌, ◌++◌, ◌∷◌, [], List, None, IfOk, OnOk, OnErr, codes, string_bytes};
+ghost use Rattle.std.specs.Prelude.{◌≡◌, ◌++◌, ◌∷◌, [], List, None, IfOk};
+ghost use Rattle.std.specs.Prelude.{OnOk, OnErr, codes, string_bytes};
 ghost use Rattle.rec_events.specs.declared.live_events.TestEvent.{TestEvent};
 ghost use Rattle.rec_events.specs.LiveEvents.{kind_name};
-ghost use Rattle.rec_junit.specs.Histories.{refusal_of, report_after, report_with, suites_after, suites_by, StandsFor};
+ghost use Rattle.rec_junit.specs.Histories.{refusal_of, report_after, report_with};
+ghost use Rattle.rec_junit.specs.Histories.{suites_after, suites_by, StandsFor};
 ghost use Rattle.rec_junit.specs.Judging.{IsJudged};
 ghost use Rattle.rec_junit.specs.Suites.{no_suites};
 
@@ -52,12 +54,12 @@ impl<'a, D: ErrorDescriber> JunitBuilder<'a, D> {
     ///
     /// # Errors
     ///
-    /// These come exactly where they are the cause, the first of them where there are more. The main
-    /// attempt of a test is judged first, then each rerun by its ending and its output, then the main
-    /// attempt's output:
+    /// These come exactly where they are the cause, the first of them where there are more. The
+    /// main attempt of a test is judged first, then each rerun by its ending and its output, then
+    /// the main attempt's output:
     ///
-    /// - `SuccessAsFailure`: the first attempt of a test that failed, or a rerun, passed, or was stopped
-    ///   for its time and counts as passed.
+    /// - `SuccessAsFailure`: the first attempt of a test that failed, or a rerun, passed, or was
+    ///   stopped for its time and counts as passed.
     /// - `NotLoadedOutput`: an output that the report is to hold was not loaded.
     ///
     /// Or `OutOfMemory`, if memory runs out. Each error leaves the builder as it was.

@@ -35,8 +35,8 @@ pub trait ErrorDescriber {
         ensures { IfOk result (λ text. text ≡ text_of self.now output.now) };
 }
 
-/// Says what the runner itself noticed: that a process could not be started, or what went wrong while
-/// its output was captured.
+/// Says what the runner itself noticed: that a process could not be started, or what went wrong
+/// while its output was captured.
 #[derive(Clone, Copy, Drop)]
 pub struct PlainDescriber;
 

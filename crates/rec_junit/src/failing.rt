@@ -1,8 +1,13 @@
 //! How a result is reported that is no success.
 ghost use Rattle.std.specs.Prelude.{◌≡◌, ◌++◌, ℕ, List, Some, IfOk, codes};
-ghost use Rattle.rec_events.specs.declared.results.ExecutionResultDescription.TheVariants.{Leak, Fail, Timeout};
+ghost use Rattle.rec_events.specs.declared.results.ExecutionResultDescription.TheVariants.{
+  Leak,
+  Fail,
+  Timeout,
+};
 ghost use Rattle.rec_junit.specs.declared.report.JunitKind.TheVariants.{Error};
-ghost use Rattle.rec_junit.specs.Failing.{failed, failing, failure_text, leaked_note, script_unit, test_unit};
+ghost use Rattle.rec_junit.specs.Failing.{failed, failing, failure_text};
+ghost use Rattle.rec_junit.specs.Failing.{leaked_note, script_unit, test_unit};
 
 use crate::JunitKind;
 use rec_events::{

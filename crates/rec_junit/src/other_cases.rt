@@ -1,7 +1,8 @@
 //! The cases of setup scripts, and of tests that don't run.
 ghost use Rattle.std.specs.Prelude.{◌≡◌, ◌++◌, IfOk, codes};
 ghost use Rattle.rec_events.specs.Results.{succeeded};
-ghost use Rattle.rec_junit.specs.Cases.{judged_script, reason_text, script_case, script_status_by, skipped_case};
+ghost use Rattle.rec_junit.specs.Cases.{judged_script, reason_text, script_case};
+ghost use Rattle.rec_junit.specs.Cases.{script_status_by, skipped_case};
 ghost use Rattle.rec_junit.specs.Failing.{script_unit};
 ghost use Rattle.rec_junit.specs.Judging.{Judges};
 

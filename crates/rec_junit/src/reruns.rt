@@ -3,7 +3,8 @@ ghost use Rattle.std.specs.Prelude.{◌≡◌};
 ghost use Rattle.rec_junit.specs.Cases.{failed_status};
 ghost use Rattle.rec_junit.specs.Failures.{failure_of};
 ghost use Rattle.rec_junit.specs.Judging.{Judges};
-ghost use Rattle.rec_junit.specs.Reruns.{message_of, description_of, rerun_of, rerun_with, reruns_of};
+ghost use Rattle.rec_junit.specs.Reruns.{message_of, description_of};
+ghost use Rattle.rec_junit.specs.Reruns.{rerun_of, rerun_with, reruns_of};
 
 use crate::failing::{FailureKind, failing};
 use crate::stored_outputs::{StoredOutput, stored_output};

@@ -2,7 +2,8 @@
 ghost use Rattle.std.specs.List.{flat_map};
 ghost use Rattle.std.specs.Prelude.{◌≡◌, ◌++◌, ℕ, List, IfOk, OnOk, string_bytes};
 ghost use Rattle.std.specs.Str.{chars};
-ghost use Rattle.rec_junit.specs.Shell.{are_plain, is_plain, is_plain_word, quoted, shell_word, shell_words, within_quotes};
+ghost use Rattle.rec_junit.specs.Shell.{are_plain, is_plain, is_plain_word, quoted};
+ghost use Rattle.rec_junit.specs.Shell.{shell_word, shell_words, within_quotes};
 
 use rec_events::Text;
 use std::alloc::{AllocError, Global};
@@ -36,8 +37,8 @@ impl Word for Text {
 /// Joins words with spaces, so that a shell reads them as these words, by the rules of quoting in
 /// POSIX (Shell Command Language, 2.2).
 ///
-/// A word of ASCII letters, digits and `_-./,:@+` stands as it is, unless it is empty. Any other stands
-/// between single quotes, and each single quote in it is written as `'\''`.
+/// A word of ASCII letters, digits and `_-./,:@+` stands as it is, unless it is empty. Any other
+/// stands between single quotes, and each single quote in it is written as `'\''`.
 ///
 /// # Errors
 ///

@@ -2,7 +2,9 @@
 ghost use Rattle.std.specs.Prelude.{◌≡◌, IfOk};
 ghost use Rattle.rec_junit.specs.declared.errors.JunitError.TheVariants.{NotLoadedOutput};
 ghost use Rattle.rec_junit.specs.Judging.{Judges, or_refused};
-ghost use Rattle.rec_junit.specs.StoredOutputs.{captured_or, lossy_text, no_output, both, stored_description, stored_execution, stored_output};
+ghost use Rattle.rec_junit.specs.StoredOutputs.{captured_or, lossy_text, no_output};
+ghost use Rattle.rec_junit.specs.StoredOutputs.{both, stored_description};
+ghost use Rattle.rec_junit.specs.StoredOutputs.{stored_execution, stored_output};
 
 use crate::JunitError;
 use crate::texts::two_texts;

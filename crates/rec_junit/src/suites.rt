@@ -1,9 +1,11 @@
 //! The suites of a run, in the order in which they first got a case.
 ghost use Rattle.std.specs.List.{list_any};
-ghost use Rattle.std.specs.Prelude.{◌≡◌, ◌<◌, ◌++◌, ◌∷◌, [], length, slice_index_or, slice_set, position, false, None, is_some, OnOk, OnErr, IfOk, IfSome};
+ghost use Rattle.std.specs.Prelude.{◌≡◌, ◌<◌, ◌++◌, ◌∷◌, [], length, slice_index_or, slice_set};
+ghost use Rattle.std.specs.Prelude.{position, false, None, is_some, OnOk, OnErr, IfOk, IfSome};
 ghost use Rattle.std.specs.Vec.{vec_len, vec_capacity};
 ghost use Rattle.indexmap.specs.IndexSet.{spare};
-ghost use Rattle.rec_junit.specs.Suites.{new_suite, no_suites, same_key, with_addition, with_addition_at, with_more};
+ghost use Rattle.rec_junit.specs.Suites.{new_suite, no_suites, same_key};
+ghost use Rattle.rec_junit.specs.Suites.{with_addition, with_addition_at, with_more};
 
 use crate::suite_keys::SuiteKey;
 use crate::{JunitCase, JunitProperty, JunitSuite};

@@ -4,7 +4,8 @@ ghost use Rattle.rec_events.specs.declared.reporting.JunitFlakyFailStatus.TheVar
 ghost use Rattle.rec_events.specs.declared.results.FlakyResult.TheVariants as flaky;
 ghost use Rattle.rec_events.specs.Results.{flaky_text};
 ghost use Rattle.rec_junit.specs.Attempts.{attempts_in, has_failed, main_of};
-ghost use Rattle.rec_junit.specs.Cases.{failed_test, flaky_status, judged_test, said_after, stores, test_case, test_status, with_output};
+ghost use Rattle.rec_junit.specs.Cases.{failed_test, flaky_status, judged_test, said_after};
+ghost use Rattle.rec_junit.specs.Cases.{stores, test_case, test_status, with_output};
 ghost use Rattle.rec_junit.specs.Failures.{case_of};
 ghost use Rattle.rec_junit.specs.Judging.{Judges};
 ghost use Rattle.rec_junit.specs.Reruns.{description_of};

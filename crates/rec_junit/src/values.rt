@@ -1,6 +1,7 @@
 //! The JSON of a report.
 ghost use Rattle.std.specs.List.{AllByRecursion};
-ghost use Rattle.std.specs.Prelude.{◌≡◌, [], ◌∷◌, ◌++◌, codes, false, Some, IfOk, IfSome, OnOk, string_bytes};
+ghost use Rattle.std.specs.Prelude.{◌≡◌, [], ◌∷◌, ◌++◌, codes, false, Some};
+ghost use Rattle.std.specs.Prelude.{IfOk, IfSome, OnOk, string_bytes};
 ghost use Rattle.serde_json.specs.Data.{Data};
 ghost use Rattle.serde_json.specs.View.{view};
 ghost use Rattle.serde_json.specs.Written.{compact_text, has_float};
@@ -11,7 +12,8 @@ ghost use Rattle.rec_forms.specs.ObjectWriting.{Writes};
 ghost use Rattle.rec_forms.specs.Times.{IsDuration, IsStamp};
 ghost use Rattle.rec_forms.specs.Writable.{IsWritable};
 ghost use Rattle.rec_junit.specs.Reports.{IsRerun};
-ghost use Rattle.rec_junit.specs.Values.{failed_value, failure_fields, kind_name, report_value, rerun_kind_name, run_fields};
+ghost use Rattle.rec_junit.specs.Values.{failed_value, failure_fields, kind_name};
+ghost use Rattle.rec_junit.specs.Values.{report_value, rerun_kind_name, run_fields};
 
 use crate::{
     JunitCase, JunitKind, JunitProperty, JunitReport, JunitRerun, JunitRerunKind, JunitStatus,
@@ -43,8 +45,8 @@ trait Part {
 
 /// Makes the JSON value of a report.
 ///
-/// Its keys are the names of the fields, with `-` in place of `_`. What isn't there is left out. A case
-/// that succeeded has the `status` `{"success":[..]}`, with its reruns; one that did not
+/// Its keys are the names of the fields, with `-` in place of `_`. What isn't there is left out. A
+/// case that succeeded has the `status` `{"success":[..]}`, with its reruns; one that did not
 /// `{"non-success":{..}}`; one that did not run `{"skipped":".."}`.
 ///
 /// # Errors

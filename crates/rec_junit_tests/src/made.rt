@@ -53,7 +53,8 @@ fn ending(letter: u8) -> ExecutionResultDescription {
     }
 }
 
-/// What came of a process: `s` wrote to both streams, `!` could not be started; any other was not loaded.
+/// What came of a process: `s` wrote to both streams, `!` could not be started;
+/// any other was not loaded.
 fn output(
     alloc: Global,
     letter: u8,
@@ -133,8 +134,8 @@ fn attempts(
     }
 }
 
-/// The end of a test whose attempts ended and wrote so. `f` in the flags says that it counts as failed
-/// where it is flaky, `+` and `-` that outputs of successes and of failures are stored.
+/// The end of a test whose attempts ended and wrote so. `f` in the flags says that it counts as
+/// failed where it is flaky, `+` and `-` that outputs of successes and of failures are stored.
 pub(crate) fn finished<'a>(
     alloc: Global,
     test: &'a OwnedTestInstanceId,

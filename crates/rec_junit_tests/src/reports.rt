@@ -1,4 +1,5 @@
-//! Outputs that are not loaded, setup scripts whose outputs are stored, refused tests, and what a describer says.
+//! Outputs that are not loaded, setup scripts whose outputs are stored, refused tests,
+//! and what a describer says.
 
 use crate::made::{finished, run_end, script, test};
 use rec_events::{ChildExecutionOutputDescription, LiveSpec, NextestRunMode, TestEvent, Text};
@@ -11,7 +12,8 @@ use std::alloc::{AllocError, Global};
 use std::process::Abort;
 use std::test::Fail;
 
-/// The name of a test, or `@` for a setup script; how its attempts ended, and what they wrote; and flags.
+/// The name of a test, or `@` for a setup script; how its attempts ended, and what they wrote;
+/// and flags.
 type Row = (&'static str, &'static str, &'static str, &'static str);
 
 /// The name of a refusal.
@@ -138,7 +140,14 @@ fn check<D: ErrorDescriber>(
 
 /// What is said of a script that passed.
 fn script_passed() -> &'static str {
-    "{\"cases\":[{\"classname\":\"@setup-script:db\",\"name\":\"db\",\"status\":{\"success\":[]},\"system-err\":\"stderr\",\"system-out\":\"stdout\",\"time\":{\"nanos\":0,\"secs\":4},\"timestamp\":{\"nanos\":0,\"offset\":0,\"secs\":3}}],\"name\":\"@setup-script:db\",\"properties\":[{\"name\":\"command\",\"value\":\"./prepare db\"},{\"name\":\"args\",\"value\":\"'a b' c\"},{\"name\":\"output-env:PORT\",\"value\":\"1\"},{\"name\":\"output-env:URL\",\"value\":\"db://\"}]}"
+    concat!(
+        r#"{"cases":[{"classname":"@setup-script:db","name":"db","status":{"success":[]},"#,
+        r#""system-err":"stderr","system-out":"stdout","time":{"nanos":0,"secs":4},"#,
+        r#""timestamp":{"nanos":0,"offset":0,"secs":3}}],"name":"@setup-script:db","#,
+        r#""properties":[{"name":"command","value":"./prepare db"},"#,
+        r#"{"name":"args","value":"'a b' c"},{"name":"output-env:PORT","value":"1"},"#,
+        r#"{"name":"output-env:URL","value":"db://"}]}"#
+    )
 }
 
 #[test]
@@ -160,7 +169,8 @@ fn outputs_of_scripts_are_stored(rt: HostRuntime) -> Result<(), Fail> {
 
 // ---- tests that are refused
 
-/// Asserts what comes of a test whose attempts ended and wrote so, or how the report says that it ended.
+/// Asserts what comes of a test whose attempts ended and wrote so,
+/// or how the report says that it ended.
 fn check_test(
     rt: &impl Abort,
     alloc: Global,
@@ -215,7 +225,13 @@ fn refusals_are_printed(rt: HostRuntime) -> Result<(), Fail> {
 
 /// Two refusals, and the suite of the tests that are not refused.
 fn suite_of_two() -> &'static str {
-    "SuccessAsFailure NotLoadedOutput [{\"cases\":[{\"classname\":\"b\",\"name\":\"t1\",\"status\":{\"success\":[]},\"time\":{\"nanos\":0,\"secs\":1},\"timestamp\":{\"nanos\":0,\"offset\":0,\"secs\":1}},{\"classname\":\"b\",\"name\":\"t7\",\"status\":{\"success\":[]},\"time\":{\"nanos\":0,\"secs\":1},\"timestamp\":{\"nanos\":0,\"offset\":0,\"secs\":1}}],\"name\":\"b\",\"properties\":[]}]"
+    concat!(
+        r#"SuccessAsFailure NotLoadedOutput [{"cases":[{"classname":"b","name":"t1","#,
+        r#""status":{"success":[]},"time":{"nanos":0,"secs":1},"#,
+        r#""timestamp":{"nanos":0,"offset":0,"secs":1}},"#,
+        r#"{"classname":"b","name":"t7","status":{"success":[]},"time":{"nanos":0,"secs":1},"#,
+        r#""timestamp":{"nanos":0,"offset":0,"secs":1}}],"name":"b","properties":[]}]"#
+    )
 }
 
 #[test]
@@ -262,12 +278,31 @@ impl ErrorDescriber for Talkative {
 
 /// The report of a flaky test that counts as failed.
 fn counted_as_failed() -> &'static str {
-    "{\"name\":\"run\",\"run-id\":\"00000000-0000-0000-0000-000000000000\",\"suites\":[{\"cases\":[{\"classname\":\"b\",\"name\":\"t\",\"status\":{\"non-success\":{\"description\":\"description\",\"kind\":\"failure\",\"message\":\"message\",\"rerun-kind\":\"flaky\",\"reruns\":[{\"description\":\"description\",\"kind\":\"error\",\"message\":\"message\",\"time\":{\"nanos\":0,\"secs\":1},\"timestamp\":{\"nanos\":0,\"offset\":0,\"secs\":1},\"type-text\":\"execution failure\"}],\"type-text\":\"flaky failure\"}},\"time\":{\"nanos\":0,\"secs\":2},\"timestamp\":{\"nanos\":0,\"offset\":0,\"secs\":2}}],\"name\":\"b\",\"properties\":[]}],\"time\":{\"nanos\":0,\"secs\":9},\"timestamp\":{\"nanos\":0,\"offset\":0,\"secs\":7}}"
+    concat!(
+        r#"{"name":"run","run-id":"00000000-0000-0000-0000-000000000000","#,
+        r#""suites":[{"cases":[{"classname":"b","name":"t","#,
+        r#""status":{"non-success":{"description":"description","kind":"failure","#,
+        r#""message":"message","rerun-kind":"flaky","#,
+        r#""reruns":[{"description":"description","kind":"error","message":"message","#,
+        r#""time":{"nanos":0,"secs":1},"timestamp":{"nanos":0,"offset":0,"secs":1},"#,
+        r#""type-text":"execution failure"}],"type-text":"flaky failure"}},"#,
+        r#""time":{"nanos":0,"secs":2},"timestamp":{"nanos":0,"offset":0,"secs":2}}],"name":"b","#,
+        r#""properties":[]}],"time":{"nanos":0,"secs":9},"#,
+        r#""timestamp":{"nanos":0,"offset":0,"secs":7}}"#
+    )
 }
 
 /// The report of a flaky test that counts as passed.
 fn counted_as_passed() -> &'static str {
-    "{\"name\":\"run\",\"run-id\":\"00000000-0000-0000-0000-000000000000\",\"suites\":[{\"cases\":[{\"classname\":\"b\",\"name\":\"t\",\"status\":{\"success\":[{\"description\":\"description\",\"kind\":\"error\",\"message\":\"message\",\"time\":{\"nanos\":0,\"secs\":1},\"timestamp\":{\"nanos\":0,\"offset\":0,\"secs\":1},\"type-text\":\"execution failure\"}]},\"time\":{\"nanos\":0,\"secs\":2},\"timestamp\":{\"nanos\":0,\"offset\":0,\"secs\":2}}],\"name\":\"b\",\"properties\":[]}],\"time\":{\"nanos\":0,\"secs\":9},\"timestamp\":{\"nanos\":0,\"offset\":0,\"secs\":7}}"
+    concat!(
+        r#"{"name":"run","run-id":"00000000-0000-0000-0000-000000000000","#,
+        r#""suites":[{"cases":[{"classname":"b","name":"t","#,
+        r#""status":{"success":[{"description":"description","kind":"error","message":"message","#,
+        r#""time":{"nanos":0,"secs":1},"timestamp":{"nanos":0,"offset":0,"secs":1},"#,
+        r#""type-text":"execution failure"}]},"time":{"nanos":0,"secs":2},"#,
+        r#""timestamp":{"nanos":0,"offset":0,"secs":2}}],"name":"b","properties":[]}],"#,
+        r#""time":{"nanos":0,"secs":9},"timestamp":{"nanos":0,"offset":0,"secs":7}}"#
+    )
 }
 
 #[test]

@@ -7,7 +7,8 @@ pub record SinkState : Type 0 where
   pub faults : ℕ
   pub room : ℕ
 
--- those of a sink with spare room, with the bound on a piece (0: none), the calls made so far, and the calls that fail
+-- those of a sink with spare room, with the bound on a piece (0: none), the calls made so far,
+-- and the calls that fail
 pub record FailingSinkState : Type 0 where
   pub bytes : List ℕ
   pub faults : ℕ
@@ -16,7 +17,8 @@ pub record FailingSinkState : Type 0 where
   pub calls : ℕ
   pub fail_at : List ℕ
 
--- the bytes left, the count of faults, the bound on a piece (0: none), the calls made so far, and the calls that fail
+-- the bytes left, the count of faults, the bound on a piece (0: none), the calls made so far,
+-- and the calls that fail
 pub record FailingSourceState : Type 0 where
   pub rest : List ℕ
   pub faults : ℕ

@@ -4,7 +4,8 @@
 //! there.
 ghost use Rattle.std.specs.Io.KnownBytes.{ReadConsumes, WriteAppends};
 ghost use Rattle.std.specs.Io.{ReadsAtMost};
-ghost use Rattle.std.specs.Prelude.{◌≡◌, ◌<◌, ◌≤◌, ◌+◌, ◌-◌, ◌^◌, ◌++◌, ◌⊎◌, [], length, min, Contains, IfOk, OnOk, OnErr, Some};
+ghost use Rattle.std.specs.Prelude.{◌≡◌, ◌<◌, ◌≤◌, ◌+◌, ◌-◌, ◌^◌, ◌++◌, ◌⊎◌, []};
+ghost use Rattle.std.specs.Prelude.{length, min, Contains, IfOk, OnOk, OnErr, Some};
 ghost use Rattle.rec_container.specs.Causes.{Counts, HasCause, next_count};
 ghost use Rattle.rec_memory_streams.specs.Streams.{piece_len};
 

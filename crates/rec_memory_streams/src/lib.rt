@@ -1,4 +1,5 @@
-//! Sources and sinks in memory that end, fail or run full as a caller says, for trying what reads and writes.
+//! Sources and sinks in memory that end, fail or run full as a caller says,
+//! for trying what reads and writes.
 #![tactic(auto)]
 
 mod failing;

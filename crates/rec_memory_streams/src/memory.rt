@@ -1,7 +1,8 @@
 //! A source without an end, and a sink in memory that can run full.
 ghost use Rattle.std.specs.Io.KnownBytes.{ReadConsumes, WriteAppends};
 ghost use Rattle.std.specs.Io.{ReadsAtMost};
-ghost use Rattle.std.specs.Prelude.{◌≡◌, ◌<◌, ◌≤◌, ◌+◌, ◌++◌, [], ℕ, length, replicate, IfOk, OnOk, OnErr, Ok, None, Some};
+ghost use Rattle.std.specs.Prelude.{◌≡◌, ◌<◌, ◌≤◌, ◌+◌, ◌++◌, [], ℕ, length};
+ghost use Rattle.std.specs.Prelude.{replicate, IfOk, OnOk, OnErr, Ok, None, Some};
 ghost use Rattle.rec_container.specs.Causes.{Counts, HasCause};
 
 use rec_container::{Sink, SinkFailed, Source, SourceFailed};

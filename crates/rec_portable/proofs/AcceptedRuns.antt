@@ -1,5 +1,7 @@
 -- A bundle with a reading is accepted, where nothing of it is too long.
-use Rattle.std.proofs.Common.{◌≡◌, ◌≤◌, ℕ, List, [], ◌∷◌, Bool, true, false, not, ◌&&◌, filter, length, Option, Some, None, Result, Ok, Err, is_some, option_map, refl, sym, ap, subst, ◌∙◌, inl, inr, if◌then◌else◌}
+use Rattle.std.proofs.Common.{◌≡◌, ◌≤◌, ℕ, List, [], ◌∷◌, Bool, true, false, not, ◌&&◌}
+use Rattle.std.proofs.Common.{filter, length, Option, Some, None, Result, Ok, Err, is_some}
+use Rattle.std.proofs.Common.{option_map, refl, sym, ap, subst, ◌∙◌, inl, inr, if◌then◌else◌}
 use Rattle.std.proofs.lemmas.Bool.{and_parts, le-ltb}
 use Rattle.std.specs.List.{AllByRecursion, flat_map, list_all}
 use Rattle.std.specs.Str.{bytes_eq}
@@ -10,7 +12,9 @@ use Rattle.rec_forms.specs.Shape.{only}
 use Rattle.rec_forms.specs.TextForm.{bytes_form}
 use Rattle.rec_format.specs.declared.manifest.PortableManifest.{PortableManifest}
 use Rattle.rec_format.specs.declared.run.RecordedRunInfo.{RecordedRunInfo}
-use Rattle.rec_format.specs.declared.versions.PortableRecordingFormatVersion.{PortableRecordingFormatVersion}
+use Rattle.rec_format.specs.declared.versions.PortableRecordingFormatVersion.{
+  PortableRecordingFormatVersion,
+}
 use Rattle.rec_format.specs.RunForms.{manifest_form}
 use Rattle.rec_format.specs.Runs.{info_of}
 use Rattle.rec_codec.proofs.LineReadings.{log_events-whole}
@@ -22,7 +26,8 @@ use Rattle.rec_store.proofs.PartsOf.{read_from, the_same}
 use Rattle.rec_store.specs.declared.read_error.RecordReadError.TheVariants as part
 use Rattle.rec_store.specs.declared.read_error.RecordReadError.{RecordReadError}
 use Rattle.rec_store.specs.Entries.{bundle_entries, log_name, manifest_name, store_name}
-use Rattle.rec_store.specs.JudgedParts.{events_or_fault, first_unnamed, is_named, log_judged, outputs_judged, parts_judged}
+use Rattle.rec_store.specs.JudgedParts.{events_or_fault, first_unnamed, is_named}
+use Rattle.rec_store.specs.JudgedParts.{log_judged, outputs_judged, parts_judged}
 use Rattle.rec_store.specs.Kept.{event_paths}
 use Rattle.rec_store.specs.Parts.{AreWithin, found_within}
 use Rattle.rec_store.specs.Reading.{RunRecord, record_of_parts}
@@ -30,27 +35,35 @@ use Rattle.rec_store.specs.RunParts.{RunParts, is_metadata, parts_of}
 use Rattle.rec_portable.proofs.Components.{within_limit}
 use Rattle.rec_portable.proofs.Judgements.{not_both, same_ok}
 use Rattle.rec_portable.specs.declared.errors.PortableRecordingReadError.TheVariants as opens
-use Rattle.rec_portable.specs.declared.errors.PortableRecordingReadError.{PortableRecordingReadError}
+use Rattle.rec_portable.specs.declared.errors.PortableRecordingReadError.{
+  PortableRecordingReadError,
+}
 use Rattle.rec_portable.specs.declared.upgrade_error.UpgradeError.TheVariants.{OutOfMemory}
 use Rattle.rec_portable.specs.declared.upgrade_error.UpgradeError.{UpgradeError}
 use Rattle.rec_portable.specs.Judging.{content_judged, judged, manifest_read, versions_checked}
 use Rattle.rec_portable.specs.OuterEntries.{IsStoreRefused, log_part}
 use Rattle.rec_portable.specs.Upgrades.{IsUpgradable}
-use Rattle.rec_portable.specs.Upgrading.{IsAccepted, IsOpened, IsRefused, IsUnopened, names_judged, none_foreign, open_error, or_read_error, run_judged, unless, written_refusal}
+use Rattle.rec_portable.specs.Upgrading.{IsAccepted, IsOpened, IsRefused, IsUnopened}
+use Rattle.rec_portable.specs.Upgrading.{names_judged, none_foreign, open_error}
+use Rattle.rec_portable.specs.Upgrading.{or_read_error, run_judged, unless, written_refusal}
 
 -- ---- the parts of a run
 
-pub log_accepted : (log : List ℕ) (events : List RecordedEvent) → log_events (lines log) ≡ Some events → log_judged log ≡ Ok events
+pub log_accepted : (log : List ℕ) (events : List RecordedEvent)
+    → log_events (lines log) ≡ Some events → log_judged log ≡ Ok events
 log_accepted log events h =
     let whole = (log_events-whole 1 (lines log) events).0 h in
     ap (events_or_fault (events_before_fault (numbered 1 (lines log)))) whole.1 ∙ ap Ok whole.0
 
 -- the content under a path has what all contents have
-found_content : (P : List ℕ → Type 0) (es : List Entry) (path content : List ℕ) → AllByRecursion (λ (e : Entry). P e.content) es → content_of es path ≡ Some content → P content
+found_content : (P : List ℕ → Type 0) (es : List Entry) (path content : List ℕ)
+    → AllByRecursion (λ (e : Entry). P e.content) es → content_of es path ≡ Some content → P content
 found_content P [] path content all h = absurd cc
-found_content P (e ∷ es) path content all h = by (bytes_eq path e.name) h (found_content P es path content all.1)
+found_content P (e ∷ es) path content all h =
+    by (bytes_eq path e.name) h (found_content P es path content all.1)
   where
-    by : (b : Bool) → (if b then Some e.content else content_of es path) ≡ Some content → (content_of es path ≡ Some content → P content) → P content
+    by : (b : Bool) → (if b then Some e.content else content_of es path) ≡ Some content
+        → (content_of es path ≡ Some content → P content) → P content
     by true h rest = subst P (the_same e.content content h) all.0
     by false h rest = rest h
 
@@ -59,34 +72,49 @@ only_some true es fs h = (refl, cc)
 only_some false es fs h = absurd cc
 
 module _ (limit : ℕ) (es : List Entry) (within : AreWithin es limit) where
-  short_found : (path content : List ℕ) → content_of es path ≡ Some content → found_within path limit (Some content) ≡ Ok content
+  short_found : (path content : List ℕ) → content_of es path ≡ Some content
+      → found_within path limit (Some content) ≡ Ok content
   short_found path content h =
       ap (λ b. if b then Err (part.FileTooLarge path (length content) limit) else Ok content)
-      (le-ltb limit (length content) (found_content (λ c. length c ≤ limit) es path content within h))
+      (le-ltb limit (length content)
+      (found_content (λ c. length c ≤ limit) es path content within h))
 
-  outputs_accepted : (paths : List (List ℕ)) → list_all (λ p. is_some (content_of es p)) paths ≡ true → outputs_judged limit es paths ≡ Ok tt
+  outputs_accepted : (paths : List (List ℕ))
+      → list_all (λ p. is_some (content_of es p)) paths ≡ true
+      → outputs_judged limit es paths ≡ Ok tt
   outputs_accepted [] h = refl
   outputs_accepted (path ∷ paths) h = by (content_of es path) refl h (outputs_accepted paths)
     where
       next : List ℕ → Result (Unit {0}) RecordReadError
       next content = outputs_judged limit es paths
 
-      by : (o : Option (List ℕ)) → content_of es path ≡ o → (is_some o && list_all (λ p. is_some (content_of es p)) paths) ≡ true
-          → (list_all (λ p. is_some (content_of es p)) paths ≡ true → outputs_judged limit es paths ≡ Ok tt) → (found_within path limit o >>= next) ≡ Ok tt
+      by : (o : Option (List ℕ)) → content_of es path ≡ o
+          → (is_some o && list_all (λ p. is_some (content_of es p)) paths) ≡ true
+          → (list_all (λ p. is_some (content_of es p)) paths ≡ true
+          → outputs_judged limit es paths ≡ Ok tt)
+          → (found_within path limit o >>= next) ≡ Ok tt
       by None is h more = absurd cc
       by (Some content) is h more = ap (λ r. r >>= next) (short_found path content is) ∙ more h
 
-  unnamed_none : (paths : List (List ℕ)) (fs : List Entry) → list_all (λ e. is_named paths e) (filter (λ e. not (is_metadata e.name)) fs) ≡ true → first_unnamed paths fs ≡ None
+  unnamed_none : (paths : List (List ℕ)) (fs : List Entry)
+      → list_all (λ e. is_named paths e) (filter (λ e. not (is_metadata e.name)) fs) ≡ true
+      → first_unnamed paths fs ≡ None
   unnamed_none paths [] h = refl
-  unnamed_none paths (e ∷ fs) h = by (is_metadata e.name) (is_named paths e) refl refl h (unnamed_none paths fs)
+  unnamed_none paths (e ∷ fs) h =
+      by (is_metadata e.name) (is_named paths e) refl refl h (unnamed_none paths fs)
     where
-      by : (m n : Bool) → is_metadata e.name ≡ m → is_named paths e ≡ n → list_all (λ d. is_named paths d) (filter (λ d. not (is_metadata d.name)) (e ∷ fs)) ≡ true
-          → (list_all (λ d. is_named paths d) (filter (λ d. not (is_metadata d.name)) fs) ≡ true → first_unnamed paths fs ≡ None) → first_unnamed paths (e ∷ fs) ≡ None
+      by : (m n : Bool) → is_metadata e.name ≡ m → is_named paths e ≡ n
+          → list_all (λ d. is_named paths d) (filter (λ d. not (is_metadata d.name)) (e ∷ fs))
+          ≡ true
+          → (list_all (λ d. is_named paths d) (filter (λ d. not (is_metadata d.name)) fs) ≡ true
+          → first_unnamed paths fs ≡ None)
+          → first_unnamed paths (e ∷ fs) ≡ None
       by true n p q h more = rw (p) (more (rw (p) at h))
       by false true p q h more = rw (p, q) (more (rw (p, q) at h))
       by false false p q h more = absurd (let k = (rw (p, q) at h) in cc)
 
-  module _ (text log : List ℕ) (m : PortableManifest) (p : RunParts) (is : bytes_form manifest_form text ≡ Some m) (h : parts_of text log es ≡ Some p) where
+  module _ (text log : List ℕ) (m : PortableManifest) (p : RunParts)
+      (is : bytes_form manifest_form text ≡ Some m) (h : parts_of text log es ≡ Some p) where
     abbrev others : List Entry
     others = filter (λ e. not (is_metadata e.name)) es
 
@@ -94,21 +122,33 @@ module _ (limit : ℕ) (es : List Entry) (within : AreWithin es limit) where
     unnamed_accepted =
         let paths = flat_map event_paths p.events in
         let outputs = only_some _ others p.outputs (read_from text log es p h).outputs in
-        unnamed_none paths es (and_parts (list_all (λ q. is_some (content_of es q)) paths) (list_all (λ e. is_named paths e) others) outputs.0).1
+        unnamed_none paths es (and_parts (list_all (λ q. is_some (content_of es q)) paths)
+        (list_all (λ e. is_named paths e) others) outputs.0).1
 
     pub parts_accepted : parts_judged limit m log es ≡ Ok p
     parts_accepted =
         let f = read_from text log es p h in
         let paths = flat_map event_paths p.events in
         let outputs = only_some _ others p.outputs f.outputs in
-        let held = (and_parts (list_all (λ q. is_some (content_of es q)) paths) (list_all (λ e. is_named paths e) others) outputs.0).0 in
+        let held = (and_parts (list_all (λ q. is_some (content_of es q)) paths)
+        (list_all (λ e. is_named paths e) others) outputs.0).0 in
         let same : m ≡ f.manifest = the_same m f.manifest (sym is ∙ f.is_manifest) in
-        let version : m.format_version ≡ p.format_version = ap (λ (x : PortableManifest). x.format_version) same ∙ f.format_version in
-        let run : info_of m.run ≡ p.run = ap (λ (x : PortableManifest). info_of x.run) same ∙ f.run in
-        let made : record p { format_version = m.format_version; run = info_of m.run; outputs = others } ≡ p =
-        ap (λ (v : PortableRecordingFormatVersion). record p { format_version = v; run = info_of m.run; outputs = others }) version
-        ∙ ap (λ (r : RecordedRunInfo). record p { run = r; outputs = others }) run ∙ ap (λ (os : List Entry). record p { outputs = os }) outputs.1 in
-        let a = parts_of_reading text log es limit (record_of_parts es p) (ap (option_map (record_of_parts es)) h) within in
+        let version : m.format_version ≡ p.format_version =
+        ap (λ (x : PortableManifest). x.format_version) same ∙ f.format_version in
+        let run : info_of m.run ≡ p.run =
+        ap (λ (x : PortableManifest). info_of x.run) same ∙ f.run in
+        let made : record p {
+          format_version = m.format_version;
+          run = info_of m.run;
+          outputs = others;
+        } ≡ p =
+        ap (λ (v : PortableRecordingFormatVersion).
+        record p { format_version = v; run = info_of m.run; outputs = others })
+        version
+        ∙ ap (λ (r : RecordedRunInfo). record p { run = r; outputs = others }) run
+        ∙ ap (λ (os : List Entry). record p { outputs = os }) outputs.1 in
+        let a = parts_of_reading text log es limit (record_of_parts es p)
+        (ap (option_map (record_of_parts es)) h) within in
         rw (
           a.build_scope,
           a.rerun_info,
@@ -122,7 +162,8 @@ module _ (limit : ℕ) (es : List Entry) (within : AreWithin es limit) where
 -- ---- a bundle
 
 -- no refusal of a store that is a container, but want of memory
-store_opens : (store : List ℕ) (es : List Entry) → IsContainer store es → (x : PortableRecordingReadError) → IsStoreRefused (Some store) x → x ≡ opens.OutOfMemory
+store_opens : (store : List ℕ) (es : List Entry) → IsContainer store es
+    → (x : PortableRecordingReadError) → IsStoreRefused (Some store) x → x ≡ opens.OutOfMemory
 store_opens store es stored opens.SourceFault h = absurd h
 store_opens store es stored (opens.SpoolTooLarge limit) h = absurd h
 store_opens store es stored (opens.ReadArchive fault) h = absurd (no_fault store es fault stored h)
@@ -141,7 +182,8 @@ module _ (bytes : List ℕ) (limit : ℕ) (run : RunRecord) (u : IsUpgradable by
 
   judges : judged limit outer ≡ Ok u.manifest
   judges =
-      ap (λ found. found >>= content_judged) (within_limit limit manifest_name u.reads.manifest u.short_manifest)
+      ap (λ found. found >>= content_judged)
+      (within_limit limit manifest_name u.reads.manifest u.short_manifest)
       ∙ ap (λ read. manifest_read read >>= versions_checked) u.is_manifest ∙ u.versions
 
   logs : log_part limit outer ≡ Ok u.reads.log
@@ -164,9 +206,14 @@ module _ (bytes : List ℕ) (limit : ℕ) (run : RunRecord) (u : IsUpgradable by
   run_accepted : run_judged limit u.manifest u.reads.log u.reads.entries ≡ Ok u.parts
   run_accepted =
       let es = u.reads.entries in
-      let parts = parts_accepted limit es u.within u.reads.manifest u.reads.log u.manifest u.parts u.is_manifest u.are_parts in
-      let unnamed = unnamed_accepted limit es u.within u.reads.manifest u.reads.log u.manifest u.parts u.is_manifest u.are_parts in
-      ap (λ r. or_read_error r >>= (λ (p : RunParts). none_foreign (first_unnamed (flat_map event_paths p.events) es) >>= (λ _. unless (written_refusal limit p) p))) parts
+      let parts = parts_accepted limit es u.within u.reads.manifest u.reads.log u.manifest u.parts
+      u.is_manifest u.are_parts in
+      let unnamed = unnamed_accepted limit es u.within u.reads.manifest u.reads.log u.manifest
+      u.parts u.is_manifest u.are_parts in
+      ap (λ r. or_read_error r
+      >>= (λ (p : RunParts). none_foreign (first_unnamed (flat_map event_paths p.events) es)
+      >>= (λ _. unless (written_refusal limit p) p)))
+      parts
       ∙ ap (λ o. none_foreign o >>= (λ _. unless (written_refusal limit u.parts) u.parts)) unnamed
       ∙ ap (λ o. unless o u.parts) u.fits
 
@@ -179,22 +226,34 @@ module _ (bytes : List ℕ) (limit : ℕ) (run : RunRecord) (u : IsUpgradable by
 
   unopened : (x : PortableRecordingReadError) → IsUnopened bytes limit x → x ≡ opens.OutOfMemory
   unopened x (inl none) = absurd (no_fault bytes outer none.0 u.reads.bundled none.2)
-  unopened x (inr (inl refused)) = absurd (not_both _ _ _ judges (ap (judged limit) (sym (same_outer refused.0 refused.1)) ∙ refused.2))
-  unopened x (inr (inr (inl refused))) = absurd (not_both _ _ _ logs (ap (log_part limit) (sym (same_outer refused.0 refused.2)) ∙ refused.4))
+  unopened x (inr (inl refused)) =
+      absurd
+      (not_both _ _ _ judges (ap (judged limit) (sym (same_outer refused.0 refused.1)) ∙ refused.2))
+  unopened x (inr (inr (inl refused))) =
+      absurd
+      (not_both _ _ _ logs (ap (log_part limit) (sym (same_outer refused.0 refused.2)) ∙ refused.4))
   unopened x (inr (inr (inr refused))) =
-      let found = ap (λ (es : List Entry). content_of es store_name) (same_outer refused.0 refused.3) in
-      store_opens u.reads.store u.reads.entries u.reads.stored x (subst (λ (o : Option (List ℕ)). IsStoreRefused o x) found refused.6)
+      let found =
+      ap (λ (es : List Entry). content_of es store_name) (same_outer refused.0 refused.3) in
+      store_opens u.reads.store u.reads.entries u.reads.stored x
+      (subst (λ (o : Option (List ℕ)). IsStoreRefused o x) found refused.6)
 
-  abbrev with_names : List Entry → PortableManifest → List ℕ → List Entry → Result RunParts UpgradeError
+  abbrev with_names : List Entry → PortableManifest → List ℕ → List Entry
+      → Result RunParts UpgradeError
   with_names all m log es = names_judged all >>= (λ _. run_judged limit m log es)
 
-  opened_same : (o : IsOpened bytes limit) → with_names o.outer o.manifest o.log o.entries ≡ Ok u.parts
+  opened_same : (o : IsOpened bytes limit)
+      → with_names o.outer o.manifest o.log o.entries ≡ Ok u.parts
   opened_same o =
       let all = same_outer o.outer o.spelled in
-      let m : o.manifest ≡ u.manifest = same_ok PortableRecordingReadError _ _ (sym o.is_judged ∙ ap (judged limit) all ∙ judges) in
-      let log : o.log ≡ u.reads.log = same_ok PortableRecordingReadError _ _ (sym o.log_read ∙ ap (log_part limit) all ∙ logs) in
-      let store : o.store ≡ u.reads.store = the_same _ _ (sym o.store_found ∙ ap (λ (es : List Entry). content_of es store_name) all) in
-      let es : o.entries ≡ u.reads.entries = one_reading_spec u.reads.store _ _ (subst (λ (b : List ℕ). IsContainer b o.entries) store o.stored) u.reads.stored in
+      let m : o.manifest ≡ u.manifest =
+      same_ok PortableRecordingReadError _ _ (sym o.is_judged ∙ ap (judged limit) all ∙ judges) in
+      let log : o.log ≡ u.reads.log =
+      same_ok PortableRecordingReadError _ _ (sym o.log_read ∙ ap (log_part limit) all ∙ logs) in
+      let store : o.store ≡ u.reads.store =
+      the_same _ _ (sym o.store_found ∙ ap (λ (es : List Entry). content_of es store_name) all) in
+      let es : o.entries ≡ u.reads.entries = one_reading_spec u.reads.store _ _
+      (subst (λ (b : List ℕ). IsContainer b o.entries) store o.stored) u.reads.stored in
       ap (λ (fs : List Entry). with_names fs o.manifest o.log o.entries) all
       ∙ ap (λ (x : PortableManifest). with_names outer x o.log o.entries) m
       ∙ ap (λ (l : List ℕ). with_names outer u.manifest l o.entries) log

@@ -9,8 +9,9 @@ use Rattle.rec_store.specs.Reading.{RunRecord}
 use Rattle.rec_portable.specs.Judging.{judged, versions_checked}
 use Rattle.rec_portable.specs.OuterEntries.{log_part}
 
--- The manifest has the version and the run information of the record, and is refused only for a version that isn't read. The log and the
--- store are there; what they give is the rest of the record.
+-- The manifest has the version and the run information of the record, and is refused only for a
+-- version that isn't read. The log and the store are there;
+-- what they give is the rest of the record.
 pub record AreComponents (bytes : List ℕ) (limit : ℕ) (r : RunRecord) : Type 0 where
   pub entries : List Entry
   pub spelled : IsContainer bytes entries

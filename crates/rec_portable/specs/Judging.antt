@@ -1,22 +1,40 @@
 -- How a bundle is judged.
 use Rattle.std.specs.List.{ends_with}
-use Rattle.std.specs.Prelude.{◌≡◌, ℕ, nat_eq, nat_lt, Bool, not, ◌&&◌, ◌||◌, List, [], ◌∷◌, length, count_by, if◌then◌else◌, Option, Some, None, Result, Ok, Err, ◌⊎◌}
+use Rattle.std.specs.Prelude.{◌≡◌, ℕ, nat_eq, nat_lt, Bool, not, ◌&&◌, ◌||◌, List, [], ◌∷◌, length}
+use Rattle.std.specs.Prelude.{count_by, if◌then◌else◌, Option, Some, None, Result, Ok, Err, ◌⊎◌}
 use Rattle.rec_container.specs.Container.{Entry, content_of, IsContainer}
 use Rattle.rec_container.specs.declared.errors.ContainerError.{ContainerError}
 use Rattle.rec_container.specs.Reading.{IsFault, ◌>>=◌}
 use Rattle.rec_forms.specs.TextForm.{bytes_form}
-use Rattle.rec_format.specs.declared.incompatibility.PortableRecordingVersionIncompatibility.{PortableRecordingVersionIncompatibility}
-use Rattle.rec_format.specs.declared.incompatibility.StoreVersionIncompatibility.{StoreVersionIncompatibility}
+use Rattle.rec_format.specs.declared.incompatibility.PortableRecordingVersionIncompatibility.{
+  PortableRecordingVersionIncompatibility,
+}
+use Rattle.rec_format.specs.declared.incompatibility.StoreVersionIncompatibility.{
+  StoreVersionIncompatibility,
+}
 use Rattle.rec_format.specs.declared.manifest.PortableManifest.{PortableManifest}
-use Rattle.rec_format.specs.declared.versions.PortableRecordingFormatVersion.{PortableRecordingFormatVersion}
+use Rattle.rec_format.specs.declared.versions.PortableRecordingFormatVersion.{
+  PortableRecordingFormatVersion,
+}
 use Rattle.rec_format.specs.declared.versions.StoreFormatVersion.{StoreFormatVersion}
 use Rattle.rec_format.specs.Paths.{is_zip_path}
 use Rattle.rec_format.specs.RunForms.{manifest_form}
 use Rattle.rec_format.specs.Runs.{store_version_in}
-use Rattle.rec_format.specs.Versions.{portable_readable, portable_version, store_readable, store_version}
+use Rattle.rec_format.specs.Versions.{portable_readable, portable_version}
+use Rattle.rec_format.specs.Versions.{store_readable, store_version}
 use Rattle.rec_store.specs.Entries.{manifest_name}
-use Rattle.rec_portable.specs.declared.errors.PortableRecordingReadError.TheVariants.{ReadArchive, NotAWrapperArchive, FileTooLarge, ParseManifest, UnsupportedFormatVersion, UnsupportedStoreFormatVersion, OutOfMemory}
-use Rattle.rec_portable.specs.declared.errors.PortableRecordingReadError.{PortableRecordingReadError}
+use Rattle.rec_portable.specs.declared.errors.PortableRecordingReadError.TheVariants.{
+  ReadArchive,
+  NotAWrapperArchive,
+  FileTooLarge,
+  ParseManifest,
+  UnsupportedFormatVersion,
+  UnsupportedStoreFormatVersion,
+  OutOfMemory,
+}
+use Rattle.rec_portable.specs.declared.errors.PortableRecordingReadError.{
+  PortableRecordingReadError,
+}
 
 -- a name that ends in a slash or a backslash is no file's
 abbrev pub is_file : List ℕ → Bool
@@ -31,29 +49,37 @@ abbrev pub zip_count : List Entry → ℕ
 zip_count es = count_by (λ e. is_file e.name && is_zip_path e.name) es
 
 -- the content that was found, or how many files stand in its place
-abbrev pub manifest_found : List Entry → Option (List ℕ) → Result (List ℕ) PortableRecordingReadError
+abbrev pub manifest_found : List Entry → Option (List ℕ)
+    → Result (List ℕ) PortableRecordingReadError
 manifest_found es None = Err (NotAWrapperArchive (file_count es) (zip_count es))
 manifest_found es (Some content) = Ok content
 
 -- the content of an entry, unless it is longer than the limit
 abbrev pub within : ℕ → List ℕ → List ℕ → Result (List ℕ) PortableRecordingReadError
-within limit name content = if nat_lt limit (length content) then Err (FileTooLarge name (length content) limit) else Ok content
+within limit name content =
+    if nat_lt limit (length content) then Err (FileTooLarge name (length content) limit)
+    else Ok content
 
 -- the manifest that was read
-abbrev pub manifest_read : Option PortableManifest → Result PortableManifest PortableRecordingReadError
+abbrev pub manifest_read : Option PortableManifest
+    → Result PortableManifest PortableRecordingReadError
 manifest_read None = Err ParseManifest
 manifest_read (Some m) = Ok m
 
 -- the refusal of a bundle's version, if it isn't read
-abbrev pub format_judged : PortableRecordingFormatVersion → Result (Unit {0}) PortableRecordingVersionIncompatibility → Result (Unit {0}) PortableRecordingReadError
+abbrev pub format_judged : PortableRecordingFormatVersion
+    → Result (Unit {0}) PortableRecordingVersionIncompatibility
+    → Result (Unit {0}) PortableRecordingReadError
 format_judged found (Ok x) = Ok x
 format_judged found (Err e) = Err (UnsupportedFormatVersion found portable_version e)
 
-abbrev pub format_checked : PortableRecordingFormatVersion → Result (Unit {0}) PortableRecordingReadError
+abbrev pub format_checked : PortableRecordingFormatVersion
+    → Result (Unit {0}) PortableRecordingReadError
 format_checked found = format_judged found (portable_readable found portable_version)
 
 -- the same of its store's version
-abbrev pub store_judged : StoreFormatVersion → Result (Unit {0}) StoreVersionIncompatibility → Result (Unit {0}) PortableRecordingReadError
+abbrev pub store_judged : StoreFormatVersion → Result (Unit {0}) StoreVersionIncompatibility
+    → Result (Unit {0}) PortableRecordingReadError
 store_judged found (Ok x) = Ok x
 store_judged found (Err e) = Err (UnsupportedStoreFormatVersion found store_version e)
 

@@ -5,7 +5,9 @@ use Rattle.rec_container.specs.declared.within.ReadError.{ReadError}
 use Rattle.rec_container.specs.Within.{Gave, Unread}
 use Rattle.rec_format.specs.declared.manifest.PortableManifest.{PortableManifest}
 use Rattle.rec_store.specs.Entries.{log_name, store_name}
-use Rattle.rec_portable.specs.declared.errors.PortableRecordingReadError.{PortableRecordingReadError}
+use Rattle.rec_portable.specs.declared.errors.PortableRecordingReadError.{
+  PortableRecordingReadError,
+}
 use Rattle.rec_portable.specs.declared.parts.BundleParts.{BundleParts}
 use Rattle.rec_portable.specs.Errors.{source_error}
 use Rattle.rec_portable.specs.Judging.{judged, IsJudged, Refuses}

@@ -1,13 +1,21 @@
 -- The entries of a bundle: its log, its store, and any other.
 use Rattle.std.specs.Io.KnownBytes.{Appends}
-use Rattle.std.specs.Prelude.{◌≡◌, ◌≤◌, IfErr, Bool, ◌&&◌, ℕ, nat_lt, List, length, Option, Some, None, Result, Ok, Err, if◌then◌else◌}
+use Rattle.std.specs.Prelude.{◌≡◌, ◌≤◌, IfErr, Bool, ◌&&◌, ℕ, nat_lt, List, length}
+use Rattle.std.specs.Prelude.{Option, Some, None, Result, Ok, Err, if◌then◌else◌}
 use Rattle.rec_container.specs.Causes.{Rose}
 use Rattle.rec_container.specs.Container.{Entry, content_of, IsContainer}
 use Rattle.rec_container.specs.Reading.{IsFault}
 use Rattle.rec_container.specs.Taking.{TookPart}
 use Rattle.rec_store.specs.Entries.{log_name, store_name}
-use Rattle.rec_portable.specs.declared.errors.PortableRecordingReadError.TheVariants.{ReadArchive, MissingFile, ExtractFile, OutOfMemory}
-use Rattle.rec_portable.specs.declared.errors.PortableRecordingReadError.{PortableRecordingReadError}
+use Rattle.rec_portable.specs.declared.errors.PortableRecordingReadError.TheVariants.{
+  ReadArchive,
+  MissingFile,
+  ExtractFile,
+  OutOfMemory,
+}
+use Rattle.rec_portable.specs.declared.errors.PortableRecordingReadError.{
+  PortableRecordingReadError,
+}
 use Rattle.rec_portable.specs.declared.extraction.ExtractOuterFileResult.{ExtractOuterFileResult}
 use Rattle.rec_portable.specs.Judging.{within}
 use Rattle.rec_portable.specs.Stores.{StoreReading}
@@ -31,7 +39,8 @@ IsStoreRefused (Some bytes) (ReadArchive fault) = IsFault bytes fault
 IsStoreRefused found e = ⊥
 
 -- the reader has the entries of the store that was found
-abbrev pub OpensStore : ℕ → Option (List ℕ) → Result StoreReading PortableRecordingReadError → Type 0
+abbrev pub OpensStore : ℕ → Option (List ℕ) → Result StoreReading PortableRecordingReadError
+    → Type 0
 OpensStore limit None (Ok r) = ⊥
 OpensStore limit (Some bytes) (Ok r) = (r.limit ≡ limit) × IsContainer bytes r.entries
 OpensStore limit found (Err e) = IsStoreRefused found e
@@ -41,12 +50,15 @@ abbrev pub exceeded_limit : Bool → ℕ → ℕ → Option ℕ
 exceeded_limit check limit size = if check && nat_lt limit size then Some size else None
 
 -- an entry was written whole, or why not
-abbrev pub ExtractsOuter : Option (List ℕ) → Option (List ℕ) → ℕ → Bool → List ℕ → Option (List ℕ) → Result ExtractOuterFileResult PortableRecordingReadError → Type 0
+abbrev pub ExtractsOuter : Option (List ℕ) → Option (List ℕ) → ℕ → Bool → List ℕ → Option (List ℕ)
+    → Result ExtractOuterFileResult PortableRecordingReadError → Type 0
 ExtractsOuter before now limit check name None (Ok r) = ⊥
 ExtractsOuter before now limit check name (Some content) (Ok r) =
-    (r.bytes_written ≡ length content) × (r.exceeded_limit ≡ exceeded_limit check limit (length content)) × Appends before now content
+    (r.bytes_written ≡ length content)
+    × (r.exceeded_limit ≡ exceeded_limit check limit (length content)) × Appends before now content
 ExtractsOuter before now limit check name None (Err (MissingFile n)) = (n ≡ name) × (now ≡ before)
-ExtractsOuter before now limit check name (Some content) (Err (ExtractFile n)) = (n ≡ name) × TookPart before now content
+ExtractsOuter before now limit check name (Some content) (Err (ExtractFile n)) =
+    (n ≡ name) × TookPart before now content
 ExtractsOuter before now limit check name found (Err OutOfMemory) = now ≡ before
 ExtractsOuter before now limit check name found (Err e) = ⊥
 
@@ -56,6 +68,7 @@ IsOuterCaused before now (ExtractFile n) = Rose before now
 IsOuterCaused before now e = Unit {0}
 
 -- the count has not fallen, and a fault comes only by it
-pub record OuterCause {T : Type 0} (before now : ℕ) (result : Result T PortableRecordingReadError) : Type 0 where
+pub record OuterCause {T : Type 0} (before now : ℕ)
+    (result : Result T PortableRecordingReadError) : Type 0 where
   pub later : before ≤ now
   pub failed : IfErr result (IsOuterCaused before now)

@@ -2,7 +2,8 @@
 use Rattle.std.specs.BTreeSet.{BTreeSet, contains_text}
 use Rattle.std.specs.declared.alloc.Global.{Global}
 use Rattle.std.specs.List.{flat_map, list_any}
-use Rattle.std.specs.Prelude.{◌≡◌, ◌<◌, ◌^◌, suc, ℕ, not, List, [], ◌∷◌, ◌++◌, filter, length, map, Option, Some, None, Result, Ok, Err, ◌⊎◌, String, string_bytes, Vec}
+use Rattle.std.specs.Prelude.{◌≡◌, ◌<◌, ◌^◌, suc, ℕ, not, List, [], ◌∷◌, ◌++◌, filter, length, map}
+use Rattle.std.specs.Prelude.{Option, Some, None, Result, Ok, Err, ◌⊎◌, String, string_bytes, Vec}
 use Rattle.std.specs.Str.{bytes_eq}
 use Rattle.serde_json.specs.Written.{compact_text}
 use Rattle.rec_container.specs.Container.{Entry, spell}
@@ -22,12 +23,14 @@ use Rattle.rec_format.specs.ScopeForms.{recorded_scope_form}
 use Rattle.rec_format.specs.Versions.{store_version}
 use Rattle.rec_codec.specs.Event.{RecordedEvent, event_line, log_text}
 use Rattle.rec_store.specs.declared.read_error.RecordReadError.{RecordReadError}
-use Rattle.rec_store.specs.Entries.{build_scope_path, cargo_metadata_path, record_opts_path, rerun_info_path, test_list_path, three_entries}
+use Rattle.rec_store.specs.Entries.{build_scope_path, cargo_metadata_path, record_opts_path}
+use Rattle.rec_store.specs.Entries.{rerun_info_path, test_list_path, three_entries}
 use Rattle.rec_store.specs.Kept.{event_paths}
 use Rattle.rec_store.specs.OutputPaths.{output_path}
 use Rattle.rec_store.specs.Parts.{metadata_part, rerun_info_part, utf8_part}
 use Rattle.rec_store.specs.Readers.{Refuses}
-use Rattle.rec_store.specs.RunParts.{RunParts, is_metadata, written, written_log, written_manifest, written_store}
+use Rattle.rec_store.specs.RunParts.{RunParts, is_metadata, written, written_log}
+use Rattle.rec_store.specs.RunParts.{written_manifest, written_store}
 use Rattle.rec_store.specs.Store.{metadata_of}
 use Rattle.rec_portable.specs.declared.upgrade_error.UpgradeError.TheVariants.{OutOfMemory}
 use Rattle.rec_portable.specs.declared.upgrade_error.UpgradeError.{UpgradeError}
@@ -41,7 +44,8 @@ use Rattle.rec_portable.specs.Upgrades.{AreCountsOf}
 -- ---- answers
 
 -- a call answers what stands for what is read, or why that isn't read
-abbrev pub Rewrites : {X Y : Type 0} → (Y → X → Type 0) → Result Y RecordReadError → Result X RecordReadError → Type 0
+abbrev pub Rewrites : {X Y : Type 0} → (Y → X → Type 0) → Result Y RecordReadError
+    → Result X RecordReadError → Type 0
 Rewrites {Y = Y} Is part (Ok x) = (y : Y) × (part ≡ Ok y) × Is y x
 Rewrites {Y = Y} Is part (Err e) = Refuses part e
 
@@ -67,11 +71,18 @@ metadata_judged limit es = do
   test_list ← metadata_part test_list_form test_list_path es limit
   cargo_metadata ← utf8_part cargo_metadata_path es limit
   record_opts ← metadata_part record_opts_form record_opts_path es limit
-  Ok (record { build_scope = build_scope; rerun_info = rerun_info; test_list = test_list; cargo_metadata = cargo_metadata; record_opts = record_opts })
+  Ok (record {
+    build_scope = build_scope;
+    rerun_info = rerun_info;
+    test_list = test_list;
+    cargo_metadata = cargo_metadata;
+    record_opts = record_opts;
+  })
 
 -- as it is written
 abbrev pub metadata_entries : MetadataParts → List Entry
-metadata_entries m = metadata_of m.build_scope m.rerun_info m.cargo_metadata m.test_list m.record_opts
+metadata_entries m =
+    metadata_of m.build_scope m.rerun_info m.cargo_metadata m.test_list m.record_opts
 
 abbrev pub rerun_text_entries : Option (Vec ℕ Global) → List Entry
 rerun_text_entries None = []
@@ -88,7 +99,8 @@ IsRerunText (Some info) (Some text) = text.items ≡ compact_text (rerun_info_va
 abbrev pub text_entries : MetadataTexts → List Entry
 text_entries t =
     entry_named build_scope_path t.build_scope.items
-    ∷ (rerun_text_entries t.rerun_info ++ three_entries t.test_list.items (string_bytes t.cargo_metadata) t.record_opts.items)
+    ∷ (rerun_text_entries t.rerun_info
+    ++ three_entries t.test_list.items (string_bytes t.cargo_metadata) t.record_opts.items)
 
 -- ---- the log and the outputs
 
@@ -106,7 +118,8 @@ pub record AddsEvent (e : RecordedEvent) (old new : RewrittenLog) : Type 0 where
 
 -- the set has these paths
 abbrev pub ArePaths : List (List ℕ) → BTreeSet (String Global) → Type 0
-ArePaths paths set = (path : List ℕ) → contains_text set path ≡ list_any (λ p. bytes_eq path p) paths
+ArePaths paths set =
+    (path : List ℕ) → contains_text set path ≡ list_any (λ p. bytes_eq path p) paths
 
 -- the entries that are no metadata
 abbrev pub other_entries : List Entry → List Entry
@@ -115,16 +128,19 @@ other_entries es = filter (λ e. not (is_metadata e.name)) es
 -- ---- the run
 
 -- the texts of a run with these parts, the paths of its outputs, and its outputs in the store
-pub record IsRewrittenRun (m : PortableManifest) (es : List Entry) (p : RunParts) (run : RewrittenRun) : Type 0 where
+pub record IsRewrittenRun (m : PortableManifest) (es : List Entry) (p : RunParts)
+    (run : RewrittenRun) : Type 0 where
   pub run_is : p.run ≡ info_of m.run
-  pub metadata : text_entries run.metadata ≡ metadata_of p.build_scope p.rerun_info p.cargo_metadata p.test_list p.record_opts
+  pub metadata : text_entries run.metadata
+      ≡ metadata_of p.build_scope p.rerun_info p.cargo_metadata p.test_list p.record_opts
   pub log : run.log.items ≡ written_log p
   pub events : run.events ≡ length p.events
   pub paths : ArePaths (flat_map event_paths p.events) run.paths
   pub outputs : p.outputs ≡ other_entries es
 
 -- the parts of a run with this manifest, whose log and store are written so
-pub record IsMadeOf (p : RunParts) (m : PortableManifest) (texts : RunTexts) (store : List Entry) : Type 0 where
+pub record IsMadeOf (p : RunParts) (m : PortableManifest) (texts : RunTexts)
+    (store : List Entry) : Type 0 where
   pub run : p.run ≡ info_of m.run
   pub log : texts.log.items ≡ written_log p
   pub events : texts.events ≡ length p.events
@@ -133,7 +149,9 @@ pub record IsMadeOf (p : RunParts) (m : PortableManifest) (texts : RunTexts) (st
 
 -- the text of a manifest, with the version of the stores that are written and these sizes
 abbrev pub settled_text : PortableManifest → RecordedSizes → List ℕ
-settled_text m sizes = compact_text (manifest_value (manifest_of (record (info_of m.run) { store_format_version = store_version; sizes = sizes })))
+settled_text m sizes =
+    compact_text (manifest_value
+    (manifest_of (record (info_of m.run) { store_format_version = store_version; sizes = sizes })))
 
 -- the contents of the bundle that is written of parts
 pub record IsRewritten (p : RunParts) (r : Rewritten) : Type 0 where

@@ -1,7 +1,8 @@
 -- What is written of a bundle that is upgraded, or why it isn't upgraded.
 use Rattle.std.specs.List.{flat_map}
 use Rattle.std.specs.Option.{option_or}
-use Rattle.std.specs.Prelude.{suc, ◌≡◌, ◌==◌, ◌&&◌, ◌^◌, ℕ, nat_lt, Bool, List, [], ◌∷◌, length, Option, Some, None, option_map, Result, Ok, Err, ◌⊎◌, if◌then◌else◌}
+use Rattle.std.specs.Prelude.{suc, ◌≡◌, ◌==◌, ◌&&◌, ◌^◌, ℕ, nat_lt, Bool, List, [], ◌∷◌, length}
+use Rattle.std.specs.Prelude.{Option, Some, None, option_map, Result, Ok, Err, ◌⊎◌, if◌then◌else◌}
 use Rattle.std.specs.Str.{bytes_eq}
 use Rattle.rec_container.specs.Container.{Entry, content_of, IsContainer}
 use Rattle.rec_container.specs.Reading.{◌>>=◌}
@@ -13,11 +14,21 @@ use Rattle.rec_store.specs.declared.sizes_judged.TooLarge.{TooLarge}
 use Rattle.rec_store.specs.Entries.{log_name, manifest_name, store_name}
 use Rattle.rec_store.specs.JudgedParts.{first_unnamed, parts_judged}
 use Rattle.rec_store.specs.Kept.{event_paths}
-use Rattle.rec_store.specs.RunParts.{RunParts, written, written_log, written_manifest, written_store}
+use Rattle.rec_store.specs.RunParts.{RunParts, written, written_log}
+use Rattle.rec_store.specs.RunParts.{written_manifest, written_store}
 use Rattle.rec_store.specs.SizesJudged.{first_too_large}
 use Rattle.rec_portable.specs.declared.errors.PortableRecordingReadError.TheVariants as opens
-use Rattle.rec_portable.specs.declared.errors.PortableRecordingReadError.{PortableRecordingReadError}
-use Rattle.rec_portable.specs.declared.upgrade_error.UpgradeError.TheVariants.{Open, ForeignEntry, Read, CountOutOfRange, FileTooLarge, OutOfMemory}
+use Rattle.rec_portable.specs.declared.errors.PortableRecordingReadError.{
+  PortableRecordingReadError,
+}
+use Rattle.rec_portable.specs.declared.upgrade_error.UpgradeError.TheVariants.{
+  Open,
+  ForeignEntry,
+  Read,
+  CountOutOfRange,
+  FileTooLarge,
+  OutOfMemory,
+}
 use Rattle.rec_portable.specs.declared.upgrade_error.UpgradeError.{UpgradeError}
 use Rattle.rec_portable.specs.Judging.{judged, IsNoContainer}
 use Rattle.rec_portable.specs.OuterEntries.{log_part, IsStoreRefused}
@@ -39,7 +50,9 @@ size_error t = FileTooLarge t.file_name t.size t.limit
 
 -- the names of a bundle's entries, by their places
 abbrev pub is_in_place : ℕ → List ℕ → Bool
-is_in_place i name = if i == 0 then bytes_eq name manifest_name else if i == 1 then bytes_eq name log_name else (i == 2 && bytes_eq name store_name)
+is_in_place i name =
+    if i == 0 then bytes_eq name manifest_name else if i == 1 then bytes_eq name log_name
+    else (i == 2 && bytes_eq name store_name)
 
 -- the first entry from an index on that isn't the one of its place
 abbrev pub first_foreign : ℕ → List Entry → Option (List ℕ)
@@ -65,11 +78,13 @@ entries_refusal limit es = option_map size_error (first_too_large limit es)
 abbrev pub length_refusal : List ℕ → Option UpgradeError
 length_refusal bundle = if nat_lt (length bundle) (2 ^ 64) then None else Some CountOutOfRange
 
--- the length of what is to be written is no u64, or a reader with the limit doesn't take the manifest, the log or an entry of the store
+-- the length of what is to be written is no u64, or a reader with the limit doesn't take the
+-- manifest, the log or an entry of the store
 abbrev pub written_refusal : ℕ → RunParts → Option UpgradeError
 written_refusal limit p =
     option_or (length_refusal (written p))
-    (entries_refusal limit (entry_named manifest_name (written_manifest p) ∷ entry_named log_name (written_log p) ∷ written_store p))
+    (entries_refusal limit (entry_named manifest_name (written_manifest p)
+    ∷ entry_named log_name (written_log p) ∷ written_store p))
 
 abbrev pub unless : {T : Type 0} → Option UpgradeError → T → Result T UpgradeError
 unless None x = Ok x
@@ -98,18 +113,22 @@ pub record IsOpened (bytes : List ℕ) (limit : ℕ) : Type 0 where
   pub stored : IsContainer store entries
 
 -- the parts of what is opened, or its first refusal
-abbrev pub upgrade_judged : (bytes : List ℕ) (limit : ℕ) → IsOpened bytes limit → Result RunParts UpgradeError
+abbrev pub upgrade_judged : (bytes : List ℕ) (limit : ℕ) → IsOpened bytes limit
+    → Result RunParts UpgradeError
 upgrade_judged bytes limit o = do
   _ ← names_judged o.outer
   run_judged limit o.manifest o.log o.entries
 
--- the bundle isn't opened: its bytes are no container, its manifest is refused, its log, or its store
+-- the bundle isn't opened: its bytes are no container, its manifest is refused, its log,
+-- or its store
 abbrev pub IsUnopened : List ℕ → ℕ → PortableRecordingReadError → Type 0
 IsUnopened bytes limit e =
     IsNoContainer bytes e
     ⊎ ((outer : List Entry) × IsContainer bytes outer × (judged limit outer ≡ Err e))
-    ⊎ ((outer : List Entry) × (m : PortableManifest) × IsContainer bytes outer × (judged limit outer ≡ Ok m) × (log_part limit outer ≡ Err e))
-    ⊎ ((outer : List Entry) × (m : PortableManifest) × (log : List ℕ) × IsContainer bytes outer × (judged limit outer ≡ Ok m) × (log_part limit outer ≡ Ok log)
+    ⊎ ((outer : List Entry) × (m : PortableManifest) × IsContainer bytes outer
+    × (judged limit outer ≡ Ok m) × (log_part limit outer ≡ Err e))
+    ⊎ ((outer : List Entry) × (m : PortableManifest) × (log : List ℕ) × IsContainer bytes outer
+    × (judged limit outer ≡ Ok m) × (log_part limit outer ≡ Ok log)
     × IsStoreRefused (content_of outer store_name) e)
 
 -- the bytes are those of a bundle with these parts, and nothing of it is refused

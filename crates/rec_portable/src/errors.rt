@@ -1,6 +1,8 @@
 //! Why a bundle isn't read.
 ghost use Rattle.std.specs.Prelude.{◌≡◌};
-ghost use Rattle.rec_portable.specs.declared.errors.PortableRecordingReadError.TheVariants.{OutOfMemory};
+ghost use Rattle.rec_portable.specs.declared.errors.PortableRecordingReadError.TheVariants.{
+  OutOfMemory,
+};
 ghost use Rattle.rec_portable.specs.Errors.{archive_error, source_error};
 
 use rec_container::{ContainerError, ReadError};
@@ -13,9 +15,9 @@ use std::alloc::AllocError;
 use std::fmt;
 use thiserror::Error;
 
-/// Says why a bundle, or a part of it, isn't read. A bundle is judged in the order of the variants up
-/// to `UnsupportedStoreFormatVersion`, and the first refusal is answered. Want of memory may come at any
-/// time.
+/// Says why a bundle, or a part of it, isn't read. A bundle is judged in the order of the variants
+/// up to `UnsupportedStoreFormatVersion`, and the first refusal is answered. Want of memory may
+/// come at any time.
 #[derive(Drop, Error)]
 pub enum PortableRecordingReadError {
     /// The source of the bundle failed.

@@ -1,5 +1,5 @@
-//! Laws of bundles that are read, and of those that are upgraded. The functions do nothing, or call the laws
-//! on which theirs rest: their contracts are what they are for.
+//! Laws of bundles that are read, and of those that are upgraded. The functions do nothing, or call
+//! the laws on which theirs rest: their contracts are what they are for.
 ghost use Rattle.std.specs.List.{AllByRecursion};
 ghost use Rattle.std.specs.Prelude.{◌≡◌, ◌≤◌, ◌<◌, ◌^◌, List, [], ℕ, None, Result, length};
 ghost use Rattle.rec_format.specs.declared.head.SessionHead.{SessionHead};
@@ -13,7 +13,9 @@ ghost use Rattle.rec_store.specs.Reading.{IsReading, RunRecord};
 ghost use Rattle.rec_store.specs.Recordable.{IsRecordable};
 ghost use Rattle.rec_store.specs.RunParts.{HasParts, RunParts, written};
 ghost use Rattle.rec_portable.specs.Components.{AreComponents};
-ghost use Rattle.rec_portable.specs.declared.errors.PortableRecordingReadError.{PortableRecordingReadError};
+ghost use Rattle.rec_portable.specs.declared.errors.PortableRecordingReadError.{
+  PortableRecordingReadError,
+};
 ghost use Rattle.rec_portable.specs.declared.upgrade_error.UpgradeError.TheVariants.{OutOfMemory};
 ghost use Rattle.rec_portable.specs.declared.upgrade_error.UpgradeError.{UpgradeError};
 ghost use Rattle.rec_portable.specs.Judging.{IsJudged, IsNoContainer};
@@ -22,8 +24,8 @@ ghost use Rattle.rec_portable.specs.Upgrading.{IsAccepted, IsRefused};
 
 use rec_store::laws::{judged_parts_are_read, one_record, recordings_are_written, written_reads};
 
-/// States that bytes are judged in one way: they are a container, and have one manifest or one first
-/// refusal; or they are none, and have one first fault.
+/// States that bytes are judged in one way: they are a container, and have one manifest or one
+/// first refusal; or they are none, and have one first fault.
 pub fn one_judgement()
     ensures entries { (bytes : List ℕ) (limit : ℕ)
         (r s : Result PortableManifest PortableRecordingReadError)
@@ -41,9 +43,9 @@ pub fn one_judgement()
         → ⊥ }
 {}
 
-/// States that the parts of a bundle with a reading are the components of this reading, where manifest,
-/// log and entries of the store are no longer than the limit: version, run information, events, metadata
-/// and outputs. Only a version that isn't read may still refuse the manifest.
+/// States that the parts of a bundle with a reading are the components of this reading, where
+/// manifest, log and entries of the store are no longer than the limit: version, run information,
+/// events, metadata and outputs. Only a version that isn't read may still refuse the manifest.
 pub fn parts_are_components()
     ensures { (bytes : List ℕ) (limit : ℕ) (r : RunRecord) (reads : IsReading bytes r)
         → length reads.manifest ≤ limit
@@ -51,8 +53,8 @@ pub fn parts_are_components()
         → AreWithin reads.entries limit → AreComponents bytes limit r }
 {}
 
-/// States that a bundle with a reading is accepted, where its versions are read and nothing that is read
-/// or to be written is too long, and that nothing of it is refused.
+/// States that a bundle with a reading is accepted, where its versions are read and nothing that is
+/// read or to be written is too long, and that nothing of it is refused.
 pub fn readable_bundles_are_upgraded()
     ensures accepted { (bytes : List ℕ) (limit : ℕ) (run : RunRecord)
         (u : IsUpgradable bytes limit run)
@@ -63,8 +65,8 @@ pub fn readable_bundles_are_upgraded()
         → e ≡ OutOfMemory }
 {}
 
-/// States that what is accepted is read, and that what is written of it, where its length is a u64, is
-/// read as the same but for the versions and the sizes.
+/// States that what is accepted is read, and that what is written of it, where its length is a u64,
+/// is read as the same but for the versions and the sizes.
 pub fn accepted_bundles_are_read()
     ensures { (bytes : List ℕ) (limit : ℕ) (p : RunParts)
         → IsAccepted bytes limit p
@@ -86,9 +88,9 @@ pub fn upgraded_again()
     written_reads();
 }
 
-/// States that upgrading the bundle of a recorded run writes the same bytes again: where the head is
-/// well-formed, each event is well-formed with loaded outputs, the lengths of outputs and their numbers are
-/// u64s, no two outputs of one path differ, and the bundle's length is a u64.
+/// States that upgrading the bundle of a recorded run writes the same bytes again: where the head
+/// is well-formed, each event is well-formed with loaded outputs, the lengths of outputs and their
+/// numbers are u64s, no two outputs of one path differ, and the bundle's length is a u64.
 pub fn recorded_stay()
     ensures { (number : List ℕ → ℕ) (m : ℕ) (head : SessionHead) (events : List LiveEvent)
         → IsHead head

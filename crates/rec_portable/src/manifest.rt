@@ -2,7 +2,8 @@
 ghost use Rattle.std.specs.Prelude.{◌≡◌};
 ghost use Rattle.rec_format.specs.Runs.{store_version_in as version_in};
 ghost use Rattle.rec_portable.specs.Errors.{Reads};
-ghost use Rattle.rec_portable.specs.Judging.{content_judged, judged, format_checked, store_checked, versions_checked};
+ghost use Rattle.rec_portable.specs.Judging.{content_judged, judged, format_checked};
+ghost use Rattle.rec_portable.specs.Judging.{store_checked, versions_checked};
 
 use crate::errors::PortableRecordingReadError;
 use crate::file_counts::FileCounts;

@@ -1,7 +1,9 @@
 //! The parts of a bundle.
 ghost use Rattle.std.specs.Prelude.{◌≡◌, ◌⊎◌, IfOk, IfErr};
 ghost use Rattle.rec_container.specs.Container.{IsContainer};
-ghost use Rattle.rec_portable.specs.declared.errors.PortableRecordingReadError.TheVariants.{OutOfMemory};
+ghost use Rattle.rec_portable.specs.declared.errors.PortableRecordingReadError.TheVariants.{
+  OutOfMemory,
+};
 ghost use Rattle.rec_portable.specs.Judging.{IsNoContainer, Refuses};
 ghost use Rattle.rec_portable.specs.Opening.{IsOpen};
 
@@ -12,7 +14,8 @@ use rec_container::Container;
 use rec_format::{PortableManifest, RUN_LOG_FILE_NAME, STORE_ZIP_FILE_NAME};
 use std::alloc::Global;
 
-/// Holds what is kept of a bundle beside its bytes: its manifest, and where its log and its store stand.
+/// Holds what is kept of a bundle beside its bytes: its manifest,
+/// and where its log and its store stand.
 #[derive(Drop)]
 pub(crate) struct BundleParts {
     pub(crate) manifest: PortableManifest,

@@ -1,6 +1,7 @@
 //! A bundle that is read.
 ghost use Rattle.std.specs.Option.{option_map};
-ghost use Rattle.std.specs.Prelude.{◌≡◌, ◌≤◌, ◌+◌, ◌↔◌, List, length, is_some, IfOk, IfErr, IfSome, IsTrue, Ok, string_bytes};
+ghost use Rattle.std.specs.Prelude.{◌≡◌, ◌≤◌, ◌+◌, ◌↔◌, List, length, is_some};
+ghost use Rattle.std.specs.Prelude.{IfOk, IfErr, IfSome, IsTrue, Ok, string_bytes};
 ghost use Rattle.rec_container.specs.Container.{Entry, IsContainer, content_of};
 ghost use Rattle.rec_format.specs.declared.manifest.PortableManifest.{PortableManifest};
 ghost use Rattle.rec_format.specs.Runs.{info_of};
@@ -45,9 +46,10 @@ impl Model for PortableRecording {
 }
 
 impl PortableRecording {
-    /// Reads a source to its end, and judges its bytes as a bundle. It asks for at most `spool_limit + 1`
-    /// bytes. `path` says where the bundle is from, and is only kept. `read_limit` is the most bytes of
-    /// the manifest, of the log and of an entry of the store that are read.
+    /// Reads a source to its end, and judges its bytes as a bundle. It asks for at most
+    /// `spool_limit + 1` bytes. `path` says where the bundle is from, and is only kept.
+    /// `read_limit` is the most bytes of the manifest,
+    /// of the log and of an entry of the store that are read.
     ///
     /// # Errors
     ///
@@ -169,8 +171,8 @@ impl PortableRecording {
         PortableRecordingRunLog::within(alloc, self.limit, found)
     }
 
-    /// Lends the bytes of the log, whatever their length. It takes no memory. `None` comes exactly where
-    /// the bundle has no entry `run.log.zst`.
+    /// Lends the bytes of the log, whatever their length. It takes no memory. `None` comes exactly
+    /// where the bundle has no entry `run.log.zst`.
     pub fn log_window(&self) -> Option<&[u8]>
         ensures { (es : List Entry)
             → IsContainer self.now.bytes es
@@ -179,8 +181,8 @@ impl PortableRecording {
         part_of(&self.bytes, self.parts.log)
     }
 
-    /// Lends the bytes of the store. It takes no memory. `None` comes exactly where the bundle has no
-    /// entry `store.zip`.
+    /// Lends the bytes of the store. It takes no memory. `None` comes exactly where the bundle has
+    /// no entry `store.zip`.
     pub fn store_window(&self) -> Option<&[u8]>
         ensures { (es : List Entry)
             → IsContainer self.now.bytes es
@@ -189,8 +191,8 @@ impl PortableRecording {
         part_of(&self.bytes, self.parts.store)
     }
 
-    /// Opens the store, whatever its length. The reader's entries are windows of the bundle's bytes, which
-    /// its calls copy.
+    /// Opens the store, whatever its length. The reader's entries are windows of the bundle's
+    /// bytes, which its calls copy.
     ///
     /// # Errors
     ///

@@ -10,16 +10,16 @@ use std::alloc::AllocError;
 use std::fmt;
 use thiserror::Error;
 
-/// Says why a bundle isn't upgraded. It is judged in the order of the variants, but that an entry of its
-/// store is foreign comes after `Read`, and the first refusal is answered. Want of memory may come at any
-/// time before the first byte is written.
+/// Says why a bundle isn't upgraded. It is judged in the order of the variants, but that an entry
+/// of its store is foreign comes after `Read`, and the first refusal is answered. Want of memory
+/// may come at any time before the first byte is written.
 #[derive(Drop, Error)]
 pub enum UpgradeError {
     /// The bundle, its log or its store isn't opened.
     #[error("{0}")]
     Open(PortableRecordingReadError),
-    /// An entry of the bundle isn't the one of its place among manifest, log and store; or an entry of the
-    /// store is no metadata, and no event names it.
+    /// An entry of the bundle isn't the one of its place among manifest, log and store; or an entry
+    /// of the store is no metadata, and no event names it.
     #[error("{} has no place in what is written", .file_name.as_str())]
     ForeignEntry {
         /// The name of the entry, or its path in the store.

@@ -6,7 +6,10 @@ ghost use Rattle.rec_container.specs.Container.{spell};
 ghost use Rattle.rec_container.specs.Taking.{TookPart};
 ghost use Rattle.rec_store.specs.Entries.{bundle_entries};
 ghost use Rattle.rec_store.specs.Reading.{RunRecord};
-ghost use Rattle.rec_portable.specs.declared.upgrade_error.UpgradeError.TheVariants.{BundleFault, OutOfMemory};
+ghost use Rattle.rec_portable.specs.declared.upgrade_error.UpgradeError.TheVariants.{
+  BundleFault,
+  OutOfMemory,
+};
 ghost use Rattle.rec_portable.specs.Upgrades.{IsUpgradable, NotUpgraded, Upgrades};
 
 use crate::laws::accepted_bundles_are_read;
@@ -35,8 +38,8 @@ pub struct Upgraded {
 /// exactly.
 ///
 /// At most `spool_limit` bytes are read. `read_limit` is the most bytes of the manifest, of the log
-/// and of an entry of the store, of what is read and of what is written. All memory is taken before the
-/// first byte is written.
+/// and of an entry of the store, of what is read and of what is written. All memory is taken before
+/// the first byte is written.
 ///
 /// # Errors
 ///
@@ -44,10 +47,11 @@ pub struct Upgraded {
 ///
 /// - `Open` where [`PortableRecording::open`], then [`PortableRecording::read_run_log`] or then
 ///   [`PortableRecording::open_store`] refuses.
-/// - `ForeignEntry` for the first entry of the bundle that isn't manifest, log or store at its place.
-/// - `Read` for the first part of the metadata that isn't read, in the order of a recording; then for the
-///   first line of the log that fails; then for the first output in the order of events that is missing or
-///   longer than the read limit.
+/// - `ForeignEntry` for the first entry of the bundle that isn't manifest, log or store at its
+///   place.
+/// - `Read` for the first part of the metadata that isn't read, in the order of a recording; then
+///   for the first line of the log that fails; then for the first output in the order of events
+///   that is missing or longer than the read limit.
 /// - `ForeignEntry` for the first entry of the store that is no metadata, and that no event names.
 /// - `CountOutOfRange` where the bundle would have 2^64 bytes or more, and `FileTooLarge` where the
 ///   manifest, the log or an entry of the store would have more than `read_limit`.

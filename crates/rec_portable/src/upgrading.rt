@@ -1,12 +1,14 @@
 //! A bundle that is written anew, in memory.
 ghost use Rattle.std.specs.List.{AllByRecursion};
-ghost use Rattle.std.specs.Prelude.{◌≡◌, ◌⊎◌, ◌<◌, List, [], Ok, Err, Some, None, IfOk, IfErr, length, map};
+ghost use Rattle.std.specs.Prelude.{◌≡◌, ◌⊎◌, ◌<◌, List, [], Ok, Err};
+ghost use Rattle.std.specs.Prelude.{Some, None, IfOk, IfErr, length, map};
 ghost use Rattle.rec_container.specs.Container.{AreFrom, Entry, IsContainer};
 ghost use Rattle.rec_container.specs.NamedContents.{entry_of};
 ghost use Rattle.rec_store.specs.RunParts.{RunParts};
 ghost use Rattle.rec_portable.specs.declared.upgrade_error.UpgradeError.TheVariants.{OutOfMemory};
 ghost use Rattle.rec_portable.specs.Rewriting.{IsMadeOf, IsRewritten, Judges, settled_text};
-ghost use Rattle.rec_portable.specs.Upgrading.{IsAccepted, IsRefused, names_judged, run_judged, written_refusal};
+ghost use Rattle.rec_portable.specs.Upgrading.{IsAccepted, IsRefused, names_judged};
+ghost use Rattle.rec_portable.specs.Upgrading.{run_judged, written_refusal};
 
 mod log;
 mod metadata;

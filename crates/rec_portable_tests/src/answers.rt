@@ -368,7 +368,8 @@ const REFUSALS: &[Row] = &[
         },
         AMPLE,
         Question::Whole,
-        "stores of version 3.2 aren't read by version 3.1: minor version 2 is newer than supported version 1",
+        "stores of version 3.2 aren't read by version 3.1: minor version 2 is newer than \
+        supported version 1",
     ),
     (
         Bundle {
@@ -380,7 +381,10 @@ const REFUSALS: &[Row] = &[
         },
         AMPLE,
         Question::Whole,
-        "stores of version 2.0 aren't read by version 3.1: recording has major version 2, but this nextest requires version 3\n(recordings from nextest 0.9.149 and earlier are no longer supported; discard this recording and record a new run)",
+        "stores of version 2.0 aren't read by version 3.1: recording has major version 2, but \
+        this nextest requires version 3\n\
+        (recordings from nextest 0.9.149 and earlier are no longer supported; discard this \
+        recording and record a new run)",
     ),
     (
         Bundle {
@@ -392,7 +396,8 @@ const REFUSALS: &[Row] = &[
         },
         AMPLE,
         Question::Whole,
-        "bundles of version 2.0 aren't read by version 1.1: major version 2 differs from supported version 1",
+        "bundles of version 2.0 aren't read by version 1.1: major version 2 differs from \
+        supported version 1",
     ),
     (
         Bundle {

@@ -168,7 +168,8 @@ fn entry(
     }
 }
 
-/// Why an entry isn't written into a sink whose second write fails, and how many bytes the sink took.
+/// Why an entry isn't written into a sink whose second write fails,
+/// and how many bytes the sink took.
 fn entry_unwritten(
     alloc: Global,
     recording: &PortableRecording,

@@ -1,5 +1,6 @@
 -- A bundle that is made of a run's directory.
-use Rattle.std.specs.Prelude.{◌≡◌, ◌⊎◌, ℕ, ◌≤◌, List, length, take, Option, Some, None, Result, Ok, Err}
+use Rattle.std.specs.Prelude.{◌≡◌, ◌⊎◌, ℕ, ◌≤◌, List, length, take}
+use Rattle.std.specs.Prelude.{Option, Some, None, Result, Ok, Err}
 use Rattle.serde_json.specs.Written.{compact_text}
 use Rattle.rec_container.specs.Causes.{Rose}
 use Rattle.rec_container.specs.Container.{spell}
@@ -11,15 +12,22 @@ use Rattle.rec_format.specs.RunForms.{manifest_value}
 use Rattle.rec_format.specs.Runs.{manifest_of}
 use Rattle.rec_store.specs.Entries.{bundle_entries, log_name, store_name}
 use Rattle.rec_directory.specs.Paths.{joined, path_of_log, path_of_store}
-use Rattle.rec_portable_writer.specs.declared.errors.PortableRecordingError.TheVariants.{ReadFile, WriteFile, OutOfMemory}
+use Rattle.rec_portable_writer.specs.declared.errors.PortableRecordingError.TheVariants.{
+  ReadFile,
+  WriteFile,
+  OutOfMemory,
+}
 use Rattle.rec_portable_writer.specs.declared.errors.PortableRecordingError.{PortableRecordingError}
-use Rattle.rec_portable_writer.specs.declared.packing.PortableRecordingResult.{PortableRecordingResult}
+use Rattle.rec_portable_writer.specs.declared.packing.PortableRecordingResult.{
+  PortableRecordingResult,
+}
 use Rattle.rec_portable_writer.specs.Names.{temporary_path}
 use Rattle.rec_portable_writer.specs.Preparing.{Packing}
 
 -- the bundle of a run, of its log and of its store
 unfoldable pub bundle_of : RecordedRunInfo → List ℕ → List ℕ → List ℕ
-bundle_of info log store = spell (bundle_entries (compact_text (manifest_value (manifest_of info))) log store)
+bundle_of info log store =
+    spell (bundle_entries (compact_text (manifest_value (manifest_of info))) log store)
 
 -- these bytes are the bundle of the run whose files these are
 pub record IsBundle (fs : Files) (info : RecordedRunInfo) (dir bundle : List ℕ) : Type 0 where
@@ -42,13 +50,15 @@ MissesFile (Some fs) before now path = (fs path ≡ None) ⊎ Rose before now
 
 -- why a file of a run wasn't read
 abbrev pub Unread : Option Files → ℕ → ℕ → List ℕ → List ℕ → PortableRecordingError → Type 0
-Unread files before now dir name (ReadFile n) = (n ≡ name) × MissesFile files before now (joined dir name)
+Unread files before now dir name (ReadFile n) =
+    (n ≡ name) × MissesFile files before now (joined dir name)
 Unread files before now dir name OutOfMemory = Unit {0}
 Unread files before now dir name e = ⊥
 
 -- why the bundle wasn't made
 abbrev pub Unbundled : Option Files → ℕ → ℕ → List ℕ → PortableRecordingError → Type 0
-Unbundled files before now dir e = Unread files before now dir log_name e ⊎ Unread files before now dir store_name e
+Unbundled files before now dir e =
+    Unread files before now dir log_name e ⊎ Unread files before now dir store_name e
 
 -- why it wasn't written
 abbrev pub Unwritten : ℕ → ℕ → List ℕ → PortableRecordingError → Type 0
@@ -65,7 +75,8 @@ write_error path disk.OutOfMemory = OutOfMemory
 -- ---- the files
 
 -- the path holds the run's bundle, the temporary one nothing, and every other file is as it was
-pub record Packed (fs gs : Files) (info : RecordedRunInfo) (dir path : List ℕ) (result : PortableRecordingResult) : Type 0 where
+pub record Packed (fs gs : Files) (info : RecordedRunInfo) (dir path : List ℕ)
+    (result : PortableRecordingResult) : Type 0 where
   pub bundle : List ℕ
   pub is_bundle : IsBundle fs info dir bundle
   pub written : gs path ≡ Some bundle
@@ -87,17 +98,23 @@ pub record Unpacked (fs gs : Files) (info : RecordedRunInfo) (dir path : List �
   pub log : gs (path_of_log dir) ≡ fs (path_of_log dir)
   pub store : gs (path_of_store dir) ≡ fs (path_of_store dir)
   pub others : (p : List ℕ) → ¬ (p ≡ temporary_path path) → gs p ≡ fs p
-  pub temporary : (gs (temporary_path path) ≡ fs (temporary_path path)) ⊎ IsStarted fs gs info dir path
+  pub temporary : (gs (temporary_path path) ≡ fs (temporary_path path))
+      ⊎ IsStarted fs gs info dir path
 
-abbrev pub PacksIn : Files → Files → ℕ → ℕ → RecordedRunInfo → List ℕ → List ℕ → Result PortableRecordingResult PortableRecordingError → Type 0
+abbrev pub PacksIn : Files → Files → ℕ → ℕ → RecordedRunInfo → List ℕ → List ℕ
+    → Result PortableRecordingResult PortableRecordingError → Type 0
 PacksIn fs gs before now info dir path (Ok result) = Packed fs gs info dir path result
-PacksIn fs gs before now info dir path (Err e) = Unpacked fs gs info dir path × (Unbundled (Some fs) before now dir e ⊎ Unwritten before now path e)
+PacksIn fs gs before now info dir path (Err e) =
+    Unpacked fs gs info dir path
+    × (Unbundled (Some fs) before now dir e ⊎ Unwritten before now path e)
 
 module _ {D : Type 0} (files : D → Option Files) (faults : D → ℕ) where
   -- a bundle of the run is written to a path, or why not
-  pub record PacksRun (old new : Packing D) (path : List ℕ) (result : Result PortableRecordingResult PortableRecordingError) : Type 0 where
+  pub record PacksRun (old new : Packing D) (path : List ℕ)
+      (result : Result PortableRecordingResult PortableRecordingError) : Type 0 where
     pub reference : new.disk.ghost_name ≡ old.disk.ghost_name
     pub run_info : new.run_info ≡ old.run_info
     pub run_dir : new.run_dir ≡ old.run_dir
     pub later : faults old.disk.now ≤ faults new.disk.now
-    pub packs : BothKnown (files old.disk.now) (files new.disk.now) (λ fs gs. PacksIn fs gs (faults old.disk.now) (faults new.disk.now) old.run_info old.run_dir path result)
+    pub packs : BothKnown (files old.disk.now) (files new.disk.now) (λ fs gs. PacksIn fs gs
+        (faults old.disk.now) (faults new.disk.now) old.run_info old.run_dir path result)

@@ -7,7 +7,12 @@ use Rattle.rec_store.specs.Entries.{log_name, store_name}
 use Rattle.rec_directory.specs.Directories.{HasFailed, IsNotThere, IsOpened}
 use Rattle.rec_directory.specs.Files.{IsMissing}
 use Rattle.rec_directory.specs.Paths.{joined, path_of_log, path_of_store}
-use Rattle.rec_portable_writer.specs.declared.errors.PortableRecordingError.TheVariants.{RunDirNotFound, RequiredFileMissing, DiskFault, OutOfMemory}
+use Rattle.rec_portable_writer.specs.declared.errors.PortableRecordingError.TheVariants.{
+  RunDirNotFound,
+  RequiredFileMissing,
+  DiskFault,
+  OutOfMemory,
+}
 use Rattle.rec_portable_writer.specs.declared.errors.PortableRecordingError.{PortableRecordingError}
 
 -- the disk, the run, and its directory
@@ -43,7 +48,8 @@ module _ {D : Type 0} (files : D → Option Files) (faults : D → ℕ) where
 
   -- why a file of it isn't found
   abbrev pub LacksOne : D → List ℕ → List ℕ → PortableRecordingError → Type 0
-  LacksOne disk dir name (RequiredFileMissing d n) = (d ≡ dir) × (n ≡ name) × IsMissing (files disk) (joined dir name)
+  LacksOne disk dir name (RequiredFileMissing d n) =
+      (d ≡ dir) × (n ≡ name) × IsMissing (files disk) (joined dir name)
   LacksOne disk dir name (DiskFault p) = (p ≡ joined dir name) × HasFailed faults disk
   LacksOne disk dir name OutOfMemory = Unit {0}
   LacksOne disk dir name e = ⊥
@@ -53,10 +59,12 @@ module _ {D : Type 0} (files : D → Option Files) (faults : D → ℕ) where
   Unprepared disk dir e =
       LacksDirectory disk dir e
       ⊎ (IsOpened (files disk) dir × LacksOne disk dir store_name e)
-      ⊎ (IsOpened (files disk) dir × HasOne (files disk) (path_of_store dir) × LacksOne disk dir log_name e)
+      ⊎ (IsOpened (files disk) dir × HasOne (files disk) (path_of_store dir)
+      × LacksOne disk dir log_name e)
 
   -- a writer over the same disk, of a run that has its files
-  pub record Prepares (lent : MutBor D) (info : RecordedRunInfo) (dir : List ℕ) (writer : Packing D) : Type 0 where
+  pub record Prepares (lent : MutBor D) (info : RecordedRunInfo) (dir : List ℕ)
+      (writer : Packing D) : Type 0 where
     pub reference : writer.disk.ghost_name ≡ lent.ghost_name
     pub same : files writer.disk.now ≡ files lent.now
     pub later : faults lent.now ≤ faults writer.disk.now

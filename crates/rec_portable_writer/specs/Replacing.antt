@@ -15,14 +15,19 @@ abbrev pub WritesFile : Files → Files → List ℕ → List ℕ → Result (Un
 WritesFile fs gs path content (Ok x) = IsPut fs gs path content
 WritesFile fs gs path content (Err e) = NotMissing e × IsBegun fs gs path content
 
-abbrev pub ReplacesFile : Files → Files → List ℕ → List ℕ → List ℕ → Result (Unit {0}) DiskError → Type 0
-ReplacesFile fs gs temporary path content (Ok x) = AreSame (renamed fs temporary path (Some content)) gs
+abbrev pub ReplacesFile : Files → Files → List ℕ → List ℕ → List ℕ → Result (Unit {0}) DiskError
+    → Type 0
+ReplacesFile fs gs temporary path content (Ok x) =
+    AreSame (renamed fs temporary path (Some content)) gs
 ReplacesFile fs gs temporary path content (Err e) = NotMissing e × IsBegun fs gs temporary content
 
 -- ---- the same of any disk, which may not say its files
 
-abbrev pub Writes : Option Files → Option Files → List ℕ → List ℕ → Result (Unit {0}) DiskError → Type 0
+abbrev pub Writes : Option Files → Option Files → List ℕ → List ℕ → Result (Unit {0}) DiskError
+    → Type 0
 Writes old new path content r = BothKnown old new (λ fs gs. WritesFile fs gs path content r)
 
-abbrev pub Replaces : Option Files → Option Files → List ℕ → List ℕ → List ℕ → Result (Unit {0}) DiskError → Type 0
-Replaces old new temporary path content r = BothKnown old new (λ fs gs. ReplacesFile fs gs temporary path content r)
+abbrev pub Replaces : Option Files → Option Files → List ℕ → List ℕ → List ℕ
+    → Result (Unit {0}) DiskError → Type 0
+Replaces old new temporary path content r =
+    BothKnown old new (λ fs gs. ReplacesFile fs gs temporary path content r)

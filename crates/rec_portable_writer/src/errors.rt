@@ -1,6 +1,8 @@
 //! Why no bundle is made.
 ghost use Rattle.std.specs.Prelude.{◌≡◌};
-ghost use Rattle.rec_portable_writer.specs.declared.errors.PortableRecordingError.TheVariants.{OutOfMemory};
+ghost use Rattle.rec_portable_writer.specs.declared.errors.PortableRecordingError.TheVariants.{
+  OutOfMemory,
+};
 
 use rec_events::Text;
 use std::alloc::AllocError;

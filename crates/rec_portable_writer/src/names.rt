@@ -1,6 +1,10 @@
 //! The names of a run and of its bundle.
 ghost use Rattle.std.specs.Prelude.{◌≡◌, IfOk, string_bytes};
-ghost use Rattle.rec_portable_writer.specs.Names.{bundle_name, run_path, temporary_path as temporary_of};
+ghost use Rattle.rec_portable_writer.specs.Names.{
+  bundle_name,
+  run_path,
+  temporary_path as temporary_of,
+};
 
 use rec_directory::join;
 use rec_events::ReportUuid;

@@ -27,7 +27,8 @@ pub struct PortableRecordingResult {
 ///
 /// # Errors
 ///
-/// `ReadFile`, `WriteFile` or `OutOfMemory`. The file at the path and the run's own are as they were.
+/// `ReadFile`, `WriteFile` or `OutOfMemory`. The file at the path and the run's own are as they
+/// were.
 pub(crate) fn write_bundle<D: Disk>(
     alloc: Global,
     disk: &mut D,

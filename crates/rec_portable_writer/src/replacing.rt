@@ -9,8 +9,8 @@ use rec_disk::{Disk, DiskError};
 ///
 /// # Errors
 ///
-/// Those of the disk, of which `Missing` never comes where the disk says its files. The file at `path` is as
-/// it was; the one at `temporary` may hold a prefix of the bytes.
+/// Those of the disk, of which `Missing` never comes where the disk says its files. The file at
+/// `path` is as it was; the one at `temporary` may hold a prefix of the bytes.
 pub(crate) fn replace_file<D: Disk>(
     disk: &mut D,
     temporary: &str,

@@ -4,7 +4,8 @@ ghost use Rattle.rec_directory.specs.Directories.{IsOpened};
 ghost use Rattle.rec_directory.specs.Files.{IsWhole};
 ghost use Rattle.rec_directory.specs.Paths.{joined};
 ghost use Rattle.rec_portable_writer.specs.Packing.{Unread};
-ghost use Rattle.rec_portable_writer.specs.Preparing.{HasFiles, HasOne, IsMissingFile, LacksDirectory, LacksOne, Unprepared};
+ghost use Rattle.rec_portable_writer.specs.Preparing.{HasFiles, HasOne, IsMissingFile};
+ghost use Rattle.rec_portable_writer.specs.Preparing.{LacksDirectory, LacksOne, Unprepared};
 
 use crate::errors::PortableRecordingError;
 use rec_directory::{join, read_file};

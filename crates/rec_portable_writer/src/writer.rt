@@ -34,7 +34,8 @@ impl<'a, D: Disk> Model for PortableRecordingWriter<'a, D> {
 }
 
 impl<'a, D: Disk> PortableRecordingWriter<'a, D> {
-    /// Prepares a bundle of a run, whose directory is named by the run's id and stands in `runs_dir`.
+    /// Prepares a bundle of a run, whose directory is named by the run's id and stands in
+    /// `runs_dir`.
     ///
     /// # Errors
     ///
@@ -65,7 +66,8 @@ impl<'a, D: Disk> PortableRecordingWriter<'a, D> {
 }
 
 impl<'a, D: Disk> PortableRecordingWriter<'a, D> {
-    /// Returns the name that the bundle has by default: `nextest-run-` and the run's id, with `.zip`.
+    /// Returns the name that the bundle has by default: `nextest-run-` and the run's id,
+    /// with `.zip`.
     ///
     /// # Errors
     ///
@@ -94,13 +96,13 @@ impl<'a, D: Disk> PortableRecordingWriter<'a, D> {
         self.write_to_path(alloc, path.as_str())
     }
 
-    /// Writes the bundle to a path, in the place of a file that is there. It is made in memory, written to
-    /// the path with `.tmp` after it, and renamed once it is whole.
+    /// Writes the bundle to a path, in the place of a file that is there. It is made in memory,
+    /// written to the path with `.tmp` after it, and renamed once it is whole.
     ///
     /// # Errors
     ///
-    /// The file at the path and the run's own are as they were; the path with `.tmp` may hold a prefix of the
-    /// bundle.
+    /// The file at the path and the run's own are as they were; the path with `.tmp` may hold a
+    /// prefix of the bundle.
     ///
     /// - `ReadFile` where the run's log or its store is missing by now, or the disk fails.
     /// - `WriteFile` where the disk fails.

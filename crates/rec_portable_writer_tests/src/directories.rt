@@ -1,5 +1,5 @@
-//! Directories in memory: what is written of them, what is answered and what is left where a file is missing or a call of the
-//! disk fails.
+//! Directories in memory: what is written of them, what is answered and what is left where a file
+//! is missing or a call of the disk fails.
 
 use crate::writing::{Asked, BUNDLE, LOG, LOG_PATH, STORE, STORE_PATH, answer};
 use rec_disk::{Disk, DiskError, MemoryDisk};
@@ -54,7 +54,8 @@ const CASES: &[Case<'static>] = &[
         files: &[],
         fails: &[2],
         asked: Asked::Path("b"),
-        answer: "there is no run at runs/550e8400-e29b-41d4-a716-446655440000, and the next call fails",
+        answer: "there is no run at runs/550e8400-e29b-41d4-a716-446655440000, and the next call \
+            fails",
         left: &[],
         missing: &[LOG_PATH, STORE_PATH, "b"],
     },
@@ -62,7 +63,8 @@ const CASES: &[Case<'static>] = &[
         files: &[(LOG_PATH, LOG)],
         fails: &[3],
         asked: Asked::Path("b"),
-        answer: "the run at runs/550e8400-e29b-41d4-a716-446655440000 has no store.zip, and the next call fails",
+        answer: "the run at runs/550e8400-e29b-41d4-a716-446655440000 has no store.zip, and the \
+            next call fails",
         left: &[(LOG_PATH, LOG)],
         missing: &[STORE_PATH, "b"],
     },
@@ -70,7 +72,8 @@ const CASES: &[Case<'static>] = &[
         files: &[(STORE_PATH, STORE)],
         fails: &[4],
         asked: Asked::Path("b"),
-        answer: "the run at runs/550e8400-e29b-41d4-a716-446655440000 has no run.log.zst, and the next call fails",
+        answer: "the run at runs/550e8400-e29b-41d4-a716-446655440000 has no run.log.zst, and \
+            the next call fails",
         left: &[(STORE_PATH, STORE)],
         missing: &[LOG_PATH, "b"],
     },
@@ -78,7 +81,8 @@ const CASES: &[Case<'static>] = &[
         files: WITH_OLDER,
         fails: &[1, 2],
         asked: Asked::Path("b"),
-        answer: "the disk failed at runs/550e8400-e29b-41d4-a716-446655440000, and the next call fails",
+        answer: "the disk failed at runs/550e8400-e29b-41d4-a716-446655440000, and the next call \
+            fails",
         left: WITH_OLDER,
         missing: &["b.tmp"],
     },
@@ -86,7 +90,8 @@ const CASES: &[Case<'static>] = &[
         files: WITH_OLDER,
         fails: &[2, 3],
         asked: Asked::Path("b"),
-        answer: "the disk failed at runs/550e8400-e29b-41d4-a716-446655440000/store.zip, and the next call fails",
+        answer: "the disk failed at runs/550e8400-e29b-41d4-a716-446655440000/store.zip, and the \
+            next call fails",
         left: WITH_OLDER,
         missing: &["b.tmp"],
     },
@@ -94,7 +99,8 @@ const CASES: &[Case<'static>] = &[
         files: WITH_OLDER,
         fails: &[3, 4],
         asked: Asked::Path("b"),
-        answer: "the disk failed at runs/550e8400-e29b-41d4-a716-446655440000/run.log.zst, and the next call fails",
+        answer: "the disk failed at runs/550e8400-e29b-41d4-a716-446655440000/run.log.zst, and \
+            the next call fails",
         left: WITH_OLDER,
         missing: &["b.tmp"],
     },
@@ -175,7 +181,8 @@ const CASES: &[Case<'static>] = &[
     },
 ];
 
-/// What is answered, whether the disk's next call fails, and each path at which something else is left.
+/// What is answered, whether the disk's next call fails,
+/// and each path at which something else is left.
 fn found(alloc: Global, case: &Case<'_>) -> Result<String, Fail> {
     let mut disk = MemoryDisk::new(alloc, case.fails.to_vec(alloc)?);
     for (path, bytes) in case.files {

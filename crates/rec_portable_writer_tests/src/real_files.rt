@@ -29,8 +29,8 @@ fn ask<R: Files>(rt: &R, alloc: Global, text: &mut String, asked: Asked<'_>) -> 
     Ok(())
 }
 
-/// What is answered of a file that is there, of a folder, and of a path below none; and whether nothing stands
-/// beside the first then, and the folder is there.
+/// What is answered of a file that is there, of a folder, and of a path below none; and whether
+/// nothing stands beside the first then, and the folder is there.
 fn found<R: Files>(rt: &R, alloc: Global) -> Result<String, Fail> {
     make_run(rt)?;
     let mut text = String::new(alloc);

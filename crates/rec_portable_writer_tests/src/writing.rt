@@ -18,13 +18,29 @@ pub(crate) const STORE: &[u8] = b"nxtcont1\0";
 
 /// The bundle of the run's manifest, this log and this store, 546 bytes.
 pub(crate) const BUNDLE: &[u8] = b"nxtcont1\
-    \x01\x00\x0dmanifest.json\x00\x00\x00\x00\x00\x00\x01\xca{\"format-version\":{\"major\":1,\"minor\":1},\"run\":{\"cli-args\":[],\"env-vars\":{},\"last-written-at\":{\"nanos\":0,\"offset\":0,\"secs\":1011},\"nextest-version\":\"0.9.111\",\"run-id\":\"550e8400-e29b-41d4-a716-446655440000\",\"sizes\":{\"log\":{\"compressed\":1,\"entries\":3,\"uncompressed\":2},\"store\":{\"compressed\":4,\"entries\":6,\"uncompressed\":5}},\"started-at\":{\"nanos\":0,\"offset\":0,\"secs\":1000},\"status\":{\"status\":\"incomplete\"},\"store-format-minor-version\":0,\"store-format-version\":3}}\
+    \x01\x00\x0dmanifest.json\x00\x00\x00\x00\x00\x00\x01\xca{\"format-version\":{\"major\":1,\
+    \"minor\":1},\"run\":{\"cli-args\":[],\"env-vars\":{},\"last-written-at\":{\"nanos\":0,\
+    \"offset\":0,\"secs\":1011},\"nextest-version\":\"0.9.111\",\
+    \"run-id\":\"550e8400-e29b-41d4-a716-446655440000\",\"sizes\":{\"log\":{\"compressed\":1,\
+    \"entries\":3,\"uncompressed\":2},\"store\":{\"compressed\":4,\"entries\":6,\
+    \"uncompressed\":5}},\"started-at\":{\"nanos\":0,\"offset\":0,\"secs\":1000},\
+    \"status\":{\"status\":\"incomplete\"},\"store-format-minor-version\":0,\
+    \"store-format-version\":3}}\
     \x01\x00\x0brun.log.zst\x00\x00\x00\x00\x00\x00\x00\x04log\n\
     \x01\x00\x09store.zip\x00\x00\x00\x00\x00\x00\x00\x09nxtcont1\x00\x00";
 
 /// The manifest of the run.
 fn manifest_text() -> &'static [u8] {
-    br#"{"format-version":{"major":1,"minor":1},"run":{"cli-args":[],"env-vars":{},"last-written-at":{"nanos":0,"offset":0,"secs":1011},"nextest-version":"0.9.111","run-id":"550e8400-e29b-41d4-a716-446655440000","sizes":{"log":{"compressed":1,"entries":3,"uncompressed":2},"store":{"compressed":4,"entries":6,"uncompressed":5}},"started-at":{"nanos":0,"offset":0,"secs":1000},"status":{"status":"incomplete"},"store-format-minor-version":0,"store-format-version":3}}"#
+    b"{\"format-version\":{\"major\":1,\"minor\":1},\
+    \"run\":{\"cli-args\":[],\"env-vars\":{},\
+    \"last-written-at\":{\"nanos\":0,\"offset\":0,\"secs\":1011},\
+    \"nextest-version\":\"0.9.111\",\
+    \"run-id\":\"550e8400-e29b-41d4-a716-446655440000\",\
+    \"sizes\":{\"log\":{\"compressed\":1,\"entries\":3,\"uncompressed\":2},\
+    \"store\":{\"compressed\":4,\"entries\":6,\"uncompressed\":5}},\
+    \"started-at\":{\"nanos\":0,\"offset\":0,\"secs\":1000},\
+    \"status\":{\"status\":\"incomplete\"},\"store-format-minor-version\":0,\
+    \"store-format-version\":3}}"
 }
 
 /// What a writer is asked.

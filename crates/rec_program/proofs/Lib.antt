@@ -5,5 +5,6 @@ pub mod LogTraced
 pub mod RecordedDrawn
 pub mod RunsSalvaged
 pub mod SamplesRecorded
+pub mod StatusesAbove
 pub mod Traced
 pub mod WritingCommands

@@ -1,5 +1,7 @@
 -- The trace of a log, from what an iterator over its lines gives.
-use Rattle.std.proofs.Common.{◌≡◌, ◌⊎◌, inl, inr, ℕ, List, [], ◌∷◌, ◌++◌, map, Option, Some, None, option_map, Result, Ok, Err, IfOk, IfErr, Vec, Global, refl, sym, ap, ◌∙◌}
+use Rattle.std.proofs.Common.{◌≡◌, ◌⊎◌, inl, inr, ℕ, List, [], ◌∷◌, ◌++◌, map}
+use Rattle.std.proofs.Common.{Option, Some, None, option_map, Result, Ok, Err}
+use Rattle.std.proofs.Common.{IfOk, IfErr, Vec, Global, refl, sym, ap, ◌∙◌}
 use Rattle.std.proofs.lemmas.List.{map-append}
 use Rattle.std.specs.Option.{option_or}
 use Rattle.semver.specs.Parse.{Parts}
@@ -26,31 +28,42 @@ use Rattle.rec_program.specs.LogTraces.{TracesLog, log_refusal, log_trace, plain
 
 module _ (g : ChromeTraceGroupBy) (ls : List NumberedLine) where
   -- that of its events, where no line fails
-  pub refusal-whole : first_line_fault ls ≡ None → log_refusal g ls ≡ events_refusal g (plain_log ls)
+  pub refusal-whole : first_line_fault ls ≡ None
+      → log_refusal g ls ≡ events_refusal g (plain_log ls)
   unfolding log_refusal
-  refusal-whole none = ap (λ o. option_or (events_refusal g (plain_log ls)) (option_map ReadError o)) none ∙ or-none (events_refusal g (plain_log ls))
+  refusal-whole none =
+      ap (λ o. option_or (events_refusal g (plain_log ls)) (option_map ReadError o)) none
+      ∙ or-none (events_refusal g (plain_log ls))
     where
       or-none : (o : Option ChromeTraceError) → option_or o None ≡ o
       or-none None = refl
       or-none (Some e) = refl
 
   -- that of its events, where they have one
-  refusal-event : (e : ChromeTraceError) → events_refusal g (plain_log ls) ≡ Some e → log_refusal g ls ≡ Some e
+  refusal-event : (e : ChromeTraceError) → events_refusal g (plain_log ls) ≡ Some e
+      → log_refusal g ls ≡ Some e
   unfolding log_refusal
-  refusal-event e refused = ap (λ o. option_or o (option_map ReadError (first_line_fault ls))) refused
+  refusal-event e refused =
+      ap (λ o. option_or o (option_map ReadError (first_line_fault ls))) refused
 
   -- and the fault of the first line that fails, where its events have none
-  refusal-line : (fault : LineError) → first_line_fault ls ≡ Some fault → events_refusal g (plain_log ls) ≡ None → log_refusal g ls ≡ Some (ReadError fault)
+  refusal-line : (fault : LineError) → first_line_fault ls ≡ Some fault
+      → events_refusal g (plain_log ls) ≡ None → log_refusal g ls ≡ Some (ReadError fault)
   unfolding log_refusal
-  refusal-line fault found accepted = ap (λ o. option_or o (option_map ReadError (first_line_fault ls))) accepted ∙ ap (option_map ReadError) found
+  refusal-line fault found accepted =
+      ap (λ o. option_or o (option_map ReadError (first_line_fault ls))) accepted
+      ∙ ap (option_map ReadError) found
 
 -- ---- what a conversion answers
 
-module _ (g : ChromeTraceGroupBy) (format : ChromeTraceMessageFormat) (version : Parts) (ls : List NumberedLine) where
-  abbrev steps : List NumberedLine → Option (Result RecordedEvent LineError) → List NumberedLine → Type 0
+module _ (g : ChromeTraceGroupBy) (format : ChromeTraceMessageFormat) (version : Parts)
+    (ls : List NumberedLine) where
+  abbrev steps : List NumberedLine → Option (Result RecordedEvent LineError) → List NumberedLine
+      → Type 0
   steps = GivesNext (event_form stored_outputs_form)
 
-  drawn : (text : List ℕ) → Converts steps ls g format version text → (log_refusal g ls ≡ None) × (text ≡ log_trace g format version ls)
+  drawn : (text : List ℕ) → Converts steps ls g format version text
+      → (log_refusal g ls ≡ None) × (text ≡ log_trace g format version ls)
   unfolding log_items log_trace
   drawn text c =
       let is = drained (event_form stored_outputs_form) c.events ls c.drained in
@@ -62,25 +75,32 @@ module _ (g : ChromeTraceGroupBy) (format : ChromeTraceMessageFormat) (version :
   unread : (e : ChromeTraceError) → IsUnread steps ls g e → log_refusal g ls ≡ Some e
   unfolding log_items
   unread e u =
-      let is = failed (event_form stored_outputs_form) u.events ls u.rest u.fault u.yielded u.no_memory in
+      let is =
+      failed (event_form stored_outputs_form) u.events ls u.rest u.fault u.yielded u.no_memory in
       let all : events_before_fault ls ≡ u.events = is.0 in
-      refusal-line g ls u.fault is.1 (ap (λ es. events_refusal g (map plain es)) all ∙ u.accepted) ∙ ap Some (sym u.answered)
+      refusal-line g ls u.fault is.1 (ap (λ es. events_refusal g (map plain es)) all ∙ u.accepted)
+      ∙ ap Some (sym u.answered)
 
   refused : (e : ChromeTraceError) → IsRefused steps ls g e → log_refusal g ls ≡ Some e
   unfolding log_items
   refused e r =
       let first = r.before ++ r.event ∷ [] in
       let is = yielded (event_form stored_outputs_form) first ls r.rest r.yielded in
-      let all : plain_log ls ≡ map plain first ++ map plain is.0 = ap (map plain) is.1 ∙ map-append plain first is.0 in
-      refusal-event g ls e (ap (events_refusal g) all ∙ refused-more g (map plain first) (map plain is.0) e r.refused)
+      let all : plain_log ls ≡ map plain first ++ map plain is.0 =
+      ap (map plain) is.1 ∙ map-append plain first is.0 in
+      refusal-event g ls e
+      (ap (events_refusal g) all ∙ refused-more g (map plain first) (map plain is.0) e r.refused)
 
-  not-drawn : (e : ChromeTraceError) → HasNoTrace steps ls g e → (e ≡ OutOfMemory) ⊎ (log_refusal g ls ≡ Some e)
+  not-drawn : (e : ChromeTraceError) → HasNoTrace steps ls g e
+      → (e ≡ OutOfMemory) ⊎ (log_refusal g ls ≡ Some e)
   not-drawn e (inl memory) = inl memory
   not-drawn e (inr (inl u)) = inr (unread e u)
   not-drawn e (inr (inr r)) = inr (refused e r)
 
   -- what the conversion of what an iterator over the lines gives answers
-  pub traces-log : (r : Result (Vec ℕ Global) ChromeTraceError) → IfOk r (λ text. Converts steps ls g format version text.items) → IfErr r (λ e. HasNoTrace steps ls g e)
+  pub traces-log : (r : Result (Vec ℕ Global) ChromeTraceError)
+      → IfOk r (λ text. Converts steps ls g format version text.items)
+      → IfErr r (λ e. HasNoTrace steps ls g e)
       → TracesLog g format version ls r
   traces-log (Ok text) ok err = drawn text.items ok
   traces-log (Err e) ok err = not-drawn e err

@@ -26,7 +26,8 @@ module _ (g : ChromeTraceGroupBy) (format : ChromeTraceMessageFormat) where
 
   -- the trace of a log, recorded by the version of the runner that the manifest names
   abbrev pub trace_of_parts : PortableManifest → List ℕ → Result (List ℕ) ReadingError
-  trace_of_parts manifest log = trace_unless (bundle_trace manifest log) (log_refusal g (log_lines log))
+  trace_of_parts manifest log =
+      trace_unless (bundle_trace manifest log) (log_refusal g (log_lines log))
 
   abbrev pub trace_of : ℕ → List Entry → Result (List ℕ) ReadingError
   trace_of limit es = do
@@ -35,5 +36,6 @@ module _ (g : ChromeTraceGroupBy) (format : ChromeTraceMessageFormat) where
     trace_of_parts manifest log
 
 -- what is printed of entries under a limit is what the function of them gives
-abbrev pub PrintsTrace : ChromeTraceGroupBy → ChromeTraceMessageFormat → ℕ → List Entry → Result (List ℕ) ReadingError → Type 0
+abbrev pub PrintsTrace : ChromeTraceGroupBy → ChromeTraceMessageFormat → ℕ → List Entry
+    → Result (List ℕ) ReadingError → Type 0
 PrintsTrace g format limit es r = trace_of g format limit es ≡ r

@@ -4,4 +4,5 @@ use Rattle.std.specs.Prelude.{ℕ, List, [], ◌∷◌, ◌++◌, codes}
 
 -- how many events and outputs were written, as a line
 unfoldable pub counts_line : ℕ → ℕ → List ℕ
-counts_line events outputs = codes "events=" ++ (decimal events ++ (codes " outputs=" ++ (decimal outputs ++ 10 ∷ [])))
+counts_line events outputs =
+    codes "events=" ++ (decimal events ++ (codes " outputs=" ++ (decimal outputs ++ 10 ∷ [])))

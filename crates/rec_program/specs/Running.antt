@@ -5,7 +5,9 @@ use Rattle.std.specs.Prelude.{◌≡◌, ℕ, List, Option, Ok, Err, Result, Vec
 use Rattle.rec_container.specs.Causes.{Rose}
 use Rattle.rec_container.specs.Container.{Entry}
 use Rattle.rec_container.specs.Taking.{TookPart}
-use Rattle.rec_portable.specs.declared.errors.PortableRecordingReadError.{PortableRecordingReadError}
+use Rattle.rec_portable.specs.declared.errors.PortableRecordingReadError.{
+  PortableRecordingReadError,
+}
 use Rattle.rec_portable.specs.declared.upgrade_error.UpgradeError.{UpgradeError}
 use Rattle.rec_portable.specs.declared.upgrades.Upgraded.{Upgraded}
 use Rattle.rec_portable.specs.Upgrades.{NotUpgraded, Upgrades}
@@ -23,7 +25,9 @@ use Rattle.rec_export.specs.declared.settings.Settings.{Settings}
 use Rattle.rec_export.specs.Export.{Exports, Fails}
 use Rattle.rec_words.specs.declared.usage.TheConstants.{USAGE}
 use Rattle.rec_words.specs.Usage.{versions_text}
-use Rattle.rec_words.specs.Words.{Asked, recording, tracing, replaying, reporting, informing, slotting, rerunning, sampling, upgrading, salvaging, help, version}
+use Rattle.rec_words.specs.Words.{Asked, recording, tracing, replaying}
+use Rattle.rec_words.specs.Words.{reporting, informing, slotting, rerunning}
+use Rattle.rec_words.specs.Words.{sampling, upgrading, salvaging, help, version}
 use Rattle.rec_faults.specs.FaultLine.{Shown, export_shown, line, sink_shown, words_shown}
 use Rattle.rec_faults.specs.ReadingLine.{reading_shown}
 use Rattle.rec_faults.specs.Status.{export_status, reading_status, words_status}
@@ -37,92 +41,136 @@ use Rattle.rec_program.specs.ReadingCommands.{Shows, Withholds}
 use Rattle.rec_program.specs.Salvaging.{SalvagesRun, bundle_refusal, refusal_shown, refusal_status}
 use Rattle.rec_program.specs.Samples.{SampleFails, Samples}
 
-module _ {E G : Type 0} (shown : E → Shown) (status_of : E → ℕ) (diag_taken : G → Option (List ℕ)) (diag_faults : G → ℕ) where
+module _ {E G : Type 0} (shown : E → Shown) (status_of : E → ℕ) (diag_taken : G → Option (List ℕ))
+    (diag_faults : G → ℕ) where
   -- the refusal is the status, and is reported
   abbrev pub Refuses : E → ℕ → G → G → Type 0
-  Refuses e status d0 d1 = (status ≡ status_of e) × WritesFault diag_taken diag_faults d0 d1 (line (shown e))
+  Refuses e status d0 d1 =
+      (status ≡ status_of e) × WritesFault diag_taken diag_faults d0 d1 (line (shown e))
 
-module _ {T G : Type 0} (out_taken : T → Option (List ℕ)) (out_faults : T → ℕ) (diag_taken : G → Option (List ℕ)) (diag_faults : G → ℕ) where
+module _ {T G : Type 0} (out_taken : T → Option (List ℕ)) (out_faults : T → ℕ)
+    (diag_taken : G → Option (List ℕ)) (diag_faults : G → ℕ) where
   -- the text was printed; or the output failed, which was reported
   abbrev pub Prints : List ℕ → ℕ → T → T → G → G → Type 0
   Prints text status o0 o1 d0 d1 =
       ((status ≡ 0) × Appends (out_taken o0) (out_taken o1) text × (d1 ≡ d0))
-      ⊎ ((status ≡ 11) × Rose (out_faults o0) (out_faults o1) × TookPart (out_taken o0) (out_taken o1) text × WritesFault diag_taken diag_faults d0 d1 (line sink_shown))
+      ⊎ ((status ≡ 11) × Rose (out_faults o0) (out_faults o1)
+      × TookPart (out_taken o0) (out_taken o1) text
+      × WritesFault diag_taken diag_faults d0 d1 (line sink_shown))
 
-module _ {E T G : Type 0} (shown : E → Shown) (status_of : E → ℕ) (out_taken : T → Option (List ℕ)) (out_faults : T → ℕ) (diag_taken : G → Option (List ℕ)) (diag_faults : G → ℕ) where
+module _ {E T G : Type 0} (shown : E → Shown) (status_of : E → ℕ) (out_taken : T → Option (List ℕ))
+    (out_faults : T → ℕ) (diag_taken : G → Option (List ℕ)) (diag_faults : G → ℕ) where
   -- what was made was printed; or nothing was made, and the cause is the status and is reported
   abbrev pub ShowsMade : Result (Vec ℕ Global) E → ℕ → T → T → G → G → Type 0
-  ShowsMade (Ok text) status o0 o1 d0 d1 = Prints out_taken out_faults diag_taken diag_faults text.items status o0 o1 d0 d1
-  ShowsMade (Err e) status o0 o1 d0 d1 = (o1 ≡ o0) × Refuses shown status_of diag_taken diag_faults e status d0 d1
+  ShowsMade (Ok text) status o0 o1 d0 d1 =
+      Prints out_taken out_faults diag_taken diag_faults text.items status o0 o1 d0 d1
+  ShowsMade (Err e) status o0 o1 d0 d1 =
+      (o1 ≡ o0) × Refuses shown status_of diag_taken diag_faults e status d0 d1
 
-module _ {E S T G : Type 0} (shown : E → Shown) (status_of : E → ℕ) (opening : PortableRecordingReadError → E) (left : S → Option (List ℕ)) (source_faults : S → ℕ)
-    (out_taken : T → Option (List ℕ)) (out_faults : T → ℕ) (diag_taken : G → Option (List ℕ)) (diag_faults : G → ℕ) where
-  -- the bundle was read, and what the command prints of it was printed; or nothing is printed of it, and the cause is the status and is reported
-  abbrev pub ShowsBundle : (ℕ → List Entry → Result (List ℕ) E → Type 0) → Settings → ℕ → S → S → T → T → G → G → Type 0
+module _ {E S T G : Type 0} (shown : E → Shown) (status_of : E → ℕ)
+    (opening : PortableRecordingReadError → E) (left : S → Option (List ℕ)) (source_faults : S → ℕ)
+    (out_taken : T → Option (List ℕ)) (out_faults : T → ℕ) (diag_taken : G → Option (List ℕ))
+    (diag_faults : G → ℕ) where
+  -- the bundle was read, and what the command prints of it was printed; or nothing is printed of
+  -- it, and the cause is the status and is reported
+  abbrev pub ShowsBundle : (ℕ → List Entry → Result (List ℕ) E → Type 0) → Settings → ℕ → S → S → T
+      → T → G → G → Type 0
   ShowsBundle prints settings status s0 s1 o0 o1 d0 d1 =
-      ((text : List ℕ) × Shows opening prints settings.read_limit left source_faults settings.session_limit s0 s1 text
+      ((text : List ℕ) × Shows opening prints settings.read_limit left source_faults
+      settings.session_limit s0 s1 text
       × Prints out_taken out_faults diag_taken diag_faults text status o0 o1 d0 d1)
-      ⊎ ((e : E) × Withholds opening prints settings.read_limit left source_faults settings.session_limit s0 s1 e × (o1 ≡ o0)
+      ⊎ ((e : E) × Withholds opening prints settings.read_limit left source_faults
+      settings.session_limit s0 s1 e × (o1 ≡ o0)
       × Refuses shown status_of diag_taken diag_faults e status d0 d1)
 
-module _ {S B T G : Type 0} (left : S → Option (List ℕ)) (source_faults : S → ℕ) (taken : B → Option (List ℕ)) (bundle_faults : B → ℕ)
-    (out_taken : T → Option (List ℕ)) (out_faults : T → ℕ) (diag_taken : G → Option (List ℕ)) (diag_faults : G → ℕ) (number : List ℕ → ℕ) where
-  -- the session was exported, and nothing is reported; or it wasn't, and the cause is the status and is reported
+module _ {S B T G : Type 0} (left : S → Option (List ℕ)) (source_faults : S → ℕ)
+    (taken : B → Option (List ℕ)) (bundle_faults : B → ℕ) (out_taken : T → Option (List ℕ))
+    (out_faults : T → ℕ) (diag_taken : G → Option (List ℕ)) (diag_faults : G → ℕ)
+    (number : List ℕ → ℕ) where
+  -- the session was exported, and nothing is reported; or it wasn't,
+  -- and the cause is the status and is reported
   abbrev pub Records : Settings → ℕ → S → S → B → B → T → T → G → G → Type 0
   Records settings status s0 s1 b0 b1 o0 o1 d0 d1 =
-      ((status ≡ 0) × ((exported : Exported) × Exports left source_faults taken bundle_faults out_taken out_faults number settings s0 s1 b0 b1 o0 o1 exported) × (d1 ≡ d0))
-      ⊎ ((e : RecordExportError) × Fails left source_faults taken bundle_faults out_taken out_faults number settings s0 s1 b0 b1 o0 o1 e
+      ((status ≡ 0) × ((exported : Exported) × Exports left source_faults taken bundle_faults
+      out_taken out_faults number settings s0 s1 b0 b1 o0 o1 exported) × (d1 ≡ d0))
+      ⊎ ((e : RecordExportError) × Fails left source_faults taken bundle_faults out_taken out_faults
+      number settings s0 s1 b0 b1 o0 o1 e
       × Refuses export_shown export_status diag_taken diag_faults e status d0 d1)
 
-module _ {B T G : Type 0} (taken : B → Option (List ℕ)) (bundle_faults : B → ℕ) (out_taken : T → Option (List ℕ)) (out_faults : T → ℕ)
-    (diag_taken : G → Option (List ℕ)) (diag_faults : G → ℕ) (number : List ℕ → ℕ) where
-  -- the generated session was recorded, and the line with its counts was printed; or it wasn't, and the cause is the status and is reported
+module _ {B T G : Type 0} (taken : B → Option (List ℕ)) (bundle_faults : B → ℕ)
+    (out_taken : T → Option (List ℕ)) (out_faults : T → ℕ) (diag_taken : G → Option (List ℕ))
+    (diag_faults : G → ℕ) (number : List ℕ → ℕ) where
+  -- the generated session was recorded, and the line with its counts was printed; or it wasn't, and
+  -- the cause is the status and is reported
   abbrev pub RecordsSample : Settings → List ℕ → ℕ → B → B → T → T → G → G → Type 0
   RecordsSample settings session status b0 b1 o0 o1 d0 d1 =
-      ((line : List ℕ) × Samples taken number settings session b0 b1 line × Prints out_taken out_faults diag_taken diag_faults line status o0 o1 d0 d1)
-      ⊎ ((e : RecordExportError) × SampleFails taken bundle_faults number settings session b0 b1 e × (o1 ≡ o0)
+      ((line : List ℕ) × Samples taken number settings session b0 b1 line
+      × Prints out_taken out_faults diag_taken diag_faults line status o0 o1 d0 d1)
+      ⊎ ((e : RecordExportError) × SampleFails taken bundle_faults number settings session b0 b1 e
+      × (o1 ≡ o0)
       × Refuses export_shown export_status diag_taken diag_faults e status d0 d1)
 
-module _ {S B G : Type 0} (left : S → Option (List ℕ)) (source_faults : S → ℕ) (taken : B → Option (List ℕ)) (bundle_faults : B → ℕ)
-    (diag_taken : G → Option (List ℕ)) (diag_faults : G → ℕ) where
-  -- the bundle was upgraded, and nothing is reported; or it wasn't, and the cause is the status and is reported
+module _ {S B G : Type 0} (left : S → Option (List ℕ)) (source_faults : S → ℕ)
+    (taken : B → Option (List ℕ)) (bundle_faults : B → ℕ) (diag_taken : G → Option (List ℕ))
+    (diag_faults : G → ℕ) where
+  -- the bundle was upgraded, and nothing is reported; or it wasn't,
+  -- and the cause is the status and is reported
   abbrev pub RunsUpgrade : Settings → ℕ → S → S → B → B → G → G → Type 0
   RunsUpgrade settings status s0 s1 b0 b1 d0 d1 =
-      ((status ≡ 0) × ((u : Upgraded) × Upgrades left source_faults taken bundle_faults settings.session_limit settings.read_limit s0 s1 b0 b1 u) × (d1 ≡ d0))
-      ⊎ ((e : UpgradeError) × NotUpgraded left source_faults taken bundle_faults settings.session_limit settings.read_limit s0 s1 b0 b1 e
+      ((status ≡ 0) × ((u : Upgraded) × Upgrades left source_faults taken bundle_faults
+      settings.session_limit settings.read_limit s0 s1 b0 b1 u) × (d1 ≡ d0))
+      ⊎ ((e : UpgradeError) × NotUpgraded left source_faults taken bundle_faults
+      settings.session_limit settings.read_limit s0 s1 b0 b1 e
       × Refuses upgrade_shown upgrade_status diag_taken diag_faults e status d0 d1)
 
-module _ {B T G : Type 0} (taken : B → Option (List ℕ)) (bundle_faults : B → ℕ) (out_taken : T → Option (List ℕ)) (out_faults : T → ℕ)
-    (diag_taken : G → Option (List ℕ)) (diag_faults : G → ℕ) where
-  -- what was salvaged was written, and the line with its counts was printed; or the bundle's sink failed, which was reported
+module _ {B T G : Type 0} (taken : B → Option (List ℕ)) (bundle_faults : B → ℕ)
+    (out_taken : T → Option (List ℕ)) (out_faults : T → ℕ) (diag_taken : G → Option (List ℕ))
+    (diag_faults : G → ℕ) where
+  -- what was salvaged was written, and the line with its counts was printed; or the bundle's sink
+  -- failed, which was reported
   abbrev pub WritesSalvage : Salvaged → ℕ → B → B → T → T → G → G → Type 0
   WritesSalvage s status b0 b1 o0 o1 d0 d1 =
-      (Appends (taken b0) (taken b1) s.bundle × Prints out_taken out_faults diag_taken diag_faults (counts_line s.events s.outputs) status o0 o1 d0 d1)
-      ⊎ (Rose (bundle_faults b0) (bundle_faults b1) × TookPart (taken b0) (taken b1) s.bundle × (o1 ≡ o0)
+      (Appends (taken b0) (taken b1) s.bundle × Prints out_taken out_faults diag_taken diag_faults
+      (counts_line s.events s.outputs) status o0 o1 d0 d1)
+      ⊎ (Rose (bundle_faults b0) (bundle_faults b1) × TookPart (taken b0) (taken b1) s.bundle
+      × (o1 ≡ o0)
       × Refuses refusal_shown refusal_status diag_taken diag_faults BundleFailed status d0 d1)
 
-module _ {S B T G : Type 0} (left : S → Option (List ℕ)) (source_faults : S → ℕ) (taken : B → Option (List ℕ)) (bundle_faults : B → ℕ)
-    (out_taken : T → Option (List ℕ)) (out_faults : T → ℕ) (diag_taken : G → Option (List ℕ)) (diag_faults : G → ℕ) where
+module _ {S B T G : Type 0} (left : S → Option (List ℕ)) (source_faults : S → ℕ)
+    (taken : B → Option (List ℕ)) (bundle_faults : B → ℕ) (out_taken : T → Option (List ℕ))
+    (out_faults : T → ℕ) (diag_taken : G → Option (List ℕ)) (diag_faults : G → ℕ) where
   -- a run was salvaged, and written; or it wasn't, and the cause is the status and is reported
   abbrev pub RunsSalvage : Settings → ℕ → S → S → B → B → T → T → G → G → Type 0
   RunsSalvage settings status s0 s1 b0 b1 o0 o1 d0 d1 =
-      ((s : Salvaged) × Shows bundle_refusal SalvagesRun settings.read_limit left source_faults settings.session_limit s0 s1 s
-      × WritesSalvage taken bundle_faults out_taken out_faults diag_taken diag_faults s status b0 b1 o0 o1 d0 d1)
-      ⊎ ((e : SalvageRefusal) × Withholds bundle_refusal SalvagesRun settings.read_limit left source_faults settings.session_limit s0 s1 e × (b1 ≡ b0) × (o1 ≡ o0)
+      ((s : Salvaged) × Shows bundle_refusal SalvagesRun settings.read_limit left source_faults
+      settings.session_limit s0 s1 s
+      × WritesSalvage taken bundle_faults out_taken out_faults diag_taken diag_faults s status b0 b1
+      o0 o1 d0 d1)
+      ⊎ ((e : SalvageRefusal) × Withholds bundle_refusal SalvagesRun settings.read_limit left
+      source_faults settings.session_limit s0 s1 e × (b1 ≡ b0) × (o1 ≡ o0)
       × Refuses refusal_shown refusal_status diag_taken diag_faults e status d0 d1)
 
-module _ {S B T G : Type 0} (left : S → Option (List ℕ)) (source_faults : S → ℕ) (taken : B → Option (List ℕ)) (bundle_faults : B → ℕ)
-    (out_taken : T → Option (List ℕ)) (out_faults : T → ℕ) (diag_taken : G → Option (List ℕ)) (diag_faults : G → ℕ) (number : List ℕ → ℕ) where
+module _ {S B T G : Type 0} (left : S → Option (List ℕ)) (source_faults : S → ℕ)
+    (taken : B → Option (List ℕ)) (bundle_faults : B → ℕ) (out_taken : T → Option (List ℕ))
+    (out_faults : T → ℕ) (diag_taken : G → Option (List ℕ)) (diag_faults : G → ℕ)
+    (number : List ℕ → ℕ) where
   -- the same of a command that reads a bundle, and refuses as such commands do
-  abbrev ShowsReading : (ℕ → List Entry → Result (List ℕ) ReadingError → Type 0) → Settings → ℕ → S → S → T → T → G → G → Type 0
-  ShowsReading = ShowsBundle reading_shown reading_status bundle_error left source_faults out_taken out_faults diag_taken diag_faults
+  abbrev ShowsReading : (ℕ → List Entry → Result (List ℕ) ReadingError → Type 0) → Settings → ℕ → S
+      → S → T → T → G → G → Type 0
+  ShowsReading =
+      ShowsBundle reading_shown reading_status bundle_error left source_faults out_taken out_faults
+      diag_taken diag_faults
 
-  -- what the program does for the command that its words are; faulty words touch nothing, and are reported
+  -- what the program does for the command that its words are; faulty words touch nothing,
+  -- and are reported
   abbrev pub Runs : Result Asked WordsError → ℕ → S → S → B → B → T → T → G → G → Type 0
   Runs (Ok (recording path settings)) status s0 s1 b0 b1 o0 o1 d0 d1 =
-      Records left source_faults taken bundle_faults out_taken out_faults diag_taken diag_faults number settings status s0 s1 b0 b1 o0 o1 d0 d1
+      Records left source_faults taken bundle_faults out_taken out_faults diag_taken diag_faults
+      number settings status s0 s1 b0 b1 o0 o1 d0 d1
   Runs (Ok (tracing settings)) status s0 s1 b0 b1 o0 o1 d0 d1 =
-      ShowsReading (PrintsTrace settings.group_by settings.message_format) settings status s0 s1 o0 o1 d0 d1 × (b1 ≡ b0)
+      ShowsReading (PrintsTrace settings.group_by settings.message_format)
+      settings status s0 s1 o0 o1 d0 d1
+      × (b1 ≡ b0)
   Runs (Ok (replaying output settings)) status s0 s1 b0 b1 o0 o1 d0 d1 =
       ShowsReading (PrintsReplay output) settings status s0 s1 o0 o1 d0 d1 × (b1 ≡ b0)
   Runs (Ok (reporting settings)) status s0 s1 b0 b1 o0 o1 d0 d1 =
@@ -134,12 +182,22 @@ module _ {S B T G : Type 0} (left : S → Option (List ℕ)) (source_faults : S 
   Runs (Ok (rerunning settings)) status s0 s1 b0 b1 o0 o1 d0 d1 =
       ShowsReading PrintsRerun settings status s0 s1 o0 o1 d0 d1 × (b1 ≡ b0)
   Runs (Ok (sampling n path settings)) status s0 s1 b0 b1 o0 o1 d0 d1 =
-      RecordsSample taken bundle_faults out_taken out_faults diag_taken diag_faults number settings (sample_session n) status b0 b1 o0 o1 d0 d1 × (s1 ≡ s0)
+      RecordsSample taken bundle_faults out_taken out_faults diag_taken diag_faults number settings
+      (sample_session n) status b0 b1 o0 o1 d0 d1
+      × (s1 ≡ s0)
   Runs (Ok (upgrading path settings)) status s0 s1 b0 b1 o0 o1 d0 d1 =
-      RunsUpgrade left source_faults taken bundle_faults diag_taken diag_faults settings status s0 s1 b0 b1 d0 d1 × (o1 ≡ o0)
+      RunsUpgrade left source_faults taken bundle_faults diag_taken diag_faults settings status s0
+      s1 b0 b1 d0 d1
+      × (o1 ≡ o0)
   Runs (Ok (salvaging path settings)) status s0 s1 b0 b1 o0 o1 d0 d1 =
-      RunsSalvage left source_faults taken bundle_faults out_taken out_faults diag_taken diag_faults settings status s0 s1 b0 b1 o0 o1 d0 d1
-  Runs (Ok help) status s0 s1 b0 b1 o0 o1 d0 d1 = Prints out_taken out_faults diag_taken diag_faults USAGE.now status o0 o1 d0 d1 × (s1 ≡ s0) × (b1 ≡ b0)
-  Runs (Ok version) status s0 s1 b0 b1 o0 o1 d0 d1 = Prints out_taken out_faults diag_taken diag_faults versions_text status o0 o1 d0 d1 × (s1 ≡ s0) × (b1 ≡ b0)
+      RunsSalvage left source_faults taken bundle_faults out_taken out_faults diag_taken diag_faults
+      settings status s0 s1 b0 b1 o0 o1 d0 d1
+  Runs (Ok help) status s0 s1 b0 b1 o0 o1 d0 d1 =
+      Prints out_taken out_faults diag_taken diag_faults USAGE.now status o0 o1 d0 d1 × (s1 ≡ s0)
+      × (b1 ≡ b0)
+  Runs (Ok version) status s0 s1 b0 b1 o0 o1 d0 d1 =
+      Prints out_taken out_faults diag_taken diag_faults versions_text status o0 o1 d0 d1
+      × (s1 ≡ s0) × (b1 ≡ b0)
   Runs (Err fault) status s0 s1 b0 b1 o0 o1 d0 d1 =
-      (s1 ≡ s0) × (b1 ≡ b0) × (o1 ≡ o0) × Refuses words_shown words_status diag_taken diag_faults fault status d0 d1
+      (s1 ≡ s0) × (b1 ≡ b0) × (o1 ≡ o0)
+      × Refuses words_shown words_status diag_taken diag_faults fault status d0 d1

@@ -9,7 +9,9 @@ use Rattle.rec_format.specs.declared.run.RecordedRunInfo.{RecordedRunInfo}
 use Rattle.rec_format.specs.Runs.{info_of}
 use Rattle.rec_store.specs.Entries.{store_name}
 use Rattle.rec_portable.specs.declared.errors.PortableRecordingReadError.TheVariants as bundles
-use Rattle.rec_portable.specs.declared.errors.PortableRecordingReadError.{PortableRecordingReadError}
+use Rattle.rec_portable.specs.declared.errors.PortableRecordingReadError.{
+  PortableRecordingReadError,
+}
 use Rattle.rec_portable.specs.Judging.{judged}
 use Rattle.rec_portable.specs.OuterEntries.{log_part}
 use Rattle.rec_salvage.specs.declared.errors.SalvageError.TheVariants as salvages
@@ -21,7 +23,12 @@ use Rattle.rec_faults.specs.FaultLine.{Shown, no_fields, sink_shown, variant}
 use Rattle.rec_faults.specs.ReadingLine.{bundle_shown}
 use Rattle.rec_faults.specs.Status.{bundle_status}
 use Rattle.rec_faults.specs.WritingCommands.{salvage_shown, salvage_status}
-use Rattle.rec_program.specs.declared.salvage_refusal.SalvageRefusal.TheVariants.{Bundle, Store, BundleFailed, OutOfMemory}
+use Rattle.rec_program.specs.declared.salvage_refusal.SalvageRefusal.TheVariants.{
+  Bundle,
+  Store,
+  BundleFailed,
+  OutOfMemory,
+}
 use Rattle.rec_program.specs.declared.salvage_refusal.SalvageRefusal.{SalvageRefusal}
 
 -- ---- what a bundle holds of a run that was stopped
@@ -37,14 +44,18 @@ store_found None = Err (bundles.MissingFile store_name)
 store_found (Some bytes) = Ok bytes
 
 -- with this manifest: a log that is missing or too long comes before a store that is missing
-abbrev pub stopped_with : ℕ → List Entry → PortableManifest → Result StoppedRun PortableRecordingReadError
-stopped_with limit es manifest = log_part limit es >>= (λ log. store_found (content_of es store_name) >>= (λ store. Ok (record { run = info_of manifest.run; log = log; store = store })))
+abbrev pub stopped_with : ℕ → List Entry → PortableManifest
+    → Result StoppedRun PortableRecordingReadError
+stopped_with limit es manifest =
+    log_part limit es >>= (λ log. store_found (content_of es store_name)
+    >>= (λ store. Ok (record { run = info_of manifest.run; log = log; store = store })))
 
 abbrev pub stopped_run : ℕ → List Entry → Result StoppedRun PortableRecordingReadError
 stopped_run limit es = judged limit es >>= stopped_with limit es
 
 -- bytes are lent as they were found, or not for this reason
-abbrev pub LendsFound : Result (List ℕ) PortableRecordingReadError → Result (Bor (List ℕ)) PortableRecordingReadError → Type 0
+abbrev pub LendsFound : Result (List ℕ) PortableRecordingReadError
+    → Result (Bor (List ℕ)) PortableRecordingReadError → Type 0
 LendsFound found (Ok bytes) = found ≡ Ok bytes.now
 LendsFound found (Err e) = (e ≡ bundles.OutOfMemory) ⊎ (found ≡ Err e)
 
@@ -77,14 +88,20 @@ pub record RefusesStore (store : List ℕ) (e : SalvageError) : Type 0 where
 
 -- ---- what is made
 
--- this is salvaged of the entries of a bundle under a read limit; or the run isn't all there, or its store is refused
+-- this is salvaged of the entries of a bundle under a read limit; or the run isn't all there,
+-- or its store is refused
 abbrev pub SalvagesRun : ℕ → List Entry → Result Salvaged SalvageRefusal → Type 0
-SalvagesRun limit es (Ok s) = (stopped : StoppedRun) × (stopped_run limit es ≡ Ok stopped) × Salvages stopped.run stopped.log stopped.store s
+SalvagesRun limit es (Ok s) =
+    (stopped : StoppedRun) × (stopped_run limit es ≡ Ok stopped)
+    × Salvages stopped.run stopped.log stopped.store s
 SalvagesRun limit es (Err e) =
-    ((fault : PortableRecordingReadError) × (stopped_run limit es ≡ Err fault) × (e ≡ bundle_refusal fault))
-    ⊎ ((stopped : StoppedRun) × (fault : SalvageError) × (stopped_run limit es ≡ Ok stopped) × RefusesStore stopped.store fault × (e ≡ store_refusal fault))
+    ((fault : PortableRecordingReadError) × (stopped_run limit es ≡ Err fault)
+    × (e ≡ bundle_refusal fault))
+    ⊎ ((stopped : StoppedRun) × (fault : SalvageError) × (stopped_run limit es ≡ Ok stopped)
+    × RefusesStore stopped.store fault × (e ≡ store_refusal fault))
 
 -- a function makes this, or memory ran out
-abbrev pub MakesSalvage : (Result Salvaged SalvageRefusal → Type 0) → Result Salvaged SalvageRefusal → Type 0
+abbrev pub MakesSalvage : (Result Salvaged SalvageRefusal → Type 0) → Result Salvaged SalvageRefusal
+    → Type 0
 MakesSalvage salvages (Ok s) = salvages (Ok s)
 MakesSalvage salvages (Err e) = (e ≡ OutOfMemory) ⊎ salvages (Err e)

@@ -1,9 +1,10 @@
-//! What the program `rezovamy` does: it records a test run, or one that it makes, into a portable bundle, draws the
-//! trace of a run that it records or that a bundle holds, prints the events, the reports and the manifest of a
-//! bundle, and upgrades or salvages one.
+//! What the program `rezovamy` does: it records a test run, or one that it makes, into a portable
+//! bundle, draws the trace of a run that it records or that a bundle holds, prints the events, the
+//! reports and the manifest of a bundle, and upgrades or salvages one.
 //!
-//! The program itself only hands over the words, the standard streams and the file. So whatever it promises is a
-//! clause of `run_program`, and others can call `record_and_export` with a source, a namer and sinks of their own.
+//! The program itself only hands over the words, the standard streams and the file. So whatever it
+//! promises is a clause of `run_program`, and others can call `record_and_export` with a source, a
+//! namer and sinks of their own.
 #![tactic(auto)]
 
 mod counts;

@@ -8,14 +8,14 @@ use rec_trace::{
 };
 use std::alloc::Global;
 
-/// Writes the trace of the events of a log, recorded by this version of the runner. A log without a refusal
-/// has a trace, unless memory runs out. It is a call of its own, so that its clause, which speaks of the lines
-/// of a log, can rest on those of [`convert_to_chrome_trace`].
+/// Writes the trace of the events of a log, recorded by this version of the runner. A log without a
+/// refusal has a trace, unless memory runs out. It is a call of its own, so that its clause, which
+/// speaks of the lines of a log, can rest on those of [`convert_to_chrome_trace`].
 ///
 /// # Errors
 ///
-/// The cause that comes first in the log: why an event can't be drawn, or `ReadError` for a line that isn't
-/// UTF-8 or no event. `OutOfMemory` may come at any time.
+/// The cause that comes first in the log: why an event can't be drawn, or `ReadError` for a line
+/// that isn't UTF-8 or no event. `OutOfMemory` may come at any time.
 pub(crate) fn trace_of_log(
     alloc: Global,
     version: &Version,

@@ -1,6 +1,7 @@
 //! What the program does.
 ghost use Rattle.std.specs.Io.KnownBytes.{Appends};
-ghost use Rattle.std.specs.Prelude.{◌≡◌, ◌↔◌, ◌≤◌, ◌⊎◌, ℕ, List, length, Some, None, Ok, IsErr, string_bytes};
+ghost use Rattle.std.specs.Prelude.{◌≡◌, ◌↔◌, ◌≤◌, ◌⊎◌, ℕ, List, length};
+ghost use Rattle.std.specs.Prelude.{Some, None, Ok, IsErr, string_bytes};
 ghost use Rattle.rec_container.specs.Causes.{Rose};
 ghost use Rattle.rec_container.specs.Container.{Entry, IsContainer};
 ghost use Rattle.rec_container.specs.Taking.{TookPart};
@@ -32,11 +33,14 @@ ghost use Rattle.rec_export.specs.declared.counts.Exported.{Exported};
 ghost use Rattle.rec_export.specs.declared.settings.Settings.{Settings};
 ghost use Rattle.rec_export.specs.Export.{Exports};
 ghost use Rattle.rec_export.specs.Timelines.{DrawsTimeline};
-ghost use Rattle.rec_words.specs.Words.{command, informing, recording, replaying, reporting, rerunning, salvaging, sampling, slotting, texts, tracing, upgrading};
+ghost use Rattle.rec_words.specs.Words.{command, informing, recording, replaying};
+ghost use Rattle.rec_words.specs.Words.{reporting, rerunning, salvaging, sampling};
+ghost use Rattle.rec_words.specs.Words.{slotting, texts, tracing, upgrading};
 ghost use Rattle.rec_program.specs.BundleTraces.{bundle_trace};
 ghost use Rattle.rec_program.specs.Counts.{counts_line};
 ghost use Rattle.rec_program.specs.LogTraces.{log_refusal, plain_log};
-ghost use Rattle.rec_program.specs.Running.{Prints, Records, RecordsSample, Runs, RunsSalvage, RunsUpgrade, ShowsMade, WritesSalvage};
+ghost use Rattle.rec_program.specs.Running.{Prints, Records, RecordsSample, Runs, RunsSalvage};
+ghost use Rattle.rec_program.specs.Running.{RunsUpgrade, ShowsMade, WritesSalvage};
 ghost use Rattle.rec_program.specs.Salvaging.{StoppedRun, stopped_run};
 ghost use Rattle.rec_program.specs.Samples.{TakesSample, session_counts};
 
@@ -86,10 +90,11 @@ pub fn run_program<S: Source, B: Sink, T: Sink, G: Sink>(
         (command (texts words.now)) result
         source.old source.new bundle.old bundle.new out.old out.new diag.old diag.new }
 
-    // Status 0 of a recording: nothing of the session is left to read; what the bundle's sink took is read as the head and the events
-    // of the session, with long outputs cut; and `out` took the text of their trace, in which begins and ends of equal names take
-    // turns on each row, and mark, at their events' instants, the slices outside pauses and no others; and each arrow starts before it
-    // finishes.
+    // Status 0 of a recording: nothing of the session is left to read; what the bundle's sink took
+    // is read as the head and the events of the session, with long outputs cut; and `out` took the
+    // text of their trace, in which begins and ends of equal names take turns on each row, and
+    // mark, at their events' instants, the slices outside pauses and no others; and each arrow
+    // starts before it finishes.
     ensures recorded { (path : List ℕ) (settings : Settings)
         → command (texts words.now) ≡ Ok (recording path settings)
         → result ≡ 0
@@ -111,7 +116,8 @@ pub fn run_program<S: Source, B: Sink, T: Sink, G: Sink>(
         → ¬ Rose (T.faults out.old) (T.faults out.new)
         → (result ≡ 0) ⊎ (result ≡ 70) }
 
-    // Status 0 of `info`: the source was read to its end, its bytes are a bundle, and `out` took the text of the manifest and LF.
+    // Status 0 of `info`: the source was read to its end, its bytes are a bundle, and `out` took
+    // the text of the manifest and LF.
     ensures informed { (settings : Settings)
         → command (texts words.now) ≡ Ok (informing settings)
         → result ≡ 0
@@ -121,8 +127,9 @@ pub fn run_program<S: Source, B: Sink, T: Sink, G: Sink>(
         × (judged settings.read_limit es ≡ Ok manifest)
         × Appends (T.taken out.old) (T.taken out.new) (manifest_line manifest) }
 
-    // Status 0 of `trace`: the source was read to its end, its bytes are a bundle, and `out` took the text of the trace of its log,
-    // with the version of the runner that the manifest names. It draws the timeline of the events of the log, as that of a recording does.
+    // Status 0 of `trace`: the source was read to its end, its bytes are a bundle, and `out` took
+    // the text of the trace of its log, with the version of the runner that the manifest names. It
+    // draws the timeline of the events of the log, as that of a recording does.
     ensures traced { (settings : Settings)
         → command (texts words.now) ≡ Ok (tracing settings)
         → result ≡ 0
@@ -136,7 +143,8 @@ pub fn run_program<S: Source, B: Sink, T: Sink, G: Sink>(
         × Appends (T.taken out.old) (T.taken out.new)
         (bundle_trace settings.group_by settings.message_format manifest log) }
 
-    // Of a bundle that a recording wrote, `trace` prints the text that the recording printed, where both draw and write it alike.
+    // Of a bundle that a recording wrote, `trace` prints the text that the recording printed, where
+    // both draw and write it alike.
     ensures redrawn { (settings recorded : Settings) (number : List ℕ → ℕ)
         (session bytes trace : List ℕ)
         → command (texts words.now) ≡ Ok (tracing settings)
@@ -147,8 +155,8 @@ pub fn run_program<S: Source, B: Sink, T: Sink, G: Sink>(
         → result ≡ 0
         → Appends (T.taken out.old) (T.taken out.new) trace }
 
-    // Status 0 of `replay`: the source was read to its end, its bytes are a bundle, and `out` took the line of its head and the lines
-    // of the events of its log.
+    // Status 0 of `replay`: the source was read to its end, its bytes are a bundle, and `out` took
+    // the line of its head and the lines of the events of its log.
     ensures replayed { (output : LoadOutput) (settings : Settings)
         → command (texts words.now) ≡ Ok (replaying output settings)
         → result ≡ 0
@@ -158,7 +166,8 @@ pub fn run_program<S: Source, B: Sink, T: Sink, G: Sink>(
         × (replay_of output settings.read_limit es ≡ Ok text)
         × Appends (T.taken out.old) (T.taken out.new) text }
 
-    // Status 0 of `report`: the source was read to its end, its bytes are a bundle, and `out` took its reports, a line each.
+    // Status 0 of `report`: the source was read to its end, its bytes are a bundle, and `out` took
+    // its reports, a line each.
     ensures reported { (settings : Settings)
         → command (texts words.now) ≡ Ok (reporting settings)
         → result ≡ 0
@@ -169,8 +178,9 @@ pub fn run_program<S: Source, B: Sink, T: Sink, G: Sink>(
         × (report_of settings.read_limit es ≡ Ok text)
         × Appends (T.taken out.old) (T.taken out.new) text }
 
-    // Status 0 of `slots`: the source was read to its end, its bytes are a bundle, each line of its log gives an event, and `out` took the
-    // lines of a report of how each slot of the run in these events was used.
+    // Status 0 of `slots`: the source was read to its end, its bytes are a bundle, each line of its
+    // log gives an event, and `out` took the lines of a report of how each slot of the run in these
+    // events was used.
     ensures slotted { (settings : Settings)
         → command (texts words.now) ≡ Ok (slotting settings)
         → result ≡ 0
@@ -184,8 +194,9 @@ pub fn run_program<S: Source, B: Sink, T: Sink, G: Sink>(
         × Reports (plain_log (log_lines log)) (Ok report)
         × Appends (T.taken out.old) (T.taken out.new) (slot_lines report) }
 
-    // Status 0 of `rerun`: the source was read to its end, its bytes are a bundle, and `out` took a selection of the tests that are to run
-    // again after the run, in which each recorded test is in one of two sets, and the plan for its list, in which each test runs or is skipped.
+    // Status 0 of `rerun`: the source was read to its end, its bytes are a bundle, and `out` took a
+    // selection of the tests that are to run again after the run, in which each recorded test is in
+    // one of two sets, and the plan for its list, in which each test runs or is skipped.
     ensures rerun_selected { (settings : Settings)
         → command (texts words.now) ≡ Ok (rerunning settings)
         → result ≡ 0
@@ -196,8 +207,8 @@ pub fn run_program<S: Source, B: Sink, T: Sink, G: Sink>(
         × PrintsSelection run text
         × Appends (T.taken out.old) (T.taken out.new) text }
 
-    // Status 0 of `sample`: the bundle's sink took the bundle of the generated session, and `out` the line that counts its events and the
-    // outputs that are stored of it.
+    // Status 0 of `sample`: the bundle's sink took the bundle of the generated session, and `out`
+    // the line that counts its events and the outputs that are stored of it.
     ensures sampled { (n : ℕ) (path : List ℕ) (settings : Settings)
         → command (texts words.now) ≡ Ok (sampling n path settings)
         → result ≡ 0
@@ -205,7 +216,8 @@ pub fn run_program<S: Source, B: Sink, T: Sink, G: Sink>(
         × Appends (T.taken out.old) (T.taken out.new)
         (session_counts sha256_number settings (sample_session n)) }
 
-    // The manifest of a bundle within the limits is printed, unless memory runs out or an object fails.
+    // The manifest of a bundle within the limits is printed,
+    // unless memory runs out or an object fails.
     ensures informed_complete { (settings : Settings) (bytes : List ℕ) (es : List Entry)
         (manifest : PortableManifest)
         → command (texts words.now) ≡ Ok (informing settings)
@@ -254,7 +266,8 @@ pub fn run_program<S: Source, B: Sink, T: Sink, G: Sink>(
         → ¬ Rose (T.faults out.old) (T.faults out.new)
         → (result ≡ 0) ⊎ (result ≡ 70) }
 
-    // So is the report of the slots, where each line of the log gives an event, and nothing keeps these events from a report.
+    // So is the report of the slots, where each line of the log gives an event, and nothing keeps
+    // these events from a report.
     ensures slotted_complete { (settings : Settings) (bytes : List ℕ) (es : List Entry)
         (manifest : PortableManifest) (log : List ℕ)
         → command (texts words.now) ≡ Ok (slotting settings)
@@ -281,8 +294,9 @@ pub fn run_program<S: Source, B: Sink, T: Sink, G: Sink>(
         → ¬ Rose (T.faults out.old) (T.faults out.new)
         → (result ≡ 0) ⊎ (result ≡ 70) }
 
-    // Status 0 of `upgrade`: the source was read to its end, its bytes are a bundle with a reading, and the bundle's sink took this run
-    // written anew, which is read as the same run but for the versions and the sizes.
+    // Status 0 of `upgrade`: the source was read to its end, its bytes are a bundle with a reading,
+    // and the bundle's sink took this run written anew,
+    // which is read as the same run but for the versions and the sizes.
     ensures upgraded { (path : List ℕ) (settings : Settings)
         → command (texts words.now) ≡ Ok (upgrading path settings)
         → result ≡ 0
@@ -290,7 +304,8 @@ pub fn run_program<S: Source, B: Sink, T: Sink, G: Sink>(
         × Upgrades S.left S.faults B.taken B.faults settings.session_limit settings.read_limit
         source.old source.new bundle.old bundle.new counts }
 
-    // With another status the bundle's sink took nothing; or the status is 10, and it took a proper prefix of a run written anew.
+    // With another status the bundle's sink took nothing; or the status is 10, and it took a proper
+    // prefix of a run written anew.
     ensures not_upgraded { (path : List ℕ) (settings : Settings)
         → command (texts words.now) ≡ Ok (upgrading path settings)
         → ¬ (result ≡ 0)
@@ -301,8 +316,9 @@ pub fn run_program<S: Source, B: Sink, T: Sink, G: Sink>(
         × IsAccepted bytes settings.read_limit parts
         × TookPart (B.taken bundle.old) (B.taken bundle.new) (written parts))) }
 
-    // Status 0 of `salvage`: the source was read to its end, its bytes are a bundle, and the bundle's sink took the bundle of what is left
-    // of its run: its events are the salvaged ones, and `out` took the line that counts these and their outputs.
+    // Status 0 of `salvage`: the source was read to its end, its bytes are a bundle, and the
+    // bundle's sink took the bundle of what is left of its run: its events are the salvaged ones,
+    // and `out` took the line that counts these and their outputs.
     ensures salvaged { (path : List ℕ) (settings : Settings)
         → command (texts words.now) ≡ Ok (salvaging path settings)
         → result ≡ 0
@@ -314,8 +330,8 @@ pub fn run_program<S: Source, B: Sink, T: Sink, G: Sink>(
         × Appends (B.taken bundle.old) (B.taken bundle.new) made.bundle
         × Appends (T.taken out.old) (T.taken out.new) (counts_line made.events made.outputs) }
 
-    // With another status the bundle's sink took nothing; or the status is 11, and it took the whole bundle; or the status is 10, and it
-    // took a proper prefix of it.
+    // With another status the bundle's sink took nothing; or the status is 11, and it took the
+    // whole bundle; or the status is 10, and it took a proper prefix of it.
     ensures not_salvaged { (path : List ℕ) (settings : Settings)
         → command (texts words.now) ≡ Ok (salvaging path settings)
         → ¬ (result ≡ 0)
@@ -368,7 +384,8 @@ pub fn run_program<S: Source, B: Sink, T: Sink, G: Sink>(
     run(alloc, words, source, bundle, out, diag)
 }
 
-/// Does what the words ask for, in a call of its own, so that what else [`run_program`] ensures can rest on it.
+/// Does what the words ask for, in a call of its own, so that what else [`run_program`] ensures can
+/// rest on it.
 fn run<S: Source, B: Sink, T: Sink, G: Sink>(
     alloc: Global,
     words: &[String],

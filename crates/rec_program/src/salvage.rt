@@ -9,7 +9,8 @@ ghost use Rattle.rec_salvage.specs.declared.errors.SalvageError.{SalvageError};
 ghost use Rattle.rec_salvage.specs.Salvages.{Salvages};
 ghost use Rattle.rec_program.specs.Counts.{counts_line};
 ghost use Rattle.rec_program.specs.ReadingCommands.{Shows, Withholds};
-ghost use Rattle.rec_program.specs.Salvaging.{LendsFound, MakesSalvage, RefusesStore, SalvagesRun, bundle_refusal, store_found, store_refusal};
+ghost use Rattle.rec_program.specs.Salvaging.{LendsFound, MakesSalvage, RefusesStore, SalvagesRun};
+ghost use Rattle.rec_program.specs.Salvaging.{bundle_refusal, store_found, store_refusal};
 
 use crate::counts::counts_line;
 use crate::reading::open_bundle;
@@ -35,8 +36,8 @@ pub struct CountedSalvage {
 ///
 /// # Errors
 ///
-/// - `Bundle` where the bundle isn't opened, its log is missing or longer than the read limit, or its store is
-///   missing.
+/// - `Bundle` where the bundle isn't opened, its log is missing or longer than the read limit, or
+///   its store is missing.
 /// - `Store` where nothing can be salvaged of its store.
 /// - `OutOfMemory` if memory runs out.
 pub fn salvage_bundle<S: Source>(

@@ -1,7 +1,10 @@
 //! Why nothing is salvaged of a bundle.
 ghost use Rattle.std.specs.Prelude.{◌≡◌};
-ghost use Rattle.rec_program.specs.declared.salvage_refusal.SalvageRefusal.TheVariants.{OutOfMemory};
-ghost use Rattle.rec_program.specs.Salvaging.{bundle_refusal, refusal_shown, refusal_status, store_refusal};
+ghost use Rattle.rec_program.specs.declared.salvage_refusal.SalvageRefusal.TheVariants.{
+  OutOfMemory,
+};
+ghost use Rattle.rec_program.specs.Salvaging.{bundle_refusal, refusal_shown};
+ghost use Rattle.rec_program.specs.Salvaging.{refusal_status, store_refusal};
 
 use rec_container::Sink;
 use rec_faults::{BUNDLE_FAILED, Line, OUT_OF_MEMORY, Refusal};
@@ -9,8 +12,9 @@ use rec_portable::PortableRecordingReadError;
 use rec_salvage::SalvageError;
 use std::alloc::AllocError;
 
-/// Says why `salvage` doesn't write a bundle. It is judged in the order of the variants, and the first refusal is
-/// answered. Want of memory may come at any time before the first byte is written, and is never an inner error.
+/// Says why `salvage` doesn't write a bundle. It is judged in the order of the variants, and the
+/// first refusal is answered. Want of memory may come at any time before the first byte is written,
+/// and is never an inner error.
 #[derive(Drop)]
 pub enum SalvageRefusal {
     /// The bundle isn't opened, its log is missing or too long, or its store is missing.

@@ -11,12 +11,13 @@ use rec_sample::sample_session;
 use rec_store::Sha256Namer;
 use std::alloc::Global;
 
-/// Makes the session of `tests` tests, writes its bundle, and returns the line that says how much was recorded.
+/// Makes the session of `tests` tests, writes its bundle,
+/// and returns the line that says how much was recorded.
 ///
 /// # Errors
 ///
-/// - `SessionTooLarge` exactly where the session is longer than the limit, and then what a recording of it
-///   is refused for. Both leave the bundle as it was.
+/// - `SessionTooLarge` exactly where the session is longer than the limit, and then what a
+///   recording of it is refused for. Both leave the bundle as it was.
 /// - `BundleFault` where the bundle's sink failed.
 /// - `OutOfMemory`, before the first byte of the bundle or after its last.
 pub fn record_sample<B: Sink>(
@@ -67,7 +68,8 @@ fn export_made<B: Sink>(
     }
 }
 
-/// Returns why a generated session isn't recorded. The trace goes into memory, so it fails for want of memory alone.
+/// Returns why a generated session isn't recorded. The trace goes into memory,
+/// so it fails for want of memory alone.
 fn made_error(error: RecordExportError) -> RecordExportError
     ensures { result ≡ sample_error error }
 {

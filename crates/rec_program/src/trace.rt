@@ -28,13 +28,14 @@ impl BundleText for Trace {
     }
 }
 
-/// Writes the trace of the log of a bundle, recorded by the version of the runner that its manifest names.
+/// Writes the trace of the log of a bundle, recorded by the version of the runner that its manifest
+/// names.
 ///
 /// # Errors
 ///
 /// - `Bundle` with `MissingFile` or `FileTooLarge` for the log.
-/// - `Trace` with the first cause of an event before the first line of the log that fails, or else with the
-///   fault of this line.
+/// - `Trace` with the first cause of an event before the first line of the log that fails, or else
+///   with the fault of this line.
 ///
 /// `OutOfMemory` may come at any time.
 pub fn trace_text(

@@ -9,8 +9,8 @@ use std::alloc::{AllocError, Global};
 use std::process::Abort;
 use std::test::Fail;
 
-/// The words, the most bytes of a call of a stream, the call that fails, and what comes of it: the status, how many
-/// bytes the bundle and standard output took, and the line.
+/// The words, the most bytes of a call of a stream, the call that fails, and what comes of it: the
+/// status, how many bytes the bundle and standard output took, and the line.
 type Row = (&'static str, usize, Stream, u64, &'static str);
 
 /// Asserts what comes of each row over these bytes.
@@ -82,12 +82,14 @@ fn faults_of_sources(rt: HostRuntime) -> Result<(), Fail> {
     )
 }
 
-/// How many bytes of a bundle of 1052 bytes each of its writes finds taken, where a write takes at most
-/// 100 bytes: the magic; tag and length of the name, name, length and content of the manifest (462
-/// bytes) and of the empty log; those of the store without its content; then the store's own magic, the
-/// same of its entries (343, 13, 2 and 19 bytes) and its end mark; and the end mark of the bundle.
+/// How many bytes of a bundle of 1052 bytes each of its writes finds taken, where a write takes at
+/// most 100 bytes: the magic; tag and length of the name, name, length and content of the manifest
+/// (462 bytes) and of the empty log; those of the store without its content; then the store's own
+/// magic, the same of its entries (343, 13, 2 and 19 bytes) and its end mark;
+/// and the end mark of the bundle.
 fn taken() -> &'static str {
-    "0 8 11 24 32 132 232 332 432 494 497 508 516 519 528 536 544 547 568 576 676 776 876 919 922 941 949 962 965 989 997 999 1002 1023 1031 1050 1051"
+    "0 8 11 24 32 132 232 332 432 494 497 508 516 519 528 536 544 547 568 576 676 776 876 919 \
+    922 941 949 962 965 989 997 999 1002 1023 1031 1050 1051"
 }
 
 #[test]
@@ -101,8 +103,8 @@ fn faults_of_the_bundle_leave_no_trace(rt: HostRuntime) -> Result<(), Fail> {
         let expected = format!(in alloc; "10 {taken} 0 BundleFault\n")?;
         assert!(rt; got.as_str() == expected.as_str(), "{got}");
     }
-    // So do the first of a made session: the magic, tag and length of the name, the name, the length of the content,
-    // and its first bytes.
+    // So do the first of a made session: the magic, tag and length of the name, the name, the
+    // length of the content, and its first bytes.
     check(
         &rt,
         alloc,

@@ -107,8 +107,8 @@ fn run(
     )
 }
 
-/// The status, how many bytes the bundle and standard output took, and the line. Each took the first bytes of those
-/// that it takes where no call fails.
+/// The status, how many bytes the bundle and standard output took, and the line. Each took the
+/// first bytes of those that it takes where no call fails.
 fn shown(alloc: Global, status: u8, sinks: &Sinks, sound: &Sinks) -> Result<String, AllocError> {
     let bundle = sinks.bundle.bytes();
     let out = sinks.out.bytes();
@@ -120,8 +120,8 @@ fn shown(alloc: Global, status: u8, sinks: &Sinks, sound: &Sinks) -> Result<Stri
     format!(in alloc; "{status} {bundle} {out}{others} {line}")
 }
 
-/// What comes of the words of a text over these bytes, where a call of a stream takes at most `piece` bytes and the call
-/// of this number fails.
+/// What comes of the words of a text over these bytes, where a call of a stream takes at most
+/// `piece` bytes and the call of this number fails.
 pub(crate) fn outcome(
     alloc: Global,
     text: &str,

@@ -8,7 +8,8 @@ use Rattle.rec_reading.proofs.Listed.{judged_of}
 use Rattle.rec_reading.specs.Listing.{info_printed, manifest_line}
 use Rattle.rec_reading.specs.RunParts.{of_bundle}
 
-module _ (limit : ℕ) (bytes : List ℕ) (manifest : PortableManifest) (has : IsJudged bytes limit (Ok manifest)) (es : List Entry) (is : IsContainer bytes es) where
+module _ (limit : ℕ) (bytes : List ℕ) (manifest : PortableManifest)
+    (has : IsJudged bytes limit (Ok manifest)) (es : List Entry) (is : IsContainer bytes es) where
   manifest_at : of_bundle (judged limit es) ≡ Ok manifest
   manifest_at = ap of_bundle (judged_of bytes limit (Ok manifest) es has is)
 

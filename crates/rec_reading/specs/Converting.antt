@@ -27,27 +27,36 @@ abbrev pub unless_refused : {T : Type 0} → Option ReadingError → T → Resul
 unless_refused None x = Ok x
 unless_refused (Some e) x = Err e
 
-module _ (registered : OwnedTestInstanceId → Bool) (list : Bor Tests) (load : LoadOutput) (store : List Entry) (limit : ℕ) where
-  -- why an event isn't replayed: its own refusal, or else that of the first of its outputs that isn't read
+module _ (registered : OwnedTestInstanceId → Bool) (list : Bor Tests) (load : LoadOutput)
+    (store : List Entry) (limit : ℕ) where
+  -- why an event isn't replayed: its own refusal, or else that of the first of its outputs that
+  -- isn't read
   abbrev pub conversion_refusal : RecordedEvent → Option ReplayConversionError
-  conversion_refusal e = option_or (event_refusal registered e) (option_map RecordRead (first_refusal store limit (event_names load e)))
+  conversion_refusal e =
+      option_or (event_refusal registered e)
+      (option_map RecordRead (first_refusal store limit (event_names load e)))
 
   abbrev pub converted : RecordedEvent → Result TestEvent ReadingError
-  converted e = unless_refused (option_map Conversion (conversion_refusal e)) (replayed load list store e)
+  converted e =
+      unless_refused (option_map Conversion (conversion_refusal e)) (replayed load list store e)
 
--- a run's tests, as they are lent to its events; where they stand in memory is no part of what is printed
+-- a run's tests, as they are lent to its events; where they stand in memory is no part of what is
+-- printed
 abbrev pub lent_tests : RunParts → Bor Tests
-lent_tests parts = record { ref_ptr = (0, 0); now = record { mode = parts.mode; summary = parts.tests } }
+lent_tests parts =
+    record { ref_ptr = (0, 0); now = record { mode = parts.mode; summary = parts.tests } }
 
 -- the event of a run's log, where each test of its list is registered
 abbrev pub converted_of : LoadOutput → ℕ → RunParts → RecordedEvent → Result TestEvent ReadingError
-converted_of load limit parts = converted (is_listed parts.tests) (lent_tests parts) load parts.store limit
+converted_of load limit parts =
+    converted (is_listed parts.tests) (lent_tests parts) load parts.store limit
 
 -- ---- where tests stand in memory
 
 -- a live event with its tests lent from elsewhere
 abbrev pub kind_lent : Bor Tests → TestEventKind → TestEventKind
-kind_lent list (live.RunStarted tests run profile args condition) = live.RunStarted list run profile args condition
+kind_lent list (live.RunStarted tests run profile args condition) =
+    live.RunStarted list run profile args condition
 kind_lent list kind = kind
 
 abbrev pub lent : Bor Tests → TestEvent → TestEvent

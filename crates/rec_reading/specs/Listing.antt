@@ -34,7 +34,12 @@ info_printed limit es = do
 
 -- the head of a run's replay; no other runs are known
 abbrev pub header_of : RecordedRunInfo → ReplayHeader
-header_of run = record { run_id = run.run_id; unique_prefix = None; started_at = run.started_at; status = run.status }
+header_of run = record {
+  run_id = run.run_id;
+  unique_prefix = None;
+  started_at = run.started_at;
+  status = run.status;
+}
 
 -- what a printer prints of a run
 abbrev pub printed : Prints → LoadOutput → ℕ → RunParts → Result (List ℕ) ReadingError
@@ -56,7 +61,8 @@ report_of limit es = do
 -- ---- what a function that prints makes
 
 -- this text or this refusal, as the relation says it; or memory ran out
-abbrev pub Makes : (Result (List ℕ) ReadingError → Type 0) → Result (Vec ℕ Global) ReadingError → Type 0
+abbrev pub Makes : (Result (List ℕ) ReadingError → Type 0) → Result (Vec ℕ Global) ReadingError
+    → Type 0
 Makes prints (Ok text) = prints (Ok text.items)
 Makes prints (Err e) = (e ≡ OutOfMemory) ⊎ prints (Err e)
 

@@ -13,7 +13,9 @@ use Rattle.rec_codec.specs.Lines.{lines, numbered}
 use Rattle.rec_store.specs.declared.read_error.RecordReadError.{RecordReadError}
 use Rattle.rec_store.specs.Entries.{record_opts_path, test_list_path}
 use Rattle.rec_store.specs.Parts.{metadata_part}
-use Rattle.rec_portable.specs.declared.errors.PortableRecordingReadError.{PortableRecordingReadError}
+use Rattle.rec_portable.specs.declared.errors.PortableRecordingReadError.{
+  PortableRecordingReadError,
+}
 use Rattle.rec_portable.specs.OuterEntries.{log_part}
 use Rattle.rec_errors.specs.declared.reading_error.ReadingError.TheVariants.{OutOfMemory}
 use Rattle.rec_errors.specs.declared.reading_error.ReadingError.{ReadingError}
@@ -21,7 +23,8 @@ use Rattle.rec_errors.specs.ReadingErrors.{bundle_error, part_error}
 use Rattle.rec_reading.specs.declared.parts.OpenRun.{OpenRun}
 use Rattle.rec_reading.specs.Stores.{store_part}
 
--- the entries of the store, what the run did with its tests, which these are, and what the lines of the log give
+-- the entries of the store, what the run did with its tests, which these are,
+-- and what the lines of the log give
 pub record RunParts : Type 0 where
   pub store : List Entry
   pub mode : NextestRunMode
@@ -51,7 +54,12 @@ parts_of limit es = do
   store ← of_bundle (store_part es)
   opts ← opts_part store limit
   tests ← tests_part store limit
-  Ok (record { store = store; mode = opts.run_mode; tests = tests; items = log_items (numbered 1 (lines log)) })
+  Ok (record {
+    store = store;
+    mode = opts.run_mode;
+    tests = tests;
+    items = log_items (numbered 1 (lines log));
+  })
 
 -- ---- a run that is read
 
@@ -62,7 +70,12 @@ Answers expected (Err e) = (e ≡ OutOfMemory) ⊎ (expected ≡ Err e)
 
 -- the parts of a run that was read
 abbrev pub parts_in : OpenRun → RunParts
-parts_in run = record { store = run.store.entries; mode = run.mode; tests = run.tests; items = log_items (numbered 1 (lines run.log)) }
+parts_in run = record {
+  store = run.store.entries;
+  mode = run.mode;
+  tests = run.tests;
+  items = log_items (numbered 1 (lines run.log));
+}
 
 -- a run with these parts was read under a limit, or they are refused
 abbrev pub OpensRun : ℕ → Result RunParts ReadingError → Result OpenRun ReadingError → Type 0

@@ -26,7 +26,8 @@ run_line run_length = codes "run=" ++ (decimal run_length ++ 10 ∷ [])
 
 unfoldable pub slot_line : SlotUsage → List ℕ
 slot_line u =
-    codes "slot=" ++ (decimal u.slot ++ (codes " busy=" ++ (decimal u.busy ++ (codes " paused=" ++ (decimal u.paused ++ (codes " idle=" ++ (decimal u.idle ++ 10 ∷ [])))))))
+    codes "slot=" ++ (decimal u.slot ++ (codes " busy=" ++ (decimal u.busy ++ (codes " paused="
+    ++ (decimal u.paused ++ (codes " idle=" ++ (decimal u.idle ++ 10 ∷ [])))))))
 
 -- the length of the run, and then each slot
 abbrev pub slot_lines : SlotReport → List ℕ
@@ -34,10 +35,13 @@ slot_lines r = run_line r.run_length ++ flat_map slot_line r.slots
 
 -- ---- what is printed, or why nothing is
 
--- the report of the run in these events is printed; or there is none, for a cause that isn't want of memory
+-- the report of the run in these events is printed; or there is none,
+-- for a cause that isn't want of memory
 abbrev pub PrintsUsage : List PlainEvent → Result (List ℕ) ReadingError → Type 0
 PrintsUsage events (Ok text) = (r : SlotReport) × Reports events (Ok r) × (text ≡ slot_lines r)
-PrintsUsage events (Err e) = (cause : SlotError) × (cause ≢ causes.OutOfMemory) × IsRefused events cause × (e ≡ slot_error cause)
+PrintsUsage events (Err e) =
+    (cause : SlotError) × (cause ≢ causes.OutOfMemory) × IsRefused events cause
+    × (e ≡ slot_error cause)
 
 -- the events of the log come before what is reported of them
 abbrev pub run_events : ℕ → List Entry → Result (List RecordedEvent) ReadingError
@@ -46,10 +50,13 @@ run_events limit es = do
   events_of (log_lines log)
 
 abbrev pub PrintsSlots : ℕ → List Entry → Result (List ℕ) ReadingError → Type 0
-PrintsSlots limit es (Ok text) = (events : List RecordedEvent) × (run_events limit es ≡ Ok events) × PrintsUsage (map plain events) (Ok text)
+PrintsSlots limit es (Ok text) =
+    (events : List RecordedEvent) × (run_events limit es ≡ Ok events)
+    × PrintsUsage (map plain events) (Ok text)
 PrintsSlots limit es (Err e) =
     (run_events limit es ≡ Err e)
-    ⊎ ((events : List RecordedEvent) × (run_events limit es ≡ Ok events) × PrintsUsage (map plain events) (Err e))
+    ⊎ ((events : List RecordedEvent) × (run_events limit es ≡ Ok events)
+    × PrintsUsage (map plain events) (Err e))
 
 -- nothing keeps the slots of the run in these events from a report
 pub record HasUsage (events : List PlainEvent) : Type 0 where

@@ -18,8 +18,8 @@ use std::alloc::Global;
 
 /// Makes what a command prints of a bundle.
 pub trait BundleText {
-    /// Says what may be printed of the entries of a bundle under a read limit, or why nothing is. The manifest
-    /// of the bundle was judged before.
+    /// Says what may be printed of the entries of a bundle under a read limit, or why nothing is.
+    /// The manifest of the bundle was judged before.
     ghost prints: { Self → ℕ → List Entry → Result (List ℕ) ReadingError → Type 0 };
 
     /// Makes the text.

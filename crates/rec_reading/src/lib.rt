@@ -1,5 +1,5 @@
-//! What is printed of a bundle: its manifest, the lines of its replay, its reports, how its slots were used, and
-//! which tests are to run again.
+//! What is printed of a bundle: its manifest, the lines of its replay, its reports, how its slots
+//! were used, and which tests are to run again.
 #![tactic(auto)]
 
 mod bundle_text;

@@ -9,8 +9,8 @@ use rec_portable::{PortableRecording, PortableRecordingRunLog, PortableStoreRead
 use rec_store::StoreReader;
 use std::alloc::Global;
 
-/// Holds what is read of a run before its events: its store, what it did with its tests, which these are,
-/// and its log.
+/// Holds what is read of a run before its events: its store, what it did with its tests, which
+/// these are, and its log.
 #[derive(Drop)]
 pub(crate) struct OpenRun<'a> {
     pub(crate) store: PortableStoreReader<'a>,

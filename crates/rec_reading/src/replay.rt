@@ -17,8 +17,8 @@ use rec_portable::PortableRecording;
 use rec_replay::{EventReporter, LineReporter, LoadOutput, OutputLoadDecider, ReplayHeader};
 use std::alloc::Global;
 
-/// Writes the lines of a bundle's replay: that of its head, and then one for each event of the log that
-/// has one. Each test of the test list may be named. With `Skip` no output is read.
+/// Writes the lines of a bundle's replay: that of its head, and then one for each event of the log
+/// that has one. Each test of the test list may be named. With `Skip` no output is read.
 ///
 /// # Errors
 ///
@@ -27,8 +27,8 @@ use std::alloc::Global;
 /// - `Bundle` with `MissingFile` or `FileTooLarge` for the log.
 /// - `Bundle` with `MissingFile` or `ReadArchive` for the store.
 /// - `Part` with why the record options aren't read, and then with why the test list isn't.
-/// - for the first line of the log that fails: `Line` where it gives no event, and `Conversion` where its
-///   event isn't replayed.
+/// - for the first line of the log that fails: `Line` where it gives no event, and `Conversion`
+///   where its event isn't replayed.
 ///
 /// `OutOfMemory` may come at any time.
 pub fn replay_text(

@@ -15,13 +15,13 @@ use rec_portable::PortableRecording;
 use rec_replay::LoadOutput;
 use std::alloc::Global;
 
-/// Writes the reports of a bundle's run, each as compact JSON and LF: one for each end of a run in the log.
-/// All outputs are read.
+/// Writes the reports of a bundle's run, each as compact JSON and LF: one for each end of a run in
+/// the log. All outputs are read.
 ///
 /// # Errors
 ///
-/// Those of [`replay_text`](crate::replay_text) with `Load`, and `Report` where a line's event is refused as
-/// it is reported. `OutOfMemory` may come at any time.
+/// Those of [`replay_text`](crate::replay_text) with `Load`, and `Report` where a line's event is
+/// refused as it is reported. `OutOfMemory` may come at any time.
 pub fn report_text(alloc: Global, bundle: &PortableRecording) -> Result<Vec<u8>, ReadingError>
     ensures { (es : List Entry)
         → IsContainer bundle.now.bytes es

@@ -5,7 +5,10 @@ ghost use Rattle.rec_format.specs.declared.rerun.RerunInfo.{RerunInfo};
 ghost use Rattle.rec_rerun.specs.Selection.{HasTaken};
 ghost use Rattle.rec_reading.specs.Listing.{Makes};
 ghost use Rattle.rec_reading.specs.LogLines.{log_lines};
-ghost use Rattle.rec_reading.specs.Reruns.{PrintsPlan, PrintsRerun, Selects, SelectsBy, build_scope_part, parent_part, plan_lines, rerun_parts_of, selection_line, test_line, test_lines, tested_part};
+ghost use Rattle.rec_reading.specs.Reruns.{PrintsPlan, PrintsRerun, Selects};
+ghost use Rattle.rec_reading.specs.Reruns.{SelectsBy, build_scope_part, parent_part};
+ghost use Rattle.rec_reading.specs.Reruns.{plan_lines, rerun_parts_of, selection_line};
+ghost use Rattle.rec_reading.specs.Reruns.{test_line, test_lines, tested_part};
 ghost use Rattle.rec_reading.specs.RunParts.{Answers};
 
 use crate::events::{EventTaker, take_lines};
@@ -39,15 +42,15 @@ struct SelectedTests {
     tests: TestListSummary,
 }
 
-/// Writes which tests are to run again after the run of a bundle: the selection as compact JSON and LF, then
-/// a line for each test of its list that is to run, then for each that has passed and is skipped, and then
-/// for each that is to run but isn't listed.
+/// Writes which tests are to run again after the run of a bundle: the selection as compact JSON and
+/// LF, then a line for each test of its list that is to run, then for each that has passed and is
+/// skipped, and then for each that is to run but isn't listed.
 ///
 /// # Errors
 ///
 /// - `Bundle` with `MissingFile`, `FileTooLarge` or `ReadArchive` for the log or the store.
-/// - `Part` for the build scope, the rerun info or the test list, in this order; a store without rerun info
-///   is no fault.
+/// - `Part` for the build scope, the rerun info or the test list, in this order; a store without
+///   rerun info is no fault.
 /// - `Line` with the fault of the first line of the log that gives no event.
 ///
 /// `OutOfMemory` may come at any time.
@@ -177,8 +180,8 @@ fn read_parent(
     Ok(store.read_rerun_info(alloc)?)
 }
 
-/// Writes which tests are to run again, and what that means for the tests of the run. What isn't needed any
-/// more is let go before the text is made.
+/// Writes which tests are to run again, and what that means for the tests of the run. What isn't
+/// needed any more is let go before the text is made.
 fn plan_text(alloc: Global, selected: SelectedTests) -> Result<Vec<u8>, AllocError>
     ensures { IfOk result (λ text. PrintsPlan selected.info selected.tests text.items) }
 {

@@ -20,12 +20,13 @@ use rec_replay::{LoadOutput, ReplayContext};
 use rec_store::StoreReader;
 use std::alloc::Global;
 
-/// Adds what a printer prints of a run's events to a text. Each test of the run's list may be named.
+/// Adds what a printer prints of a run's events to a text.
+/// Each test of the run's list may be named.
 ///
 /// # Errors
 ///
-/// Why the first line of the log that fails gives no event, or why this event isn't converted or printed.
-/// `OutOfMemory` may come at any time.
+/// Why the first line of the log that fails gives no event, or why this event isn't converted or
+/// printed. `OutOfMemory` may come at any time.
 pub(crate) fn print_run<P: EventPrinter>(
     alloc: Global,
     run: &mut OpenRun<'_>,

@@ -3,7 +3,8 @@ ghost use Rattle.std.specs.Prelude.{◌≡◌, List, map, IfOk, string_bytes};
 ghost use Rattle.rec_container.specs.Container.{Entry, IsContainer};
 ghost use Rattle.rec_spans.specs.Plain.{plain};
 ghost use Rattle.rec_reading.specs.Listing.{Makes};
-ghost use Rattle.rec_reading.specs.Slots.{PrintsSlots, PrintsUsage, run_line, slot_line, slot_lines};
+ghost use Rattle.rec_reading.specs.Slots.{PrintsSlots, PrintsUsage};
+ghost use Rattle.rec_reading.specs.Slots.{run_line, slot_line, slot_lines};
 
 use crate::events::read_events;
 use rec_errors::ReadingError;
@@ -12,8 +13,8 @@ use rec_portable::PortableRecording;
 use rec_slots::{SlotReport, SlotUsage, slot_usage};
 use std::alloc::{AllocError, Global};
 
-/// Writes how the slots of a bundle's run were used: a line with the length of the run, and then one for
-/// each slot on which an attempt started, in rising order. All times are in nanoseconds.
+/// Writes how the slots of a bundle's run were used: a line with the length of the run, and then
+/// one for each slot on which an attempt started, in rising order. All times are in nanoseconds.
 ///
 /// # Errors
 ///

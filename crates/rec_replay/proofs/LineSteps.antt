@@ -9,5 +9,7 @@ module _ {a b : Line} {s : List ℕ} where
   pub ◌▸◌ : {c : Line} {t : List ℕ} → Puts a b s → Puts b c t → Puts a c (s ++ t)
   ◌▸◌ {t = t} first second = record {
     goes = λ ok. first.goes (second.goes ok);
-    written = λ ok. second.written ok ∙ ap (λ line. line ++ t) (first.written (second.goes ok)) ∙ append_assoc a.text.items s t;
+    written =
+        λ ok. second.written ok ∙ ap (λ line. line ++ t) (first.written (second.goes ok))
+        ∙ append_assoc a.text.items s t;
   }

@@ -10,8 +10,10 @@ abbrev pub AnswersPrefix : Option (List (List ℕ)) → List ℕ → Option Shor
 AnswersPrefix None id prefix = prefix ≡ None
 AnswersPrefix (Some ids) id prefix = CutsShortest ids id prefix
 
--- the header has the id, the answer of the index for it, and from the run's information when the run started and how it ended
-pub record IsHeaderOf (id : List ℕ) (run : RecordedRunInfo) (index : Option (List (List ℕ))) (header : ReplayHeader) : Type 0 where
+-- the header has the id, the answer of the index for it, and from the run's information when the
+-- run started and how it ended
+pub record IsHeaderOf (id : List ℕ) (run : RecordedRunInfo) (index : Option (List (List ℕ)))
+    (header : ReplayHeader) : Type 0 where
   pub run_id : header.run_id ≡ id
   pub unique_prefix : AnswersPrefix index id header.unique_prefix
   pub started_at : header.started_at ≡ run.started_at

@@ -1,6 +1,7 @@
 -- What is loaded of an event's outputs.
 use Rattle.std.specs.Option.{option_or}
-use Rattle.std.specs.Prelude.{◌≡◌, ℕ, ◌<◌, List, [], ◌∷◌, ◌++◌, length, Option, Some, None, Result, Ok, Err, IfErr, ⊤, option_map}
+use Rattle.std.specs.Prelude.{◌≡◌, ℕ, ◌<◌, List, [], ◌∷◌, ◌++◌, length, Option}
+use Rattle.std.specs.Prelude.{Some, None, Result, Ok, Err, IfErr, ⊤, option_map}
 use Rattle.rec_container.specs.Container.{Entry}
 use Rattle.rec_events.specs.declared.events.TestEventSummary.{TestEventSummary}
 use Rattle.rec_events.specs.declared.output_names.OutputFileName.{OutputFileName}
@@ -45,8 +46,10 @@ output_loaded es Empty = []
 output_loaded es (Full name) = bytes_under es name
 output_loaded es (Truncated name size) = bytes_under es name
 
-abbrev pub description_loaded : LoadOutput → List Entry → ZipStoreOutputDescription → ChildOutputDescription
-description_loaded Load es (stored.Split out err) = live.Split (option_map (output_loaded es) out) (option_map (output_loaded es) err)
+abbrev pub description_loaded : LoadOutput → List Entry → ZipStoreOutputDescription
+    → ChildOutputDescription
+description_loaded Load es (stored.Split out err) =
+    live.Split (option_map (output_loaded es) out) (option_map (output_loaded es) err)
 description_loaded Load es (stored.Combined both) = live.Combined (output_loaded es both)
 description_loaded Skip es outputs = live.NotLoaded
 
@@ -62,7 +65,8 @@ name_refusal es limit name = refusal_of (output_part (file_name_text name) es li
 -- why one of these outputs isn't read: the refusal of the first that is refused
 abbrev pub first_refusal : List Entry → ℕ → List OutputFileName → Option RecordReadError
 first_refusal es limit [] = None
-first_refusal es limit (name ∷ names) = option_or (name_refusal es limit name) (first_refusal es limit names)
+first_refusal es limit (name ∷ names) =
+    option_or (name_refusal es limit name) (first_refusal es limit names)
 
 -- this refusal, or that it was done
 abbrev pub or_done : Option RecordReadError → Result ⊤ RecordReadError
@@ -74,10 +78,13 @@ abbrev pub LoadsAs : {T : Type 0} → Option RecordReadError → T → Result T 
 LoadsAs refusal x (Ok y) = (refusal ≡ None) × (y ≡ x)
 LoadsAs refusal x (Err e) = Denies (or_done refusal) e
 
--- the outputs of these names were read, and x is what entries make of them; of a reader that means this before and after
-pub record Loads {T : Type 0} (limit limit_now failures failures_now : ℕ) (holds holds_now : List Entry → Type 0)
-    (names : List OutputFileName) (x : List Entry → T) (result : Result T RecordReadError) : Type 0 where
-  pub answer : (es : List Entry) → (0 < length names → holds es) → LoadsAs (first_refusal es limit names) (x es) result
+-- the outputs of these names were read, and x is what entries make of them;
+-- of a reader that means this before and after
+pub record Loads {T : Type 0} (limit limit_now failures failures_now : ℕ)
+    (holds holds_now : List Entry → Type 0) (names : List OutputFileName) (x : List Entry → T)
+    (result : Result T RecordReadError) : Type 0 where
+  pub answer : (es : List Entry) → (0 < length names → holds es)
+      → LoadsAs (first_refusal es limit names) (x es) result
   pub same : Keeps limit limit_now holds holds_now
   pub cause : DiskCause failures failures_now result
   pub named : length names ≡ 0 → IfErr result (λ e. e ≡ OutOfMemory)

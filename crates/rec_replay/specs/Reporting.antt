@@ -1,8 +1,12 @@
 -- What the calls of a reporter do.
 use Rattle.std.specs.Io.KnownBytes.{Appends}
-use Rattle.std.specs.Prelude.{◌≡◌, ℕ, List, [], take, Option, None, Result, Ok, Err, ⊤, option_map, unwrap_or}
+use Rattle.std.specs.Prelude.{◌≡◌, ℕ, List, [], take, Option, None}
+use Rattle.std.specs.Prelude.{Result, Ok, Err, ⊤, option_map, unwrap_or}
 use Rattle.rec_container.specs.Causes.{Rose}
-use Rattle.rec_replay.specs.declared.event_reporter.WriteEventError.TheVariants.{SinkFault, OutOfMemory}
+use Rattle.rec_replay.specs.declared.event_reporter.WriteEventError.TheVariants.{
+  SinkFault,
+  OutOfMemory,
+}
 use Rattle.rec_replay.specs.declared.event_reporter.WriteEventError.{WriteEventError}
 
 -- a prefix of the bytes was written, perhaps all of them
@@ -10,10 +14,13 @@ pub record WrotePrefix (before now : Option (List ℕ)) (bytes : List ℕ) : Typ
   pub count : ℕ
   pub wrote : Appends before now (take count bytes)
 
--- a text was written; or the outside failed, by the count, and a prefix of it was; or memory ran out, and nothing was
-abbrev pub Shows : Option (List ℕ) → Option (List ℕ) → ℕ → ℕ → List ℕ → Result ⊤ WriteEventError → Type 0
+-- a text was written; or the outside failed, by the count, and a prefix of it was;
+-- or memory ran out, and nothing was
+abbrev pub Shows : Option (List ℕ) → Option (List ℕ) → ℕ → ℕ → List ℕ → Result ⊤ WriteEventError
+    → Type 0
 Shows before now faults_before faults_now text (Ok done) = Appends before now text
-Shows before now faults_before faults_now text (Err SinkFault) = Rose faults_before faults_now × WrotePrefix before now text
+Shows before now faults_before faults_now text (Err SinkFault) =
+    Rose faults_before faults_now × WrotePrefix before now text
 Shows before now faults_before faults_now text (Err OutOfMemory) = Appends before now []
 
 -- what is known, where it is, becomes x

@@ -3,7 +3,9 @@ ghost use Rattle.std.specs.Prelude.{◌≡◌, ◌||◌, [], IfOk, None, OnErr, 
 ghost use Rattle.rec_events.specs.declared.instances.OwnedTestInstanceId.{OwnedTestInstanceId};
 ghost use Rattle.rec_events.specs.Tests.{test_eq};
 ghost use Rattle.rec_replay.specs.Conversions.{Converts, test_refusal};
-ghost use Rattle.rec_replay.specs.declared.conversion_error.ReplayConversionError.TheVariants.{TestNotFound};
+ghost use Rattle.rec_replay.specs.declared.conversion_error.ReplayConversionError.TheVariants.{
+  TestNotFound,
+};
 ghost use Rattle.rec_replay.specs.Registration.{is_registered};
 
 use crate::conversion_error::ReplayConversionError;

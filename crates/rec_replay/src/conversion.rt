@@ -3,12 +3,19 @@ ghost use Rattle.std.specs.Prelude.{◌≡◌, ◌<◌, [], IfOk, List, None, So
 ghost use Rattle.rec_container.specs.Container.{Entry};
 ghost use Rattle.rec_events.specs.EventMaps.{of_event, of_kind, of_output_kind};
 ghost use Rattle.rec_store.specs.Readers.{Keeps};
-ghost use Rattle.rec_replay.specs.Conversions.{ConversionCause, Converts, ConvertsAs, Judges, Replays, event_refusal, is_failed_attempt, is_finished, is_script_finished, kind_refusal, output_refusal};
-ghost use Rattle.rec_replay.specs.declared.conversion_error.ReplayConversionError.{ReplayConversionError};
+ghost use Rattle.rec_replay.specs.Conversions.{ConversionCause, Converts, ConvertsAs, Judges};
+ghost use Rattle.rec_replay.specs.Conversions.{Replays, event_refusal, is_failed_attempt};
+ghost use Rattle.rec_replay.specs.Conversions.{is_finished, is_script_finished, kind_refusal};
+ghost use Rattle.rec_replay.specs.Conversions.{output_refusal};
+ghost use Rattle.rec_replay.specs.declared.conversion_error.ReplayConversionError.{
+  ReplayConversionError,
+};
 ghost use Rattle.rec_replay.specs.declared.output_load.LoadOutput.TheVariants.{Skip};
-ghost use Rattle.rec_replay.specs.Loading.{description_loaded, description_names, event_names, first_refusal};
+ghost use Rattle.rec_replay.specs.Loading.{description_loaded, description_names};
+ghost use Rattle.rec_replay.specs.Loading.{event_names, first_refusal};
 ghost use Rattle.rec_replay.specs.Registration.{is_registered};
-ghost use Rattle.rec_replay.specs.Replaying.{event_unloaded, kind_replayed, kind_unloaded, output_replayed, replayed, left_out};
+ghost use Rattle.rec_replay.specs.Replaying.{event_unloaded, kind_replayed, kind_unloaded};
+ghost use Rattle.rec_replay.specs.Replaying.{output_replayed, replayed, left_out};
 
 use crate::context::ReplayContext;
 use crate::conversion_error::ReplayConversionError;
@@ -25,15 +32,16 @@ use std::alloc::Global;
 impl<'a> ReplayContext<'a> {
     /// Replays a recorded event.
     ///
-    /// With `Load` its outputs are read, in their order; one without bytes is in no file. With `Skip`
-    /// nothing is read, and outputs are `NotLoaded`. A cancel has zeros as statistics but for its
-    /// reason, and a setup script has no flag for reports.
+    /// With `Load` its outputs are read, in their order; one without bytes is in no file. With
+    /// `Skip` nothing is read, and outputs are `NotLoaded`. A cancel has zeros as statistics but
+    /// for its reason, and a setup script has no flag for reports.
     ///
     /// # Errors
     ///
-    /// - `TestNotFound` exactly where the event is of a test that isn't registered. Tests that a run
-    ///   has not seen aren't looked up. Nothing was read.
-    /// - `InvalidStressCount` exactly where a run starts with a stress count of 0. Nothing was read.
+    /// - `TestNotFound` exactly where the event is of a test that isn't registered. Tests that a
+    ///   run has not seen aren't looked up. Nothing was read.
+    /// - `InvalidStressCount` exactly where a run starts with a stress count of 0. Nothing was
+    ///   read.
     /// - `RecordRead` only with `Load` and where the event names an output, with why the first such
     ///   output that is refused isn't read, or `DiskFault` where the reader failed.
     /// - `OutOfMemory` if memory runs out.

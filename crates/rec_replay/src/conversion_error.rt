@@ -1,7 +1,8 @@
 //! Why a recorded event does not become a live one.
 ghost use Rattle.std.specs.Prelude.{◌≡◌};
 ghost use Rattle.rec_replay.specs.Conversions.{conversion_error};
-ghost use Rattle.rec_replay.specs.declared.conversion_error.ReplayConversionError.TheVariants as converting;
+ghost use Rattle.rec_replay.specs.declared.conversion_error.ReplayConversionError.TheVariants
+    as converting;
 
 use rec_events::{RustBinaryId, TestCaseName};
 use rec_store::RecordReadError;

@@ -93,8 +93,8 @@ pub trait EventReporter: Drop {
     ///
     /// # Errors
     ///
-    /// - `SinkFault` where writing failed: the count of faults rose, and a prefix of the header's text
-    ///   was written.
+    /// - `SinkFault` where writing failed: the count of faults rose, and a prefix of the header's
+    ///   text was written.
     /// - `OutOfMemory` if memory runs out. Nothing was written.
     fn write_header(&mut self, header: &ReplayHeader) -> Result<(), WriteEventError>
         ensures own { writes_header self.old header.now result self.new }
@@ -110,8 +110,8 @@ pub trait EventReporter: Drop {
     ///
     /// # Errors
     ///
-    /// - `SinkFault` where writing failed: the count of faults rose, and a prefix of the event's text
-    ///   was written.
+    /// - `SinkFault` where writing failed: the count of faults rose, and a prefix of the event's
+    ///   text was written.
     /// - `OutOfMemory` if memory runs out. Nothing was written.
     fn write_event(&mut self, event: &TestEvent<'_>) -> Result<(), WriteEventError>
         ensures own { writes_event self.old event.now result self.new }

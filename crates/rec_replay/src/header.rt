@@ -22,8 +22,8 @@ pub struct ReplayHeader {
 }
 
 impl ReplayHeader {
-    /// Makes the header of a run: its id, what the index answers for it, and from `run_info` when it
-    /// started and how it ended.
+    /// Makes the header of a run: its id, what the index answers for it, and from `run_info` when
+    /// it started and how it ended.
     ///
     /// # Errors
     ///

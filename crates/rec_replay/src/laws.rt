@@ -5,7 +5,8 @@ ghost use Rattle.rec_container.specs.Container.{Entry};
 ghost use Rattle.rec_events.specs.declared.live_events.TestEvent.{TestEvent};
 ghost use Rattle.rec_events.specs.LiveEvents.{event_summary};
 ghost use Rattle.rec_events.specs.TestLists.{Tests};
-ghost use Rattle.rec_codec.specs.Event.{IsLogged, LiveEvent, RecordedEvent, event_text, recorded_event_of};
+ghost use Rattle.rec_codec.specs.Event.{IsLogged, LiveEvent, RecordedEvent};
+ghost use Rattle.rec_codec.specs.Event.{event_text, recorded_event_of};
 ghost use Rattle.rec_store.specs.EventOutputs.{event_recorded};
 ghost use Rattle.rec_store.specs.Logging.{Logs};
 ghost use Rattle.rec_store.specs.Recording.{Recording};
@@ -18,14 +19,14 @@ ghost use Rattle.rec_replay.specs.Replaying.{replayed};
 use rec_container::Sink;
 use rec_store::OutputNamer;
 
-/// States that an event which is recorded, read back and replayed is the live event that it was, but
-/// for what a recording doesn't keep: outputs are cut at the limit; a cancel has no statistics but its
-/// reason; a setup script has lost its flags for reports; and the test list of a run's start is the
-/// context's.
+/// States that an event which is recorded, read back and replayed is the live event that it was,
+/// but for what a recording doesn't keep: outputs are cut at the limit; a cancel has no statistics
+/// but its reason; a setup script has lost its flags for reports; and the test list of a run's
+/// start is the context's.
 ///
-/// `rec_summaries::from_test_event` gave the event that `RunRecorder::write_event` recorded, and its
-/// line was read as `read`. `ReplayContext::convert_event` then answered `replay`, with `Load` and over
-/// the entries that the recorder's store had after the event, and `more` after them.
+/// `rec_summaries::from_test_event` gave the event that `RunRecorder::write_event` recorded, and
+/// its line was read as `read`. `ReplayContext::convert_event` then answered `replay`, with `Load`
+/// and over the entries that the recorder's store had after the event, and `more` after them.
 pub fn recorded_events_are_replayed<S: Sink, L: Sink, N: OutputNamer>()
     ensures { (live : TestEvent) (event : LiveEvent) (old new : Recording S L N)
         (read : RecordedEvent) (more : List Entry) (limit : ℕ) (tests : Bor Tests)

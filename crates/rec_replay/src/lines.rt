@@ -3,7 +3,8 @@ ghost use Rattle.std.specs.Prelude.{◌≡◌, ◌++◌, codes, IfOk, Some, stri
 ghost use Rattle.rec_events.specs.LiveEvents.{kind_name};
 ghost use Rattle.rec_replay.specs.LinePieces.{Puts, named_line};
 ghost use Rattle.rec_replay.specs.Lines as spec;
-ghost use Rattle.rec_replay.specs.Lines.{count_text, description_text, execution_text, line_text, nine_digits, outputs_text, stamp_text, subject_text};
+ghost use Rattle.rec_replay.specs.Lines.{count_text, description_text, execution_text, line_text};
+ghost use Rattle.rec_replay.specs.Lines.{nine_digits, outputs_text, stamp_text, subject_text};
 
 use crate::header::ReplayHeader;
 use itoa::Buffer;

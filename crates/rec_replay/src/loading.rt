@@ -2,10 +2,12 @@
 ghost use Rattle.std.specs.List.{flat_map};
 ghost use Rattle.std.specs.Prelude.{◌≡◌, ◌∷◌, [], length, map, option_map, IfOk};
 ghost use Rattle.rec_events.specs.declared.outputs.LiveSpec.{LiveSpec};
-ghost use Rattle.rec_events.specs.EventMaps.{of_execution, execution_with, of_status, status_with, script_status_with, statuses_with};
+ghost use Rattle.rec_events.specs.EventMaps.{of_execution, execution_with, of_status};
+ghost use Rattle.rec_events.specs.EventMaps.{status_with, script_status_with, statuses_with};
 ghost use Rattle.rec_store.specs.Kept.{bytes_under};
 ghost use Rattle.rec_replay.specs.declared.output_load.LoadOutput.TheVariants.{Load, Skip};
-ghost use Rattle.rec_replay.specs.Loading.{Loads, output_names, output_loaded, captured_names, description_names, description_loaded};
+ghost use Rattle.rec_replay.specs.Loading.{Loads, output_names, output_loaded, captured_names};
+ghost use Rattle.rec_replay.specs.Loading.{description_names, description_loaded};
 ghost use Rattle.rec_replay.specs.Replaying.{left_out, unloaded};
 
 use crate::output_load::LoadOutput;

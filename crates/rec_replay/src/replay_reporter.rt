@@ -153,8 +153,8 @@ impl ReplayReporterBuilder {
         self
     }
 
-    /// Configures the reporter, once, with the settings, with what the run does with its tests and with
-    /// how many of them it runs, and replays to it.
+    /// Configures the reporter, once, with the settings, with what the run does with its tests and
+    /// with how many of them it runs, and replays to it.
     pub fn build<'a, R: EventReporter>(
         self,
         mode: NextestRunMode,
@@ -177,8 +177,8 @@ impl ReplayReporterBuilder {
     }
 }
 
-/// Passes on what is replayed to a reporter. Each call leaves the reporter as the reporter's own call
-/// of the same name does, and returns what that call returns.
+/// Passes on what is replayed to a reporter. Each call leaves the reporter as the reporter's own
+/// call of the same name does, and returns what that call returns.
 #[derive(Drop)]
 pub struct ReplayReporter<'a, R: EventReporter> {
     reporter: &'a mut R,

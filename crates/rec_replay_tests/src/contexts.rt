@@ -28,7 +28,8 @@ fn is_known(
     Ok(is_known)
 }
 
-/// Registers a test, and says whether it is known, whether another one is, and whether the run is a benchmark.
+/// Registers a test, and says whether it is known, whether another one is,
+/// and whether the run is a benchmark.
 fn known(alloc: Global, context: &mut ReplayContext<'_>) -> Result<(bool, bool, bool), AllocError> {
     context.register_test(instance(alloc, "b")?)?;
     let registered = is_known(alloc, context, "b")?;

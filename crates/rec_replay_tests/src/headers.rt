@@ -16,7 +16,13 @@ fn run(alloc: Global) -> Result<RecordedRunInfo, Fail> {
 }
 
 fn run_text() -> &'static str {
-    r#"{"store-format-version":3,"run-id":"550e8400-e29b-41d4-a716-446655440000","nextest-version":"0.9.111","started-at":{"secs":1000,"nanos":0,"offset":0},"last-written-at":{"secs":1011,"nanos":0,"offset":0},"sizes":{"log":{"compressed":0,"uncompressed":0},"store":{"compressed":0,"uncompressed":0}},"status":{"status":"incomplete"}}"#
+    concat!(
+        r#"{"store-format-version":3,"run-id":"550e8400-e29b-41d4-a716-446655440000","#,
+        r#""nextest-version":"0.9.111","started-at":{"secs":1000,"nanos":0,"offset":0},"#,
+        r#""last-written-at":{"secs":1011,"nanos":0,"offset":0},"#,
+        r#""sizes":{"log":{"compressed":0,"uncompressed":0},"#,
+        r#""store":{"compressed":0,"uncompressed":0}},"status":{"status":"incomplete"}}"#
+    )
 }
 
 fn first() -> &'static str {

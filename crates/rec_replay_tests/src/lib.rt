@@ -1,4 +1,5 @@
-//! The tests of `rec_replay` for which no case of the built program can stand; those are in `tools/cases`.
+//! The tests of `rec_replay` for which no case of the built program can stand;
+//! those are in `workshop/cases`.
 #![tactic(auto)]
 
 #[cfg(test)]

@@ -54,7 +54,8 @@ fn write(
     written
 }
 
-/// What comes of a pause that is replayed to a reporter of lines over this sink, and whether the reporter loads outputs.
+/// What comes of a pause that is replayed to a reporter of lines over this sink,
+/// and whether the reporter loads outputs.
 fn replay_lines<K: Sink>(
     alloc: Global,
     sink: &mut K,

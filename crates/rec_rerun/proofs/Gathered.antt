@@ -1,5 +1,6 @@
 -- What a loop over a map has gathered of its entries, where their order doesn't matter.
-use Rattle.std.proofs.Common.{◌≡◌, ◌⊎◌, inl, inr, ℕ, Bool, true, false, List, [], ◌∷◌, Option, Some, None, String, Global, string_bytes, refl, sym, ◌∙◌, ap, subst}
+use Rattle.std.proofs.Common.{◌≡◌, ◌⊎◌, inl, inr, ℕ, Bool, true, false, List, [], ◌∷◌, Option}
+use Rattle.std.proofs.Common.{Some, None, String, Global, string_bytes, refl, sym, ◌∙◌, ap, subst}
 use Rattle.std.proofs.lemmas.Bool.{false≢true}
 use Rattle.std.proofs.lemmas.Map.Text.{is_eq-slice_cmp}
 use Rattle.std.proofs.lemmas.Slice.Eq.{bytes_eq-Decides}
@@ -36,18 +37,26 @@ module _ {V : Type 0} (tests : BTreeMap (String Global) V) (wants : Option V →
   -- what has been found is wanted, and what is wanted and isn't left has been found
   pub record IsGathered (found : List ℕ → Bool) (rest : List (String Global × V)) : Type 0 where
     pub sound : (id : List ℕ) → found id ≡ true → wants (get_by_text tests id) ≡ true
-    pub whole : (id : List ℕ) → entry_at id rest ≡ None → wants (get_by_text tests id) ≡ true → found id ≡ true
+    pub whole : (id : List ℕ) → entry_at id rest ≡ None → wants (get_by_text tests id) ≡ true
+        → found id ≡ true
 
-  pub gathered-start : (found : List ℕ → Bool) (rest : List (String Global × V)) → ((id : List ℕ) → found id ≡ false) → wants None ≡ false → rest ≡ tests.entries → IsGathered found rest
+  pub gathered-start : (found : List ℕ → Bool) (rest : List (String Global × V))
+      → ((id : List ℕ) → found id ≡ false) → wants None ≡ false → rest ≡ tests.entries
+      → IsGathered found rest
   gathered-start found rest none unwanted all = record {
     sound = λ id h. absurd (false≢true (sym (none id) ∙ h));
-    whole = λ id gone h. absurd (false≢true (sym unwanted ∙ ap wants (sym (ap (entry_at id) (sym all) ∙ gone)) ∙ h));
+    whole =
+        λ id gone h.
+        absurd (false≢true (sym unwanted ∙ ap wants (sym (ap (entry_at id) (sym all) ∙ gone)) ∙ h));
   }
 
-  pub gathered-end : (found : List ℕ → Bool) → IsGathered found [] → (id : List ℕ) → found id ≡ wants (get_by_text tests id)
-  gathered-end found g id = same_bool (found id) (wants (get_by_text tests id)) (g.sound id) (g.whole id refl)
+  pub gathered-end : (found : List ℕ → Bool) → IsGathered found [] → (id : List ℕ)
+      → found id ≡ wants (get_by_text tests id)
+  gathered-end found g id =
+      same_bool (found id) (wants (get_by_text tests id)) (g.sound id) (g.whole id refl)
 
-  module _ (found more : List ℕ → Bool) (k : String Global) (v : V) (rest : List (String Global × V)) where
+  module _ (found more : List ℕ → Bool) (k : String Global) (v : V)
+      (rest : List (String Global × V)) where
     -- a further entry
     pub gathered-more : get_by_text tests (string_bytes k) ≡ Some v
         → ((id : List ℕ) → bytes_eq id (string_bytes k) ≡ false → more id ≡ found id)
@@ -62,22 +71,34 @@ module _ {V : Type 0} (tests : BTreeMap (String Global) V) (wants : Option V →
         at_key : (id : List ℕ) → bytes_eq id (string_bytes k) ≡ true → id ≡ string_bytes k
         at_key id e = (bytes_eq-Decides id (string_bytes k)).0 e
 
-        wanted : (wants (Some v) ≡ true) ⊎ (found (string_bytes k) ≡ true) → wants (get_by_text tests (string_bytes k)) ≡ true
+        wanted : (wants (Some v) ≡ true) ⊎ (found (string_bytes k) ≡ true)
+            → wants (get_by_text tests (string_bytes k)) ≡ true
         wanted (inl h) = ap wants is ∙ h
         wanted (inr h) = g.sound (string_bytes k) h
 
-        sound : (id : List ℕ) (b : Bool) → bytes_eq id (string_bytes k) ≡ b → more id ≡ true → wants (get_by_text tests id) ≡ true
-        sound id true e h = ap (λ n. wants (get_by_text tests n)) (at_key id e) ∙ wanted (back (ap more (sym (at_key id e)) ∙ h))
+        sound : (id : List ℕ) (b : Bool) → bytes_eq id (string_bytes k) ≡ b → more id ≡ true
+            → wants (get_by_text tests id) ≡ true
+        sound id true e h =
+            ap (λ n. wants (get_by_text tests n)) (at_key id e)
+            ∙ wanted (back (ap more (sym (at_key id e)) ∙ h))
         sound id false e h = g.sound id (sym (others id e) ∙ h)
 
-        passed : (id : List ℕ) → bytes_eq id (string_bytes k) ≡ false → entry_at id ((k, v) ∷ rest) ≡ entry_at id rest
-        passed id e = ap (λ b. if b then Some v else entry_at id rest) (is_eq-slice_cmp id (string_bytes k) ∙ e)
+        passed : (id : List ℕ) → bytes_eq id (string_bytes k) ≡ false
+            → entry_at id ((k, v) ∷ rest) ≡ entry_at id rest
+        passed id e =
+            ap (λ b. if b then Some v else entry_at id rest)
+            (is_eq-slice_cmp id (string_bytes k) ∙ e)
 
-        whole : (id : List ℕ) (b : Bool) → bytes_eq id (string_bytes k) ≡ b → entry_at id rest ≡ None → wants (get_by_text tests id) ≡ true → more id ≡ true
-        whole id true e gone h = ap more (at_key id e) ∙ there (ap wants (sym is) ∙ ap (λ n. wants (get_by_text tests n)) (sym (at_key id e)) ∙ h)
+        whole : (id : List ℕ) (b : Bool) → bytes_eq id (string_bytes k) ≡ b
+            → entry_at id rest ≡ None → wants (get_by_text tests id) ≡ true → more id ≡ true
+        whole id true e gone h = ap more (at_key id e) ∙ there
+            (ap wants (sym is) ∙ ap (λ n. wants (get_by_text tests n)) (sym (at_key id e)) ∙ h)
         whole id false e gone h = others id e ∙ g.whole id (passed id e ∙ gone) h
 
 -- all of it, where nothing is left
-pub gathered-all : {V : Type 0} (tests : BTreeMap (String Global) V) (wants : Option V → Bool) (found : List ℕ → Bool) (rest : List (String Global × V)) → rest ≡ []
+pub gathered-all : {V : Type 0} (tests : BTreeMap (String Global) V) (wants : Option V → Bool)
+    (found : List ℕ → Bool) (rest : List (String Global × V))
+    → rest ≡ []
     → IsGathered tests wants found rest → (id : List ℕ) → found id ≡ wants (get_by_text tests id)
-gathered-all tests wants found rest none g = gathered-end tests wants found (subst (λ es. IsGathered tests wants found es) none g)
+gathered-all tests wants found rest none g =
+    gathered-end tests wants found (subst (λ es. IsGathered tests wants found es) none g)

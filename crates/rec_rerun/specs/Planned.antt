@@ -13,7 +13,8 @@ abbrev pub is_seen : BTreeSet OwnedTestInstanceId → OwnedTestInstanceId → Bo
 is_seen seen t = list_any (test_eq t) seen.keys
 
 -- these tests were planned, one after the other
-pub record HasPlanned (info : RerunInfo) (tests : List OwnedTestInstanceId) (planned : Planned) : Type 0 where
+pub record HasPlanned (info : RerunInfo) (tests : List OwnedTestInstanceId)
+    (planned : Planned) : Type 0 where
   pub run : planned.run.items ≡ filter (λ t. not (has_passing info.test_suites t)) (firsts tests)
   pub skip : planned.skip.items ≡ filter (has_passing info.test_suites) (firsts tests)
   pub seen : (t : OwnedTestInstanceId) → is_seen planned.seen t ≡ is_in tests t

@@ -43,4 +43,5 @@ module _ (info : RerunInfo) (list : TestListSummary) where
 
 -- no test is passing and outstanding
 abbrev pub AreApart : List RerunTestSuiteInfo → Type 0
-AreApart suites = (t : OwnedTestInstanceId) → (has_passing suites t && has_outstanding suites t) ≡ false
+AreApart suites =
+    (t : OwnedTestInstanceId) → (has_passing suites t && has_outstanding suites t) ≡ false

@@ -1,6 +1,7 @@
 -- Which tests are to run again after a run, and which have passed.
 use Rattle.std.specs.List.{AllByRecursion}
-use Rattle.std.specs.Prelude.{◌≡◌, ℕ, ◌&&◌, Bool, true, false, not, is_some, List, Option, Some, None, if◌then◌else◌}
+use Rattle.std.specs.Prelude.{◌≡◌, ℕ, ◌&&◌, Bool, true, false, not, is_some}
+use Rattle.std.specs.Prelude.{List, Option, Some, None, if◌then◌else◌}
 use Rattle.rec_events.specs.declared.events.TestEventSummary.{TestEventSummary}
 use Rattle.rec_events.specs.declared.instances.OwnedTestInstanceId.{OwnedTestInstanceId}
 use Rattle.rec_format.specs.declared.rerun.RerunInfo.{RerunInfo}
@@ -15,7 +16,9 @@ use Rattle.rec_rerun.specs.Suites.{IsFull, has_outstanding, has_passing, stands}
 -- what a rerun knows of a test: that it had passed, or that it hadn't; or nothing
 abbrev pub known_in : Option RerunInfo → OwnedTestInstanceId → Option Bool
 known_in None t = None
-known_in (Some info) t = if has_passing info.test_suites t then Some true else (if has_outstanding info.test_suites t then Some false else None)
+known_in (Some info) t =
+    if has_passing info.test_suites t then Some true
+    else (if has_outstanding info.test_suites t then Some false else None)
 
 -- the root of the parent, or this run
 abbrev pub root_of : List ℕ → RecordedBuildScope → Option RerunInfo → RerunRootInfo
@@ -38,7 +41,8 @@ module _ {S O : Type 0} (events : List (TestEventSummary S O)) (parent : Option 
     pub rise : SuitesRise suites
     pub full : AllByRecursion IsFull suites
     pub passing : (t : OwnedTestInstanceId) → has_passing suites t ≡ is_passing t
-    pub outstanding : (t : OwnedTestInstanceId) → has_outstanding suites t ≡ (is_recorded t && not (is_passing t))
+    pub outstanding : (t : OwnedTestInstanceId)
+        → has_outstanding suites t ≡ (is_recorded t && not (is_passing t))
 
 -- each test stands as these events and the parent say
 abbrev pub HasTaken : Option RerunInfo → List LogEvent → Tests → Type 0

@@ -1,7 +1,9 @@
--- How a test stands after a run: what its last start and its last end in the log say, or else what was known of it before.
+-- How a test stands after a run: what its last start and its last end in the log say,
+-- or else what was known of it before.
 use Rattle.std.specs.BTreeMap.{BTreeMap, get_by_text}
 use Rattle.std.specs.declared.alloc.Global.{Global}
-use Rattle.std.specs.Prelude.{◌≡◌, ℕ, Bool, false, ◌&&◌, nat_lt, List, map, slice_get, Option, Some, None, option_map, if◌then◌else◌, String}
+use Rattle.std.specs.Prelude.{◌≡◌, ℕ, Bool, false, ◌&&◌, nat_lt, List, map, slice_get}
+use Rattle.std.specs.Prelude.{Option, Some, None, option_map, if◌then◌else◌, String}
 use Rattle.rec_events.specs.declared.events.TestEventSummary.{TestEventSummary}
 use Rattle.rec_events.specs.declared.instances.OwnedTestInstanceId.{OwnedTestInstanceId}
 use Rattle.rec_events.specs.declared.outputs.RecordingSpec.{RecordingSpec}
@@ -49,7 +51,8 @@ standing_from acts known (Some start) end = Some (Started (ends_well acts start 
 
 -- how a test stands after a log, of which this was known before
 abbrev pub standing_of : List Act → Option Bool → OwnedTestInstanceId → Option Standing
-standing_of acts known t = standing_from acts known (last_at (starts t) acts) (last_at (ends t) acts)
+standing_of acts known t =
+    standing_from acts known (last_at (starts t) acts) (last_at (ends t) acts)
 
 -- ---- by the test's standing before the last event
 
@@ -79,4 +82,5 @@ at tests t = in_binary (get_by_text tests t.binary_id) t.test_name
 
 -- all stand as before, but for one test
 abbrev pub Puts : Tests → OwnedTestInstanceId → Standing → Tests → Type 0
-Puts old test standing new = (t : OwnedTestInstanceId) → at new t ≡ (if test_eq test t then Some standing else at old t)
+Puts old test standing new =
+    (t : OwnedTestInstanceId) → at new t ≡ (if test_eq test t then Some standing else at old t)

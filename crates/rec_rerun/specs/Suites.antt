@@ -2,7 +2,8 @@
 use Rattle.std.specs.BTreeMap.{BTreeMap, get_by_text}
 use Rattle.std.specs.declared.alloc.Global.{Global}
 use Rattle.std.specs.List.{AllByRecursion, list_any}
-use Rattle.std.specs.Prelude.{◌≡◌, ◌⊎◌, [], ℕ, ◌+◌, ◌<◌, Bool, true, false, not, List, length, Option, Some, None, String, bytes_eq}
+use Rattle.std.specs.Prelude.{◌≡◌, ◌⊎◌, [], ℕ, ◌+◌, ◌<◌, Bool, true, false, not}
+use Rattle.std.specs.Prelude.{List, length, Option, Some, None, String, bytes_eq}
 use Rattle.rec_events.specs.declared.instances.OwnedTestInstanceId.{OwnedTestInstanceId}
 use Rattle.rec_events.specs.Names.{Rise}
 use Rattle.rec_events.specs.Tests.{is_named}
@@ -19,7 +20,8 @@ names_of false suite = suite.outstanding
 
 -- whether a suite has the test among its passing ones, or among its outstanding ones
 abbrev pub holds : Bool → List RerunTestSuiteInfo → OwnedTestInstanceId → Bool
-holds passed suites t = list_any (λ suite. is_named suite.binary_id (names_of passed suite) t) suites
+holds passed suites t =
+    list_any (λ suite. is_named suite.binary_id (names_of passed suite) t) suites
 
 abbrev pub has_passing : List RerunTestSuiteInfo → OwnedTestInstanceId → Bool
 has_passing = holds true
@@ -50,18 +52,23 @@ abbrev pub has : List (List ℕ) → List ℕ → Bool
 has names name = list_any (λ n. bytes_eq n name) names
 
 -- the suite of a binary whose tests stand so
-pub record IsSuiteOf (binary : List ℕ) (tests : BTreeMap (String Global) Standing) (suite : RerunTestSuiteInfo) : Type 0 where
+pub record IsSuiteOf (binary : List ℕ) (tests : BTreeMap (String Global) Standing)
+    (suite : RerunTestSuiteInfo) : Type 0 where
   pub binary_id : suite.binary_id ≡ binary
-  pub names : (passed : Bool) (name : List ℕ) → has (names_of passed suite) name ≡ stands passed (get_by_text tests name)
+  pub names : (passed : Bool) (name : List ℕ)
+      → has (names_of passed suite) name ≡ stands passed (get_by_text tests name)
   pub full : IsFull suite
 
 -- the suite of a binary is put at its place, where the binary has a test
-abbrev pub AddsSuite : List ℕ → BTreeMap (String Global) Standing → List RerunTestSuiteInfo → List RerunTestSuiteInfo → Type 0
+abbrev pub AddsSuite : List ℕ → BTreeMap (String Global) Standing → List RerunTestSuiteInfo
+    → List RerunTestSuiteInfo → Type 0
 AddsSuite binary tests old new =
-    ((tests.entries ≡ []) × (new ≡ old)) ⊎ ((suite : RerunTestSuiteInfo) × IsSuiteOf binary tests suite × (new ≡ put_suite suite old))
+    ((tests.entries ≡ []) × (new ≡ old))
+    ⊎ ((suite : RerunTestSuiteInfo) × IsSuiteOf binary tests suite × (new ≡ put_suite suite old))
 
 -- the suites of all tests
 pub record AreSuitesOf (tests : Tests) (suites : List RerunTestSuiteInfo) : Type 0 where
   pub rise : SuitesRise suites
   pub full : AllByRecursion IsFull suites
-  pub held : (passed : Bool) (t : OwnedTestInstanceId) → holds passed suites t ≡ stands passed (at tests t)
+  pub held : (passed : Bool) (t : OwnedTestInstanceId)
+      → holds passed suites t ≡ stands passed (at tests t)

@@ -8,8 +8,8 @@ use rec_events::{
     OwnedTestInstanceId, TestEventKindSummary,
 };
 
-/// Says what an event is for a rerun: an attempt of a test starts, or a test ends, and has passed or
-/// not.
+/// Says what an event is for a rerun: an attempt of a test starts, or a test ends, and has passed
+/// or not.
 #[derive(Clone, Copy)]
 pub(crate) enum Act<'e> {
     Starts {
@@ -22,8 +22,8 @@ pub(crate) enum Act<'e> {
     Silent,
 }
 
-/// Says whether a test of these attempts has passed: its last attempt succeeded, and where it isn't the
-/// only one, the test counts as passed though it is flaky.
+/// Says whether a test of these attempts has passed: its last attempt succeeded, and where it isn't
+/// the only one, the test counts as passed though it is flaky.
 fn pass<S: OutputSpec>(statuses: &ExecutionStatuses<S>) -> bool
     ensures { result ≡ pass statuses.now }
 {

@@ -1,5 +1,5 @@
-//! Which tests are to run again: what a run's log and what it reruns say of each test, and what of a
-//! list of tests is to run by that.
+//! Which tests are to run again: what a run's log and what it reruns say of each test, and what of
+//! a list of tests is to run by that.
 #![tactic(auto)]
 
 mod acts;

@@ -1,10 +1,12 @@
 //! What of a list of tests is to run again.
 ghost use Rattle.std.specs.List.{filter};
-ghost use Rattle.std.specs.Prelude.{◌≡◌, ◌++◌, ◌&&◌, ◌||◌, [], ◌∷◌, false, true, List, map, not, if◌then◌else◌, IfOk, OnOk};
+ghost use Rattle.std.specs.Prelude.{◌≡◌, ◌++◌, ◌&&◌, ◌||◌, [], ◌∷◌, false, true};
+ghost use Rattle.std.specs.Prelude.{List, map, not, if◌then◌else◌, IfOk, OnOk};
 ghost use Rattle.rec_events.specs.declared.instances.OwnedTestInstanceId.{OwnedTestInstanceId};
 ghost use Rattle.rec_events.specs.Tests.{is_listed, test_of};
 ghost use Rattle.rec_rerun.specs.Planned.{HasPlanned, is_seen};
-ghost use Rattle.rec_rerun.specs.Plans.{AreApart, gone_of, is_in, outstanding_in, run_of, skip_of, tests_in};
+ghost use Rattle.rec_rerun.specs.Plans.{AreApart, gone_of, is_in, outstanding_in};
+ghost use Rattle.rec_rerun.specs.Plans.{run_of, skip_of, tests_in};
 ghost use Rattle.rec_rerun.specs.Suites.{has_outstanding, has_passing};
 
 use rec_events::{
@@ -192,9 +194,9 @@ fn make_plan(
     })
 }
 
-/// Plans a rerun of a list of tests. Each test of the list comes once, by its binary and then by its
-/// first place: those that have passed are skipped, and all others run. The outstanding tests that the
-/// list lacks are gone, in the order of their binaries and names.
+/// Plans a rerun of a list of tests. Each test of the list comes once, by its binary and then by
+/// its first place: those that have passed are skipped, and all others run. The outstanding tests
+/// that the list lacks are gone, in the order of their binaries and names.
 ///
 /// # Errors
 ///

@@ -1,6 +1,7 @@
 //! Which tests are to run again after a run, and which have passed.
 ghost use Rattle.std.specs.Option.{option_copied, option_map};
-ghost use Rattle.std.specs.Prelude.{◌≡◌, ◌++◌, ◌∷◌, [], ◌&&◌, ◌||◌, false, IfOk, List, OnOk, Option};
+ghost use Rattle.std.specs.Prelude.{◌≡◌, ◌++◌, ◌∷◌, [], ◌&&◌, ◌||◌};
+ghost use Rattle.std.specs.Prelude.{false, IfOk, List, OnOk, Option};
 ghost use Rattle.rec_events.specs.declared.instances.OwnedTestInstanceId.{OwnedTestInstanceId};
 ghost use Rattle.rec_format.specs.declared.rerun.RerunInfo.{RerunInfo};
 ghost use Rattle.rec_rerun.specs.declared.standings.Standing.TheVariants.{Known};
@@ -55,16 +56,16 @@ fn known_standings(alloc: Global, parent: Option<&RerunInfo>) -> Result<Standing
     Ok(standings)
 }
 
-/// Selects the tests that are to run again after a run, by the events of its log as they come. No event is
-/// kept.
+/// Selects the tests that are to run again after a run, by the events of its log as they come. No
+/// event is kept.
 #[derive(Drop)]
 pub struct RerunSelector {
     standings: Standings,
 }
 
 impl RerunSelector {
-    /// Makes the selector of a log without an event so far. `parent` describes what the run itself reran, if
-    /// it reran anything.
+    /// Makes the selector of a log without an event so far. `parent` describes what the run itself
+    /// reran, if it reran anything.
     ///
     /// # Errors
     ///
@@ -102,8 +103,9 @@ impl RerunSelector {
         Ok(())
     }
 
-    /// Selects the tests that are to run again after a run of this id, whose log has the events so far, and
-    /// those that have passed, as [`select_rerun`] does. `parent` is what the selector was made with.
+    /// Selects the tests that are to run again after a run of this id, whose log has the events so
+    /// far, and those that have passed, as [`select_rerun`] does.
+    /// `parent` is what the selector was made with.
     ///
     /// # Errors
     ///
@@ -132,8 +134,8 @@ impl RerunSelector {
         make_info(alloc, self.standings, run_id, build_scope, parent)
     }
 
-    /// Lets the selector go, as `drop` does. A crate that lets one go by this call doesn't prove anew how each
-    /// of its parts is let go.
+    /// Lets the selector go, as `drop` does. A crate that lets one go by this call doesn't prove
+    /// anew how each of its parts is let go.
     pub fn discard(self) {
         drop(self);
     }
@@ -166,13 +168,13 @@ fn make_info(
     })
 }
 
-/// Selects the tests that are to run again after a run of this id, whose log has these events, and those
-/// that have passed. `parent` describes what the run itself reran, if it reran anything.
+/// Selects the tests that are to run again after a run of this id, whose log has these events, and
+/// those that have passed. `parent` describes what the run itself reran, if it reran anything.
 ///
-/// A test of which the log starts an attempt has passed where its last end stands after its last start,
-/// its last attempt succeeded, and it isn't flaky and counts as failed. A test of the parent that the
-/// log doesn't start has passed where it had passed before. Each other test of the log or of the parent
-/// is outstanding. The log may be of any events in any order.
+/// A test of which the log starts an attempt has passed where its last end stands after its last
+/// start, its last attempt succeeded, and it isn't flaky and counts as failed. A test of the parent
+/// that the log doesn't start has passed where it had passed before. Each other test of the log or
+/// of the parent is outstanding. The log may be of any events in any order.
 ///
 /// # Errors
 ///

@@ -15,8 +15,8 @@ use rec_format::RerunSuites;
 use std::alloc::{AllocError, Global};
 use std::collections::BTreeMap;
 
-/// Says how a test stands: whether it is known to have passed before, or whether it has passed since the
-/// log started it.
+/// Says how a test stands: whether it is known to have passed before, or whether it has passed
+/// since the log started it.
 #[derive(Clone, Copy)]
 pub(crate) enum Standing {
     Known(bool),

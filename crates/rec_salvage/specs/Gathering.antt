@@ -3,7 +3,9 @@ use Rattle.std.specs.Borrow.{Bor}
 use Rattle.std.specs.BTreeSet.{BTreeSet, contains_text}
 use Rattle.std.specs.Global.{Global}
 use Rattle.std.specs.List.{flat_map, list_all, list_any}
-use Rattle.std.specs.Prelude.{◌≡◌, ℕ, ◌+◌, ◌≤◌, Bool, false, true, ◌||◌, List, [], ◌∷◌, ◌++◌, length, map, take, Option, Some, None, MatchOption, is_some, Result, Ok, Err, String, string_bytes}
+use Rattle.std.specs.Prelude.{◌≡◌, ℕ, ◌+◌, ◌≤◌, Bool, false, true, ◌||◌, List, [], ◌∷◌}
+use Rattle.std.specs.Prelude.{◌++◌, length, map, take, Option, Some, None, MatchOption}
+use Rattle.std.specs.Prelude.{is_some, Result, Ok, Err, String, string_bytes}
 use Rattle.std.specs.Str.{bytes_eq}
 use Rattle.rec_container.specs.Container.{Entry, content_of}
 use Rattle.rec_codec.specs.declared.line_events.LineError.TheVariants.{ReadRunLog, ParseEvent}
@@ -43,14 +45,16 @@ are_there es paths = list_all (λ path. is_some (content_of es path)) paths
 
 -- a set has these paths and those that it had
 abbrev pub AddsPaths : List (List ℕ) → BTreeSet (String Global) → BTreeSet (String Global) → Type 0
-AddsPaths paths old new = (path : List ℕ) → contains_text new path ≡ (contains_text old path || is_among paths path)
+AddsPaths paths old new =
+    (path : List ℕ) → contains_text new path ≡ (contains_text old path || is_among paths path)
 
 -- ---- events
 
 -- the number of these events, and the paths of their outputs
 pub record HasGathered (events : List RecordedEvent) (g : Gathered) : Type 0 where
   pub count : g.events ≡ length events
-  pub paths : (path : List ℕ) → contains_text g.paths path ≡ is_among (flat_map event_paths events) path
+  pub paths : (path : List ℕ)
+      → contains_text g.paths path ≡ is_among (flat_map event_paths events) path
 
 -- an event with outputs at these paths was added
 pub record GathersPaths (paths : List (List ℕ)) (old new : Gathered) : Type 0 where
@@ -59,16 +63,23 @@ pub record GathersPaths (paths : List (List ℕ)) (old new : Gathered) : Type 0 
 
 -- whether all paths are there; if so, the event was added, and else nothing
 abbrev pub AddsEvent : List Entry → List (List ℕ) → Gathered → Gathered → Bool → Type 0
-AddsEvent es paths old new there = (there ≡ are_there es paths) × (there ≡ false → new ≡ old) × (there ≡ true → GathersPaths paths old new)
+AddsEvent es paths old new there =
+    (there ≡ are_there es paths) × (there ≡ false → new ≡ old)
+    × (there ≡ true → GathersPaths paths old new)
 
 -- the events of one more line are gathered
 abbrev pub GathersLine : List ℕ → Gathered → Gathered → Type 0
-GathersLine line old new = (events : List RecordedEvent) → HasGathered events old → HasGathered (events ++ line_events line) new
+GathersLine line old new =
+    (events : List RecordedEvent) → HasGathered events old
+    → HasGathered (events ++ line_events line) new
 
 module _ (es : List Entry) where
-  -- whether a line is sound; if so, its events are gathered, of which it has one at most, and else nothing
+  -- whether a line is sound; if so, its events are gathered, of which it has one at most,
+  -- and else nothing
   abbrev pub AddsLine : List ℕ → Gathered → Gathered → Bool → Type 0
-  AddsLine line old new sound = (sound ≡ is_sound es line) × (sound ≡ false → new ≡ old) × (sound ≡ true → GathersLine line old new × (new.events ≤ old.events + 1))
+  AddsLine line old new sound =
+      (sound ≡ is_sound es line) × (sound ≡ false → new ≡ old)
+      × (sound ≡ true → GathersLine line old new × (new.events ≤ old.events + 1))
 
   -- the first line is whole and sound, and its events are gathered
   pub record TakesLine (bytes : List ℕ) (old new : Gathered) (after : List ℕ) : Type 0 where
@@ -85,16 +96,20 @@ module _ (es : List Entry) where
 
   -- what stands after the first line, where that is whole and sound
   abbrev pub TakesFirst : List ℕ → Gathered → Gathered → Option (Bor (List ℕ)) → Type 0
-  TakesFirst bytes old new after = MatchOption after (TakesNone bytes old new) (λ rest. TakesLine bytes old new rest.now)
+  TakesFirst bytes old new after =
+      MatchOption after (TakesNone bytes old new) (λ rest. TakesLine bytes old new rest.now)
 
   -- what was taken of a log are its first sound lines
   pub record HasTaken (log rest : List ℕ) (g : Gathered) : Type 0 where
     pub lines : List (List ℕ)
     pub log_is : log ≡ spelled lines ++ rest
-    pub sound : sound_lines (is_sound es) (whole_lines log) ≡ lines ++ sound_lines (is_sound es) (whole_lines rest)
+    pub sound : sound_lines (is_sound es) (whole_lines log)
+        ≡ lines ++ sound_lines (is_sound es) (whole_lines rest)
     pub gathered : HasGathered (flat_map line_events lines) g
     pub room : g.events + length rest ≤ length log
 
   -- so many bytes of a log are its sound lines, and their events are gathered
   abbrev pub TakesSound : List ℕ → ℕ × Gathered → Type 0
-  TakesSound log taken = (taken.0 ≤ length log) × (take taken.0 log ≡ salvaged_log es log) × HasGathered (salvaged_events es log) taken.1
+  TakesSound log taken =
+      (taken.0 ≤ length log) × (take taken.0 log ≡ salvaged_log es log)
+      × HasGathered (salvaged_events es log) taken.1

@@ -1,6 +1,8 @@
--- Why nothing is salvaged of a store: the metadata is judged part by part, in the order in which it is recorded.
+-- Why nothing is salvaged of a store: the metadata is judged part by part,
+-- in the order in which it is recorded.
 use Rattle.std.specs.Option.{option_or}
-use Rattle.std.specs.Prelude.{◌≡◌, ◌⊎◌, ℕ, Bool, false, List, Option, Some, None, is_some, Result, Ok, Err, ⊤, if◌then◌else◌}
+use Rattle.std.specs.Prelude.{◌≡◌, ◌⊎◌, ℕ, Bool, false, List, Option, Some}
+use Rattle.std.specs.Prelude.{None, is_some, Result, Ok, Err, ⊤, if◌then◌else◌}
 use Rattle.std.specs.Str.{is_utf8}
 use Rattle.serde_json.specs.Data.{Data}
 use Rattle.rec_container.specs.Container.{Entry, content_of}
@@ -10,8 +12,17 @@ use Rattle.rec_forms.specs.Recording.{test_list_form, record_opts_form}
 use Rattle.rec_forms.specs.TextForm.{bytes_form}
 use Rattle.rec_format.specs.RerunForms.{rerun_info_form}
 use Rattle.rec_format.specs.ScopeForms.{recorded_scope_form}
-use Rattle.rec_store.specs.Entries.{build_scope_path, cargo_metadata_path, record_opts_path, rerun_info_path, test_list_path}
-use Rattle.rec_salvage.specs.declared.errors.SalvageError.TheVariants.{BadMagic, MissingMeta, BadMeta, OpenArchive, OpenRunLog, DiskFault, OutOfMemory}
+use Rattle.rec_store.specs.Entries.{build_scope_path, cargo_metadata_path}
+use Rattle.rec_store.specs.Entries.{record_opts_path, rerun_info_path, test_list_path}
+use Rattle.rec_salvage.specs.declared.errors.SalvageError.TheVariants.{
+  BadMagic,
+  MissingMeta,
+  BadMeta,
+  OpenArchive,
+  OpenRunLog,
+  DiskFault,
+  OutOfMemory,
+}
 use Rattle.rec_salvage.specs.declared.errors.SalvageError.{SalvageError}
 
 -- ---- a part
@@ -38,11 +49,15 @@ part_refusal path passes (Some content) = content_refusal path (passes content)
 -- the first part of the metadata that isn't read
 abbrev pub prefix_refusal : List Entry → Option SalvageError
 prefix_refusal es =
-    option_or (part_refusal build_scope_path (stands_for recorded_scope_form) (content_of es build_scope_path))
-    (option_or (maybe_refusal rerun_info_path (stands_for rerun_info_form) (content_of es rerun_info_path))
-    (option_or (part_refusal test_list_path (stands_for test_list_form) (content_of es test_list_path))
+    option_or (part_refusal build_scope_path (stands_for recorded_scope_form)
+    (content_of es build_scope_path))
+    (option_or
+    (maybe_refusal rerun_info_path (stands_for rerun_info_form) (content_of es rerun_info_path))
+    (option_or
+    (part_refusal test_list_path (stands_for test_list_form) (content_of es test_list_path))
     (option_or (part_refusal cargo_metadata_path is_utf8 (content_of es cargo_metadata_path))
-    (part_refusal record_opts_path (stands_for record_opts_form) (content_of es record_opts_path)))))
+    (part_refusal record_opts_path (stands_for record_opts_form)
+    (content_of es record_opts_path)))))
 
 -- ---- answers
 

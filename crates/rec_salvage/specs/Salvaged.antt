@@ -1,6 +1,8 @@
--- What is kept of a run that was stopped: its sound lines, the metadata, and the outputs that these lines name.
+-- What is kept of a run that was stopped: its sound lines, the metadata,
+-- and the outputs that these lines name.
 use Rattle.std.specs.List.{filter, flat_map, list_all}
-use Rattle.std.specs.Prelude.{ℕ, Bool, true, false, List, [], ◌∷◌, ◌++◌, length, Option, Some, None, is_some}
+use Rattle.std.specs.Prelude.{ℕ, Bool, true, false, List, [], ◌∷◌, ◌++◌}
+use Rattle.std.specs.Prelude.{length, Option, Some, None, is_some}
 use Rattle.serde_json.specs.Written.{compact_text}
 use Rattle.rec_container.specs.Container.{Entry, content_of, spell}
 use Rattle.rec_container.specs.Writing.{entry_named}
@@ -73,7 +75,10 @@ module _ (es : List Entry) where
     salvaged_store = kept_entries salvaged_events
 
     abbrev pub salvaged_sizes : RecordedSizes
-    salvaged_sizes = record { log = sizes_of_log (length salvaged_log) (length salvaged_events); store = sizes_of_store salvaged_store }
+    salvaged_sizes = record {
+      log = sizes_of_log (length salvaged_log) (length salvaged_events);
+      store = sizes_of_store salvaged_store;
+    }
 
 -- ---- the bundle
 
@@ -86,7 +91,9 @@ abbrev pub manifest_text : RecordedRunInfo → List ℕ
 manifest_text run = compact_text (manifest_value (manifest_of run))
 
 abbrev pub salvaged_contents : RecordedRunInfo → List Entry → List ℕ → List Entry
-salvaged_contents run es log = bundle_entries (manifest_text (salvaged_run run es log)) (salvaged_log es log) (spell (salvaged_store es log))
+salvaged_contents run es log =
+    bundle_entries (manifest_text (salvaged_run run es log)) (salvaged_log es log)
+    (spell (salvaged_store es log))
 
 abbrev pub salvaged_bundle : RecordedRunInfo → List Entry → List ℕ → List ℕ
 salvaged_bundle run es log = spell (salvaged_contents run es log)

@@ -11,24 +11,28 @@ use Rattle.rec_store.specs.Kept.{event_kept, event_resolved}
 use Rattle.rec_store.specs.Reading.{IsReading, RunRecord}
 use Rattle.rec_salvage.specs.declared.salvaging.Salvaged.{Salvaged}
 use Rattle.rec_salvage.specs.Refusals.{prefix_refusal}
-use Rattle.rec_salvage.specs.Salvaged.{manifest_text, named_entries, salvaged_bundle, salvaged_events, salvaged_run}
+use Rattle.rec_salvage.specs.Salvaged.{manifest_text, named_entries, salvaged_bundle}
+use Rattle.rec_salvage.specs.Salvaged.{salvaged_events, salvaged_run}
 
--- the bundle of this run, log and store, which is short enough for its lengths; its manifest is one that reads back
+-- the bundle of this run, log and store, which is short enough for its lengths;
+-- its manifest is one that reads back
 pub record IsBundle (run : RecordedRunInfo) (log store : List ℕ) (bundle : List ℕ) : Type 0 where
   pub spelled : bundle ≡ spell (bundle_entries (manifest_text run) log store)
   pub short : length bundle < 2 ^ 64
   pub manifest : IsManifest (manifest_of run)
 
--- the bundle of what is kept, by the entries of the store's whole prefix; its manifest is one that reads back
-pub record IsMade (run : RecordedRunInfo) (log : List ℕ) (es : List Entry) (s : Salvaged) : Type 0 where
+-- the bundle of what is kept, by the entries of the store's whole prefix;
+-- its manifest is one that reads back
+pub record IsMade (run : RecordedRunInfo) (log : List ℕ) (es : List Entry)
+    (s : Salvaged) : Type 0 where
   pub bundle : s.bundle ≡ salvaged_bundle run es log
   pub short : length s.bundle < 2 ^ 64
   pub manifest : IsManifest (manifest_of (salvaged_run run es log))
   pub events : s.events ≡ length (salvaged_events es log)
   pub outputs : s.outputs ≡ length (named_entries es (salvaged_events es log))
 
--- the bundle of what is kept of a run: it is read, its run is the run with the sizes of what is kept, and its events are
--- the salvaged ones with what the prefix has of their outputs
+-- the bundle of what is kept of a run: it is read, its run is the run with the sizes of what is
+-- kept, and its events are the salvaged ones with what the prefix has of their outputs
 pub record Salvages (run : RecordedRunInfo) (log store : List ℕ) (s : Salvaged) : Type 0 where
   pub entries : List Entry
   pub prefix : IsWholePrefix store entries

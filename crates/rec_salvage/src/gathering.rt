@@ -1,8 +1,10 @@
 //! What is gathered of a log's sound lines.
 ghost use Rattle.std.specs.List.{list_all};
-ghost use Rattle.std.specs.Prelude.{◌≡◌, ◌+◌, ◌<◌, ◌^◌, [], IfOk, OnOk, is_some, length, map, string_bytes};
+ghost use Rattle.std.specs.Prelude.{◌≡◌, ◌+◌, ◌<◌, ◌^◌, [], IfOk, OnOk};
+ghost use Rattle.std.specs.Prelude.{is_some, length, map, string_bytes};
 ghost use Rattle.rec_container.specs.Container.{content_of};
-ghost use Rattle.rec_salvage.specs.Gathering.{AddsEvent, AddsLine, AddsPaths, HasGathered, TakesFirst, TakesSound};
+ghost use Rattle.rec_salvage.specs.Gathering.{AddsEvent, AddsLine, AddsPaths};
+ghost use Rattle.rec_salvage.specs.Gathering.{HasGathered, TakesFirst, TakesSound};
 
 use crate::log_lines::{LogLine, read_log_line, split_whole_line};
 use rec_container::Container;
@@ -28,7 +30,8 @@ impl Gathered {
         }
     }
 
-    /// Takes the first line of a log, where it is whole and sound, and returns what stands after it.
+    /// Takes the first line of a log, where it is whole and sound,
+    /// and returns what stands after it.
     fn take_line<'a>(
         &mut self,
         alloc: Global,
@@ -67,8 +70,8 @@ impl Gathered {
         }
     }
 
-    /// Adds an event whose outputs stand at these paths, where all are in the prefix, and returns whether
-    /// they are.
+    /// Adds an event whose outputs stand at these paths, where all are in the prefix, and returns
+    /// whether they are.
     fn add_event(&mut self, prefix: &Container<'_>, paths: Vec<String>) -> Result<bool, AllocError>
         requires { self.old.events + 1 < 2 ^ 64 }
         ensures { IfOk result
@@ -101,8 +104,8 @@ fn add_paths(set: &mut BTreeSet<String>, paths: Vec<String>) -> Result<(), Alloc
     Ok(())
 }
 
-/// Takes the sound lines that a log begins with, and returns how many bytes they have and what was gathered of
-/// them.
+/// Takes the sound lines that a log begins with, and returns how many bytes they have and what was
+/// gathered of them.
 pub(crate) fn take_lines(
     alloc: Global,
     prefix: &Container<'_>,

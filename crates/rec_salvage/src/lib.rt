@@ -1,5 +1,5 @@
-//! Salvage of a recording that was stopped: a bundle of the events that stand whole in its log, with the outputs that
-//! they name.
+//! Salvage of a recording that was stopped: a bundle of the events that stand whole in its log,
+//! with the outputs that they name.
 #![tactic(auto)]
 
 mod errors;

@@ -5,7 +5,8 @@ ghost use Rattle.rec_container.specs.Container.{content_of};
 ghost use Rattle.rec_format.specs.RerunForms.{rerun_info_form};
 ghost use Rattle.rec_store.specs.Entries.{rerun_info_path};
 ghost use Rattle.rec_salvage.specs.declared.errors.SalvageError.TheVariants.{BadMeta, MissingMeta};
-ghost use Rattle.rec_salvage.specs.Refusals.{IsRefusal, Judges, content_refusal, prefix_refusal, maybe_refusal, part_refusal, stands_for};
+ghost use Rattle.rec_salvage.specs.Refusals.{IsRefusal, Judges, content_refusal, prefix_refusal};
+ghost use Rattle.rec_salvage.specs.Refusals.{maybe_refusal, part_refusal, stands_for};
 
 use crate::errors::SalvageError;
 use rec_container::Container;

@@ -34,8 +34,8 @@ pub struct Salvaged {
     pub outputs: u64,
 }
 
-/// Makes the bundle of what is left of a recording that was stopped at any moment: of its log, and of its store,
-/// which may both be cut off.
+/// Makes the bundle of what is left of a recording that was stopped at any moment: of its log, and
+/// of its store, which may both be cut off.
 ///
 /// The log's longest prefix of sound lines is kept as it stands. A line is sound where it ends in
 /// LF, is UTF-8, and is blank or an event whose outputs all stand whole in the store. The store
@@ -46,8 +46,9 @@ pub struct Salvaged {
 /// # Errors
 ///
 /// - `BadMagic` exactly where the store doesn't begin with `nxtcont1`.
-/// - `MissingMeta` and `BadMeta` exactly where build scope, rerun information, test list, cargo's metadata or record
-///   options, which are judged in this order, isn't there whole, or stands for nothing. Rerun information may be missing.
+/// - `MissingMeta` and `BadMeta` exactly where build scope, rerun information, test list, cargo's
+///   metadata or record options, which are judged in this order, isn't there whole, or stands for
+///   nothing. Rerun information may be missing.
 /// - `OutOfMemory` if memory runs out.
 pub fn salvage(
     alloc: Global,

@@ -26,8 +26,8 @@ pub(crate) struct KeptStore {
     pub(crate) outputs: u64,
 }
 
-/// Makes a store of a prefix's metadata, in the order of a recording, and of the outputs of what was gathered, in
-/// the prefix's order. No content is copied before the store is written.
+/// Makes a store of a prefix's metadata, in the order of a recording, and of the outputs of what
+/// was gathered, in the prefix's order. No content is copied before the store is written.
 pub(crate) fn keep_store(
     alloc: Global,
     prefix: &Container<'_>,

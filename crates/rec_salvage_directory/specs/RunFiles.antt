@@ -5,7 +5,15 @@ use Rattle.rec_disk.specs.Disks.{Files}
 use Rattle.rec_format.specs.declared.run.RecordedRunInfo.{RecordedRunInfo}
 use Rattle.rec_directory.specs.Files.{IsMissing, IsWhole}
 use Rattle.rec_directory.specs.Paths.{path_of_log, path_of_store}
-use Rattle.rec_salvage.specs.declared.errors.SalvageError.TheVariants.{BadMagic, MissingMeta, BadMeta, OpenArchive, OpenRunLog, DiskFault, OutOfMemory}
+use Rattle.rec_salvage.specs.declared.errors.SalvageError.TheVariants.{
+  BadMagic,
+  MissingMeta,
+  BadMeta,
+  OpenArchive,
+  OpenRunLog,
+  DiskFault,
+  OutOfMemory,
+}
 use Rattle.rec_salvage.specs.declared.errors.SalvageError.{SalvageError}
 use Rattle.rec_salvage.specs.declared.salvaging.Salvaged.{Salvaged}
 use Rattle.rec_salvage.specs.Refusals.{IsRefused}
@@ -52,18 +60,23 @@ LogUnread files dir OutOfMemory = Unit {0}
 
 -- the store was read, and the log wasn't
 abbrev pub OnlyLogUnread : Option Files → List ℕ → SalvageError → Type 0
-OnlyLogUnread files dir e = (store : List ℕ) × IsWhole files (path_of_store dir) store × LogUnread files dir e
+OnlyLogUnread files dir e =
+    (store : List ℕ) × IsWhole files (path_of_store dir) store × LogUnread files dir e
 
 -- both were read, and the store is refused
 abbrev pub StoreRefused : Option Files → List ℕ → SalvageError → Type 0
-StoreRefused files dir e = (store : List ℕ) × (log : List ℕ) × IsWhole files (path_of_store dir) store × IsWhole files (path_of_log dir) log × IsRefused store e
+StoreRefused files dir e =
+    (store : List ℕ) × (log : List ℕ) × IsWhole files (path_of_store dir) store
+    × IsWhole files (path_of_log dir) log × IsRefused store e
 
 -- why nothing is salvaged: of store, log and the store's contents the first that isn't there
 abbrev pub IsRefusedIn : Option Files → List ℕ → SalvageError → Type 0
-IsRefusedIn files dir e = StoreUnread files dir e ⊎ OnlyLogUnread files dir e ⊎ StoreRefused files dir e
+IsRefusedIn files dir e =
+    StoreUnread files dir e ⊎ OnlyLogUnread files dir e ⊎ StoreRefused files dir e
 
 -- both were read, and this is salvaged of them
-pub record SalvagesIn (files : Option Files) (run : RecordedRunInfo) (dir : List ℕ) (s : Salvaged) : Type 0 where
+pub record SalvagesIn (files : Option Files) (run : RecordedRunInfo) (dir : List ℕ)
+    (s : Salvaged) : Type 0 where
   pub log : List ℕ
   pub store : List ℕ
   pub store_read : IsWhole files (path_of_store dir) store

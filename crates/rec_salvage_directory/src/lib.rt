@@ -4,7 +4,8 @@
 ghost use Rattle.std.specs.Prelude.{◌≡◌, IfOk, IfErr};
 ghost use Rattle.rec_directory.specs.Files.{IsWhole};
 ghost use Rattle.rec_directory.specs.Paths.{path_of_log, path_of_store};
-ghost use Rattle.rec_salvage_directory.specs.RunFiles.{HasCause, IsRefusedIn, LogUnread, SalvagesIn, StoreUnread};
+ghost use Rattle.rec_salvage_directory.specs.RunFiles.{HasCause, IsRefusedIn, LogUnread};
+ghost use Rattle.rec_salvage_directory.specs.RunFiles.{SalvagesIn, StoreUnread};
 
 use rec_directory::{join, read_file};
 use rec_disk::{Disk, DiskError};
@@ -13,8 +14,8 @@ use rec_format::{RUN_LOG_FILE_NAME, RecordedRunInfo, STORE_ZIP_FILE_NAME};
 use rec_salvage::{SalvageError, Salvaged, salvage};
 use std::alloc::{AllocError, Global};
 
-/// Makes the bundle of what is left of a recording in a run's directory, as [`salvage`] does. The store is read first,
-/// and then the log.
+/// Makes the bundle of what is left of a recording in a run's directory, as [`salvage`] does. The
+/// store is read first, and then the log.
 ///
 /// # Errors
 ///

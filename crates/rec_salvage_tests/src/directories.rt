@@ -23,7 +23,8 @@ const SOUND: Case = Case {
     store: true,
     log: true,
     fail_at: 0,
-    want: "events=0 outputs=0 meta/build-scope.json meta/test-list.json meta/cargo-metadata.json meta/record-opts.json",
+    want: "events=0 outputs=0 meta/build-scope.json meta/test-list.json meta/cargo-metadata.json \
+        meta/record-opts.json",
 };
 
 const CASES: [Case; 8] = [
@@ -69,7 +70,8 @@ const CASES: [Case; 8] = [
     },
 ];
 
-/// Writes down the numbers of events and outputs that are salvaged, and the names of the store's entries.
+/// Writes down the numbers of events and outputs that are salvaged,
+/// and the names of the store's entries.
 fn write_salvaged(alloc: Global, salvaged: &Salvaged, text: &mut String) -> Result<(), Fail> {
     let (events, outputs) = (salvaged.events, salvaged.outputs);
     write!(text, "events={events} outputs={outputs}")?;

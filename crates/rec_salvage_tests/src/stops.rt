@@ -28,7 +28,8 @@ fn recorder(alloc: Global, log_fails: u64, store_fails: u64) -> Result<Recorder,
     Ok(RunRecorder::new(alloc, store, log, &Sha256Namer, 10_000))
 }
 
-/// How many of the session's events are accepted, up to the first that isn't, or none where the metadata isn't.
+/// How many of the session's events are accepted, up to the first that isn't,
+/// or none where the metadata isn't.
 fn accepted(alloc: Global, recorder: &mut Recorder) -> Result<Option<u64>, Fail> {
     if !takes_scope(alloc, recorder)? || !takes_metadata(alloc, recorder)? {
         return Ok(None);
@@ -86,7 +87,8 @@ fn gives(
     Ok(salvaged(alloc, end.log.bytes(), end.store.bytes())? == accepted)
 }
 
-/// Whether all that was accepted is salvaged where these calls of the sinks fail, from 1, and whether none did.
+/// Whether all that was accepted is salvaged where these calls of the sinks fail, from 1,
+/// and whether none did.
 fn stop(alloc: Global, log_fails: u64, store_fails: u64) -> Result<(bool, bool), Fail> {
     let mut recorder = recorder(alloc, log_fails, store_fails)?;
     let accepted = accepted(alloc, &mut recorder);

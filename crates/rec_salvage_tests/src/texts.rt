@@ -2,34 +2,188 @@
 
 /// The manifest of a run with one event, of 138 bytes, and no outputs.
 pub(crate) fn manifest() -> &'static str {
-    r#"{"format-version":{"major":1,"minor":1},"run":{"cli-args":[],"env-vars":{},"last-written-at":{"nanos":0,"offset":0,"secs":1011},"nextest-version":"0.9.111","run-id":"550e8400-e29b-41d4-a716-446655440000","sizes":{"log":{"compressed":138,"entries":1,"uncompressed":138},"store":{"compressed":515,"entries":4,"uncompressed":377}},"started-at":{"nanos":0,"offset":0,"secs":1000},"status":{"status":"incomplete"},"store-format-minor-version":1,"store-format-version":3}}"#
+    concat!(
+        r#"{"format-version":{"major":1,"minor":1},"#,
+        r#""run":{"cli-args":[],"env-vars":{},"#,
+        r#""last-written-at":{"nanos":0,"offset":0,"secs":1011},"nextest-version":"0.9.111","#,
+        r#""run-id":"550e8400-e29b-41d4-a716-446655440000","#,
+        r#""sizes":{"log":{"compressed":138,"entries":1,"uncompressed":138},"#,
+        r#""store":{"compressed":515,"entries":4,"uncompressed":377}},"#,
+        r#""started-at":{"nanos":0,"offset":0,"secs":1000},"status":{"status":"incomplete"},"#,
+        r#""store-format-minor-version":1,"store-format-version":3}}"#
+    )
 }
 
 /// The build scope of the run.
 pub(crate) fn scope() -> &'static str {
-    r#"{"build-kind":"cargo","scope":{"features":{"all-features":false,"features":[],"no-default-features":false},"packages":{"exclude":[],"specs":[],"workspace":false},"targets":{"all-targets":false,"benches":{"all":false,"names":[]},"bins":{"all":false,"names":[]},"examples":{"all":false,"names":[]},"lib":false,"tests":{"all":false,"names":[]}}}}"#
+    concat!(
+        r#"{"build-kind":"cargo","scope":{"features":{"all-features":false,"features":[],"#,
+        r#""no-default-features":false},"packages":{"exclude":[],"specs":[],"workspace":false},"#,
+        r#""targets":{"all-targets":false,"benches":{"all":false,"names":[]},"#,
+        r#""bins":{"all":false,"names":[]},"examples":{"all":false,"names":[]},"lib":false,"#,
+        r#""tests":{"all":false,"names":[]}}}}"#
+    )
 }
 
 /// The line of a run that is paused.
 pub(crate) fn paused() -> &'static str {
-    r#"{"elapsed":{"nanos":0,"secs":2},"kind":"run-paused","running":1,"setup-scripts-running":0,"timestamp":{"nanos":0,"offset":0,"secs":1002}}"#
+    concat!(
+        r#"{"elapsed":{"nanos":0,"secs":2},"kind":"run-paused","running":1,"#,
+        r#""setup-scripts-running":0,"timestamp":{"nanos":0,"offset":0,"secs":1002}}"#
+    )
 }
 
-/// The events of a session with a pause and a retry, in which `abc` and then `hello` are the outputs: they are stored
-/// with the fourth and with the eighth event.
+/// The events of a session with a pause and a retry, in which `abc` and then `hello` are the
+/// outputs: they are stored with the fourth and with the eighth event.
 pub(crate) fn session() -> &'static str {
-    r#"{"timestamp":{"secs":1000,"nanos":0,"offset":0},"elapsed":{"secs":0,"nanos":0},"kind":"run-started","run-id":"550e8400-e29b-41d4-a716-446655440000","profile-name":"default","cli-args":[]}
-{"timestamp":{"secs":1000,"nanos":0,"offset":0},"elapsed":{"secs":0,"nanos":0},"kind":"test-started","test-instance":{"binary-id":"alpha::a","test-name":"t1"},"slot-assignment":{"global-slot":0,"test-group":"@global"},"current-stats":{"initial-run-count":4,"finished-count":0,"setup-scripts-initial-count":0,"setup-scripts-finished-count":0,"setup-scripts-passed":0,"setup-scripts-failed":0,"setup-scripts-exec-failed":0,"setup-scripts-timed-out":0,"passed":0,"passed-slow":0,"passed-timed-out":0,"flaky":0,"failed":0,"failed-slow":0,"failed-timed-out":0,"leaky":0,"leaky-failed":0,"exec-failed":0,"skipped":0},"running":1,"command-line":[]}
-{"timestamp":{"secs":1001,"nanos":0,"offset":0},"elapsed":{"secs":1,"nanos":0},"kind":"test-started","test-instance":{"binary-id":"alpha::a","test-name":"t2"},"slot-assignment":{"global-slot":1,"test-group":"@global"},"current-stats":{"initial-run-count":4,"finished-count":0,"setup-scripts-initial-count":0,"setup-scripts-finished-count":0,"setup-scripts-passed":0,"setup-scripts-failed":0,"setup-scripts-exec-failed":0,"setup-scripts-timed-out":0,"passed":0,"passed-slow":0,"passed-timed-out":0,"flaky":0,"failed":0,"failed-slow":0,"failed-timed-out":0,"leaky":0,"leaky-failed":0,"exec-failed":0,"skipped":0},"running":2,"command-line":[]}
-{"timestamp":{"secs":1002,"nanos":0,"offset":0},"elapsed":{"secs":2,"nanos":0},"kind":"test-finished","test-instance":{"binary-id":"alpha::a","test-name":"t1"},"success-output":"never","failure-output":"immediate","junit-store-success-output":false,"junit-store-failure-output":true,"junit-flaky-fail-status":"failure","run-statuses":{"statuses":[{"retry-data":{"attempt":1,"total-attempts":1},"output":{"output":{"output":{"split":{"stdout":"616263","stderr":""}}}},"result":"pass","start-time":{"secs":1000,"nanos":0,"offset":0},"time-taken":{"secs":2,"nanos":0},"is-slow":false,"delay-before-start":{"secs":0,"nanos":0}}],"flaky-result":"pass"},"current-stats":{"initial-run-count":4,"finished-count":1,"setup-scripts-initial-count":0,"setup-scripts-finished-count":0,"setup-scripts-passed":0,"setup-scripts-failed":0,"setup-scripts-exec-failed":0,"setup-scripts-timed-out":0,"passed":1,"passed-slow":0,"passed-timed-out":0,"flaky":0,"failed":0,"failed-slow":0,"failed-timed-out":0,"leaky":0,"leaky-failed":0,"exec-failed":0,"skipped":0},"running":1}
-{"timestamp":{"secs":1002,"nanos":0,"offset":0},"elapsed":{"secs":2,"nanos":0},"kind":"test-started","test-instance":{"binary-id":"beta::b","test-name":"t3"},"slot-assignment":{"global-slot":0,"test-group":"@global"},"current-stats":{"initial-run-count":4,"finished-count":1,"setup-scripts-initial-count":0,"setup-scripts-finished-count":0,"setup-scripts-passed":0,"setup-scripts-failed":0,"setup-scripts-exec-failed":0,"setup-scripts-timed-out":0,"passed":1,"passed-slow":0,"passed-timed-out":0,"flaky":0,"failed":0,"failed-slow":0,"failed-timed-out":0,"leaky":0,"leaky-failed":0,"exec-failed":0,"skipped":0},"running":2,"command-line":[]}
-{"timestamp":{"secs":1003,"nanos":0,"offset":0},"elapsed":{"secs":3,"nanos":0},"kind":"run-paused","setup-scripts-running":0,"running":2}
-{"timestamp":{"secs":1006,"nanos":0,"offset":0},"elapsed":{"secs":6,"nanos":0},"kind":"run-continued","setup-scripts-running":0,"running":2}
-{"timestamp":{"secs":1007,"nanos":0,"offset":0},"elapsed":{"secs":7,"nanos":0},"kind":"test-attempt-failed-will-retry","test-instance":{"binary-id":"alpha::a","test-name":"t2"},"run-status":{"retry-data":{"attempt":1,"total-attempts":2},"output":{"output":{"output":{"split":{"stdout":"68656c6c6f","stderr":""}}}},"result":{"fail":{"failure":{"exit-code":1},"leaked":false}},"start-time":{"secs":1001,"nanos":0,"offset":0},"time-taken":{"secs":6,"nanos":0},"is-slow":false,"delay-before-start":{"secs":0,"nanos":0}},"delay-before-next-attempt":{"secs":1,"nanos":0},"failure-output":"immediate","running":1}
-{"timestamp":{"secs":1008,"nanos":0,"offset":0},"elapsed":{"secs":8,"nanos":0},"kind":"test-retry-started","test-instance":{"binary-id":"alpha::a","test-name":"t2"},"slot-assignment":{"global-slot":1,"test-group":"@global"},"retry-data":{"attempt":2,"total-attempts":2},"running":2,"command-line":[]}
-{"timestamp":{"secs":1009,"nanos":0,"offset":0},"elapsed":{"secs":9,"nanos":0},"kind":"test-finished","test-instance":{"binary-id":"beta::b","test-name":"t3"},"success-output":"never","failure-output":"immediate","junit-store-success-output":false,"junit-store-failure-output":true,"junit-flaky-fail-status":"failure","run-statuses":{"statuses":[{"retry-data":{"attempt":1,"total-attempts":1},"output":{"output":{"output":{"split":{"stdout":"616263","stderr":""}}}},"result":"pass","start-time":{"secs":1002,"nanos":0,"offset":0},"time-taken":{"secs":7,"nanos":0},"is-slow":false,"delay-before-start":{"secs":0,"nanos":0}}],"flaky-result":"pass"},"current-stats":{"initial-run-count":4,"finished-count":2,"setup-scripts-initial-count":0,"setup-scripts-finished-count":0,"setup-scripts-passed":0,"setup-scripts-failed":0,"setup-scripts-exec-failed":0,"setup-scripts-timed-out":0,"passed":2,"passed-slow":0,"passed-timed-out":0,"flaky":0,"failed":0,"failed-slow":0,"failed-timed-out":0,"leaky":0,"leaky-failed":0,"exec-failed":0,"skipped":0},"running":1}
-{"timestamp":{"secs":1010,"nanos":0,"offset":0},"elapsed":{"secs":10,"nanos":0},"kind":"test-finished","test-instance":{"binary-id":"alpha::a","test-name":"t2"},"success-output":"never","failure-output":"immediate","junit-store-success-output":false,"junit-store-failure-output":true,"junit-flaky-fail-status":"failure","run-statuses":{"statuses":[{"retry-data":{"attempt":1,"total-attempts":2},"output":{"output":{"output":{"split":{"stdout":"68656c6c6f","stderr":""}}}},"result":{"fail":{"failure":{"exit-code":1},"leaked":false}},"start-time":{"secs":1001,"nanos":0,"offset":0},"time-taken":{"secs":6,"nanos":0},"is-slow":false,"delay-before-start":{"secs":0,"nanos":0}},{"retry-data":{"attempt":2,"total-attempts":2},"output":{"output":{"output":{"split":{"stdout":"616263","stderr":""}}}},"result":"pass","start-time":{"secs":1008,"nanos":0,"offset":0},"time-taken":{"secs":2,"nanos":0},"is-slow":false,"delay-before-start":{"secs":1,"nanos":0}}],"flaky-result":"pass"},"current-stats":{"initial-run-count":4,"finished-count":3,"setup-scripts-initial-count":0,"setup-scripts-finished-count":0,"setup-scripts-passed":0,"setup-scripts-failed":0,"setup-scripts-exec-failed":0,"setup-scripts-timed-out":0,"passed":3,"passed-slow":0,"passed-timed-out":0,"flaky":1,"failed":0,"failed-slow":0,"failed-timed-out":0,"leaky":0,"leaky-failed":0,"exec-failed":0,"skipped":0},"running":0}
-{"timestamp":{"secs":1010,"nanos":0,"offset":0},"elapsed":{"secs":10,"nanos":0},"kind":"test-started","test-instance":{"binary-id":"beta::b","test-name":"t4"},"slot-assignment":{"global-slot":1,"test-group":"@global"},"current-stats":{"initial-run-count":4,"finished-count":3,"setup-scripts-initial-count":0,"setup-scripts-finished-count":0,"setup-scripts-passed":0,"setup-scripts-failed":0,"setup-scripts-exec-failed":0,"setup-scripts-timed-out":0,"passed":3,"passed-slow":0,"passed-timed-out":0,"flaky":1,"failed":0,"failed-slow":0,"failed-timed-out":0,"leaky":0,"leaky-failed":0,"exec-failed":0,"skipped":0},"running":1,"command-line":[]}
-{"timestamp":{"secs":1011,"nanos":0,"offset":0},"elapsed":{"secs":11,"nanos":0},"kind":"test-finished","test-instance":{"binary-id":"beta::b","test-name":"t4"},"success-output":"never","failure-output":"immediate","junit-store-success-output":false,"junit-store-failure-output":true,"junit-flaky-fail-status":"failure","run-statuses":{"statuses":[{"retry-data":{"attempt":1,"total-attempts":1},"output":{"output":{"output":{"split":{"stdout":"616263","stderr":""}}}},"result":"pass","start-time":{"secs":1010,"nanos":0,"offset":0},"time-taken":{"secs":1,"nanos":0},"is-slow":false,"delay-before-start":{"secs":0,"nanos":0}}],"flaky-result":"pass"},"current-stats":{"initial-run-count":4,"finished-count":4,"setup-scripts-initial-count":0,"setup-scripts-finished-count":0,"setup-scripts-passed":0,"setup-scripts-failed":0,"setup-scripts-exec-failed":0,"setup-scripts-timed-out":0,"passed":4,"passed-slow":0,"passed-timed-out":0,"flaky":1,"failed":0,"failed-slow":0,"failed-timed-out":0,"leaky":0,"leaky-failed":0,"exec-failed":0,"skipped":0},"running":0}
-{"timestamp":{"secs":1011,"nanos":0,"offset":0},"elapsed":{"secs":11,"nanos":0},"kind":"run-finished","run-id":"550e8400-e29b-41d4-a716-446655440000","start-time":{"secs":1000,"nanos":0,"offset":0},"run-elapsed":{"secs":11,"nanos":0},"run-stats":{"single":{"initial-run-count":4,"finished-count":4,"setup-scripts-initial-count":0,"setup-scripts-finished-count":0,"setup-scripts-passed":0,"setup-scripts-failed":0,"setup-scripts-exec-failed":0,"setup-scripts-timed-out":0,"passed":4,"passed-slow":0,"passed-timed-out":0,"flaky":1,"failed":0,"failed-slow":0,"failed-timed-out":0,"leaky":0,"leaky-failed":0,"exec-failed":0,"skipped":0}}}"#
+    concat!(
+        r#"{"timestamp":{"secs":1000,"nanos":0,"offset":0},"elapsed":{"secs":0,"nanos":0},"#,
+        r#""kind":"run-started","run-id":"550e8400-e29b-41d4-a716-446655440000","#,
+        r#""profile-name":"default","cli-args":[]}"#,
+        "\n",
+        r#"{"timestamp":{"secs":1000,"nanos":0,"offset":0},"elapsed":{"secs":0,"nanos":0},"#,
+        r#""kind":"test-started","test-instance":{"binary-id":"alpha::a","test-name":"t1"},"#,
+        r#""slot-assignment":{"global-slot":0,"test-group":"@global"},"#,
+        r#""current-stats":{"initial-run-count":4,"finished-count":0,"#,
+        r#""setup-scripts-initial-count":0,"setup-scripts-finished-count":0,"#,
+        r#""setup-scripts-passed":0,"setup-scripts-failed":0,"setup-scripts-exec-failed":0,"#,
+        r#""setup-scripts-timed-out":0,"passed":0,"passed-slow":0,"passed-timed-out":0,"#,
+        r#""flaky":0,"failed":0,"failed-slow":0,"failed-timed-out":0,"leaky":0,"leaky-failed":0,"#,
+        r#""exec-failed":0,"skipped":0},"running":1,"command-line":[]}"#,
+        "\n",
+        r#"{"timestamp":{"secs":1001,"nanos":0,"offset":0},"elapsed":{"secs":1,"nanos":0},"#,
+        r#""kind":"test-started","test-instance":{"binary-id":"alpha::a","test-name":"t2"},"#,
+        r#""slot-assignment":{"global-slot":1,"test-group":"@global"},"#,
+        r#""current-stats":{"initial-run-count":4,"finished-count":0,"#,
+        r#""setup-scripts-initial-count":0,"setup-scripts-finished-count":0,"#,
+        r#""setup-scripts-passed":0,"setup-scripts-failed":0,"setup-scripts-exec-failed":0,"#,
+        r#""setup-scripts-timed-out":0,"passed":0,"passed-slow":0,"passed-timed-out":0,"#,
+        r#""flaky":0,"failed":0,"failed-slow":0,"failed-timed-out":0,"leaky":0,"leaky-failed":0,"#,
+        r#""exec-failed":0,"skipped":0},"running":2,"command-line":[]}"#,
+        "\n",
+        r#"{"timestamp":{"secs":1002,"nanos":0,"offset":0},"elapsed":{"secs":2,"nanos":0},"#,
+        r#""kind":"test-finished","test-instance":{"binary-id":"alpha::a","test-name":"t1"},"#,
+        r#""success-output":"never","failure-output":"immediate","#,
+        r#""junit-store-success-output":false,"junit-store-failure-output":true,"#,
+        r#""junit-flaky-fail-status":"failure","#,
+        r#""run-statuses":{"statuses":[{"retry-data":{"attempt":1,"total-attempts":1},"#,
+        r#""output":{"output":{"output":{"split":{"stdout":"616263","stderr":""}}}},"#,
+        r#""result":"pass","start-time":{"secs":1000,"nanos":0,"offset":0},"#,
+        r#""time-taken":{"secs":2,"nanos":0},"is-slow":false,"#,
+        r#""delay-before-start":{"secs":0,"nanos":0}}],"flaky-result":"pass"},"#,
+        r#""current-stats":{"initial-run-count":4,"finished-count":1,"#,
+        r#""setup-scripts-initial-count":0,"setup-scripts-finished-count":0,"#,
+        r#""setup-scripts-passed":0,"setup-scripts-failed":0,"setup-scripts-exec-failed":0,"#,
+        r#""setup-scripts-timed-out":0,"passed":1,"passed-slow":0,"passed-timed-out":0,"#,
+        r#""flaky":0,"failed":0,"failed-slow":0,"failed-timed-out":0,"leaky":0,"leaky-failed":0,"#,
+        r#""exec-failed":0,"skipped":0},"running":1}"#,
+        "\n",
+        r#"{"timestamp":{"secs":1002,"nanos":0,"offset":0},"elapsed":{"secs":2,"nanos":0},"#,
+        r#""kind":"test-started","test-instance":{"binary-id":"beta::b","test-name":"t3"},"#,
+        r#""slot-assignment":{"global-slot":0,"test-group":"@global"},"#,
+        r#""current-stats":{"initial-run-count":4,"finished-count":1,"#,
+        r#""setup-scripts-initial-count":0,"setup-scripts-finished-count":0,"#,
+        r#""setup-scripts-passed":0,"setup-scripts-failed":0,"setup-scripts-exec-failed":0,"#,
+        r#""setup-scripts-timed-out":0,"passed":1,"passed-slow":0,"passed-timed-out":0,"#,
+        r#""flaky":0,"failed":0,"failed-slow":0,"failed-timed-out":0,"leaky":0,"leaky-failed":0,"#,
+        r#""exec-failed":0,"skipped":0},"running":2,"command-line":[]}"#,
+        "\n",
+        r#"{"timestamp":{"secs":1003,"nanos":0,"offset":0},"elapsed":{"secs":3,"nanos":0},"#,
+        r#""kind":"run-paused","setup-scripts-running":0,"running":2}"#,
+        "\n",
+        r#"{"timestamp":{"secs":1006,"nanos":0,"offset":0},"elapsed":{"secs":6,"nanos":0},"#,
+        r#""kind":"run-continued","setup-scripts-running":0,"running":2}"#,
+        "\n",
+        r#"{"timestamp":{"secs":1007,"nanos":0,"offset":0},"elapsed":{"secs":7,"nanos":0},"#,
+        r#""kind":"test-attempt-failed-will-retry","#,
+        r#""test-instance":{"binary-id":"alpha::a","test-name":"t2"},"#,
+        r#""run-status":{"retry-data":{"attempt":1,"total-attempts":2},"#,
+        r#""output":{"output":{"output":{"split":{"stdout":"68656c6c6f","stderr":""}}}},"#,
+        r#""result":{"fail":{"failure":{"exit-code":1},"leaked":false}},"#,
+        r#""start-time":{"secs":1001,"nanos":0,"offset":0},"time-taken":{"secs":6,"nanos":0},"#,
+        r#""is-slow":false,"delay-before-start":{"secs":0,"nanos":0}},"#,
+        r#""delay-before-next-attempt":{"secs":1,"nanos":0},"failure-output":"immediate","#,
+        r#""running":1}"#,
+        "\n",
+        r#"{"timestamp":{"secs":1008,"nanos":0,"offset":0},"elapsed":{"secs":8,"nanos":0},"#,
+        r#""kind":"test-retry-started","test-instance":{"binary-id":"alpha::a","#,
+        r#""test-name":"t2"},"slot-assignment":{"global-slot":1,"test-group":"@global"},"#,
+        r#""retry-data":{"attempt":2,"total-attempts":2},"running":2,"command-line":[]}"#,
+        "\n",
+        r#"{"timestamp":{"secs":1009,"nanos":0,"offset":0},"elapsed":{"secs":9,"nanos":0},"#,
+        r#""kind":"test-finished","test-instance":{"binary-id":"beta::b","test-name":"t3"},"#,
+        r#""success-output":"never","failure-output":"immediate","#,
+        r#""junit-store-success-output":false,"junit-store-failure-output":true,"#,
+        r#""junit-flaky-fail-status":"failure","#,
+        r#""run-statuses":{"statuses":[{"retry-data":{"attempt":1,"total-attempts":1},"#,
+        r#""output":{"output":{"output":{"split":{"stdout":"616263","stderr":""}}}},"#,
+        r#""result":"pass","start-time":{"secs":1002,"nanos":0,"offset":0},"#,
+        r#""time-taken":{"secs":7,"nanos":0},"is-slow":false,"#,
+        r#""delay-before-start":{"secs":0,"nanos":0}}],"flaky-result":"pass"},"#,
+        r#""current-stats":{"initial-run-count":4,"finished-count":2,"#,
+        r#""setup-scripts-initial-count":0,"setup-scripts-finished-count":0,"#,
+        r#""setup-scripts-passed":0,"setup-scripts-failed":0,"setup-scripts-exec-failed":0,"#,
+        r#""setup-scripts-timed-out":0,"passed":2,"passed-slow":0,"passed-timed-out":0,"#,
+        r#""flaky":0,"failed":0,"failed-slow":0,"failed-timed-out":0,"leaky":0,"leaky-failed":0,"#,
+        r#""exec-failed":0,"skipped":0},"running":1}"#,
+        "\n",
+        r#"{"timestamp":{"secs":1010,"nanos":0,"offset":0},"elapsed":{"secs":10,"nanos":0},"#,
+        r#""kind":"test-finished","test-instance":{"binary-id":"alpha::a","test-name":"t2"},"#,
+        r#""success-output":"never","failure-output":"immediate","#,
+        r#""junit-store-success-output":false,"junit-store-failure-output":true,"#,
+        r#""junit-flaky-fail-status":"failure","#,
+        r#""run-statuses":{"statuses":[{"retry-data":{"attempt":1,"total-attempts":2},"#,
+        r#""output":{"output":{"output":{"split":{"stdout":"68656c6c6f","stderr":""}}}},"#,
+        r#""result":{"fail":{"failure":{"exit-code":1},"leaked":false}},"#,
+        r#""start-time":{"secs":1001,"nanos":0,"offset":0},"time-taken":{"secs":6,"nanos":0},"#,
+        r#""is-slow":false,"delay-before-start":{"secs":0,"nanos":0}},"#,
+        r#"{"retry-data":{"attempt":2,"total-attempts":2},"#,
+        r#""output":{"output":{"output":{"split":{"stdout":"616263","stderr":""}}}},"#,
+        r#""result":"pass","start-time":{"secs":1008,"nanos":0,"offset":0},"#,
+        r#""time-taken":{"secs":2,"nanos":0},"is-slow":false,"#,
+        r#""delay-before-start":{"secs":1,"nanos":0}}],"flaky-result":"pass"},"#,
+        r#""current-stats":{"initial-run-count":4,"finished-count":3,"#,
+        r#""setup-scripts-initial-count":0,"setup-scripts-finished-count":0,"#,
+        r#""setup-scripts-passed":0,"setup-scripts-failed":0,"setup-scripts-exec-failed":0,"#,
+        r#""setup-scripts-timed-out":0,"passed":3,"passed-slow":0,"passed-timed-out":0,"#,
+        r#""flaky":1,"failed":0,"failed-slow":0,"failed-timed-out":0,"leaky":0,"leaky-failed":0,"#,
+        r#""exec-failed":0,"skipped":0},"running":0}"#,
+        "\n",
+        r#"{"timestamp":{"secs":1010,"nanos":0,"offset":0},"elapsed":{"secs":10,"nanos":0},"#,
+        r#""kind":"test-started","test-instance":{"binary-id":"beta::b","test-name":"t4"},"#,
+        r#""slot-assignment":{"global-slot":1,"test-group":"@global"},"#,
+        r#""current-stats":{"initial-run-count":4,"finished-count":3,"#,
+        r#""setup-scripts-initial-count":0,"setup-scripts-finished-count":0,"#,
+        r#""setup-scripts-passed":0,"setup-scripts-failed":0,"setup-scripts-exec-failed":0,"#,
+        r#""setup-scripts-timed-out":0,"passed":3,"passed-slow":0,"passed-timed-out":0,"#,
+        r#""flaky":1,"failed":0,"failed-slow":0,"failed-timed-out":0,"leaky":0,"leaky-failed":0,"#,
+        r#""exec-failed":0,"skipped":0},"running":1,"command-line":[]}"#,
+        "\n",
+        r#"{"timestamp":{"secs":1011,"nanos":0,"offset":0},"elapsed":{"secs":11,"nanos":0},"#,
+        r#""kind":"test-finished","test-instance":{"binary-id":"beta::b","test-name":"t4"},"#,
+        r#""success-output":"never","failure-output":"immediate","#,
+        r#""junit-store-success-output":false,"junit-store-failure-output":true,"#,
+        r#""junit-flaky-fail-status":"failure","#,
+        r#""run-statuses":{"statuses":[{"retry-data":{"attempt":1,"total-attempts":1},"#,
+        r#""output":{"output":{"output":{"split":{"stdout":"616263","stderr":""}}}},"#,
+        r#""result":"pass","start-time":{"secs":1010,"nanos":0,"offset":0},"#,
+        r#""time-taken":{"secs":1,"nanos":0},"is-slow":false,"#,
+        r#""delay-before-start":{"secs":0,"nanos":0}}],"flaky-result":"pass"},"#,
+        r#""current-stats":{"initial-run-count":4,"finished-count":4,"#,
+        r#""setup-scripts-initial-count":0,"setup-scripts-finished-count":0,"#,
+        r#""setup-scripts-passed":0,"setup-scripts-failed":0,"setup-scripts-exec-failed":0,"#,
+        r#""setup-scripts-timed-out":0,"passed":4,"passed-slow":0,"passed-timed-out":0,"#,
+        r#""flaky":1,"failed":0,"failed-slow":0,"failed-timed-out":0,"leaky":0,"leaky-failed":0,"#,
+        r#""exec-failed":0,"skipped":0},"running":0}"#,
+        "\n",
+        r#"{"timestamp":{"secs":1011,"nanos":0,"offset":0},"elapsed":{"secs":11,"nanos":0},"#,
+        r#""kind":"run-finished","run-id":"550e8400-e29b-41d4-a716-446655440000","#,
+        r#""start-time":{"secs":1000,"nanos":0,"offset":0},"run-elapsed":{"secs":11,"nanos":0},"#,
+        r#""run-stats":{"single":{"initial-run-count":4,"finished-count":4,"#,
+        r#""setup-scripts-initial-count":0,"setup-scripts-finished-count":0,"#,
+        r#""setup-scripts-passed":0,"setup-scripts-failed":0,"setup-scripts-exec-failed":0,"#,
+        r#""setup-scripts-timed-out":0,"passed":4,"passed-slow":0,"passed-timed-out":0,"#,
+        r#""flaky":1,"failed":0,"failed-slow":0,"failed-timed-out":0,"leaky":0,"leaky-failed":0,"#,
+        r#""exec-failed":0,"skipped":0}}}"#
+    )
 }

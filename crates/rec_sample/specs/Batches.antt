@@ -1,4 +1,5 @@
--- Which tests of a generated session run together: the first eight, then the next eight, and so on, each on a slot of its own.
+-- Which tests of a generated session run together: the first eight, then the next eight, and so on,
+-- each on a slot of its own.
 use Rattle.std.specs.Int.{div_ceil}
 use Rattle.std.specs.List.{range_with_len}
 use Rattle.std.specs.Prelude.{ℕ, ◌+◌, ◌-◌, ◌*◌, ◌/◌, ◌%◌, ◌==◌, min, Bool, List}

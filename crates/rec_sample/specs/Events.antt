@@ -6,8 +6,10 @@ use Rattle.rec_events.specs.declared.events.TestEventKindSummary.TheVariants.{Co
 use Rattle.rec_events.specs.Times.{Moment}
 use Rattle.rec_codec.specs.Event.{LiveEvent}
 use Rattle.rec_sample.specs.Batches.{batch_count, batch_tests, has_pause}
-use Rattle.rec_sample.specs.Instants.{run_start, test_start, test_end, pause_start, pause_end, run_end, seconds}
-use Rattle.rec_sample.specs.Kinds.{run_started, test_started, run_paused, run_continued, test_finished, run_finished}
+use Rattle.rec_sample.specs.Instants.{run_start, test_start, test_end}
+use Rattle.rec_sample.specs.Instants.{pause_start, pause_end, run_end, seconds}
+use Rattle.rec_sample.specs.Kinds.{run_started, test_started, run_paused}
+use Rattle.rec_sample.specs.Kinds.{run_continued, test_finished, run_finished}
 
 -- ---- one event each
 
@@ -28,7 +30,8 @@ unfoldable pub run_continued_event : ℕ → ℕ → LiveEvent
 run_continued_event n b = core_event (pause_end b) (run_continued n b)
 
 unfoldable pub test_finished_event : ℕ → ℕ → LiveEvent
-test_finished_event n i = record { timestamp = test_end i; elapsed = seconds 0; kind = Output (test_finished n i) }
+test_finished_event n i =
+    record { timestamp = test_end i; elapsed = seconds 0; kind = Output (test_finished n i) }
 
 unfoldable pub run_finished_event : ℕ → LiveEvent
 run_finished_event n = core_event (run_end n) (run_finished n)

@@ -4,7 +4,11 @@ use Rattle.std.specs.Prelude.{ℕ, ◌%◌, ◌==◌, min, List, [], map, None, 
 use Rattle.rec_events.specs.declared.recording.NextestRunMode.TheVariants.{Test}
 use Rattle.rec_events.specs.declared.recording.TestListSummary.{TestListSummary}
 use Rattle.rec_events.specs.declared.selections.BuildScope.{BuildScope}
-use Rattle.rec_events.specs.Selections.{no_package_selection, no_target_selection, no_feature_selection}
+use Rattle.rec_events.specs.Selections.{
+  no_package_selection,
+  no_target_selection,
+  no_feature_selection,
+}
 use Rattle.rec_format.specs.declared.head.SessionHead.{SessionHead}
 use Rattle.rec_format.specs.declared.scope.BuildKind.TheVariants.{Cargo}
 use Rattle.rec_format.specs.declared.scope.RecordedBuildScope.{RecordedBuildScope}
@@ -30,7 +34,11 @@ test_list n = record { suites = map (suite n) (range_with_len 0 (min n 4)) }
 
 -- nothing is said of what was built
 abbrev pub no_scope : BuildScope
-no_scope = record { packages = no_package_selection; targets = no_target_selection; features = no_feature_selection }
+no_scope = record {
+  packages = no_package_selection;
+  targets = no_target_selection;
+  features = no_feature_selection;
+}
 
 abbrev pub build_scope : RecordedBuildScope
 build_scope = record { build_kind = Cargo; scope = no_scope }

@@ -1,14 +1,23 @@
 -- What happens in a generated session of n tests.
 use Rattle.std.specs.Int.{w128, to_be_bytes}
-use Rattle.std.specs.Prelude.{ℕ, ◌%◌, ◌==◌, pos, false, if◌then◌else◌, List, [], ◌∷◌, Some, None, codes}
-use Rattle.rec_events.specs.declared.events.CoreEventKind.TheVariants.{RunStarted, TestStarted, RunPaused, RunContinued, RunFinished}
+use Rattle.std.specs.Prelude.{ℕ, ◌%◌, ◌==◌, pos, false, if◌then◌else◌}
+use Rattle.std.specs.Prelude.{List, [], ◌∷◌, Some, None, codes}
+use Rattle.rec_events.specs.declared.events.CoreEventKind.TheVariants.{
+  RunStarted,
+  TestStarted,
+  RunPaused,
+  RunContinued,
+  RunFinished,
+}
 use Rattle.rec_events.specs.declared.events.CoreEventKind.{CoreEventKind}
 use Rattle.rec_events.specs.declared.events.OutputEventKind.TheVariants.{TestFinished}
 use Rattle.rec_events.specs.declared.events.OutputEventKind.{OutputEventKind}
 use Rattle.rec_events.specs.declared.groups.TestGroup.TheVariants.{Global}
 use Rattle.rec_events.specs.declared.instances.TestSlotAssignment.{TestSlotAssignment}
 use Rattle.rec_events.specs.declared.outputs.ChildExecutionOutputDescription.TheVariants.{Output}
-use Rattle.rec_events.specs.declared.outputs.ChildExecutionOutputDescription.{ChildExecutionOutputDescription}
+use Rattle.rec_events.specs.declared.outputs.ChildExecutionOutputDescription.{
+  ChildExecutionOutputDescription,
+}
 use Rattle.rec_events.specs.declared.outputs.ChildOutputDescription.TheVariants.{Split}
 use Rattle.rec_events.specs.declared.outputs.ChildOutputDescription.{ChildOutputDescription}
 use Rattle.rec_events.specs.declared.outputs.LiveSpec.{LiveSpec}
@@ -68,7 +77,8 @@ abbrev pub run_started : CoreEventKind
 run_started = RunStarted run_id (codes "default") [] None
 
 abbrev pub test_started : ℕ → ℕ → CoreEventKind
-test_started n i = TestStarted None (test_instance i) (slot_assignment i) (stats n) (running_from i) []
+test_started n i =
+    TestStarted None (test_instance i) (slot_assignment i) (stats n) (running_from i) []
 
 -- in the batch b
 abbrev pub run_paused : ℕ → ℕ → CoreEventKind

@@ -1,6 +1,7 @@
 //! Which tests run together.
 ghost use Rattle.std.specs.Prelude.{◌≡◌, ◌<◌, ◌≤◌, ◌*◌};
-ghost use Rattle.rec_sample.specs.Batches.{batch, slot, batch_count, batch_size, has_pause, running_after};
+ghost use Rattle.rec_sample.specs.Batches.{batch, slot, batch_count, batch_size};
+ghost use Rattle.rec_sample.specs.Batches.{has_pause, running_after};
 
 /// How many tests run together at most.
 pub(crate) const SLOTS: u64 = 8;

@@ -2,7 +2,9 @@
 ghost use Rattle.std.specs.Prelude.{◌≡◌, ◌≤◌, ◌<◌, ◌*◌, true, IfOk};
 ghost use Rattle.rec_codec.specs.EventForms.{kind_loaded};
 ghost use Rattle.rec_codec.specs.Live.{is_loaded};
-ghost use Rattle.rec_sample.specs.Events.{core_event, run_started_event, test_started_event, run_paused_event, run_continued_event, test_finished_event, run_finished_event};
+ghost use Rattle.rec_sample.specs.Events.{core_event, run_started_event, test_started_event};
+ghost use Rattle.rec_sample.specs.Events.{run_paused_event, run_continued_event};
+ghost use Rattle.rec_sample.specs.Events.{test_finished_event, run_finished_event};
 ghost use Rattle.rec_sample.specs.Kinds.{run_id, stats, slot_assignment};
 
 use crate::attempts::attempts;

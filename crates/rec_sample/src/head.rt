@@ -29,7 +29,8 @@ fn binary_tests(alloc: Global, tests: u64, binary: u64) -> Result<Items<TestCase
     Ok(Items::new(names))
 }
 
-/// Makes the list of the tests, by the binary that they are in. A binary without a test isn't there.
+/// Makes the list of the tests, by the binary that they are in.
+/// A binary without a test isn't there.
 fn test_list(alloc: Global, tests: u64) -> Result<TestListSummary, AllocError>
     ensures { IfOk result (λ list. list ≡ test_list tests) }
 {

@@ -1,6 +1,7 @@
 //! When what happens.
 ghost use Rattle.std.specs.Prelude.{◌≡◌, ◌≤◌, ◌<◌, ◌+◌, ◌*◌};
-ghost use Rattle.rec_sample.specs.Instants.{instant, run_start, test_start, test_end, pause_start, pause_end, run_end, seconds};
+ghost use Rattle.rec_sample.specs.Instants.{instant, run_start, test_start, test_end};
+ghost use Rattle.rec_sample.specs.Instants.{pause_start, pause_end, run_end, seconds};
 
 use crate::batches::{batch_count, batch_of, slot_of};
 use rec_events::{Duration, Stamp};

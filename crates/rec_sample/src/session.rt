@@ -4,7 +4,8 @@ ghost use Rattle.rec_json.specs.Tokens.{value_tokens};
 ghost use Rattle.rec_codec.specs.EventForms.{event_value, kind_loaded};
 ghost use Rattle.rec_codec.specs.Live.{is_loaded, live_value};
 ghost use Rattle.rec_sample.specs.Events.{test_starts, pause, test_ends, batch_events};
-ghost use Rattle.rec_sample.specs.Session.{head_line, event_text, event_line, event_lines, sample_session};
+ghost use Rattle.rec_sample.specs.Session.{head_line, event_text, event_line};
+ghost use Rattle.rec_sample.specs.Session.{event_lines, sample_session};
 
 use crate::batches::{SLOTS, batch_count, batch_size, has_pause};
 use crate::events::{
@@ -22,10 +23,11 @@ pub const MAX_TESTS: u64 = 10000;
 
 /// Makes the session of `tests` tests, at most [`MAX_TESTS`].
 ///
-/// Its first line is its head, and each further line is an event. The tests are named `t0`, `t1` and so on,
-/// each in one of four binaries in turn. They run in batches of eight, each test on a slot of its own: those of a
-/// batch start a microsecond apart, and each finishes three seconds after its start. In every tenth batch the run
-/// pauses in between. Every hundredth test fails. Each test writes one of sixteen lines, `output 0` to `output 15`.
+/// Its first line is its head, and each further line is an event. The tests are named `t0`, `t1`
+/// and so on, each in one of four binaries in turn. They run in batches of eight, each test on a
+/// slot of its own: those of a batch start a microsecond apart, and each finishes three seconds
+/// after its start. In every tenth batch the run pauses in between. Every hundredth test fails.
+/// Each test writes one of sixteen lines, `output 0` to `output 15`.
 ///
 /// # Errors
 ///

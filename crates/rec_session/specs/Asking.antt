@@ -9,7 +9,8 @@ pub record Asked (A : Type 0) : Type 0 where
 
 -- a call where nothing follows one that fails, which is answered by this
 abbrev pub ask : {A : Type 0} → A → (Keeping → Asked A) → Keeping → Asked A
-ask refusal rest k = if fails k then record { answer = refusal; keeper = called k } else rest (called k)
+ask refusal rest k =
+    if fails k then record { answer = refusal; keeper = called k } else rest (called k)
 
 -- what follows where the store was locked, and at the end the store is unlocked
 abbrev pub under_lock : {A : Type 0} → (Keeping → Asked A) → Keeping → Asked A

@@ -1,5 +1,6 @@
 -- How a recorded run ended.
-use Rattle.std.specs.Prelude.{ℕ, ◌-◌, ◌^◌, List, if◌then◌else◌, nat_lt, ℤ, Option, Some, None, option_map}
+use Rattle.std.specs.Prelude.{ℕ, ◌-◌, ◌^◌, List, if◌then◌else◌, nat_lt}
+use Rattle.std.specs.Prelude.{ℤ, Option, Some, None, option_map}
 use Rattle.rec_events.specs.declared.run_ends.FinalRunStats.TheVariants as run
 use Rattle.rec_events.specs.declared.run_ends.FinalRunStats.{FinalRunStats}
 use Rattle.rec_events.specs.declared.run_ends.RunFinishedStats.TheVariants.{Single, Stress}
@@ -11,7 +12,13 @@ use Rattle.rec_events.specs.declared.stats.RunStats.{RunStats}
 use Rattle.rec_events.specs.Stats.{failures}
 use Rattle.rec_events.specs.Summaries.{summary, stress_summary}
 use Rattle.rec_format.specs.declared.status.CompletedRunStats.{CompletedRunStats}
-use Rattle.rec_format.specs.declared.status.RecordedRunStatus.TheVariants.{Incomplete, Completed, Cancelled, StressCompleted, StressCancelled}
+use Rattle.rec_format.specs.declared.status.RecordedRunStatus.TheVariants.{
+  Incomplete,
+  Completed,
+  Cancelled,
+  StressCompleted,
+  StressCancelled,
+}
 use Rattle.rec_format.specs.declared.status.RecordedRunStatus.{RecordedRunStatus}
 use Rattle.rec_format.specs.declared.status.StressCompletedRunStats.{StressCompletedRunStats}
 use Rattle.rec_store.specs.declared.sizes.StoreSizes.{StoreSizes}
@@ -23,7 +30,12 @@ abbrev pub failed_tests : RunStats → ℕ
 failed_tests s = if nat_lt (failures s) (2 ^ 64) then failures s else 2 ^ 64 - 1
 
 abbrev pub completed_stats : RunStats → ℤ → CompletedRunStats
-completed_stats s exit_code = record { initial_run_count = s.initial_run_count; passed = s.passed; failed = failed_tests s; exit_code = exit_code }
+completed_stats s exit_code = record {
+  initial_run_count = s.initial_run_count;
+  passed = s.passed;
+  failed = failed_tests s;
+  exit_code = exit_code;
+}
 
 abbrev pub stress_stats : StressRunStats → ℤ → StressCompletedRunStats
 stress_stats s exit_code = record {

@@ -1,18 +1,28 @@
 -- How a session is finalized.
 use Rattle.std.specs.declared.alloc.AllocError.{AllocError}
 use Rattle.std.specs.List.{AllByRecursion}
-use Rattle.std.specs.Prelude.{◌≡◌, ◌⊎◌, ℕ, List, [], ◌∷◌, ◌++◌, map, Bool, true, false, if◌then◌else◌, Option, Some, None, option_to_list, Result, Ok, Err, ⊤, alloc_error}
+use Rattle.std.specs.Prelude.{◌≡◌, ◌⊎◌, ℕ, List, [], ◌∷◌, ◌++◌, map, Bool}
+use Rattle.std.specs.Prelude.{true, false, if◌then◌else◌, Option, Some, None}
+use Rattle.std.specs.Prelude.{option_to_list, Result, Ok, Err, ⊤, alloc_error}
 use Rattle.rec_container.specs.Causes.{Rose}
 use Rattle.rec_format.specs.declared.run.RecordedRunInfo.{RecordedRunInfo}
 use Rattle.rec_session.specs.Asking.{Asked, ask, under_lock, StopsAt, StopsLocked}
 use Rattle.rec_session.specs.declared.ending.RunEnding.{RunEnding}
 use Rattle.rec_session.specs.declared.finalize.RecordFinalizeResult.{RecordFinalizeResult}
-use Rattle.rec_session.specs.declared.finalize.RecordFinalizeWarning.TheVariants.{StoreOpenFailed, StoreLockFailed, MetadataPersistFailed, RunNotFoundDuringComplete, PruneFailed, PruneError}
+use Rattle.rec_session.specs.declared.finalize.RecordFinalizeWarning.TheVariants.{
+  StoreOpenFailed,
+  StoreLockFailed,
+  MetadataPersistFailed,
+  RunNotFoundDuringComplete,
+  PruneFailed,
+  PruneError,
+}
 use Rattle.rec_session.specs.declared.finalize.RecordFinalizeWarning.{RecordFinalizeWarning}
 use Rattle.rec_session.specs.declared.keeper.KeeperError.TheVariants.{Failed, OutOfMemory}
 use Rattle.rec_session.specs.declared.keeper.KeeperError.{KeeperError}
 use Rattle.rec_session.specs.declared.keeper.PruneResult.{PruneResult}
-use Rattle.rec_session.specs.Keepers.{Keeping, Pruned, fails, called, locked, has_run, with_end, with_pruned}
+use Rattle.rec_session.specs.Keepers.{Keeping, Pruned, fails, called, locked}
+use Rattle.rec_session.specs.Keepers.{has_run, with_end, with_pruned}
 
 -- ---- over a keeper that is known
 
@@ -23,14 +33,19 @@ warned warnings = record { warnings = warnings; prune_result = None }
 -- the run gets its end: where that fails, or no run has its id, there is a warning
 abbrev pub complete : RunEnding → Keeping → Asked (List RecordFinalizeWarning)
 complete end k = record {
-  answer = if fails k then MetadataPersistFailed ∷ [] else if has_run end.run_id k.runs then [] else RunNotFoundDuringComplete end.run_id ∷ [];
+  answer =
+      if fails k then MetadataPersistFailed ∷ [] else if has_run end.run_id k.runs then []
+      else RunNotFoundDuringComplete end.run_id ∷ [];
   keeper = if fails k then called k else with_end end (called k);
 }
 
 -- what pruning answered: its errors become warnings
 abbrev pub prune_result : Option PruneResult → RecordFinalizeResult
 prune_result None = warned []
-prune_result (Some pruned) = record { warnings = map PruneError pruned.errors; prune_result = Some (record pruned { errors = [] }) }
+prune_result (Some pruned) = record {
+  warnings = map PruneError pruned.errors;
+  prune_result = Some (record pruned { errors = [] });
+}
 
 abbrev pub prune : (List RecordedRunInfo → Pruned) → Keeping → Asked RecordFinalizeResult
 prune pruned k = record {
@@ -39,28 +54,38 @@ prune pruned k = record {
 }
 
 -- under the lock the run gets its end, and then runs are pruned, whatever came of the first
-abbrev pub complete_and_prune : RunEnding → (List RecordedRunInfo → Pruned) → Keeping → Asked RecordFinalizeResult
+abbrev pub complete_and_prune : RunEnding → (List RecordedRunInfo → Pruned) → Keeping
+    → Asked RecordFinalizeResult
 complete_and_prune end pruned k =
     let first = complete end k in
     let second = prune pruned first.keeper in
-    record second { answer = record second.answer { warnings = first.answer ++ second.answer.warnings } }
+    record second {
+      answer = record second.answer { warnings = first.answer ++ second.answer.warnings };
+    }
 
 -- the warnings, what pruning answered, and the keeper that is left
-abbrev pub finalized : RunEnding → (List RecordedRunInfo → Pruned) → Keeping → Asked RecordFinalizeResult
-finalized end pruned = ask (warned (StoreOpenFailed ∷ [])) (ask (warned (StoreLockFailed ∷ [])) (under_lock (complete_and_prune end pruned)))
+abbrev pub finalized : RunEnding → (List RecordedRunInfo → Pruned) → Keeping
+    → Asked RecordFinalizeResult
+finalized end pruned =
+    ask (warned (StoreOpenFailed ∷ []))
+    (ask (warned (StoreLockFailed ∷ [])) (under_lock (complete_and_prune end pruned)))
 
 -- where memory runs out, some of the calls were made: none, the first, or both
-abbrev pub StopsCompleting : RunEnding → (List RecordedRunInfo → Pruned) → Keeping → Keeping → Type 0
+abbrev pub StopsCompleting : RunEnding → (List RecordedRunInfo → Pruned) → Keeping → Keeping
+    → Type 0
 StopsCompleting end pruned k j =
     (j ≡ k) ⊎ (j ≡ called k) ⊎ (j ≡ (complete end k).keeper)
     ⊎ (j ≡ called (complete end k).keeper) ⊎ (j ≡ (complete_and_prune end pruned k).keeper)
 
-abbrev pub StopsFinalizing : RunEnding → (List RecordedRunInfo → Pruned) → Keeping → Keeping → Type 0
+abbrev pub StopsFinalizing : RunEnding → (List RecordedRunInfo → Pruned) → Keeping → Keeping
+    → Type 0
 StopsFinalizing end pruned = StopsAt (StopsAt (StopsLocked (StopsCompleting end pruned)))
 
 -- what comes of it all
-abbrev pub Finalizes : {E : Type 0} → RunEnding → (List RecordedRunInfo → Pruned) → Keeping → Keeping → Result RecordFinalizeResult E → Type 0
-Finalizes end pruned k j (Ok result) = finalized end pruned k ≡ record { answer = result; keeper = j }
+abbrev pub Finalizes : {E : Type 0} → RunEnding → (List RecordedRunInfo → Pruned) → Keeping
+    → Keeping → Result RecordFinalizeResult E → Type 0
+Finalizes end pruned k j (Ok result) =
+    finalized end pruned k ≡ record { answer = result; keeper = j }
 Finalizes end pruned k j (Err e) = StopsFinalizing end pruned k j
 
 -- ---- over any keeper
@@ -86,30 +111,44 @@ failure_of (Err Failed) = Ok true
 failure_of (Err OutOfMemory) = Err alloc_error
 
 -- what to warn of where a keeper answered this to the end of a run
-abbrev pub completion_warning : List ℕ → Result Bool KeeperError → Result (Option RecordFinalizeWarning) AllocError
+abbrev pub completion_warning : List ℕ → Result Bool KeeperError
+    → Result (Option RecordFinalizeWarning) AllocError
 completion_warning id (Ok true) = Ok None
 completion_warning id (Ok false) = Ok (Some (RunNotFoundDuringComplete id))
 completion_warning id (Err Failed) = Ok (Some MetadataPersistFailed)
 completion_warning id (Err OutOfMemory) = Err alloc_error
 
 -- the store is locked, or this is all that comes of it, whatever would follow
-abbrev pub LocksStore : Keeping → Keeping → Result (Option RecordFinalizeWarning) AllocError → Type 0
-LocksStore k j (Ok None) = (fails k ≡ false) × (fails (called k) ≡ false) × (j ≡ locked (called (called k)))
-LocksStore k j (Ok (Some warning)) = (end : RunEnding) (pruned : List RecordedRunInfo → Pruned) → Finalizes {E = AllocError} end pruned k j (Ok (warned (warning ∷ []))) × StopsFinalizing end pruned k j
-LocksStore k j (Err e) = (end : RunEnding) (pruned : List RecordedRunInfo → Pruned) → StopsFinalizing end pruned k j
+abbrev pub LocksStore : Keeping → Keeping → Result (Option RecordFinalizeWarning) AllocError
+    → Type 0
+LocksStore k j (Ok None) =
+    (fails k ≡ false) × (fails (called k) ≡ false) × (j ≡ locked (called (called k)))
+LocksStore k j (Ok (Some warning)) =
+    (end : RunEnding) (pruned : List RecordedRunInfo → Pruned)
+    → Finalizes {E = AllocError} end pruned k j (Ok (warned (warning ∷ [])))
+    × StopsFinalizing end pruned k j
+LocksStore k j (Err e) =
+    (end : RunEnding) (pruned : List RecordedRunInfo → Pruned) → StopsFinalizing end pruned k j
 
 -- the run got its end, or not
-abbrev pub Completes : RunEnding → Keeping → Keeping → Result (Option RecordFinalizeWarning) AllocError → Type 0
-Completes end k j (Ok warning) = complete end k ≡ record { answer = option_to_list warning; keeper = j }
+abbrev pub Completes : RunEnding → Keeping → Keeping
+    → Result (Option RecordFinalizeWarning) AllocError → Type 0
+Completes end k j (Ok warning) =
+    complete end k ≡ record { answer = option_to_list warning; keeper = j }
 Completes end k j (Err e) = j ≡ called k
 
 -- the run got its end and runs were pruned, under the lock
-abbrev pub CompletesAndPrunes : RunEnding → (List RecordedRunInfo → Pruned) → Keeping → Keeping → Result RecordFinalizeResult AllocError → Type 0
-CompletesAndPrunes end pruned k j (Ok result) = complete_and_prune end pruned k ≡ record { answer = result; keeper = j }
+abbrev pub CompletesAndPrunes : RunEnding → (List RecordedRunInfo → Pruned) → Keeping → Keeping
+    → Result RecordFinalizeResult AllocError → Type 0
+CompletesAndPrunes end pruned k j (Ok result) =
+    complete_and_prune end pruned k ≡ record { answer = result; keeper = j }
 CompletesAndPrunes end pruned k j (Err e) = StopsCompleting end pruned k j
 
--- the warnings of what a keeper answered to pruning stand after others, and the rest of that answer is this
-abbrev pub PrunesAs : Result (Option PruneResult) KeeperError → List RecordFinalizeWarning → List RecordFinalizeWarning → Option PruneResult → Type 0
-PrunesAs (Ok answer) old new rest = (rest ≡ (prune_result answer).prune_result) × (new ≡ old ++ (prune_result answer).warnings)
+-- the warnings of what a keeper answered to pruning stand after others,
+-- and the rest of that answer is this
+abbrev pub PrunesAs : Result (Option PruneResult) KeeperError → List RecordFinalizeWarning
+    → List RecordFinalizeWarning → Option PruneResult → Type 0
+PrunesAs (Ok answer) old new rest =
+    (rest ≡ (prune_result answer).prune_result) × (new ≡ old ++ (prune_result answer).warnings)
 PrunesAs (Err Failed) old new rest = (rest ≡ None) × (new ≡ old ++ PruneFailed ∷ [])
 PrunesAs (Err OutOfMemory) old new rest = ⊥

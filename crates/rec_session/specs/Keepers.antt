@@ -1,7 +1,9 @@
 -- What a keeper of runs is, as contracts see it, and what its calls answer and leave.
 use Rattle.std.specs.declared.alloc.Global.{Global}
 use Rattle.std.specs.List.{list_any}
-use Rattle.std.specs.Prelude.{◌≡◌, ◌==◌, ℕ, ◌≤◌, List, [], ◌∷◌, ◌++◌, map, Bool, true, false, if◌then◌else◌, Option, Some, None, Result, Ok, Err, IfErr, ⊤, String, string_bytes}
+use Rattle.std.specs.Prelude.{◌≡◌, ◌==◌, ℕ, ◌≤◌, List, [], ◌∷◌, ◌++◌, map, Bool}
+use Rattle.std.specs.Prelude.{true, false, if◌then◌else◌, Option, Some, None}
+use Rattle.std.specs.Prelude.{Result, Ok, Err, IfErr, ⊤, String, string_bytes}
 use Rattle.std.specs.Str.{bytes_eq}
 use Rattle.rec_container.specs.Causes.{Rose, next_count}
 use Rattle.rec_format.specs.declared.run.RecordedRunInfo.{RecordedRunInfo}
@@ -42,7 +44,8 @@ locked k = record k { locked = true }
 abbrev pub unlocked : Keeping → Keeping
 unlocked k = record k { locked = false }
 
--- the call fails where it is one that fails, and changes nothing then, nor where memory runs out; else this comes of it
+-- the call fails where it is one that fails, and changes nothing then,
+-- nor where memory runs out; else this comes of it
 abbrev pub IsCall : {T : Type 0} → (T → Type 0) → Keeping → Keeping → Result T KeeperError → Type 0
 IsCall Done k j (Ok x) = (fails k ≡ false) × Done x
 IsCall Done k j (Err Failed) = (fails k ≡ true) × (j ≡ called k)
@@ -63,12 +66,14 @@ has_run id runs = list_any (is_run id) runs
 
 -- the run with its sizes, its status and its duration
 abbrev pub ended : RunEnding → RecordedRunInfo → RecordedRunInfo
-ended end run = record run { sizes = sizes_in end.sizes; status = end.status; duration = end.duration }
+ended end run =
+    record run { sizes = sizes_in end.sizes; status = end.status; duration = end.duration }
 
 -- the first run with this id has ended, and all else is as it was
 abbrev pub first_ended : RunEnding → List RecordedRunInfo → List RecordedRunInfo
 first_ended end [] = []
-first_ended end (run ∷ runs) = if is_run end.run_id run then ended end run ∷ runs else run ∷ first_ended end runs
+first_ended end (run ∷ runs) =
+    if is_run end.run_id run then ended end run ∷ runs else run ∷ first_ended end runs
 
 abbrev pub ids_of : List RecordedRunInfo → List (List ℕ)
 ids_of runs = map (λ run. run.run_id) runs
@@ -97,14 +102,19 @@ abbrev pub Unlocks : Keeping → Keeping → Type 0
 Unlocks k j = j ≡ unlocked k
 
 -- the prefix is the shortest that stands for the run among all runs, this one among them
-abbrev pub CreatesRun : RecordedRunInfo → Keeping → Keeping → Result ShortestRunIdPrefix KeeperError → Type 0
-CreatesRun run k j = IsCall (λ cut. (j ≡ with_run run (called k)) × IsShortest (ids_of j.runs) run.run_id cut) k j
+abbrev pub CreatesRun : RecordedRunInfo → Keeping → Keeping → Result ShortestRunIdPrefix KeeperError
+    → Type 0
+CreatesRun run k j =
+    IsCall (λ cut. (j ≡ with_run run (called k)) × IsShortest (ids_of j.runs) run.run_id cut) k j
 
 abbrev pub CompletesRun : RunEnding → Keeping → Keeping → Result Bool KeeperError → Type 0
-CompletesRun end k j = IsCall (λ found. (found ≡ has_run end.run_id k.runs) × (j ≡ with_end end (called k))) k j
+CompletesRun end k j =
+    IsCall (λ found. (found ≡ has_run end.run_id k.runs) × (j ≡ with_end end (called k))) k j
 
-abbrev pub Prunes : (List RecordedRunInfo → Pruned) → Keeping → Keeping → Result (Option PruneResult) KeeperError → Type 0
-Prunes pruned k j = IsCall (λ answer. (answer ≡ (pruned k.runs).answer) × (j ≡ with_pruned pruned (called k))) k j
+abbrev pub Prunes : (List RecordedRunInfo → Pruned) → Keeping → Keeping
+    → Result (Option PruneResult) KeeperError → Type 0
+Prunes pruned k j =
+    IsCall (λ answer. (answer ≡ (pruned k.runs).answer) × (j ≡ with_pruned pruned (called k))) k j
 
 -- ---- of any keeper
 
@@ -120,6 +130,7 @@ IsKeeperCause before now Failed = Rose before now
 IsKeeperCause before now OutOfMemory = Unit {0}
 
 -- the count has not fallen, and a failure comes only by it
-pub record HasKeeperCause {T : Type 0} (before now : ℕ) (result : Result T KeeperError) : Type 0 where
+pub record HasKeeperCause {T : Type 0} (before now : ℕ)
+    (result : Result T KeeperError) : Type 0 where
   pub later : before ≤ now
   pub failed : IfErr result (IsKeeperCause before now)

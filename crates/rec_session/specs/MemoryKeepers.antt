@@ -1,5 +1,6 @@
 -- A keeper in memory: what it is, and which runs it removes.
-use Rattle.std.specs.Prelude.{◌≡◌, ℕ, ◌-◌, List, [], length, drop, true, false, Option, Some, None, Result, Ok, Err}
+use Rattle.std.specs.Prelude.{◌≡◌, ℕ, ◌-◌, List, [], length, drop, true}
+use Rattle.std.specs.Prelude.{false, Option, Some, None, Result, Ok, Err}
 use Rattle.rec_container.specs.Causes.{next_count}
 use Rattle.rec_format.specs.declared.run.RecordedRunInfo.{RecordedRunInfo}
 use Rattle.rec_session.specs.declared.keeper.KeeperError.TheVariants.{Failed, OutOfMemory}

@@ -90,8 +90,8 @@ impl<'n, S: Sink, L: Sink, N: OutputNamer> RecorderPlan<'n, S, L, N> {
     ///
     /// # Errors
     ///
-    /// `RecorderCreate(Store(error))` where the recorder refused with this error, or `OutOfMemory`. The recorder
-    /// is ended, and its sinks stand beside the error.
+    /// `RecorderCreate(Store(error))` where the recorder refused with this error, or `OutOfMemory`.
+    /// The recorder is ended, and its sinks stand beside the error.
     pub(crate) fn start(
         self,
         alloc: Global,

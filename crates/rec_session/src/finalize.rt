@@ -1,8 +1,11 @@
 //! How a session is finalized.
-ghost use Rattle.std.specs.Prelude.{◌≡◌, ◌≤◌, ◌++◌, [], ◌∷◌, map, option_to_list, IfOk, IfSome, OnErr};
+ghost use Rattle.std.specs.Prelude.{◌≡◌, ◌≤◌, ◌++◌, [], ◌∷◌, map};
+ghost use Rattle.std.specs.Prelude.{option_to_list, IfOk, IfSome, OnErr};
 ghost use Rattle.rec_session.specs.declared.finalize.RecordFinalizeWarning.TheVariants.{PruneError};
 ghost use Rattle.rec_session.specs.Finalizing as finalizing;
-ghost use Rattle.rec_session.specs.Finalizing.{failure_of, warned, AreCaused, Completes, CompletesAndPrunes, Finalizes, IsWarningCause, LocksStore, PrunesAs};
+ghost use Rattle.rec_session.specs.Finalizing.{failure_of, warned, AreCaused, Completes};
+ghost use Rattle.rec_session.specs.Finalizing.{CompletesAndPrunes, Finalizes};
+ghost use Rattle.rec_session.specs.Finalizing.{IsWarningCause, LocksStore, PrunesAs};
 ghost use Rattle.rec_session.specs.Keepers.{Told};
 
 use crate::ending::RunEnding;
@@ -59,7 +62,8 @@ impl fmt::Display for RecordFinalizeWarning {
             ),
             RecordFinalizeWarning::RunNotFoundDuringComplete(run_id) => write!(
                 f,
-                "recording completed but run {run_id} was not found in store (may have been pruned during execution)"
+                "recording completed but run {run_id} was not found in store (may have been \
+                pruned during execution)"
             ),
             RecordFinalizeWarning::PruneFailed => { write!(f, "error during prune: keeper failed") }
             RecordFinalizeWarning::PruneError(error) => {

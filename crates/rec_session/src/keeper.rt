@@ -4,7 +4,9 @@ ghost use Rattle.std.specs.Prelude.{◌≡◌, ◌≤◌, List, ℕ, IfOk, strin
 ghost use Rattle.rec_format.specs.declared.run.RecordedRunInfo.{RecordedRunInfo};
 ghost use Rattle.rec_session.specs.declared.keeper.KeeperError.TheVariants.{OutOfMemory};
 ghost use Rattle.rec_session.specs.declared.keeper.RecordRetentionPolicy.{RecordRetentionPolicy};
-ghost use Rattle.rec_session.specs.Keepers.{Keeping, Told, Pruned, HasKeeperCause, GivesDirectory, Opens, Locks, Unlocks, CreatesRun, CompletesRun, Prunes};
+ghost use Rattle.rec_session.specs.Keepers.{Keeping, Told, Pruned, HasKeeperCause};
+ghost use Rattle.rec_session.specs.Keepers.{GivesDirectory, Opens, Locks, Unlocks};
+ghost use Rattle.rec_session.specs.Keepers.{CreatesRun, CompletesRun, Prunes};
 
 use rec_events::{Duration, Items, ReportUuid, Text};
 use rec_format::{RecordedRunInfo, RecordedRunStatus, ShortestRunIdPrefix};

@@ -1,5 +1,5 @@
-//! What a test runner calls to record a run: a session over a keeper of runs, which is set up before the
-//! run and finalized after it, and the reporters that it writes its events to.
+//! What a test runner calls to record a run: a session over a keeper of runs, which is set up
+//! before the run and finalized after it, and the reporters that it writes its events to.
 //!
 //! A runner makes its calls in this order:
 //!
@@ -12,8 +12,8 @@
 //!     reporter.write_event(alloc, &event)?;
 //! }
 //! let end = reporter.finish();
-//! let result = setup.session.finalize(alloc, &mut keeper, end.sizes, Some(finished), exit_code, &policy)?;
-//! for warning in result.warnings.as_slice() {
+//! let result = setup.session.finalize(alloc, &mut keeper, end.sizes, Some(finished), exit_code,
+//! &policy)?; for warning in result.warnings.as_slice() {
 //!     println!(rt; "{warning}")?;
 //! }
 //! ```

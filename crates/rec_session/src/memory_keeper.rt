@@ -1,12 +1,15 @@
 //! A keeper of runs in memory that fails at the calls that it is given.
 //!
-//! Calls of [`RunKeeper`] but `unlock` are numbered from 1. The number stays at u64's greatest once it is
-//! there.
+//! Calls of [`RunKeeper`] but `unlock` are numbered from 1. The number stays at u64's greatest once
+//! it is there.
 ghost use Rattle.std.specs.List.{position};
-ghost use Rattle.std.specs.Prelude.{◌≡◌, ◌≤◌, ◌++◌, [], ◌∷◌, drop, false, vec_len, IfOk, IfErr, Some, string_bytes};
+ghost use Rattle.std.specs.Prelude.{◌≡◌, ◌≤◌, ◌++◌, [], ◌∷◌, drop, false};
+ghost use Rattle.std.specs.Prelude.{vec_len, IfOk, IfErr, Some, string_bytes};
 ghost use Rattle.rec_format.specs.RunIds.{IsShortest};
 ghost use Rattle.rec_session.specs.declared.keeper.KeeperError.TheVariants.{Failed};
-ghost use Rattle.rec_session.specs.Keepers.{HasKeeperCause, GivesDirectory, Opens, Locks, Unlocks, CreatesRun, CompletesRun, Prunes, ended, first_ended, has_run, ids_of, is_run};
+ghost use Rattle.rec_session.specs.Keepers.{HasKeeperCause, GivesDirectory, Opens, Locks};
+ghost use Rattle.rec_session.specs.Keepers.{Unlocks, CreatesRun, CompletesRun, Prunes};
+ghost use Rattle.rec_session.specs.Keepers.{ended, first_ended, has_run, ids_of, is_run};
 ghost use Rattle.rec_session.specs.MemoryKeepers.{pruned_by, CountsCall};
 
 use crate::ending::RunEnding;
@@ -48,8 +51,8 @@ impl Model for MemoryKeeper {
 }
 
 impl MemoryKeeper {
-    /// Makes a keeper without runs, calls and faults, which isn't locked, and whose calls numbered in
-    /// `fail_at` fail.
+    /// Makes a keeper without runs, calls and faults, which isn't locked, and whose calls numbered
+    /// in `fail_at` fail.
     pub fn new(alloc: Global, fail_at: Vec<u64>) -> MemoryKeeper
         ensures { result
             ≡ record {

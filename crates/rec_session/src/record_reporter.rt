@@ -28,8 +28,8 @@ pub struct ReporterEnd<S, L> {
     pub log: L,
 }
 
-/// Records what a run reports, until the first error, want of memory included. The error is kept, and
-/// what is reported after it is dropped; [`RecordReporter::finish`] returns it.
+/// Records what a run reports, until the first error, want of memory included. The error is kept,
+/// and what is reported after it is dropped; [`RecordReporter::finish`] returns it.
 #[derive(Drop)]
 pub struct RecordReporter<'n, S: Sink, L: Sink, N: OutputNamer> {
     recorder: RunRecorder<'n, S, L, N>,
@@ -80,8 +80,8 @@ impl<'n, S: Sink, L: Sink, N: OutputNamer> RecordReporter<'n, S, L, N> {
         }
     }
 
-    /// Ends the recorder by [`RunRecorder::finish`], whether an error is kept or not, and hands back
-    /// both sinks.
+    /// Ends the recorder by [`RunRecorder::finish`], whether an error is kept or not, and hands
+    /// back both sinks.
     ///
     /// # Errors
     ///

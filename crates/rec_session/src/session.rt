@@ -5,7 +5,8 @@ ghost use Rattle.rec_session.specs.Creating.{first_entries, new_recorder};
 ghost use Rattle.rec_session.specs.Endings.{ending_of};
 ghost use Rattle.rec_session.specs.Finalizing.{AreCaused, Finalizes, warned};
 ghost use Rattle.rec_session.specs.Keepers.{Told};
-ghost use Rattle.rec_session.specs.SettingUp.{begun_run, IsSetUpCause, LeavesStore, SetsUpLocked, SetsUpOr};
+ghost use Rattle.rec_session.specs.SettingUp.{begun_run, IsSetUpCause};
+ghost use Rattle.rec_session.specs.SettingUp.{LeavesStore, SetsUpLocked, SetsUpOr};
 
 use crate::creating::{RecorderPlan, planned};
 use crate::ending::RunEnding;
@@ -40,21 +41,21 @@ impl Model for RecordSession {
 }
 
 impl RecordSession {
-    /// Sets a session up: finds and opens the keeper's store, locks it, creates the run, makes its recorder, and
-    /// unlocks the store.
+    /// Sets a session up: finds and opens the keeper's store, locks it, creates the run, makes its
+    /// recorder, and unlocks the store.
     ///
-    /// The run is created incomplete, without sizes, and as last written when it started. Outputs are named by
-    /// `namer`.
+    /// The run is created incomplete, without sizes, and as last written when it started. Outputs
+    /// are named by `namer`.
     ///
     /// # Errors
     ///
-    /// Both sinks are handed back beside the error. No call is made after one that failed, but `unlock`
-    /// after `lock`.
+    /// Both sinks are handed back beside the error. No call is made after one that failed, but
+    /// `unlock` after `lock`.
     ///
-    /// - `StateDirNotFound`, `StoreCreate`, `StoreLock` and `RecorderCreate(Keeper)` come exactly where the
-    ///   keeper failed at this call. The sinks are as they were.
-    /// - `RecorderCreate(Store(error))` comes exactly where the recorder refused to store what was built, or what
-    ///   the run is a rerun of, with this error. The recorder was ended.
+    /// - `StateDirNotFound`, `StoreCreate`, `StoreLock` and `RecorderCreate(Keeper)` come exactly
+    ///   where the keeper failed at this call. The sinks are as they were.
+    /// - `RecorderCreate(Store(error))` comes exactly where the recorder refused to store what was
+    ///   built, or what the run is a rerun of, with this error. The recorder was ended.
     /// - `OutOfMemory` comes where memory ran out.
     pub fn setup<'n, K: RunKeeper, S: Sink, L: Sink, N: OutputNamer>(
         alloc: Global,
@@ -111,7 +112,8 @@ impl RecordSession {
         self.run_id
     }
 
-    /// Returns the shortest prefix that stood for the run when it was created, and the rest of its id.
+    /// Returns the shortest prefix that stood for the run when it was created,
+    /// and the rest of its id.
     pub fn run_id_unique_prefix(&self) -> &ShortestRunIdPrefix
         ensures { result.now ≡ self.now.prefix }
     {
@@ -125,14 +127,16 @@ impl RecordSession {
         self.state_dir.as_str()
     }
 
-    /// Finalizes the session: opens the keeper's store, locks it, gives the run its sizes, its status and its
-    /// duration, prunes runs, and unlocks the store. Without sizes it does nothing.
+    /// Finalizes the session: opens the keeper's store, locks it, gives the run its sizes, its
+    /// status and its duration, prunes runs, and unlocks the store. Without sizes it does nothing.
     ///
-    /// A run of which no end is known is incomplete. What the keeper doesn't do is a warning in the answer.
+    /// A run of which no end is known is incomplete. What the keeper doesn't do is a warning in the
+    /// answer.
     ///
     /// # Errors
     ///
-    /// `AllocError` where memory runs out. The calls made so far stay made, and the store is unlocked.
+    /// `AllocError` where memory runs out. The calls made so far stay made,
+    /// and the store is unlocked.
     pub fn finalize<K: RunKeeper>(
         self,
         alloc: Global,

@@ -1,7 +1,8 @@
 //! How a session is set up.
 ghost use Rattle.std.specs.Prelude.{◌≡◌, ◌≤◌, IfErr, IfOk, string_bytes};
 ghost use Rattle.rec_session.specs.Keepers.{Told};
-ghost use Rattle.rec_session.specs.SettingUp.{refusal_of, CreatesLocked, IsRefusalCause, LocksState};
+ghost use Rattle.rec_session.specs.SettingUp.{refusal_of, CreatesLocked};
+ghost use Rattle.rec_session.specs.SettingUp.{IsRefusalCause, LocksState};
 
 use crate::keeper::{KeeperError, RunKeeper};
 use crate::session::RecordSession;

@@ -1,7 +1,8 @@
 //! Several reporters of one run.
 ghost use Rattle.std.specs.Prelude.{◌≡◌, ◌≤◌, IsSomeAnd, MatchOption, None, Ok, OnErr, OnOk, Some};
 ghost use Rattle.rec_replay.specs.Reporting.{Shows, known};
-ghost use Rattle.rec_session.specs.Reporting.{EndsSet, LeavesSet, ReportsEvent, ReportsMeta, structured_end};
+ghost use Rattle.rec_session.specs.Reporting.{EndsSet, LeavesSet, ReportsEvent};
+ghost use Rattle.rec_session.specs.Reporting.{ReportsMeta, structured_end};
 
 use crate::record_reporter::{RecordReporter, RecordReporterError, ReporterEnd};
 use rec_container::Sink;
@@ -34,8 +35,8 @@ pub struct StructuredEnd<S, L> {
 /// let end = reporter.finish();
 /// ```
 //
-// A function of another crate that calls a reporter owns it: a call through a `&mut` of it counts as one
-// that may put another box in the place of `libtest`.
+// A function of another crate that calls a reporter owns it: a call through a `&mut` of it counts
+// as one that may put another box in the place of `libtest`.
 #[derive(Drop)]
 pub struct StructuredReporter<'n, S: Sink, L: Sink, N: OutputNamer> {
     libtest: Option<Box<dyn EventReporter>>,
@@ -73,7 +74,8 @@ impl<'n, S: Sink, L: Sink, N: OutputNamer> StructuredReporter<'n, S, L, N> {
         self
     }
 
-    /// Writes the metadata of a run by [`RecordReporter::write_meta`], where a record reporter is set.
+    /// Writes the metadata of a run by [`RecordReporter::write_meta`],
+    /// where a record reporter is set.
     pub fn write_meta(
         &mut self,
         cargo_metadata_json: &str,
@@ -91,13 +93,13 @@ impl<'n, S: Sink, L: Sink, N: OutputNamer> StructuredReporter<'n, S, L, N> {
         }
     }
 
-    /// Shows an event by the libtest reporter, and then records it by [`RecordReporter::write_event`],
-    /// each where it is set.
+    /// Shows an event by the libtest reporter, and then records it by
+    /// [`RecordReporter::write_event`], each where it is set.
     ///
     /// # Errors
     ///
-    /// Those of the libtest reporter's own call, and none where no libtest reporter is set. The event isn't
-    /// recorded then.
+    /// Those of the libtest reporter's own call, and none where no libtest reporter is set. The
+    /// event isn't recorded then.
     ///
     /// - `SinkFault` where showing it failed: the libtest reporter's count of faults rose.
     /// - `OutOfMemory` where it had no memory for showing it.
@@ -146,8 +148,8 @@ impl<'n, S: Sink, L: Sink, N: OutputNamer> StructuredReporter<'n, S, L, N> {
         Ok(())
     }
 
-    /// Ends the record reporter by [`RecordReporter::finish`], where it is set: returns its sizes or its
-    /// error, and its sinks.
+    /// Ends the record reporter by [`RecordReporter::finish`], where it is set: returns its sizes
+    /// or its error, and its sinks.
     pub fn finish(self) -> StructuredEnd<S, L>
         ensures { EndsSet S.taken S.faults self.entry.recording result }
     {
@@ -225,7 +227,8 @@ fn show(
 }
 
 /// Shows an event by the call of a reporter in a box.
-// It stands here, since a box that is lent to another crate counts as one that may be replaced there.
+// It stands here, since a box that is lent to another crate counts as one that may be replaced
+// there.
 fn show_boxed(
     libtest: &mut Box<dyn EventReporter>,
     event: &TestEvent<'_>,

@@ -14,8 +14,8 @@ fn state_dir() -> &'static str
     "/state"
 }
 
-/// Writes down the calls of a keeper, a letter each: directory, lock, unlock, create, end, prune. A store that is
-/// opened is written down as the directory in which it stands.
+/// Writes down the calls of a keeper, a letter each: directory, lock, unlock, create, end, prune. A
+/// store that is opened is written down as the directory in which it stands.
 #[derive(Drop)]
 pub(crate) struct WatchedKeeper {
     pub(crate) inner: MemoryKeeper,

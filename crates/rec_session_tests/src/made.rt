@@ -17,7 +17,11 @@ fn scope_text() -> &'static str {
 }
 
 fn rerun_text() -> &'static str {
-    r#"{"parent-run-id":"650e8400-e29b-41d4-a716-446655440000","root-info":{"build-scope":{"build-kind":"cargo","scope":{}},"run-id":"750e8400-e29b-41d4-a716-446655440000"},"test-suites":[]}"#
+    concat!(
+        r#"{"parent-run-id":"650e8400-e29b-41d4-a716-446655440000","#,
+        r#""root-info":{"build-scope":{"build-kind":"cargo","scope":{}},"#,
+        r#""run-id":"750e8400-e29b-41d4-a716-446655440000"},"test-suites":[]}"#
+    )
 }
 
 fn rerun(alloc: Global, is_rerun: bool) -> Result<Option<RerunInfo>, Fail> {
@@ -100,7 +104,8 @@ pub(crate) fn sizes() -> StoreSizes {
 pub(crate) enum RunEnd {
     /// No end is known.
     Unknown,
-    /// Of 5 tests so many ended, 3 passed, so many failed, and so many each could not be started and timed out.
+    /// Of 5 tests so many ended, 3 passed, so many failed,
+    /// and so many each could not be started and timed out.
     Tests {
         ended: usize,
         failed: usize,

@@ -61,7 +61,8 @@ fn opts() -> RecordOpts {
     }
 }
 
-/// What a reporter is told by a letter: `m` and `n` are metadata of cargo, with a test list without tests.
+/// What a reporter is told by a letter: `m` and `n` are metadata of cargo,
+/// with a test list without tests.
 fn metadata(letter: u8) -> Option<&'static str> {
     match letter {
         b'm' => Some("{}"),
@@ -70,7 +71,8 @@ fn metadata(letter: u8) -> Option<&'static str> {
     }
 }
 
-/// Makes an event of second 1002: `p` is a pause, `c` a continuation, and any other letter an event that only informs.
+/// Makes an event of second 1002: `p` is a pause, `c` a continuation,
+/// and any other letter an event that only informs.
 fn event(letter: u8) -> TestEvent<'static> {
     let kind = match letter {
         b'p' => TestEventKind::RunPaused {
@@ -191,22 +193,32 @@ fn log_name(log: &[u8]) -> &'static str {
 }
 
 fn pause_line() -> &'static str {
-    r#"{"elapsed":{"nanos":0,"secs":2},"kind":"run-paused","running":1,"setup-scripts-running":0,"timestamp":{"nanos":0,"offset":0,"secs":1002}}
-"#
+    concat!(
+        r#"{"elapsed":{"nanos":0,"secs":2},"kind":"run-paused","running":1,"#,
+        r#""setup-scripts-running":0,"timestamp":{"nanos":0,"offset":0,"secs":1002}}"#,
+        "\n"
+    )
 }
 
 fn both_lines() -> &'static str {
-    r#"{"elapsed":{"nanos":0,"secs":2},"kind":"run-paused","running":1,"setup-scripts-running":0,"timestamp":{"nanos":0,"offset":0,"secs":1002}}
-{"elapsed":{"nanos":0,"secs":2},"kind":"run-continued","running":1,"setup-scripts-running":0,"timestamp":{"nanos":0,"offset":0,"secs":1002}}
-"#
+    concat!(
+        r#"{"elapsed":{"nanos":0,"secs":2},"kind":"run-paused","running":1,"#,
+        r#""setup-scripts-running":0,"timestamp":{"nanos":0,"offset":0,"secs":1002}}"#,
+        "\n",
+        r#"{"elapsed":{"nanos":0,"secs":2},"kind":"run-continued","running":1,"#,
+        r#""setup-scripts-running":0,"timestamp":{"nanos":0,"offset":0,"secs":1002}}"#,
+        "\n"
+    )
 }
 
-/// What record reporters leave: how they begin, what they are told, and the sizes or the error, the store and the log.
+/// What record reporters leave: how they begin, what they are told, and the sizes or the error,
+/// the store and the log.
 const RECORDED: [(Start, &str, &str); 8] = [
     (
         SOUND,
         "mpic",
-        "279 bytes, 2 events, 3 entries; meta/test-list.json meta/cargo-metadata.json meta/record-opts.json; pause and continuation logged",
+        "279 bytes, 2 events, 3 entries; meta/test-list.json meta/cargo-metadata.json \
+        meta/record-opts.json; pause and continuation logged",
     ),
     (SOUND, "ii", "0 bytes, 0 events, 0 entries;; nothing logged"),
     (
@@ -229,7 +241,8 @@ const RECORDED: [(Start, &str, &str); 8] = [
     (
         SOUND,
         "pmnc",
-        "NameCollision; meta/test-list.json meta/cargo-metadata.json meta/record-opts.json; the pause logged",
+        "NameCollision; meta/test-list.json meta/cargo-metadata.json meta/record-opts.json; the \
+        pause logged",
     ),
     (
         Start {
@@ -344,8 +357,8 @@ struct Case {
 
 /// Writes down what comes of telling both reporters all this, and ending them.
 ///
-/// All calls stand in the function that owns the reporter, which is not to be lent twice. None of them has an
-/// exit, so that it is let go in one place.
+/// All calls stand in the function that owns the reporter, which is not to be lent twice. None of
+/// them has an exit, so that it is let go in one place.
 fn structured(alloc: Global, case: &Case, text: &mut String) -> Result<(), AllocError> {
     let tests = test_list(alloc);
     let mut structured: StructuredReporter<'_, FailingSink, FailingSink, Sha256Namer> =
@@ -407,7 +420,8 @@ const STRUCTURED: [Case; 7] = [
         shown_by: &[0],
         recorded_by: &[SOUND],
         letters: "mpic",
-        want: "0 faults, 279 bytes, 2 events, 3 entries; meta/test-list.json meta/cargo-metadata.json meta/record-opts.json; pause and continuation logged",
+        want: "0 faults, 279 bytes, 2 events, 3 entries; meta/test-list.json \
+            meta/cargo-metadata.json meta/record-opts.json; pause and continuation logged",
     },
     // What isn't shown isn't recorded.
     Case {

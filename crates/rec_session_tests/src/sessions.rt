@@ -129,7 +129,8 @@ fn finalize(
     Ok(told?)
 }
 
-/// Tells what comes of the sessions of a case, the calls that were made, and the runs that the keeper has.
+/// Tells what comes of the sessions of a case, the calls that were made,
+/// and the runs that the keeper has.
 fn tell(
     alloc: Global,
     keeper: &mut WatchedKeeper,
@@ -146,7 +147,8 @@ fn tell(
     Ok(tell_runs(keeper.inner.runs(), text)?)
 }
 
-/// Returns what comes of the first of these cases of which not that comes which is wanted, or nothing.
+/// Returns what comes of the first of these cases of which not that comes which is wanted,
+/// or nothing.
 fn first_wrong(alloc: Global, cases: &[Case]) -> Result<String, Fail> {
     let mut text = String::new(alloc);
     for case in cases {
@@ -340,7 +342,8 @@ not pruned
             ..END
         }),
         want: "\
-recording completed but run 550e8abc-e29b-41d4-a716-446655440000 was not found in store (may have been pruned during execution)
+recording completed but run 550e8abc-e29b-41d4-a716-446655440000 was not found in store (may \
+have been pruned during execution)
 not pruned
 /statelepu
 ",

@@ -61,8 +61,8 @@ pub(crate) fn tell_result(
     }
 }
 
-/// Tells the runs of a keeper, a line each: the id, the status, the bytes of log and store, the seconds, and whether it is a
-/// rerun.
+/// Tells the runs of a keeper, a line each: the id, the status, the bytes of log and store, the
+/// seconds, and whether it is a rerun.
 pub(crate) fn tell_runs(runs: &[RecordedRunInfo], text: &mut String) -> Result<(), AllocError> {
     for run in runs {
         write!(text, "{} ", run.run_id)?;

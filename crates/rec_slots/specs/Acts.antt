@@ -1,11 +1,15 @@
 -- What each event is for the slots of a run.
 use Rattle.std.specs.Prelude.{ℕ, List, map}
 use Rattle.rec_events.specs.declared.instances.OwnedTestInstanceId.{OwnedTestInstanceId}
-use Rattle.rec_spans.specs.Acts.Act.{RunStarts as StartOfRun, RunEnds as EndOfRun, SubRunStarts, SubRunEnds, ScriptStarts, ScriptEnds, ScriptIsSlow, AttemptStarts, AttemptFails, TestEnds, TestIsSlow, Pauses, Continues, Cancels, Silent as NoSpan}
+use Rattle.rec_spans.specs.Acts.Act.{RunStarts as StartOfRun, RunEnds as EndOfRun}
+use Rattle.rec_spans.specs.Acts.Act.{SubRunStarts, SubRunEnds, ScriptStarts, ScriptEnds}
+use Rattle.rec_spans.specs.Acts.Act.{ScriptIsSlow, AttemptStarts, AttemptFails, TestEnds}
+use Rattle.rec_spans.specs.Acts.Act.{TestIsSlow, Pauses, Continues, Cancels, Silent as NoSpan}
 use Rattle.rec_spans.specs.Acts.{Act as SpanAct, act_of}
 use Rattle.rec_spans.specs.Plain.{PlainEvent}
 
--- the run starts or ends, an attempt starts on a slot, the open attempt of a test ends, or none of these
+-- the run starts or ends, an attempt starts on a slot, the open attempt of a test ends,
+-- or none of these
 pub data Act : Type 0 where
   RunStarts : Act
   RunEnds : Act

@@ -1,6 +1,8 @@
 -- What the slots of a run see of each event, after the events before it.
 use Rattle.std.specs.List.{list_any}
-use Rattle.std.specs.Prelude.{◌≡◌, ◌≢◌, ℕ, suc, ◌==◌, ◌<◌, ◌⊎◌, ℤ, pos, ◌-ℤ◌, ◌<ℤ◌, Bool, true, false, not, ◌&&◌, ◌||◌, List, [], ◌∷◌, ◌++◌, length, Option, Some, None, Result, Ok, Err, slice_get, take}
+use Rattle.std.specs.Prelude.{◌≡◌, ◌≢◌, ℕ, suc, ◌==◌, ◌<◌, ◌⊎◌, ℤ, pos, ◌-ℤ◌, ◌<ℤ◌, Bool}
+use Rattle.std.specs.Prelude.{true, false, not, ◌&&◌, ◌||◌, List, [], ◌∷◌, ◌++◌, length}
+use Rattle.std.specs.Prelude.{Option, Some, None, Result, Ok, Err, slice_get, take}
 use Rattle.rec_events.specs.declared.instances.OwnedTestInstanceId.{OwnedTestInstanceId}
 use Rattle.rec_spans.specs.declared.errors.ChromeTraceError.TheVariants.{OutOfMemory}
 use Rattle.rec_spans.specs.declared.errors.ChromeTraceError.{ChromeTraceError}
@@ -83,7 +85,8 @@ is_done (End ∷ ms) = false
 
 -- an instant whose seconds are an i64
 abbrev pub IsNear : ℤ → Type 0
-IsNear t = ((pos 0 -ℤ pos 10000000000000000000000000000) <ℤ t) × (t <ℤ pos 10000000000000000000000000000)
+IsNear t =
+    ((pos 0 -ℤ pos 10000000000000000000000000000) <ℤ t) × (t <ℤ pos 10000000000000000000000000000)
 
 -- none, or one
 abbrev pub IsAtMostOne : List Span → Type 0
@@ -93,8 +96,10 @@ IsAtMostOne spans = (spans ≡ []) ⊎ ((s : Span) × (spans ≡ s ∷ []))
 pub record HasTracked (events : List PlainEvent) (n : ℕ) (tracker : TraceState) : Type 0 where
   pub state : tracker ≡ state_after (past_at (history Slot events) n)
   pub accepted : history_refusal (take n (history Slot events)) ≡ None
-  pub single : (slot : ℕ) → IsAtMostOne (in_place (places.Slot slot) (open_spans (past_at (history Slot events) n)))
-  pub alone : (test : OwnedTestInstanceId) → IsAtMostOne (of_key (keys.Test test) (open_spans (past_at (history Slot events) n)))
+  pub single : (slot : ℕ)
+      → IsAtMostOne (in_place (places.Slot slot) (open_spans (past_at (history Slot events) n)))
+  pub alone : (test : OwnedTestInstanceId)
+      → IsAtMostOne (of_key (keys.Test test) (open_spans (past_at (history Slot events) n)))
 
 -- the starts and the ends of runs before a place
 abbrev pub marks_before : List PlainEvent → ℕ → List RunMark
@@ -128,20 +133,25 @@ pub record EndsOn (events : List PlainEvent) (n slot : ℕ) : Type 0 where
   pub span : Span
   pub place : span.place ≡ places.Slot slot
   pub stops : change_at (history Slot events) n ≡ Some (Stop span.key)
-  pub one : (s : Span) → Has (spans_before events n) s → (s.key ≡ span.key) ⊎ (s.place ≡ places.Slot slot) → s ≡ span
+  pub one : (s : Span) → Has (spans_before events n) s
+      → (s.key ≡ span.key) ⊎ (s.place ≡ places.Slot slot) → s ≡ span
 
 -- no attempt starts or ends at a place
 pub record IsNoAttempt (events : List PlainEvent) (n : ℕ) : Type 0 where
   pub no_start : ¬ StartsAttempt events n
-  pub no_span : (s : Span) (slot : ℕ) → change_at (history Slot events) n ≡ Some (Start s) → s.place ≢ places.Slot slot
-  pub no_stop : (test : OwnedTestInstanceId) → change_at (history Slot events) n ≢ Some (Stop (keys.Test test))
+  pub no_span : (s : Span) (slot : ℕ) → change_at (history Slot events) n ≡ Some (Start s)
+      → s.place ≢ places.Slot slot
+  pub no_stop : (test : OwnedTestInstanceId)
+      → change_at (history Slot events) n ≢ Some (Stop (keys.Test test))
 
 -- what the event at a place does to the run and to attempts
 abbrev pub Does : List PlainEvent → ℕ → Change → Type 0
-Does events n changes.RunStarts = IsNoAttempt events n × (slice_get (acts events) n ≡ Some RunStarts)
+Does events n changes.RunStarts =
+    IsNoAttempt events n × (slice_get (acts events) n ≡ Some RunStarts)
 Does events n changes.RunEnds = IsNoAttempt events n × (slice_get (acts events) n ≡ Some RunEnds)
 Does events n (changes.Starts slot) =
-    StartsAttempt events n × ((s : Span) × (change_at (history Slot events) n ≡ Some (Start s)) × (s.place ≡ places.Slot slot))
+    StartsAttempt events n × ((s : Span) × (change_at (history Slot events) n ≡ Some (Start s))
+    × (s.place ≡ places.Slot slot))
     × (is_held slot (spans_before events n) ≡ false)
 Does events n (changes.Ends slot) = ¬ StartsAttempt events n × EndsOn events n slot
 Does events n changes.Nothing = IsNoAttempt events n
@@ -154,8 +164,11 @@ pub record IsBeat (events : List PlainEvent) (n : ℕ) (beat : Beat) : Type 0 wh
   pub near : IsNear beat.at
   pub paused : beat.in_pause ≡ is_paused (past_at (history Slot events) n)
   pub marks : marks_before events (suc n) ≡ marks_before events n ++ changed_run beat.change
-  pub known : (slot : ℕ) → is_known events (suc n) slot ≡ known_after beat.change slot (is_known events n slot)
-  pub held : (slot : ℕ) → is_held slot (spans_before events (suc n)) ≡ held_after beat.change slot (is_held slot (spans_before events n))
+  pub known : (slot : ℕ)
+      → is_known events (suc n) slot ≡ known_after beat.change slot (is_known events n slot)
+  pub held : (slot : ℕ)
+      → is_held slot (spans_before events (suc n))
+      ≡ held_after beat.change slot (is_held slot (spans_before events n))
   pub does : Does events n beat.change
 
 -- the next event is taken, and seen; or refused

@@ -1,7 +1,8 @@
 -- What is kept of each slot while a run is walked.
 use Rattle.std.specs.BTreeMap.{get}
 use Rattle.std.specs.Ordering.{nat_cmp}
-use Rattle.std.specs.Prelude.{◌≡◌, ℕ, ◌+◌, ◌-◌, ◌≤◌, Bool, false, Option, Some, None, is_some, IfSome}
+use Rattle.std.specs.Prelude.{◌≡◌, ℕ, ◌+◌, ◌-◌, ◌≤◌, Bool, false}
+use Rattle.std.specs.Prelude.{Option, Some, None, is_some, IfSome}
 use Rattle.rec_slots.specs.declared.clocks.Clocks.{Clocks}
 use Rattle.rec_slots.specs.declared.clocks.SlotClock.{SlotClock}
 use Rattle.rec_slots.specs.declared.report.SlotUsage.{SlotUsage}
@@ -30,7 +31,8 @@ slot_time cs slot = worked_so_far cs.active (get nat_cmp cs.slots slot)
 abbrev pub is_open : Clocks → ℕ → Bool
 is_open cs slot = has_open (get nat_cmp cs.slots slot)
 
--- an attempt began when the run was outside pauses for at most as long as now, and a slot is busy at most as long as the run is
+-- an attempt began when the run was outside pauses for at most as long as now, and a slot is busy
+-- at most as long as the run is
 pub record IsClock (active : ℕ) (c : SlotClock) : Type 0 where
   pub began : IfSome c.since (λ t. t ≤ active)
   pub bound : worked active c ≤ active

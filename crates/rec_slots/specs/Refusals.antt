@@ -5,7 +5,13 @@ use Rattle.rec_spans.specs.declared.errors.ChromeTraceError.{ChromeTraceError}
 use Rattle.rec_spans.specs.declared.settings.ChromeTraceGroupBy.TheVariants.{Slot}
 use Rattle.rec_spans.specs.Plain.{PlainEvent}
 use Rattle.rec_spans.specs.Refusals.{events_refusal}
-use Rattle.rec_slots.specs.declared.report.SlotError.TheVariants.{Refused, NotOneRun, AttemptOutside, StampFell, OutOfMemory}
+use Rattle.rec_slots.specs.declared.report.SlotError.TheVariants.{
+  Refused,
+  NotOneRun,
+  AttemptOutside,
+  StampFell,
+  OutOfMemory,
+}
 use Rattle.rec_slots.specs.declared.report.SlotError.{SlotError}
 use Rattle.rec_slots.specs.declared.report.SlotReport.{SlotReport}
 use Rattle.rec_slots.specs.Runs.{Falls, IsOneRun, IsOutside}
@@ -45,11 +51,15 @@ IsAccepted events = events_refusal Slot events ≡ None
 abbrev pub IsRefused : List PlainEvent → SlotError → Type 0
 IsRefused events (Refused e) = events_refusal Slot events ≡ Some e
 IsRefused events NotOneRun = IsAccepted events × ¬ IsOneRun events
-IsRefused events (AttemptOutside event) = IsAccepted events × IsOneRun events × IsNumberOfFirst (IsOutside events) event
-IsRefused events (StampFell event) = IsAccepted events × IsOneRun events × No (IsOutside events) × IsNumberOfFirst (Falls events) event
+IsRefused events (AttemptOutside event) =
+    IsAccepted events × IsOneRun events × IsNumberOfFirst (IsOutside events) event
+IsRefused events (StampFell event) =
+    IsAccepted events × IsOneRun events × No (IsOutside events)
+    × IsNumberOfFirst (Falls events) event
 IsRefused events OutOfMemory = Unit {0}
 
 -- a report is answered exactly where nothing is refused, but for want of memory
 abbrev pub Reports : List PlainEvent → Result SlotReport SlotError → Type 0
-Reports events (Ok r) = IsReport events r × IsAccepted events × No (IsOutside events) × No (Falls events)
+Reports events (Ok r) =
+    IsReport events r × IsAccepted events × No (IsOutside events) × No (Falls events)
 Reports events (Err e) = IsRefused events e

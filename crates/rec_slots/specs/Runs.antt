@@ -1,7 +1,9 @@
--- The run among events, and the attempts in it. Events are found by their places, of which the first is 0.
+-- The run among events, and the attempts in it. Events are found by their places,
+-- of which the first is 0.
 use Rattle.std.specs.List.{flat_map}
 use Rattle.std.specs.Option.{option_map_or, unwrap_or}
-use Rattle.std.specs.Prelude.{◌≡◌, ℕ, ◌-◌, ◌<◌, ◌==◌, ℤ, pos, ◌+ℤ◌, ◌*ℤ◌, ◌<ℤ◌, Bool, true, false, List, [], ◌∷◌, length, take, slice_get, option_map}
+use Rattle.std.specs.Prelude.{◌≡◌, ℕ, ◌-◌, ◌<◌, ◌==◌, ℤ, pos, ◌+ℤ◌, ◌*ℤ◌, ◌<ℤ◌, Bool, true}
+use Rattle.std.specs.Prelude.{false, List, [], ◌∷◌, length, take, slice_get, option_map}
 use Rattle.rec_events.specs.Times.{Moment}
 use Rattle.rec_spans.specs.declared.settings.ChromeTraceGroupBy.TheVariants.{Slot}
 use Rattle.rec_spans.specs.declared.spans.Span.{Span}
@@ -19,7 +21,8 @@ nanoseconds s = s.secs *ℤ pos 1000000000 +ℤ pos s.nanos
 
 -- the instant of the event at a place
 abbrev pub instant : List PlainEvent → ℕ → ℤ
-instant events i = unwrap_or (option_map (λ e. nanoseconds e.timestamp) (slice_get events i)) (pos 0)
+instant events i =
+    unwrap_or (option_map (λ e. nanoseconds e.timestamp) (slice_get events i)) (pos 0)
 
 -- ---- the run
 
@@ -90,4 +93,6 @@ IsOutside events i = StartsAttempt events i × ¬ IsInside events i
 
 -- the instant of an event of the run is below that of the event before
 abbrev pub Falls : List PlainEvent → ℕ → Type 0
-Falls events i = (is_running events i ≡ true) × (i < length events) × (instant events i <ℤ instant events (i - 1))
+Falls events i =
+    (is_running events i ≡ true) × (i < length events)
+    × (instant events i <ℤ instant events (i - 1))

@@ -2,7 +2,8 @@
 use Rattle.std.specs.List.Sorted.{IsStrictlySortedBy}
 use Rattle.std.specs.List.{AllByRecursion, list_any}
 use Rattle.std.specs.Ordering.{nat_cmp}
-use Rattle.std.specs.Prelude.{◌≡◌, ℕ, suc, ◌+◌, ◌==◌, pos, ◌-ℤ◌, Bool, not, List, map, slice_get, Some}
+use Rattle.std.specs.Prelude.{◌≡◌, ℕ, suc, ◌+◌, ◌==◌, pos, ◌-ℤ◌}
+use Rattle.std.specs.Prelude.{Bool, not, List, map, slice_get, Some}
 use Rattle.rec_spans.specs.declared.settings.ChromeTraceGroupBy.TheVariants.{Slot}
 use Rattle.rec_spans.specs.declared.spans.Place.TheVariants as places
 use Rattle.rec_spans.specs.declared.spans.Span.{Span}
@@ -36,13 +37,16 @@ pub record RunsFrom (events : List PlainEvent) (start gaps : ℕ) : Type 0 where
   pub ends : slice_get (acts events) (start + gaps) ≡ Some RunEnds
 
 -- the usage of a slot: the time of its gaps of each kind, which adds up to the length of the run
-pub record IsUsage (events : List PlainEvent) (start gaps run_length : ℕ) (u : SlotUsage) : Type 0 where
+pub record IsUsage (events : List PlainEvent) (start gaps run_length : ℕ)
+    (u : SlotUsage) : Type 0 where
   pub busy_is : pos u.busy ≡ time_of (instant events) (slot_kind events u.slot) busy start gaps
-  pub paused_is : pos u.paused ≡ time_of (instant events) (slot_kind events u.slot) paused start gaps
+  pub paused_is : pos u.paused
+      ≡ time_of (instant events) (slot_kind events u.slot) paused start gaps
   pub idle_is : pos u.idle ≡ time_of (instant events) (slot_kind events u.slot) idle start gaps
   pub sum : u.busy + u.paused + u.idle ≡ run_length
 
--- each slot on which an attempt starts is there with its usage, once, in rising order, and no other slot is
+-- each slot on which an attempt starts is there with its usage, once, in rising order,
+-- and no other slot is
 pub record IsReport (events : List PlainEvent) (r : SlotReport) : Type 0 where
   pub start : ℕ
   pub gaps : ℕ
@@ -50,4 +54,6 @@ pub record IsReport (events : List PlainEvent) (r : SlotReport) : Type 0 where
   pub run_length : pos r.run_length ≡ instant events (start + gaps) -ℤ instant events start
   pub usage : AllByRecursion (IsUsage events start gaps r.run_length) r.slots
   pub rise : IsStrictlySortedBy nat_cmp (map (λ (u : SlotUsage). u.slot) r.slots)
-  pub each : (slot : ℕ) → list_any (λ (u : SlotUsage). slot == u.slot) r.slots ≡ list_any (starts_on slot) (acts events)
+  pub each : (slot : ℕ)
+      → list_any (λ (u : SlotUsage). slot == u.slot) r.slots
+      ≡ list_any (starts_on slot) (acts events)

@@ -2,7 +2,9 @@
 use Rattle.std.specs.BTreeMap.{get, is_at}
 use Rattle.std.specs.BTreeSet.{contains}
 use Rattle.std.specs.Ordering.{nat_cmp}
-use Rattle.std.specs.Prelude.{◌≡◌, ◌≢◌, ◌↔◌, ℕ, suc, ◌+◌, ◌<◌, pos, ◌-ℤ◌, Bool, true, false, ◌&&◌, if◌then◌else◌, List, [], ◌∷◌, slice_get, Option, Some, None, Result, Ok, Err}
+use Rattle.std.specs.Prelude.{◌≡◌, ◌≢◌, ◌↔◌, ℕ, suc, ◌+◌, ◌<◌, pos, ◌-ℤ◌, Bool}
+use Rattle.std.specs.Prelude.{true, false, ◌&&◌, if◌then◌else◌, List, [], ◌∷◌}
+use Rattle.std.specs.Prelude.{slice_get, Option, Some, None, Result, Ok, Err}
 use Rattle.rec_spans.specs.declared.settings.ChromeTraceGroupBy.TheVariants.{Slot}
 use Rattle.rec_spans.specs.declared.spans.Place.TheVariants as places
 use Rattle.rec_spans.specs.declared.spans.Span.{Span}
@@ -12,7 +14,8 @@ use Rattle.rec_spans.specs.Plain.{PlainEvent}
 use Rattle.rec_spans.specs.Positions.{change_at}
 use Rattle.rec_slots.specs.Acts.Act.{RunStarts, RunEnds}
 use Rattle.rec_slots.specs.Acts.{acts}
-use Rattle.rec_slots.specs.Beats.{HasTracked, IsBeat, IsNear, is_known, marks_before, phase_of, spans_before}
+use Rattle.rec_slots.specs.Beats.{HasTracked, IsBeat, IsNear, is_known}
+use Rattle.rec_slots.specs.Beats.{marks_before, phase_of, spans_before}
 use Rattle.rec_slots.specs.Clocks.{AreClocks, has_clock, is_open, slot_time}
 use Rattle.rec_slots.specs.declared.attempts.Attempts.{Attempts}
 use Rattle.rec_slots.specs.declared.beats.Beat.{Beat}
@@ -33,8 +36,10 @@ use Rattle.rec_slots.specs.Usage.{is_held, slot_kind}
 pub record AreTimes (events : List PlainEvent) (start gaps : ℕ) (cs : Clocks) : Type 0 where
   pub near : IsNear (instant events start)
   pub near_end : IsNear (instant events (start + gaps))
-  pub times : (slot : ℕ) → pos (slot_time cs slot) ≡ time_of (instant events) (slot_kind events slot) busy start gaps
-  pub paused_is : (slot : ℕ) → pos cs.paused ≡ time_of (instant events) (slot_kind events slot) paused start gaps
+  pub times : (slot : ℕ)
+      → pos (slot_time cs slot) ≡ time_of (instant events) (slot_kind events slot) busy start gaps
+  pub paused_is : (slot : ℕ)
+      → pos cs.paused ≡ time_of (instant events) (slot_kind events slot) paused start gaps
   pub total : pos (cs.paused + cs.active) ≡ instant events (start + gaps) -ℤ instant events start
 
 -- no time has passed
@@ -86,7 +91,8 @@ pub record HasPassed (events : List PlainEvent) (n : ℕ) (t : Times) : Type 0 w
   pub known : (slot : ℕ) → has_clock t.clocks slot ≡ is_known events n slot
   pub fall : FallsBefore events (suc n) t.fell
   pub before : t.fell ≡ None → marks_before events n ≡ [] → AreAtStart t.clocks
-  pub running : t.fell ≡ None → marks_before events n ≡ Begin ∷ [] → AreRunning events (suc n) t.clocks
+  pub running : t.fell ≡ None → marks_before events n ≡ Begin ∷ []
+      → AreRunning events (suc n) t.clocks
   pub over : t.fell ≡ None → marks_before events n ≡ Begin ∷ End ∷ [] → AreOver events t.clocks
 
 -- some events are seen so
@@ -109,7 +115,8 @@ pub record IsOutsideBefore (events : List PlainEvent) (n i : ℕ) : Type 0 where
   pub starts : StartsAttempt events i
   pub outside : ¬ IsInsideBefore events n i
 
--- the span of an attempt that started while the run went on, at event `number`, is open on a slot before a place
+-- the span of an attempt that started while the run went on, at event `number`,
+-- is open on a slot before a place
 pub record IsOpenOn (events : List PlainEvent) (n slot number : ℕ) : Type 0 where
   pub start : ℕ
   pub numbered : number ≡ suc start
@@ -124,12 +131,17 @@ pub record HasNoted (events : List PlainEvent) (n : ℕ) (a : Attempts) : Type 0
   pub none : contains nat_cmp a.starts 0 ≡ false
   pub starts : (i : ℕ) → (contains nat_cmp a.starts (suc i) ≡ true) ↔ IsOutsideBefore events n i
   pub before : marks_before events n ≡ [] → (slot : ℕ) → get nat_cmp a.running slot ≡ None
-  pub running : marks_before events n ≡ Begin ∷ [] → (slot number : ℕ) → (get nat_cmp a.running slot ≡ Some number) ↔ IsOpenOn events n slot number
+  pub running : marks_before events n ≡ Begin ∷ [] → (slot number : ℕ)
+      → (get nat_cmp a.running slot ≡ Some number) ↔ IsOpenOn events n slot number
 
 -- an attempt that starts at event `number` is noted, and as one on a slot if the run goes on
 pub record StartsOn (number slot : ℕ) (running : Bool) (old new : Attempts) : Type 0 where
-  pub starts : (i : ℕ) → contains nat_cmp new.starts i ≡ (if is_at (nat_cmp number) i then true else contains nat_cmp old.starts i)
-  pub on_slot : (p : ℕ) → get nat_cmp new.running p ≡ (if running && is_at (nat_cmp slot) p then Some number else get nat_cmp old.running p)
+  pub starts : (i : ℕ)
+      → contains nat_cmp new.starts i
+      ≡ (if is_at (nat_cmp number) i then true else contains nat_cmp old.starts i)
+  pub on_slot : (p : ℕ)
+      → get nat_cmp new.running p
+      ≡ (if running && is_at (nat_cmp slot) p then Some number else get nat_cmp old.running p)
 
 -- without a number, if it is one
 abbrev pub without : Option ℕ → ℕ → Bool → Bool
@@ -138,8 +150,11 @@ without (Some number) i there = if is_at (nat_cmp number) i then false else ther
 
 -- the open attempt of a slot is taken out if the run goes on
 pub record EndsOnSlot (slot : ℕ) (running : Bool) (old new : Attempts) : Type 0 where
-  pub starts : (i : ℕ) → contains nat_cmp new.starts i ≡ without (if running then get nat_cmp old.running slot else None) i (contains nat_cmp old.starts i)
-  pub on_slot : (p : ℕ) → get nat_cmp new.running p ≡ (if running && is_at (nat_cmp slot) p then None else get nat_cmp old.running p)
+  pub starts : (i : ℕ) → contains nat_cmp new.starts i ≡ without
+      (if running then get nat_cmp old.running slot else None) i (contains nat_cmp old.starts i)
+  pub on_slot : (p : ℕ)
+      → get nat_cmp new.running p
+      ≡ (if running && is_at (nat_cmp slot) p then None else get nat_cmp old.running p)
 
 -- the number of the first of them, if there is one
 abbrev pub FindsFirst : List PlainEvent → ℕ → Option ℕ → Type 0

@@ -9,8 +9,8 @@ use rec_events::{
     CoreEventKind, OutputEventKind, OutputSpec, OwnedTestInstanceId, TestEventKindSummary,
 };
 
-/// Says what an event is: the run starts or ends, an attempt starts on a slot, the open attempt of a
-/// test ends, or none of these.
+/// Says what an event is: the run starts or ends, an attempt starts on a slot, the open attempt of
+/// a test ends, or none of these.
 #[derive(Clone, Copy)]
 pub(crate) enum Act<'e> {
     RunStarts,

@@ -9,7 +9,8 @@ use crate::beats::{Beat, Change};
 use std::alloc::{AllocError, Global};
 use std::collections::{BTreeMap, BTreeSet};
 
-/// Notes the attempts that aren't known to be inside the run, by the numbers of the events that start them.
+/// Notes the attempts that aren't known to be inside the run,
+/// by the numbers of the events that start them.
 #[derive(Drop)]
 pub(crate) struct Attempts {
     /// Those that haven't both started and ended while the run went on.
@@ -66,7 +67,8 @@ impl Attempts {
         Ok(())
     }
 
-    /// Takes the attempt out that ends on a slot, if it started while the run went on, and the run still does.
+    /// Takes the attempt out that ends on a slot, if it started while the run went on,
+    /// and the run still does.
     fn end(&mut self, slot: u64, goes_on: bool)
         ensures ends { EndsOnSlot slot goes_on self.old self.new }
     {

@@ -13,8 +13,8 @@ use rec_events::{OwnedTestInstanceId, RecordingSpec, Stamp, TestEventSummary};
 use rec_spans::{ChromeTraceError, ChromeTraceGroupBy, OpenSpans, Place, SpanTracker};
 use std::alloc::Global;
 
-/// Says what an event changes: the run starts or ends, an attempt starts or ends on a slot, or none of
-/// these.
+/// Says what an event changes: the run starts or ends, an attempt starts or ends on a slot, or none
+/// of these.
 #[derive(Clone, Copy)]
 pub(crate) enum Change {
     RunStarts,
@@ -24,8 +24,8 @@ pub(crate) enum Change {
     Nothing,
 }
 
-/// Holds what the slots see of an event: its number, counted from 1, its instant in nanoseconds since the
-/// beginning of 1970, whether the run was in a pause before it, and what it changes.
+/// Holds what the slots see of an event: its number, counted from 1, its instant in nanoseconds
+/// since the beginning of 1970, whether the run was in a pause before it, and what it changes.
 #[derive(Clone, Copy)]
 pub(crate) struct Beat {
     pub(crate) number: u64,

@@ -3,8 +3,10 @@ ghost use Rattle.std.specs.List.Sorted.{IsStrictlySortedBy};
 ghost use Rattle.std.specs.List.{AllByRecursion};
 ghost use Rattle.std.specs.Map.{keys_of};
 ghost use Rattle.std.specs.Ordering.{nat_cmp};
-ghost use Rattle.std.specs.Prelude.{◌≡◌, ◌+◌, ◌<◌, ◌^◌, ℕ, [], true, false, map, if◌then◌else◌, IfOk, OnOk, ◌&&◌, not, ◌==◌, ◌||◌};
-ghost use Rattle.rec_slots.specs.Clocks.{AreClocks, IsClock, IsTimed, has_clock, is_open, slot_time, worked};
+ghost use Rattle.std.specs.Prelude.{◌≡◌, ◌+◌, ◌<◌, ◌^◌, ℕ, [], true, false, map};
+ghost use Rattle.std.specs.Prelude.{if◌then◌else◌, IfOk, OnOk, ◌&&◌, not, ◌==◌, ◌||◌};
+ghost use Rattle.rec_slots.specs.Clocks.{AreClocks, IsClock, IsTimed};
+ghost use Rattle.rec_slots.specs.Clocks.{has_clock, is_open, slot_time, worked};
 ghost use Rattle.rec_slots.specs.declared.report.SlotUsage.{SlotUsage};
 
 use crate::report::{SlotReport, SlotUsage};
@@ -12,7 +14,8 @@ use rec_events::Items;
 use std::alloc::{AllocError, Global};
 use std::collections::BTreeMap;
 
-/// Holds the time of a slot, in nanoseconds: that of attempts that ended, and when the open one began.
+/// Holds the time of a slot, in nanoseconds: that of attempts that ended,
+/// and when the open one began.
 #[derive(Clone, Copy, Drop)]
 pub(crate) struct SlotClock {
     pub(crate) busy: u128,
@@ -20,7 +23,8 @@ pub(crate) struct SlotClock {
     pub(crate) since: Option<u128>,
 }
 
-/// Holds the time of a run in pauses and outside them, and that of each slot on which an attempt began.
+/// Holds the time of a run in pauses and outside them,
+/// and that of each slot on which an attempt began.
 #[derive(Drop)]
 pub(crate) struct Clocks {
     pub(crate) paused: u128,
@@ -29,7 +33,8 @@ pub(crate) struct Clocks {
 }
 
 impl SlotClock {
-    /// Returns for how long attempts were open on the slot, where the run was outside pauses for so long.
+    /// Returns for how long attempts were open on the slot,
+    /// where the run was outside pauses for so long.
     fn worked(&self, active: u128) -> u128
         requires { IsClock active self.now }
         ensures { result ≡ worked active self.now }

@@ -5,8 +5,8 @@ ghost use Rattle.rec_slots.specs.Runs.{RunMark, is_begun};
 
 use crate::beats::Change;
 
-/// Says how far a run is: it hasn't started, goes on, or is over; or there is more than one start and
-/// one end of a run, or an end first.
+/// Says how far a run is: it hasn't started, goes on, or is over; or there is more than one start
+/// and one end of a run, or an end first.
 #[derive(Clone, Copy)]
 pub(crate) enum RunPhase {
     Before,

@@ -31,8 +31,9 @@ pub struct SlotReport {
     pub slots: Items<SlotUsage>,
 }
 
-/// Says why there is no report of the slots of a run. Events are numbered from 1. Where several causes hold
-/// the first is answered, in the order in which they stand here; but want of memory may come at any time.
+/// Says why there is no report of the slots of a run. Events are numbered from 1. Where several
+/// causes hold the first is answered, in the order in which they stand here;
+/// but want of memory may come at any time.
 #[derive(Drop, Error)]
 pub enum SlotError {
     /// A trace of the events would be refused.
@@ -41,12 +42,12 @@ pub enum SlotError {
     /// There isn't one start of a run and one end after it.
     #[error("the events aren't those of one run from its start to its end")]
     NotOneRun,
-    /// The event starts an attempt that doesn't start after the run's start and end before its end. It is
-    /// the first that does.
+    /// The event starts an attempt that doesn't start after the run's start and end before its end.
+    /// It is the first that does.
     #[error("event {event} starts an attempt that isn't inside the run")]
     AttemptOutside { event: u64 },
-    /// The event, which stands after the run's start up to its end, has an instant below that of the event
-    /// before it. It is the first that has.
+    /// The event, which stands after the run's start up to its end, has an instant below that of
+    /// the event before it. It is the first that has.
     #[error("the instant of event {event} is below that of the event before")]
     StampFell { event: u64 },
     /// There was not enough memory.

@@ -1,5 +1,6 @@
 -- The tests on keys, rows and places hold exactly where these are equal.
-use Rattle.std.proofs.Common.{◌≡◌, ℕ, ◌==◌, nat_lt, ◌&&◌, Bool, true, false, cond, refl, ◌∙◌, ap, sym, arith, eqb-true, eq-eqb, ltb-true}
+use Rattle.std.proofs.Common.{◌≡◌, ℕ, ◌==◌, nat_lt, ◌&&◌, Bool, true, false, cond}
+use Rattle.std.proofs.Common.{refl, ◌∙◌, ap, sym, arith, eqb-true, eq-eqb, ltb-true}
 use Rattle.std.proofs.lemmas.Bool.{and_parts, and_from}
 use Rattle.std.specs.declared.cmp.Ordering.TheVariants.{Less, Equal, Greater}
 use Rattle.std.specs.Ordering.{nat_cmp, is_eq}
@@ -56,14 +57,16 @@ row_eq-true a b e =
 
 -- a row is the same as itself
 pub row_eq-self : (a : Row) → row_eq a a ≡ true
-row_eq-self a = and_from (a.pid == a.pid) (a.tid == a.tid) (eq-eqb a.pid a.pid refl) (eq-eqb a.tid a.tid refl)
+row_eq-self a =
+    and_from (a.pid == a.pid) (a.tid == a.tid) (eq-eqb a.pid a.pid refl) (eq-eqb a.tid a.tid refl)
 
 -- ---- places
 
 pub is_eq-nat_cmp : (m n : ℕ) → is_eq (nat_cmp m n) ≡ (m == n)
 is_eq-nat_cmp m n = go (nat_lt m n) (m == n) refl refl
   where
-    go : (a b : Bool) → nat_lt m n ≡ a → (m == n) ≡ b → is_eq (cond a Less (cond b Equal Greater)) ≡ b
+    go : (a b : Bool) → nat_lt m n ≡ a → (m == n) ≡ b
+        → is_eq (cond a Less (cond b Equal Greater)) ≡ b
     go true true x y = let l = ltb-true m n x in let e = eqb-true m n y in absurd (omega arith)
     go true false x y = refl
     go false true x y = refl
@@ -102,7 +105,8 @@ place_eq-true a b e =
 -- a place is the same as itself
 pub place_eq-self : (a : Place) → place_eq a a ≡ true
 place_eq-self a =
-    place_eq-tests a a ∙ and_from (rank a == rank a) (number a == number a) (eq-eqb (rank a) (rank a) refl) (eq-eqb (number a) (number a) refl)
+    place_eq-tests a a ∙ and_from (rank a == rank a) (number a == number a)
+    (eq-eqb (rank a) (rank a) refl) (eq-eqb (number a) (number a) refl)
 
 -- equal places pass as the same
 pub place_eq-from : (a b : Place) → a ≡ b → place_eq a b ≡ true

@@ -1,4 +1,5 @@
--- The orders of places, of tests and of binaries, by which maps find them, are those of the definitions.
+-- The orders of places, of tests and of binaries, by which maps find them,
+-- are those of the definitions.
 use Rattle.std.proofs.Common.{◌≡◌, ℕ, List, Option, cond, refl, sym, ◌∙◌, ap, subst}
 use Rattle.std.proofs.lemmas.Map.Text.{is_eq-slice_cmp}
 use Rattle.std.specs.BTreeMap.{BTreeMap, IsOrdered, UpdatesBy, get_by, insert_entry, is_at}
@@ -46,40 +47,54 @@ places = λ i a b. same_place a b i
 -- ---- tests
 
 -- what a map has at a test is its slot
-pub slot-get : (m : BTreeMap OwnedTestInstanceId ℕ) (t : OwnedTestInstanceId) → get_by (tests.cmp-value.it t) m ≡ slot_of m.entries t
+pub slot-get : (m : BTreeMap OwnedTestInstanceId ℕ) (t : OwnedTestInstanceId)
+    → get_by (tests.cmp-value.it t) m ≡ slot_of m.entries t
 slot-get m t = ap (λ f. lookup (f t) m.entries) tests_at
 
 -- what a change of a map at a test leaves
-pub slot-updates : (t : OwnedTestInstanceId) (m n : BTreeMap OwnedTestInstanceId ℕ) (w : Option ℕ) → UpdatesBy tests.cmp-value.it (tests.cmp-value.it t) m n w
+pub slot-updates : (t : OwnedTestInstanceId) (m n : BTreeMap OwnedTestInstanceId ℕ) (w : Option ℕ)
+    → UpdatesBy tests.cmp-value.it (tests.cmp-value.it t) m n w
     → (q : OwnedTestInstanceId) → slot_of n.entries q ≡ cond (test_eq t q) w (slot_of m.entries q)
 slot-updates t m n w h q =
-    sym (slot-get n q) ∙ h.0 q ∙ ap (λ b. cond b w (get_by (tests.cmp-value.it q) m)) (same_test t q) ∙ ap (cond (test_eq t q) w) (slot-get m q)
+    sym (slot-get n q) ∙ h.0 q
+    ∙ ap (λ b. cond b w (get_by (tests.cmp-value.it q) m)) (same_test t q)
+    ∙ ap (cond (test_eq t q) w) (slot-get m q)
 
 -- what a map has at a place, and what a change there leaves
-pub span-get : (m : BTreeMap Place Span) (p : Place) → get_by (derived.cmp-value.it p) m ≡ at m.entries p
+pub span-get : (m : BTreeMap Place Span) (p : Place)
+    → get_by (derived.cmp-value.it p) m ≡ at m.entries p
 span-get m p = ap (λ f. get_by (f p) m) places
 
-pub span-updates : (p : Place) (m n : BTreeMap Place Span) (w : Option Span) → UpdatesBy derived.cmp-value.it (derived.cmp-value.it p) m n w
+pub span-updates : (p : Place) (m n : BTreeMap Place Span) (w : Option Span)
+    → UpdatesBy derived.cmp-value.it (derived.cmp-value.it p) m n w
     → (q : Place) → at n.entries q ≡ cond (is_at (place_cmp p) q) w (at m.entries q)
 span-updates p m n w h q =
-    sym (span-get n q) ∙ h.0 q ∙ ap (λ o. cond (is_eq o) w (get_by (derived.cmp-value.it q) m)) (same_place p q) ∙ ap (cond (is_at (place_cmp p) q) w) (span-get m q)
+    sym (span-get n q) ∙ h.0 q
+    ∙ ap (λ o. cond (is_eq o) w (get_by (derived.cmp-value.it q) m)) (same_place p q)
+    ∙ ap (cond (is_at (place_cmp p) q) w) (span-get m q)
 
-pub span-insert : (es es' : List (Place × Span)) (p : Place) (s : Span) → es' ≡ insert_entry derived.cmp-value.it es p s → es' ≡ insert_entry place_cmp es p s
+pub span-insert : (es es' : List (Place × Span)) (p : Place) (s : Span)
+    → es' ≡ insert_entry derived.cmp-value.it es p s → es' ≡ insert_entry place_cmp es p s
 span-insert es es' p s h = h ∙ ap (λ f. insert_entry f es p s) places
 
-pub span-remove : (es es' : List (Place × Span)) (p : Place) → es' ≡ remove_entry (is_at (derived.cmp-value.it p)) es → es' ≡ remove_entry (is_at (place_cmp p)) es
+pub span-remove : (es es' : List (Place × Span)) (p : Place)
+    → es' ≡ remove_entry (is_at (derived.cmp-value.it p)) es
+    → es' ≡ remove_entry (is_at (place_cmp p)) es
 span-remove es es' p h = h ∙ ap (λ f. remove_entry (is_at (f p)) es) places
 
 -- the places of a map ascend
-pub span-ordered : (m : BTreeMap Place Span) → IsOrdered derived.cmp-value.it m → IsStrictlySortedBy place_cmp (keys_of m.entries)
+pub span-ordered : (m : BTreeMap Place Span) → IsOrdered derived.cmp-value.it m
+    → IsStrictlySortedBy place_cmp (keys_of m.entries)
 span-ordered m h = subst (λ f. IsStrictlySortedBy f (keys_of m.entries)) places h
 
 -- ---- binaries
 
 -- what a map has at a binary is its number
-pub binary-get : (m : BTreeMap (List ℕ) ℕ) (b : List ℕ) → get_by (binaries.cmp-value.it b) m ≡ number_of b m.entries
+pub binary-get : (m : BTreeMap (List ℕ) ℕ) (b : List ℕ)
+    → get_by (binaries.cmp-value.it b) m ≡ number_of b m.entries
 binary-get m b = ap (λ f. lookup f m.entries) (λ i c. is_eq-slice_cmp b c i)
 
 -- what is left of a map without a binary
-pub binary-remove : (b : List ℕ) (es es' : List (List ℕ × ℕ)) → es' ≡ remove_entry (is_at (binaries.cmp-value.it b)) es → es' ≡ without_binary b es
+pub binary-remove : (b : List ℕ) (es es' : List (List ℕ × ℕ))
+    → es' ≡ remove_entry (is_at (binaries.cmp-value.it b)) es → es' ≡ without_binary b es
 binary-remove b es es' h = h ∙ ap (λ f. remove_entry f es) (λ i c. is_eq-slice_cmp b c i)

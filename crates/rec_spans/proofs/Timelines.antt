@@ -8,7 +8,8 @@ use Rattle.rec_spans.specs.Plain.{PlainEvent}
 use Rattle.rec_spans.specs.Refusals.{history_refusal}
 use Rattle.rec_spans.specs.Timeline.{IsTimeline}
 
-pub timeline : (g : ChromeTraceGroupBy) (events : List PlainEvent) → history_refusal (history g events) ≡ None → IsTimeline (history g events)
+pub timeline : (g : ChromeTraceGroupBy) (events : List PlainEvent)
+    → history_refusal (history g events) ≡ None → IsTimeline (history g events)
 timeline g events accepted = record {
   turns = history-turns g events accepted;
   slices = history-slices g events accepted;

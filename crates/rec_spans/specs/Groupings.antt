@@ -23,8 +23,9 @@ ungrouped s = ungrouped_of s.key s
 abbrev pub ungrouped_mark : Mark → Mark
 ungrouped_mark m = record m { span = ungrouped m.span }
 
--- both groupings give the same marks of events but for the pids and the names of tests, and the same refusal, if there is one, where
--- the events are fewer than 2^63
+-- both groupings give the same marks of events but for the pids and the names of tests, and the
+-- same refusal, if there is one, where the events are fewer than 2^63
 pub record GroupingsAgree (events : List PlainEvent) : Type 0 where
   pub refusal : length events < 2 ^ 63 → events_refusal Binary events ≡ events_refusal Slot events
-  pub marks : map ungrouped_mark (trace_marks (history Binary events)) ≡ map ungrouped_mark (trace_marks (history Slot events))
+  pub marks : map ungrouped_mark (trace_marks (history Binary events))
+      ≡ map ungrouped_mark (trace_marks (history Slot events))

@@ -1,7 +1,10 @@
--- The marks of a history, from its first event on, and the state after it. A history is a list of trace inputs, the oldest first.
+-- The marks of a history, from its first event on, and the state after it. A history is a list of
+-- trace inputs, the oldest first.
 use Rattle.std.specs.Prelude.{ℕ, suc, Bool, List, [], ◌∷◌, ◌++◌, length}
 use Rattle.rec_spans.specs.declared.spans.Span.{Span}
-use Rattle.rec_spans.specs.Past.{Mark, TraceInput, binaries, binaries_after, change_marks, event_marks, flow_after, is_paused, next_flow, open_after, open_spans, pause_after, running_scripts, scripts_after}
+use Rattle.rec_spans.specs.Past.{Mark, TraceInput, binaries, binaries_after, change_marks}
+use Rattle.rec_spans.specs.Past.{event_marks, flow_after, is_paused, next_flow, open_after}
+use Rattle.rec_spans.specs.Past.{open_spans, pause_after, running_scripts, scripts_after}
 
 -- the past with these events after it
 abbrev pub after : List TraceInput → List TraceInput → List TraceInput
@@ -17,8 +20,9 @@ marks_after past (input ∷ history) = event_marks past input ++ marks_after (in
 abbrev pub trace_marks : List TraceInput → List Mark
 trace_marks history = marks_after [] history
 
--- all that the next event needs of the past: how many events there were, whether the run is in a pause, which spans are open, which binaries
--- started an attempt, how many setup scripts run, and the next flow number
+-- all that the next event needs of the past: how many events there were, whether the run is in a
+-- pause, which spans are open, which binaries started an attempt, how many setup scripts run,
+-- and the next flow number
 pub record TraceState : Type 0 where
   pub number : ℕ
   pub in_pause : Bool

@@ -1,10 +1,13 @@
--- What an event does to the spans of a trace, after the binaries that have started an attempt, and the history of events.
+-- What an event does to the spans of a trace, after the binaries that have started an attempt,
+-- and the history of events.
 use Rattle.std.specs.Option.{unwrap_or}
 use Rattle.std.specs.Prelude.{ℕ, ℤ, ◌+◌, List, [], ◌∷◌, ◌++◌, length, codes}
 use Rattle.rec_events.specs.declared.instances.OwnedTestInstanceId.{OwnedTestInstanceId}
 use Rattle.rec_events.specs.Times.{micros}
 use Rattle.rec_trace_events.specs.declared.rows.Row.{Row}
-use Rattle.rec_spans.specs.Acts.Act.{RunStarts, RunEnds, SubRunStarts, SubRunEnds, ScriptStarts, ScriptEnds, AttemptStarts, AttemptFails, TestEnds, Pauses, Continues}
+use Rattle.rec_spans.specs.Acts.Act.{RunStarts, RunEnds, SubRunStarts, SubRunEnds}
+use Rattle.rec_spans.specs.Acts.Act.{ScriptStarts, ScriptEnds, AttemptStarts}
+use Rattle.rec_spans.specs.Acts.Act.{AttemptFails, TestEnds, Pauses, Continues}
 use Rattle.rec_spans.specs.Acts.{Act, act_of}
 use Rattle.rec_spans.specs.declared.settings.ChromeTraceGroupBy.TheVariants.{Binary, Slot}
 use Rattle.rec_spans.specs.declared.settings.ChromeTraceGroupBy.{ChromeTraceGroupBy}
@@ -19,14 +22,29 @@ use Rattle.rec_spans.specs.Plain.{PlainEvent}
 -- ---- spans
 
 abbrev pub run_span : Span
-run_span = record { key = keys.Run; place = places.Run; row = record { pid = 0; tid = 1 }; name = codes "test run" }
+run_span = record {
+  key = keys.Run;
+  place = places.Run;
+  row = record { pid = 0; tid = 1 };
+  name = codes "test run";
+}
 
 abbrev pub sub_run_span : Span
-sub_run_span = record { key = keys.SubRun; place = places.SubRun; row = record { pid = 0; tid = 2 }; name = codes "sub-run" }
+sub_run_span = record {
+  key = keys.SubRun;
+  place = places.SubRun;
+  row = record { pid = 0; tid = 2 };
+  name = codes "sub-run";
+}
 
 -- all setup scripts are threads of one process
 abbrev pub script_span : ℕ → List ℕ → Span
-script_span index id = record { key = keys.Script index; place = places.Script index; row = record { pid = 1; tid = index + 10000 }; name = id }
+script_span index id = record {
+  key = keys.Script index;
+  place = places.Script index;
+  row = record { pid = 1; tid = index + 10000 };
+  name = id;
+}
 
 -- the process of a binary: 2 and how many others started an attempt before it, or one for all
 abbrev pub pid_of : ChromeTraceGroupBy → List (List ℕ × ℕ) → List ℕ → ℕ
@@ -43,7 +61,12 @@ test_name Binary test = test.test_name
 test_name Slot test = test.binary_id ++ 32 ∷ test.test_name
 
 abbrev pub test_span : ChromeTraceGroupBy → List (List ℕ × ℕ) → OwnedTestInstanceId → ℕ → Span
-test_span g seen test slot = record { key = keys.Test test; place = places.Slot slot; row = test_row g seen test slot; name = test_name g test }
+test_span g seen test slot = record {
+  key = keys.Test test;
+  place = places.Slot slot;
+  row = test_row g seen test slot;
+  name = test_name g test;
+}
 
 -- ---- events
 
@@ -74,7 +97,8 @@ trace_input g seen event = act_input g seen (micros event.timestamp) (act_of eve
 -- the history of these events after a past: each is seen after the binaries before it
 abbrev pub history_after : ChromeTraceGroupBy → List TraceInput → List PlainEvent → List TraceInput
 history_after g past [] = []
-history_after g past (event ∷ events) = let input = trace_input g (binaries past) event in input ∷ history_after g (input ∷ past) events
+history_after g past (event ∷ events) =
+    let input = trace_input g (binaries past) event in input ∷ history_after g (input ∷ past) events
 
 -- the history of events
 abbrev pub history : ChromeTraceGroupBy → List PlainEvent → List TraceInput

@@ -1,8 +1,10 @@
--- An event that was opened: what it starts is open and its binary is there, and all else of it is still to come.
+-- An event that was opened: what it starts is open and its binary is there,
+-- and all else of it is still to come.
 use Rattle.std.specs.Bool.{⊤}
 use Rattle.std.specs.declared.alloc.AllocError.{AllocError}
 use Rattle.std.specs.Map.{remove_entry}
-use Rattle.std.specs.Prelude.{◌≡◌, ℕ, suc, Bool, false, not, List, bytes_eq, is_some, None, Result, Ok, Err}
+use Rattle.std.specs.Prelude.{◌≡◌, ℕ, suc, Bool, false, not, List}
+use Rattle.std.specs.Prelude.{bytes_eq, is_some, None, Result, Ok, Err}
 use Rattle.rec_spans.specs.Acts.{Act}
 use Rattle.rec_spans.specs.declared.opened.OpenedEvent.{OpenedEvent}
 use Rattle.rec_spans.specs.declared.spans.Span.{Span}
@@ -10,12 +12,14 @@ use Rattle.rec_spans.specs.declared.spans.SpanKey.TheVariants as keys
 use Rattle.rec_spans.specs.declared.spans.SpanKey.{SpanKey}
 use Rattle.rec_spans.specs.History.{TraceState}
 use Rattle.rec_spans.specs.Past.Change.{Start, Stop, Pause, Resume, Other}
-use Rattle.rec_spans.specs.Past.{Change, TraceInput, binaries_after, flow_after, number_of, pause_after, put_in, scripts_after, without}
+use Rattle.rec_spans.specs.Past.{Change, TraceInput, binaries_after, flow_after}
+use Rattle.rec_spans.specs.Past.{number_of, pause_after, put_in, scripts_after, without}
 use Rattle.rec_spans.specs.Refusals.{next_refusal}
 
 -- ---- spans
 
--- the spans with the one that a change starts, those without the one that it stops, and those without the one that it started
+-- the spans with the one that a change starts, those without the one that it stops, and those
+-- without the one that it started
 abbrev pub spans_opened : Change → List Span → List Span
 spans_opened (Start s) spans = put_in s spans
 spans_opened (Stop k) spans = spans
@@ -83,9 +87,13 @@ no_binary (Err e) = Err e
 
 -- the state where what the event starts is open, and nothing else of it has changed
 abbrev pub state_opened : TraceInput → TraceState → TraceState
-state_opened input state = record state { spans = spans_opened input.change state.spans; binaries = binaries_after input.change state.binaries }
+state_opened input state = record state {
+  spans = spans_opened input.change state.spans;
+  binaries = binaries_after input.change state.binaries;
+}
 
--- the state after the rest of an event, which has this number and leaves so many setup scripts running
+-- the state after the rest of an event, which has this number and leaves so many setup scripts
+-- running
 abbrev pub state_passed : Act → Change → ℕ → ℕ → TraceState → TraceState
 state_passed act change number scripts state = record {
   number = number;
@@ -96,8 +104,8 @@ state_passed act change number scripts state = record {
   next_flow = flow_after act state.next_flow;
 }
 
--- the next event after a state has no cause to be refused, and its number, how many setup scripts run after it, and whether it adds a binary are
--- known
+-- the next event after a state has no cause to be refused, and its number, how many setup scripts
+-- run after it, and whether it adds a binary are known
 pub record IsOpened (state : TraceState) (input : TraceInput) (opened : OpenedEvent) : Type 0 where
   pub accepted : next_refusal state input ≡ None
   pub numbered : opened.number ≡ suc state.number

@@ -1,11 +1,14 @@
--- The marks of each event of a run in its trace, after what came before. A past is the list of the trace inputs so far, the newest first.
+-- The marks of each event of a run in its trace, after what came before. A past is the list of the
+-- trace inputs so far, the newest first.
 use Rattle.std.specs.BTreeMap.{insert_entry}
 use Rattle.std.specs.Cmp.Lexicographic.{slice_cmp}
 use Rattle.std.specs.Map.{lookup}
 use Rattle.std.specs.Ordering.{nat_cmp}
-use Rattle.std.specs.Prelude.{ℕ, suc, ◌-◌, ℤ, Bool, true, false, not, List, [], ◌∷◌, ◌++◌, length, map, filter, bytes_eq, Option, is_some, if◌then◌else◌}
+use Rattle.std.specs.Prelude.{ℕ, suc, ◌-◌, ℤ, Bool, true, false, not, List, [], ◌∷◌, ◌++◌}
+use Rattle.std.specs.Prelude.{length, map, filter, bytes_eq, Option, is_some, if◌then◌else◌}
 use Rattle.rec_trace_events.specs.declared.rows.Row.{Row}
-use Rattle.rec_spans.specs.Acts.Act.{ScriptStarts, ScriptEnds, AttemptFails, Pauses, Continues, Cancels}
+use Rattle.rec_spans.specs.Acts.Act.{ScriptStarts, ScriptEnds, AttemptFails}
+use Rattle.rec_spans.specs.Acts.Act.{Pauses, Continues, Cancels}
 use Rattle.rec_spans.specs.Acts.{Act}
 use Rattle.rec_spans.specs.declared.spans.Phase.TheVariants.{Begin, End}
 use Rattle.rec_spans.specs.declared.spans.Phase.{Phase}
@@ -16,7 +19,8 @@ use Rattle.rec_spans.specs.declared.spans.SpanKey.{SpanKey}
 use Rattle.rec_spans.specs.Keys.{key_eq, row_eq}
 use Rattle.rec_spans.specs.Places.{place_eq, place_lt}
 
--- what an event does: it starts a span, stops the span of a key, pauses the run, lets it go on, or none of these
+-- what an event does: it starts a span, stops the span of a key, pauses the run, lets it go on,
+-- or none of these
 pub data Change : Type 0 where
   Start : Span → Change
   Stop : SpanKey → Change
@@ -24,7 +28,8 @@ pub data Change : Type 0 where
   Resume : Change
   Other : Change
 
--- an event as a trace sees it: its instant in microseconds, what it is, and what it does to the spans
+-- an event as a trace sees it: its instant in microseconds, what it is,
+-- and what it does to the spans
 pub record TraceInput : Type 0 where
   pub at : ℤ
   pub act : Act
@@ -91,7 +96,9 @@ number_of b seen = lookup (λ c. bytes_eq b c) seen
 
 -- the binaries by name, each with its number, after an attempt of this one has started
 abbrev pub with_binary : List ℕ → List (List ℕ × ℕ) → List (List ℕ × ℕ)
-with_binary b seen = if is_some (number_of b seen) then seen else insert_entry (slice_cmp nat_cmp) seen b (length seen)
+with_binary b seen =
+    if is_some (number_of b seen) then seen
+    else insert_entry (slice_cmp nat_cmp) seen b (length seen)
 
 abbrev pub with_key : SpanKey → List (List ℕ × ℕ) → List (List ℕ × ℕ)
 with_key keys.Run seen = seen
@@ -142,11 +149,13 @@ mark phase t s = record { phase = phase; span = s; at = t }
 abbrev pub marks : Phase → ℤ → List Span → List Mark
 marks phase t spans = map (mark phase t) spans
 
--- the marks of a change at an instant, in a pause and outside one, where these spans are open. In a pause a start and a stop have
--- both marks: a begin and its end at one instant
+-- the marks of a change at an instant, in a pause and outside one, where these spans are open. In a
+-- pause a start and a stop have both marks: a begin and its end at one instant
 abbrev pub change_marks : Bool → List Span → ℤ → Change → List Mark
-change_marks in_pause spans t (Start s) = marks Begin t (s ∷ []) ++ (if in_pause then marks End t (s ∷ []) else [])
-change_marks in_pause spans t (Stop k) = (if in_pause then marks Begin t (of_key k spans) else []) ++ marks End t (of_key k spans)
+change_marks in_pause spans t (Start s) =
+    marks Begin t (s ∷ []) ++ (if in_pause then marks End t (s ∷ []) else [])
+change_marks in_pause spans t (Stop k) =
+    (if in_pause then marks Begin t (of_key k spans) else []) ++ marks End t (of_key k spans)
 change_marks in_pause spans t Pause = if in_pause then [] else marks End t spans
 change_marks in_pause spans t Resume = if in_pause then marks Begin t spans else []
 change_marks in_pause spans t Other = []

@@ -1,5 +1,6 @@
 -- The same by positions in a history, of which the first event has the position 0.
-use Rattle.std.specs.Prelude.{◌≡◌, ◌≢◌, ◌<◌, ◌≤◌, ◌⊎◌, ℕ, suc, List, [], ◌∷◌, length, reverse, take, slice_get, Option, Some, option_map}
+use Rattle.std.specs.Prelude.{◌≡◌, ◌≢◌, ◌<◌, ◌≤◌, ◌⊎◌, ℕ, suc, List, [], ◌∷◌, length}
+use Rattle.std.specs.Prelude.{reverse, take, slice_get, Option, Some, option_map}
 use Rattle.rec_spans.specs.declared.spans.Span.{Span}
 use Rattle.rec_spans.specs.Past.Change.{Start, Stop, Pause, Resume}
 use Rattle.rec_spans.specs.Past.{Change, TraceInput}
@@ -26,14 +27,17 @@ IsOnce (x ∷ xs) = (Has xs x → ⊥) × IsOnce xs
 abbrev pub IsInPause : List TraceInput → ℕ → Type 0
 IsInPause history i =
     (j : ℕ) × (j < i) × (change_at history j ≡ Some Pause)
-    × ((k : ℕ) → j < k → k < i → (change_at history k ≢ Some Pause) × (change_at history k ≢ Some Resume))
+    × ((k : ℕ) → j < k → k < i
+    → (change_at history k ≢ Some Pause) × (change_at history k ≢ Some Resume))
 
 -- some start of the span before position i has no stop of its key between it and i
 abbrev pub IsOpen : List TraceInput → ℕ → Span → Type 0
 IsOpen history i s =
-    (a : ℕ) × (a < i) × (change_at history a ≡ Some (Start s)) × ((k : ℕ) → a < k → k < i → change_at history k ≢ Some (Stop s.key))
+    (a : ℕ) × (a < i) × (change_at history a ≡ Some (Start s))
+    × ((k : ℕ) → a < k → k < i → change_at history k ≢ Some (Stop s.key))
 
--- a span from its start at position a to its end at z, the first stop of its key after a; where there is none, z is the number of events
+-- a span from its start at position a to its end at z, the first stop of its key after a; where
+-- there is none, z is the number of events
 pub record IsSpan (history : List TraceInput) (a z : ℕ) (s : Span) : Type 0 where
   pub starts : change_at history a ≡ Some (Start s)
   pub later : a < z

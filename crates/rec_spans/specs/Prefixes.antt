@@ -10,4 +10,5 @@ use Rattle.rec_spans.specs.Refusals.{events_refusal}
 -- each prefix of these events has a trace, whose marks are the first of theirs
 abbrev pub KeepsPrefixes : ChromeTraceGroupBy → List PlainEvent → Type 0
 KeepsPrefixes g events = (xs ys : List PlainEvent) → events ≡ xs ++ ys →
-    (events_refusal g xs ≡ None) × ((more : List Mark) × (trace_marks (history g events) ≡ trace_marks (history g xs) ++ more))
+    (events_refusal g xs ≡ None)
+    × ((more : List Mark) × (trace_marks (history g events) ≡ trace_marks (history g xs) ++ more))

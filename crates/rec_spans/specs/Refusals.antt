@@ -1,11 +1,23 @@
 -- Why a history has no trace.
 use Rattle.std.specs.Option.{option_or}
-use Rattle.std.specs.Prelude.{◌≡◌, ℕ, suc, ◌^◌, ℤ, List, [], ◌∷◌, filter, bytes_eq, nat_lt, Bool, true, false, Option, Some, None, Result, Ok, Err, if◌then◌else◌, ◌⊎◌}
+use Rattle.std.specs.Prelude.{◌≡◌, ℕ, suc, ◌^◌, ℤ, List, [], ◌∷◌, filter, bytes_eq, nat_lt, Bool}
+use Rattle.std.specs.Prelude.{true, false, Option, Some, None, Result, Ok, Err, if◌then◌else◌, ◌⊎◌}
 use Rattle.rec_events.specs.declared.instances.OwnedTestInstanceId.{OwnedTestInstanceId}
 use Rattle.rec_forms.specs.Shape.{fits}
-use Rattle.rec_spans.specs.Acts.Act.{SubRunEnds, ScriptStarts, ScriptEnds, ScriptIsSlow, AttemptFails, TestEnds, TestIsSlow}
+use Rattle.rec_spans.specs.Acts.Act.{SubRunEnds, ScriptStarts, ScriptEnds}
+use Rattle.rec_spans.specs.Acts.Act.{ScriptIsSlow, AttemptFails, TestEnds, TestIsSlow}
 use Rattle.rec_spans.specs.Acts.{Act}
-use Rattle.rec_spans.specs.declared.errors.ChromeTraceError.TheVariants.{CountOutOfRange, MissingScriptStart, MissingStressSubRunStart, MissingTestStart, OutOfMemory, RowOutOfRange, SlotBusy, SpanAlreadyOpen, TimestampOutOfRange}
+use Rattle.rec_spans.specs.declared.errors.ChromeTraceError.TheVariants.{
+  CountOutOfRange,
+  MissingScriptStart,
+  MissingStressSubRunStart,
+  MissingTestStart,
+  OutOfMemory,
+  RowOutOfRange,
+  SlotBusy,
+  SpanAlreadyOpen,
+  TimestampOutOfRange,
+}
 use Rattle.rec_spans.specs.declared.errors.ChromeTraceError.{ChromeTraceError}
 use Rattle.rec_spans.specs.declared.settings.ChromeTraceGroupBy.{ChromeTraceGroupBy}
 use Rattle.rec_spans.specs.declared.spans.Place.TheVariants as places
@@ -28,7 +40,8 @@ abbrev pub is_script : SpanKey → Bool
 is_script (keys.Script index) = true
 is_script _ = false
 
--- the setup scripts among these spans, and the spans of this name, which for a setup script is its id
+-- the setup scripts among these spans, and the spans of this name,
+-- which for a setup script is its id
 abbrev pub scripts_in : List Span → List Span
 scripts_in spans = filter (λ s. is_script s.key) spans
 
@@ -47,25 +60,32 @@ instant_refusal n t = if fits (2 ^ 63) t then None else Some (TimestampOutOfRang
 
 -- it needs an open attempt of a test
 abbrev pub attempt_missing : ℕ → List Span → OwnedTestInstanceId → Option ChromeTraceError
-attempt_missing n spans test = if is_none_open (of_key (keys.Test test) spans) then Some (MissingTestStart n test.binary_id test.test_name) else None
+attempt_missing n spans test =
+    if is_none_open (of_key (keys.Test test) spans)
+    then Some (MissingTestStart n test.binary_id test.test_name)
+    else None
 
 -- it needs one of these setup scripts, of this id
 abbrev pub script_missing : ℕ → List Span → List ℕ → Option ChromeTraceError
-script_missing n scripts id = if is_none_open (under id scripts) then Some (MissingScriptStart n id) else None
+script_missing n scripts id =
+    if is_none_open (under id scripts) then Some (MissingScriptStart n id) else None
 
 -- it ends what isn't open, or is slow without having started; a run may end that isn't open
 abbrev pub missing_refusal : ℕ → List Span → Act → Option ChromeTraceError
 missing_refusal n spans (AttemptFails test) = attempt_missing n spans test
 missing_refusal n spans (TestEnds test failures) = attempt_missing n spans test
 missing_refusal n spans (TestIsSlow test) = attempt_missing n spans test
-missing_refusal n spans (ScriptEnds index id) = script_missing n (of_key (keys.Script index) spans) id
+missing_refusal n spans (ScriptEnds index id) =
+    script_missing n (of_key (keys.Script index) spans) id
 missing_refusal n spans (ScriptIsSlow id) = script_missing n (scripts_in spans) id
-missing_refusal n spans SubRunEnds = if is_none_open (of_key keys.SubRun spans) then Some (MissingStressSubRunStart n) else None
+missing_refusal n spans SubRunEnds =
+    if is_none_open (of_key keys.SubRun spans) then Some (MissingStressSubRunStart n) else None
 missing_refusal n spans _ = None
 
 -- it starts what is open
 abbrev pub open_refusal : ℕ → List Span → Change → Option ChromeTraceError
-open_refusal n spans (Start s) = if is_none_open (of_key s.key spans) then None else Some (SpanAlreadyOpen n s.key)
+open_refusal n spans (Start s) =
+    if is_none_open (of_key s.key spans) then None else Some (SpanAlreadyOpen n s.key)
 open_refusal n spans (Stop k) = None
 open_refusal n spans Pause = None
 open_refusal n spans Resume = None
@@ -79,13 +99,15 @@ busy n (places.Slot slot) = Some (SlotBusy n slot)
 busy n (places.Script index) = None
 
 abbrev pub slot_refusal : ℕ → List Span → Change → Option ChromeTraceError
-slot_refusal n spans (Start s) = if is_none_open (in_place s.place spans) then None else busy n s.place
+slot_refusal n spans (Start s) =
+    if is_none_open (in_place s.place spans) then None else busy n s.place
 slot_refusal n spans (Stop k) = None
 slot_refusal n spans Pause = None
 slot_refusal n spans Resume = None
 slot_refusal n spans Other = None
 
--- the row of what it starts has a number past u64: that made of its slot or its index, or that of its process
+-- the row of what it starts has a number past u64: that made of its slot or its index,
+-- or that of its process
 abbrev pub row_refusal : ℕ → Change → Option ChromeTraceError
 row_refusal n (Start s) =
     option_or (if nat_lt s.row.tid (2 ^ 64) then None else Some (RowOutOfRange n (number s.place)))
@@ -97,17 +119,20 @@ row_refusal n Other = None
 
 -- it issues a flow number past u64
 abbrev pub flow_refusal : ℕ → Act → ℕ → Option ChromeTraceError
-flow_refusal n (AttemptFails test) next = if nat_lt next (2 ^ 64) then None else Some (RowOutOfRange n 18446744073709551615)
+flow_refusal n (AttemptFails test) next =
+    if nat_lt next (2 ^ 64) then None else Some (RowOutOfRange n 18446744073709551615)
 flow_refusal n _ next = None
 
 -- with it more setup scripts run than a usize counts
 abbrev pub scripts_refusal : ℕ → Act → ℕ → Option ChromeTraceError
-scripts_refusal n (ScriptStarts index id) before = if nat_lt (suc before) (2 ^ 64) then None else Some (CountOutOfRange n)
+scripts_refusal n (ScriptStarts index id) before =
+    if nat_lt (suc before) (2 ^ 64) then None else Some (CountOutOfRange n)
 scripts_refusal n _ before = None
 
 -- it counts more failed tests than a usize holds
 abbrev pub failures_refusal : ℕ → Act → Option ChromeTraceError
-failures_refusal n (TestEnds test failures) = if nat_lt failures (2 ^ 64) then None else Some (CountOutOfRange n)
+failures_refusal n (TestEnds test failures) =
+    if nat_lt failures (2 ^ 64) then None else Some (CountOutOfRange n)
 failures_refusal n _ = None
 
 -- ---- the first cause
@@ -133,7 +158,8 @@ next_refusal state input =
 -- the cause of the first event after a past that has one
 abbrev pub history_refusal_after : List TraceInput → List TraceInput → Option ChromeTraceError
 history_refusal_after past [] = None
-history_refusal_after past (input ∷ history) = option_or (next_refusal (state_after past) input) (history_refusal_after (input ∷ past) history)
+history_refusal_after past (input ∷ history) =
+    option_or (next_refusal (state_after past) input) (history_refusal_after (input ∷ past) history)
 
 -- why a history has no trace, if it has none
 abbrev pub history_refusal : List TraceInput → Option ChromeTraceError

@@ -1,6 +1,8 @@
 -- What the code sees of an event, as the definitions see it.
 use Rattle.rec_events.specs.Stats as stats
-use Rattle.rec_spans.specs.Acts.Act.{RunStarts, RunEnds, SubRunStarts, SubRunEnds, ScriptStarts, ScriptEnds, ScriptIsSlow, AttemptStarts, AttemptFails, TestEnds, TestIsSlow, Pauses, Continues, Cancels, Silent}
+use Rattle.rec_spans.specs.Acts.Act.{RunStarts, RunEnds, SubRunStarts, SubRunEnds, ScriptStarts}
+use Rattle.rec_spans.specs.Acts.Act.{ScriptEnds, ScriptIsSlow, AttemptStarts, AttemptFails}
+use Rattle.rec_spans.specs.Acts.Act.{TestEnds, TestIsSlow, Pauses, Continues, Cancels, Silent}
 use Rattle.rec_spans.specs.Acts.{Act}
 use Rattle.rec_spans.specs.declared.acts.Act as declared
 use Rattle.rec_spans.specs.declared.acts.Act.TheVariants as code

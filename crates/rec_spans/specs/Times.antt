@@ -1,6 +1,8 @@
 -- What the marks of a span add up to: its time without its pauses.
 use Rattle.std.specs.Option.{unwrap_or}
-use Rattle.std.specs.Prelude.{◌≡◌, ◌↔◌, ◌<◌, ◌≤◌, ℕ, suc, Bool, true, false, List, [], ◌∷◌, length, map, filter, option_map, slice_get, slice_range, ℤ, pos, ◌+ℤ◌, ◌-ℤ◌, not}
+use Rattle.std.specs.Prelude.{◌≡◌, ◌↔◌, ◌<◌, ◌≤◌, ℕ, suc, Bool, true, false}
+use Rattle.std.specs.Prelude.{List, [], ◌∷◌, length, map, filter, option_map}
+use Rattle.std.specs.Prelude.{slice_get, slice_range, ℤ, pos, ◌+ℤ◌, ◌-ℤ◌, not}
 use Rattle.rec_spans.specs.declared.spans.Phase.TheVariants.{Begin, End}
 use Rattle.rec_spans.specs.declared.spans.Phase.{Phase}
 use Rattle.rec_spans.specs.declared.spans.Span.{Span}
@@ -46,7 +48,8 @@ pub record Window : Type 0 where
   pub from : ℕ
   pub to : ℕ
 
--- the gaps from w.from to w.to - 1 are a longest stretch of gaps of a span from a to z that are in a pause
+-- the gaps from w.from to w.to - 1 are a longest stretch of gaps of a span from a to z that are in
+-- a pause
 pub record IsWindow (history : List TraceInput) (a z : ℕ) (w : Window) : Type 0 where
   pub after_start : a ≤ w.from
   pub some : w.from < w.to
@@ -60,15 +63,17 @@ window_time history w = instant history w.to -ℤ instant history w.from
 
 -- ---- the law
 
--- From the start of a span at a to its end at b, the marks on its row are its own, and the ends less the begins are its time less that of its
--- pause windows
+-- From the start of a span at a to its end at b, the marks on its row are its own, and the ends
+-- less the begins are its time less that of its pause windows
 pub record AddsUp (history : List TraceInput) (a b : ℕ) (s : Span) : Type 0 where
   pub windows : List Window
   pub each : (w : Window) → Has windows w ↔ IsWindow history a b w
   pub once : IsOnce windows
   pub own : (m : Mark) → Has (on_row s.row (marks_between history a b)) m → m.span ≡ s
-  pub adds : marked_time (on_row s.row (marks_between history a b)) ≡ (instant history b -ℤ instant history a) -ℤ total (map (window_time history) windows)
+  pub adds : marked_time (on_row s.row (marks_between history a b))
+      ≡ (instant history b -ℤ instant history a) -ℤ total (map (window_time history) windows)
 
 -- the marks of each span that ends add up, whether instants rise or fall
 abbrev pub TimesAddUp : List TraceInput → Type 0
-TimesAddUp history = (a b : ℕ) (s : Span) → IsSpan history a b s → b < length history → AddsUp history a b s
+TimesAddUp history =
+    (a b : ℕ) (s : Span) → IsSpan history a b s → b < length history → AddsUp history a b s

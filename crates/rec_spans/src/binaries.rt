@@ -8,7 +8,8 @@ use std::alloc::{AllocError, Global};
 use std::collections::BTreeMap;
 use std::marker::Model;
 
-/// Keeps the binaries by their ids, each with the number of those that started an attempt before it.
+/// Keeps the binaries by their ids, each with the number of those that started an attempt before
+/// it.
 #[derive(Drop)]
 pub struct Binaries {
     numbers: BTreeMap<RustBinaryId, usize>,
@@ -46,8 +47,8 @@ impl Binaries {
         self.numbers.get(id).copied()
     }
 
-    /// Adds a binary, which gets the number of those that are there, if it isn't there itself. Returns whether it was
-    /// added.
+    /// Adds a binary, which gets the number of those that are there, if it isn't there itself.
+    /// Returns whether it was added.
     ///
     /// # Errors
     ///

@@ -1,5 +1,7 @@
-//! Takes an event into what is kept, after it was judged: first what takes memory, which can be taken back, then the rest.
-ghost use Rattle.std.specs.Prelude.{◌≡◌, ◌<◌, ◌≤◌, ℕ, ℤ, List, suc, [], None, Some, IfOk, OnOk, OnErr};
+//! Takes an event into what is kept, after it was judged: first what takes memory, which can be
+//! taken back, then the rest.
+ghost use Rattle.std.specs.Prelude.{◌≡◌, ◌<◌, ◌≤◌, ℕ, ℤ, List, suc};
+ghost use Rattle.std.specs.Prelude.{[], None, Some, IfOk, OnOk, OnErr};
 ghost use Rattle.rec_spans.specs.declared.settings.ChromeTraceGroupBy.{ChromeTraceGroupBy};
 ghost use Rattle.rec_spans.specs.declared.spans.Place.TheVariants as places;
 ghost use Rattle.rec_spans.specs.declared.spans.Span.{Span};
@@ -7,10 +9,14 @@ ghost use Rattle.rec_spans.specs.declared.spans.SpanKey.TheVariants as keys;
 ghost use Rattle.rec_spans.specs.History.{TraceState, next_state};
 ghost use Rattle.rec_spans.specs.Judged.{IsJudged};
 ghost use Rattle.rec_spans.specs.Kinds.{act_input, change_of, trace_input};
-ghost use Rattle.rec_spans.specs.Opened.{IsOpened, adds_binary, binaries_taken_back, is_new, no_binary, spans_closed, spans_opened, spans_taken_back, state_opened, state_passed};
-ghost use Rattle.rec_spans.specs.Past.{binaries_after, flow_after, in_place, of_key, pause_after, put_in, scripts_after, with_binary};
+ghost use Rattle.rec_spans.specs.Opened.{IsOpened, adds_binary, binaries_taken_back};
+ghost use Rattle.rec_spans.specs.Opened.{is_new, no_binary, spans_closed, spans_opened};
+ghost use Rattle.rec_spans.specs.Opened.{spans_taken_back, state_opened, state_passed};
+ghost use Rattle.rec_spans.specs.Past.{binaries_after, flow_after, in_place, of_key};
+ghost use Rattle.rec_spans.specs.Past.{pause_after, put_in, scripts_after, with_binary};
 ghost use Rattle.rec_spans.specs.Plain.{plain};
-ghost use Rattle.rec_spans.specs.Refusals.{act_refusal, open_refusal, scripts_refusal, slot_refusal};
+ghost use Rattle.rec_spans.specs.Refusals.{act_refusal, open_refusal};
+ghost use Rattle.rec_spans.specs.Refusals.{scripts_refusal, slot_refusal};
 ghost use Rattle.rec_spans.specs.Seen.{seen};
 ghost use Rattle.rec_spans.specs.Starts.{started};
 
@@ -51,7 +57,8 @@ impl SpanTracker {
         }
     }
 
-    /// Commits an event that was judged with this grouping, and no event since: the tracker moves on by it.
+    /// Commits an event that was judged with this grouping, and no event since:
+    /// the tracker moves on by it.
     ///
     /// # Errors
     ///
@@ -75,9 +82,9 @@ impl SpanTracker {
         Ok(())
     }
 
-    /// Opens the span that an event starts which was judged with this grouping, and no event since, and adds its
-    /// binary. The event is committed once the tracker has advanced by it, and until then it can be taken back.
-    /// This takes all the memory that a commit takes.
+    /// Opens the span that an event starts which was judged with this grouping, and no event since,
+    /// and adds its binary. The event is committed once the tracker has advanced by it, and until
+    /// then it can be taken back. This takes all the memory that a commit takes.
     ///
     /// # Errors
     ///
@@ -139,8 +146,8 @@ impl SpanTracker {
         )
     }
 
-    /// Takes the rest of an event that was opened, and nothing since: the tracker has moved on by it. This takes no
-    /// memory.
+    /// Takes the rest of an event that was opened, and nothing since: the tracker has moved on by
+    /// it. This takes no memory.
     pub fn advance<S: OutputSpec>(&mut self, event: &TestEventSummary<S>, opened: OpenedEvent)
         requires { opened.number ≡ suc self.old.number }
         ensures { (g : ChromeTraceGroupBy) (state : TraceState)
@@ -166,8 +173,8 @@ impl SpanTracker {
         self.next_flow = flow_after(number, act, self.next_flow);
     }
 
-    /// Takes an event back that was opened, and nothing since: the tracker is as it was before. This takes no
-    /// memory.
+    /// Takes an event back that was opened, and nothing since: the tracker is as it was before.
+    /// This takes no memory.
     pub fn take_back<S: OutputSpec>(&mut self, event: &TestEventSummary<S>, opened: OpenedEvent)
         ensures { (g : ChromeTraceGroupBy) (state : TraceState)
             → IsOpened state (trace_input g state.binaries (plain event.now)) opened
@@ -182,8 +189,8 @@ impl SpanTracker {
     }
 }
 
-/// Opens this span, which the event starts, if it starts one, and adds the binary of an attempt. Returns whether
-/// that was new. Where memory is short, nothing changes.
+/// Opens this span, which the event starts, if it starts one, and adds the binary of an attempt.
+/// Returns whether that was new. Where memory is short, nothing changes.
 fn open_span(
     alloc: Global,
     group_by: ChromeTraceGroupBy,
@@ -215,7 +222,8 @@ fn open_span(
     }
 }
 
-/// Opens this span, which the event starts, and adds the binary of an attempt. Returns whether that was new.
+/// Opens this span, which the event starts, and adds the binary of an attempt.
+/// Returns whether that was new.
 fn open_started(
     alloc: Global,
     group_by: ChromeTraceGroupBy,
@@ -302,7 +310,8 @@ fn remove_binary(act: Act<'_>, binaries: &mut Binaries)
     }
 }
 
-/// Opens the span of an attempt of a test on a slot, and adds the test's binary. Returns whether that was new.
+/// Opens the span of an attempt of a test on a slot, and adds the test's binary.
+/// Returns whether that was new.
 fn open_attempt(
     alloc: Global,
     test: &OwnedTestInstanceId,

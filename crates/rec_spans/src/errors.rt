@@ -13,9 +13,10 @@ use thiserror::Error;
 /// Says why a history can't be read: the first error of the iterator that gives it.
 pub type RecordReadErrorText = LineError;
 
-/// Says why there is no trace of a history. Events are numbered from 1. Of the first event that is refused,
-/// the first cause is answered in the order number, instant, start that is missing, span that is open,
-/// slot that is busy, row or flow number, count; but want of memory may come at any time.
+/// Says why there is no trace of a history. Events are numbered from 1. Of the first event that is
+/// refused, the first cause is answered in the order number, instant, start that is missing, span
+/// that is open, slot that is busy, row or flow number, count;
+/// but want of memory may come at any time.
 ///
 /// `docs/FORMATS.md#refusals-of-a-trace` lists these causes. `event` is the number of the event.
 #[derive(Drop, Error)]
@@ -24,14 +25,15 @@ pub enum ChromeTraceError {
     #[error("the events can't be read: {0}")]
     ReadError(RecordReadErrorText),
     /// The event finishes a test of which no attempt is open, or says that it failed or is slow.
-    #[error("event {event} is of {} {}, which isn't running", .binary_id.as_str(), .test_name.as_str())]
+    #[error("event {event} is of {} {}, \
+        which isn't running", .binary_id.as_str(), .test_name.as_str())]
     MissingTestStart {
         event: u64,
         binary_id: RustBinaryId,
         test_name: TestCaseName,
     },
-    /// The event finishes a setup script whose index isn't open under its id, or says that one is slow while
-    /// none of its id is open.
+    /// The event finishes a setup script whose index isn't open under its id, or says that one is
+    /// slow while none of its id is open.
     #[error("event {event} is of setup script {}, which isn't running", .script_id.as_str())]
     MissingScriptStart {
         event: u64,
@@ -59,15 +61,15 @@ pub enum ChromeTraceError {
     TimestampOutOfRange {
         event: u64,
     },
-    /// A number isn't a u64: that of a row, and `number` is the slot or the index from which it is made; or
-    /// that of a process or a flow, and `number` is the greatest u64.
+    /// A number isn't a u64: that of a row, and `number` is the slot or the index from which it is
+    /// made; or that of a process or a flow, and `number` is the greatest u64.
     #[error("event {event} needs a row or a flow that is out of range, by its number {number}")]
     RowOutOfRange {
         event: u64,
         number: u64,
     },
-    /// The event counts 2^64 failed tests or running setup scripts or more, or has a number past u64; `event`
-    /// is then the greatest u64.
+    /// The event counts 2^64 failed tests or running setup scripts or more, or has a number past
+    /// u64; `event` is then the greatest u64.
     #[error("a count of event {event} is out of range")]
     CountOutOfRange {
         event: u64,

@@ -1,8 +1,8 @@
 //! What is known of an event that was judged and not refused.
 use crate::spans::Span;
 
-/// Holds what is known of an event that was judged and not refused, from which it can be drawn before it is
-/// committed.
+/// Holds what is known of an event that was judged and not refused, from which it can be drawn
+/// before it is committed.
 #[derive(Drop)]
 pub struct JudgedEvent {
     /// The event's number, counted from 1.

@@ -4,7 +4,10 @@ ghost use Rattle.rec_spans.specs.declared.settings.ChromeTraceGroupBy.{ChromeTra
 ghost use Rattle.rec_spans.specs.declared.spans.SpanKey.TheVariants as keys;
 ghost use Rattle.rec_spans.specs.Kinds.{change_of};
 ghost use Rattle.rec_spans.specs.Past.{of_key};
-ghost use Rattle.rec_spans.specs.Refusals.{Judges, act_refusal, attempt_missing, failures_refusal, flow_refusal, missing_refusal, open_refusal, row_refusal, script_missing, scripts_in, scripts_refusal, slot_refusal};
+ghost use Rattle.rec_spans.specs.Refusals.{Judges, act_refusal, attempt_missing};
+ghost use Rattle.rec_spans.specs.Refusals.{failures_refusal, flow_refusal, missing_refusal};
+ghost use Rattle.rec_spans.specs.Refusals.{open_refusal, row_refusal, script_missing};
+ghost use Rattle.rec_spans.specs.Refusals.{scripts_in, scripts_refusal, slot_refusal};
 ghost use Rattle.rec_spans.specs.Seen.{seen};
 
 use crate::acts::Act;
@@ -225,8 +228,8 @@ impl SpanTracker {
         }
     }
 
-    /// Judges whether the event issues a flow number past u64, or counts more setup scripts or failed tests
-    /// than a usize.
+    /// Judges whether the event issues a flow number past u64, or counts more setup scripts or
+    /// failed tests than a usize.
     fn judge_counts(&self, number: u64, act: Act<'_>) -> Result<(), ChromeTraceError>
         ensures { Judges result (option_or (flow_refusal number (seen act.entry) self.now.next_flow)
             (option_or (scripts_refusal number (seen act.entry) self.now.scripts)

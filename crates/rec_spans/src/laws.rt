@@ -1,5 +1,6 @@
 //! Laws of the marks of a trace, as clauses of functions that do nothing.
-ghost use Rattle.std.specs.Prelude.{◌≡◌, ◌↔◌, ◌≤◌, ℕ, ℤ, true, List, [], ◌++◌, length, slice_get, Some, None};
+ghost use Rattle.std.specs.Prelude.{◌≡◌, ◌↔◌, ◌≤◌, ℕ, ℤ, true, List, []};
+ghost use Rattle.std.specs.Prelude.{◌++◌, length, slice_get, Some, None};
 ghost use Rattle.rec_events.specs.declared.events.TestEventSummary.{TestEventSummary};
 ghost use Rattle.rec_events.specs.EventMaps.{event_with};
 ghost use Rattle.rec_spans.specs.declared.settings.ChromeTraceGroupBy as group_by;
@@ -10,7 +11,8 @@ ghost use Rattle.rec_spans.specs.History.{after, marks_after, trace_marks};
 ghost use Rattle.rec_spans.specs.Kinds as kinds;
 ghost use Rattle.rec_spans.specs.Past.{TraceInput, event_marks, is_paused, mark, open_spans};
 ghost use Rattle.rec_spans.specs.Plain.{PlainEvent, plain};
-ghost use Rattle.rec_spans.specs.Positions.{Has, IsInPause, IsOpen, SliceBegins, SliceEnds, past_at};
+ghost use Rattle.rec_spans.specs.Positions.{Has, IsInPause, IsOpen};
+ghost use Rattle.rec_spans.specs.Positions.{SliceBegins, SliceEnds, past_at};
 ghost use Rattle.rec_spans.specs.Prefixes.{KeepsPrefixes};
 ghost use Rattle.rec_spans.specs.Refusals.{events_refusal, history_refusal};
 ghost use Rattle.rec_spans.specs.Timeline.{IsTimeline};
@@ -18,24 +20,24 @@ ghost use Rattle.rec_spans.specs.Times.{TimesAddUp};
 
 use rec_events::OutputSpec;
 
-/// States that the past at a position of a history is in a pause exactly where the last event before it that is
-/// a pause or a continuation is a pause.
+/// States that the past at a position of a history is in a pause exactly where the last event
+/// before it that is a pause or a continuation is a pause.
 pub fn pauses()
     ensures { (history : List TraceInput) (i : ℕ)
         → i ≤ length history
         → (IsInPause history i ↔ (is_paused (past_at history i) ≡ true)) }
 {}
 
-/// States that a span is open after the past at a position exactly where some start of it before the position
-/// has no stop of its key between.
+/// States that a span is open after the past at a position exactly where some start of it before
+/// the position has no stop of its key between.
 pub fn open_at()
     ensures { (history : List TraceInput) (i : ℕ) (s : spans.Span)
         → i ≤ length history
         → (IsOpen history i s ↔ Has (open_spans (past_at history i)) s) }
 {}
 
-/// States that the marks of an event are the begins and the ends of the slices of all spans there, at its
-/// instant.
+/// States that the marks of an event are the begins and the ends of the slices of all spans there,
+/// at its instant.
 pub fn slices()
     ensures begins { (history : List TraceInput) (i : ℕ) (input : TraceInput)
         → slice_get history i ≡ Some input
@@ -56,8 +58,8 @@ pub fn timeline()
         → IsTimeline (kinds.history group events) }
 {}
 
-/// States that each prefix of a history that has a trace has one too, and that its marks are the first of those
-/// of the whole.
+/// States that each prefix of a history that has a trace has one too, and that its marks are the
+/// first of those of the whole.
 pub fn prefixes()
     ensures events { (group : group_by.ChromeTraceGroupBy) (events : List PlainEvent)
         → events_refusal group events ≡ None
@@ -70,21 +72,22 @@ pub fn prefixes()
         ≡ trace_marks history ++ marks_after (after [] history) more }
 {}
 
-/// States that the marks of each span that ends add up to its time less that of its pause windows, whether
-/// instants rise or fall.
+/// States that the marks of each span that ends add up to its time less that of its pause windows,
+/// whether instants rise or fall.
 pub fn times()
     ensures { (group : group_by.ChromeTraceGroupBy) (events : List PlainEvent)
         → events_refusal group events ≡ None
         → TimesAddUp (kinds.history group events) }
 {}
 
-/// States that both groupings give the same marks of events but for the pids and the names of tests, and refuse
-/// alike fewer than 2^63 events.
+/// States that both groupings give the same marks of events but for the pids and the names of
+/// tests, and refuse alike fewer than 2^63 events.
 pub fn groupings()
     ensures { (events : List PlainEvent) → GroupingsAgree events }
 {}
 
-/// States that the outputs of events are not drawn: an event is plain whatever becomes of its outputs.
+/// States that the outputs of events are not drawn:
+/// an event is plain whatever becomes of its outputs.
 pub fn outputs_are_not_drawn<S: OutputSpec, T: OutputSpec>()
     ensures { (becomes : S.ChildOutput → T.ChildOutput) (event : TestEventSummary S S.ChildOutput)
         → plain (event_with {T = T} becomes event) ≡ plain event }

@@ -1,4 +1,5 @@
-//! The spans of a test run: which are open after each event, and why a history of events is refused.
+//! The spans of a test run: which are open after each event,
+//! and why a history of events is refused.
 #![tactic(auto)]
 
 mod acts;

@@ -1,5 +1,6 @@
 //! The spans that are open at once.
-ghost use Rattle.std.specs.Prelude.{◌≡◌, [], length, false, Some, not, OnOk, OnErr, option_copied, option_to_list, slice_get};
+ghost use Rattle.std.specs.Prelude.{◌≡◌, [], length, false, Some, not, OnOk, OnErr};
+ghost use Rattle.std.specs.Prelude.{option_copied, option_to_list, slice_get};
 ghost use Rattle.rec_spans.specs.declared.spans.Place.TheVariants as places;
 ghost use Rattle.rec_spans.specs.declared.spans.SpanKey.TheVariants as keys;
 ghost use Rattle.rec_spans.specs.Past.{in_place, of_key, put_in, without};
@@ -14,8 +15,8 @@ use std::collections::BTreeMap;
 use std::collections::btree_map::Values;
 use std::marker::Model;
 
-/// Keeps the spans that are open, found by their place and by what they are of. Contracts see them in the
-/// order of their places.
+/// Keeps the spans that are open, found by their place and by what they are of. Contracts see them
+/// in the order of their places.
 #[derive(Drop)]
 pub struct OpenSpans {
     /// The slot of each test of which an attempt is open.

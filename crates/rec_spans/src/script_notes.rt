@@ -6,8 +6,8 @@ ghost use Rattle.rec_spans.specs.Noted.{is_noted, AreSame, IsLeast, NoneIsEmpty,
 use std::alloc::{AllocError, Global};
 use std::collections::{BTreeMap, BTreeSet};
 
-/// Notes the indexes of the open setup scripts under their ids, in order. An id is kept only as long as an index
-/// is noted under it.
+/// Notes the indexes of the open setup scripts under their ids, in order. An id is kept only as
+/// long as an index is noted under it.
 #[derive(Drop)]
 pub(crate) struct ScriptNotes {
     notes: BTreeMap<String, BTreeSet<usize>>,

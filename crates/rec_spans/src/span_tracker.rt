@@ -6,7 +6,8 @@ ghost use Rattle.rec_spans.specs.Judged.{IsJudged};
 ghost use Rattle.rec_spans.specs.Kinds.{change_of, trace_input};
 ghost use Rattle.rec_spans.specs.Past.{scripts_after};
 ghost use Rattle.rec_spans.specs.Plain.{plain};
-ghost use Rattle.rec_spans.specs.Refusals.{Judges, act_refusal, instant_refusal, next_refusal, number_refusal};
+ghost use Rattle.rec_spans.specs.Refusals.{Judges, act_refusal, instant_refusal};
+ghost use Rattle.rec_spans.specs.Refusals.{next_refusal, number_refusal};
 ghost use Rattle.rec_spans.specs.Seen.{seen};
 ghost use Rattle.rec_spans.specs.Starts.{started};
 
@@ -97,13 +98,13 @@ impl SpanTracker {
         self.next_flow
     }
 
-    /// Judges the next event, and returns what is known of it where it isn't refused. The tracker moves on only
-    /// when the event is committed.
+    /// Judges the next event, and returns what is known of it where it isn't refused. The tracker
+    /// moves on only when the event is committed.
     ///
     /// # Errors
     ///
-    /// Answers the first cause for which the event is refused, in the order that `ChromeTraceError` gives,
-    /// or `OutOfMemory`.
+    /// Answers the first cause for which the event is refused, in the order that `ChromeTraceError`
+    /// gives, or `OutOfMemory`.
     pub fn judge_event<S: OutputSpec>(
         &self,
         alloc: Global,

@@ -37,8 +37,8 @@ impl fmt::Display for SpanKey {
     }
 }
 
-/// Says where a span stands among those that are open at once: the run, the sub-run, the tests by their
-/// slots, the setup scripts by their indexes.
+/// Says where a span stands among those that are open at once: the run, the sub-run, the tests by
+/// their slots, the setup scripts by their indexes.
 #[derive(Clone, Copy, PartialEq, Eq, PartialOrd, Ord, Drop)]
 pub enum Place {
     /// The run.

@@ -1,6 +1,7 @@
 //! The spans that events start.
 ghost use Rattle.std.specs.Prelude.{◌≡◌, ◌^◌, ◌+◌, true, false, nat_lt, IfOk, MatchOption};
-ghost use Rattle.rec_spans.specs.Kinds.{pid_of, run_span, script_span, sub_run_span, test_name, test_span};
+ghost use Rattle.rec_spans.specs.Kinds.{pid_of, run_span, script_span};
+ghost use Rattle.rec_spans.specs.Kinds.{sub_run_span, test_name, test_span};
 
 use crate::binaries::Binaries;
 use crate::settings::ChromeTraceGroupBy;
@@ -38,7 +39,8 @@ pub fn sub_run_span(alloc: Global) -> Result<Span, AllocError>
     })
 }
 
-/// Returns the thread of a slot of tests, or of an index of setup scripts, where its number is a u64.
+/// Returns the thread of a slot of tests, or of an index of setup scripts,
+/// where its number is a u64.
 pub fn thread(number: u64) -> Option<u64>
     ensures { MatchOption result (nat_lt (number + 10000) (2 ^ 64) ≡ false)
         (λ tid. (tid ≡ number + 10000) × (nat_lt (number + 10000) (2 ^ 64) ≡ true)) }

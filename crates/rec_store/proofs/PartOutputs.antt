@@ -1,5 +1,7 @@
 -- The outputs of a reading as parts of its store.
-use Rattle.std.proofs.Common.{◌≡◌, ℕ, nat_eq, List, [], ◌∷◌, ◌++◌, Bool, true, false, ◌||◌, not, Option, Some, None, Ok, is_some, refl, sym, ap, subst, ◌∙◌, codes, if◌then◌else◌}
+use Rattle.std.proofs.Common.{◌≡◌, ℕ, nat_eq, List, [], ◌∷◌, ◌++◌, Bool, true}
+use Rattle.std.proofs.Common.{false, ◌||◌, not, Option, Some, None, Ok, is_some}
+use Rattle.std.proofs.Common.{refl, sym, ap, subst, ◌∙◌, codes, if◌then◌else◌}
 use Rattle.std.proofs.lemmas.Bool.Decides.{Decides-eqb}
 use Rattle.std.proofs.lemmas.Bool.{and_parts}
 use Rattle.std.proofs.lemmas.Slice.Eq.{bytes_eq-Decides, ends_is}
@@ -43,28 +45,39 @@ captured_paths_are : (o : Option ZipStoreOutput) → AllByRecursion IsOutputPath
 captured_paths_are None = tt
 captured_paths_are (Some output) = output_paths_are output
 
-description_paths_are : (o : ZipStoreOutputDescription) → AllByRecursion IsOutputPath (description_paths o)
-description_paths_are (stored.Split out err) = all_append IsOutputPath (captured_paths out) (captured_paths err) (captured_paths_are out) (captured_paths_are err)
+description_paths_are : (o : ZipStoreOutputDescription)
+    → AllByRecursion IsOutputPath (description_paths o)
+description_paths_are (stored.Split out err) =
+    all_append IsOutputPath (captured_paths out) (captured_paths err) (captured_paths_are out)
+    (captured_paths_are err)
 description_paths_are (stored.Combined both) = output_paths_are both
 
-pub event_paths_are : (events : List RecordedEvent) → AllByRecursion IsOutputPath (flat_map event_paths events)
+pub event_paths_are : (events : List RecordedEvent)
+    → AllByRecursion IsOutputPath (flat_map event_paths events)
 event_paths_are [] = tt
 event_paths_are (e ∷ events) =
-    all_append IsOutputPath (event_paths e) (flat_map event_paths events) (all_of_event IsOutputPath description_paths description_paths_are e) (event_paths_are events)
+    all_append IsOutputPath (event_paths e) (flat_map event_paths events)
+    (all_of_event IsOutputPath description_paths description_paths_are e) (event_paths_are events)
 
 -- what is among paths has what all of them have
-among_holds : (P : List ℕ → Type 0) (paths : List (List ℕ)) (path : List ℕ) → AllByRecursion P paths → list_any (λ p. bytes_eq path p) paths ≡ true → P path
+among_holds : (P : List ℕ → Type 0) (paths : List (List ℕ)) (path : List ℕ) → AllByRecursion P paths
+    → list_any (λ p. bytes_eq path p) paths ≡ true → P path
 among_holds P [] path all h = absurd cc
-among_holds P (q ∷ paths) path all h = by (bytes_eq path q) (bytes_eq-Decides path q).0 (among_holds P paths path all.1) h
+among_holds P (q ∷ paths) path all h =
+    by (bytes_eq path q) (bytes_eq-Decides path q).0 (among_holds P paths path all.1) h
   where
-    by : (b : Bool) → (b ≡ true → path ≡ q) → (list_any (λ p. bytes_eq path p) paths ≡ true → P path) → (b || list_any (λ p. bytes_eq path p) paths) ≡ true → P path
+    by : (b : Bool) → (b ≡ true → path ≡ q)
+        → (list_any (λ p. bytes_eq path p) paths ≡ true → P path)
+        → (b || list_any (λ p. bytes_eq path p) paths) ≡ true → P path
     by true same rest is = subst P (sym (same refl)) all.0
     by false same rest is = rest is
 
 -- ---- the name of an output says its kind
 
 -- one of three tests holds
-kind_by : (a b c : Bool) (name content : List ℕ) → (a || (b || c)) ≡ true → of_kind name (if a || b then dict.Stdout else if c then dict.Stderr else dict.None) content ≡ Ok content
+kind_by : (a b c : Bool) (name content : List ℕ) → (a || (b || c)) ≡ true
+    → of_kind name (if a || b then dict.Stdout else if c then dict.Stderr else dict.None) content
+    ≡ Ok content
 kind_by true b c name content h = refl
 kind_by false true c name content h = refl
 kind_by false false true name content h = refl
@@ -81,14 +94,17 @@ ends : (digits suffix : List ℕ) → ends_with nat_eq (digits ++ suffix) suffix
 ends digits suffix = (ends_is Decides-eqb (digits ++ suffix) suffix _ refl).1 digits refl
 
 abbrev has_kind : List ℕ → Bool
-has_kind name = ends_with nat_eq name (codes "-stdout") || (ends_with nat_eq name (codes "-combined") || ends_with nat_eq name (codes "-stderr"))
+has_kind name =
+    ends_with nat_eq name (codes "-stdout")
+    || (ends_with nat_eq name (codes "-combined") || ends_with nat_eq name (codes "-stderr"))
 
 says_kind : (digits : List ℕ) (k : OutputKind) → has_kind (digits ++ kind_suffix k) ≡ true
 says_kind digits kind.Stdout = or_first _ _ (ends digits (codes "-stdout"))
 says_kind digits kind.Combined = or_second _ _ (or_first _ _ (ends digits (codes "-combined")))
 says_kind digits kind.Stderr = or_second _ _ (or_second _ _ (ends digits (codes "-stderr")))
 
-kind_of_output : (f : OutputFileName) (content : List ℕ) → of_kind (file_name_text f) (dict_of_name (file_name_text f)) content ≡ Ok content
+kind_of_output : (f : OutputFileName) (content : List ℕ)
+    → of_kind (file_name_text f) (dict_of_name (file_name_text f)) content ≡ Ok content
 kind_of_output f content =
     let name = file_name_text f in
     kind_by
@@ -118,13 +134,18 @@ pub record IsOutput (es : List Entry) (path content : List ℕ) : Type 0 where
   pub found : content_of es path ≡ Some content
   pub kind : of_kind name (dict_of_name name) content ≡ Ok content
 
-pub output_of_reading : (events : List RecordedEvent) (es outs : List Entry) → outputs_of events es ≡ Some outs → (path content : List ℕ) → content_of outs path ≡ Some content → IsOutput es path content
+pub output_of_reading : (events : List RecordedEvent) (es outs : List Entry)
+    → outputs_of events es ≡ Some outs → (path content : List ℕ)
+    → content_of outs path ≡ Some content → IsOutput es path content
 output_of_reading events es outs h path content there =
     let paths = flat_map event_paths events in
     let parts = only_some _ (others es) outs h in
-    let tests = and_parts (list_all (λ p. is_some (content_of es p)) paths) (list_all (λ (e : Entry). list_any (λ p. bytes_eq e.name p) paths) (others es)) parts.0 in
-    let among : content_of (others es) path ≡ Some content = ap (λ (l : List Entry). content_of l path) parts.1 ∙ there in
-    let output = among_holds IsOutputPath paths path (event_paths_are events) (found_name (λ n. list_any (λ p. bytes_eq n p) paths) (others es) path content tests.1 among) in
+    let tests = and_parts (list_all (λ p. is_some (content_of es p)) paths)
+    (list_all (λ (e : Entry). list_any (λ p. bytes_eq e.name p) paths) (others es)) parts.0 in
+    let among : content_of (others es) path ≡ Some content =
+    ap (λ (l : List Entry). content_of l path) parts.1 ∙ there in
+    let output = among_holds IsOutputPath paths path (event_paths_are events)
+    (found_name (λ n. list_any (λ p. bytes_eq n p) paths) (others es) path content tests.1 among) in
     record {
       name = file_name_text output.0;
       named = output.1 ∙ path_of_file output.0;

@@ -1,12 +1,29 @@
 -- What follows from the answer of a part.
 use Rattle.std.proofs.Common.{ℕ, Result, Ok, Err, ap}
 use Rattle.rec_container.specs.Reading.{◌>>=◌}
-use Rattle.rec_store.specs.declared.read_error.RecordReadError.TheVariants.{RunNotFound, OpenArchive, ParseArchive, FileNotFound, FileTooLarge, NotUtf8, DeserializeMetadata, UnknownOutputType, ExtractFile, OpenRunLog, DiskFault, ReadRunLog, ParseEvent, OutOfMemory}
+use Rattle.rec_store.specs.declared.read_error.RecordReadError.TheVariants.{
+  RunNotFound,
+  OpenArchive,
+  ParseArchive,
+  FileNotFound,
+  FileTooLarge,
+  NotUtf8,
+  DeserializeMetadata,
+  UnknownOutputType,
+  ExtractFile,
+  OpenRunLog,
+  DiskFault,
+  ReadRunLog,
+  ParseEvent,
+  OutOfMemory,
+}
 use Rattle.rec_store.specs.declared.read_error.RecordReadError.{RecordReadError}
 use Rattle.rec_store.specs.Readers.{Refuses, Reads, Denies, Answers, IsDiskCaused}
 
 -- a part that is refused gives nothing to the next step
-pub refuses_next : {Y Z : Type 0} (part : Result Y RecordReadError) (next : Y → Result Z RecordReadError) (e : RecordReadError) → Refuses part e → Refuses (part >>= next) e
+pub refuses_next : {Y Z : Type 0} (part : Result Y RecordReadError)
+    (next : Y → Result Z RecordReadError) (e : RecordReadError)
+    → Refuses part e → Refuses (part >>= next) e
 refuses_next part next (RunNotFound p) h = ap (λ r. r >>= next) h
 refuses_next part next (OpenArchive p) h = absurd h
 refuses_next part next (ParseArchive p f) h = absurd h
@@ -23,7 +40,8 @@ refuses_next part next (ParseEvent n) h = ap (λ r. r >>= next) h
 refuses_next part next OutOfMemory h = tt
 
 -- a reader may answer what is answered over its entries
-pub denies_part : {Y : Type 0} (part : Result Y RecordReadError) (e : RecordReadError) → Refuses part e → Denies part e
+pub denies_part : {Y : Type 0} (part : Result Y RecordReadError) (e : RecordReadError)
+    → Refuses part e → Denies part e
 denies_part part (RunNotFound p) h = h
 denies_part part (OpenArchive p) h = h
 denies_part part (ParseArchive p f) h = h
@@ -39,12 +57,16 @@ denies_part part (ReadRunLog n) h = h
 denies_part part (ParseEvent n) h = h
 denies_part part OutOfMemory h = h
 
-pub answers_part : {X Y : Type 0} (show : X → Y) (part : Result Y RecordReadError) (result : Result X RecordReadError) → Reads show part result → Answers show part result
+pub answers_part : {X Y : Type 0} (show : X → Y) (part : Result Y RecordReadError)
+    (result : Result X RecordReadError)
+    → Reads show part result → Answers show part result
 answers_part show part (Ok x) h = h
 answers_part show part (Err e) h = denies_part part e h
 
 -- and it is no fault of a disk
-pub not_by_disk : {Y : Type 0} (before now : ℕ) (part : Result Y RecordReadError) (e : RecordReadError) → Refuses part e → IsDiskCaused before now e
+pub not_by_disk : {Y : Type 0} (before now : ℕ) (part : Result Y RecordReadError)
+    (e : RecordReadError)
+    → Refuses part e → IsDiskCaused before now e
 not_by_disk before now part (RunNotFound p) h = tt
 not_by_disk before now part (OpenArchive p) h = tt
 not_by_disk before now part (ParseArchive p f) h = tt

@@ -11,12 +11,14 @@ use Rattle.rec_format.specs.Runs.{info_of}
 use Rattle.rec_format.specs.ScopeForms.{recorded_scope_form}
 use Rattle.rec_codec.specs.Event.{RecordedEvent, log_events}
 use Rattle.rec_codec.specs.Lines.{lines}
-use Rattle.rec_store.specs.Entries.{build_scope_path, cargo_metadata_path, record_opts_path, rerun_info_path, test_list_path}
+use Rattle.rec_store.specs.Entries.{build_scope_path, cargo_metadata_path}
+use Rattle.rec_store.specs.Entries.{record_opts_path, rerun_info_path, test_list_path}
 use Rattle.rec_store.specs.Reading.{RunRecord, record_of, record_of_parts}
 use Rattle.rec_store.specs.RunParts.{RunParts, maybe_part, outputs_of, part, parts_of, text_part}
 
 -- a chain has a value only where its first option has one
-first_some : {A B : Type 0} (o : Option A) (f : A → Option B) (y : B) → (o >>= f) ≡ Some y → (x : A) × (o ≡ Some x) × (f x ≡ Some y)
+first_some : {A B : Type 0} (o : Option A) (f : A → Option B) (y : B) → (o >>= f) ≡ Some y
+    → (x : A) × (o ≡ Some x) × (f x ≡ Some y)
 first_some None f y h = absurd cc
 first_some (Some x) f y h = (x, refl, h)
 
@@ -37,7 +39,8 @@ pub record AreReadFrom (text log : List ℕ) (es : List Entry) (p : RunParts) : 
   pub rerun_info : maybe_part rerun_info_form (content_of es rerun_info_path) ≡ Some p.rerun_info
   pub outputs : outputs_of p.events es ≡ Some p.outputs
 
-pub read_from : (text log : List ℕ) (es : List Entry) (p : RunParts) → parts_of text log es ≡ Some p → AreReadFrom text log es p
+pub read_from : (text log : List ℕ) (es : List Entry) (p : RunParts) → parts_of text log es ≡ Some p
+    → AreReadFrom text log es p
 read_from text log es p h =
     let manifest = first_some (bytes_form manifest_form text) _ p h in
     let events = first_some (log_events (lines log)) _ p manifest.2 in
@@ -45,7 +48,8 @@ read_from text log es p h =
     let list = first_some (part test_list_form es test_list_path) _ p metadata.2 in
     let opts = first_some (part record_opts_form es record_opts_path) _ p list.2 in
     let scope = first_some (part recorded_scope_form es build_scope_path) _ p opts.2 in
-    let rerun = first_some (maybe_part rerun_info_form (content_of es rerun_info_path)) _ p scope.2 in
+    let rerun =
+    first_some (maybe_part rerun_info_form (content_of es rerun_info_path)) _ p scope.2 in
     let outputs = first_some (outputs_of events.0 es) _ p rerun.2 in
     let made = the_same _ p outputs.2 in
     record {
@@ -59,13 +63,19 @@ read_from text log es p h =
       record_opts = opts.1 ∙ ap (λ (x : RunParts). Some x.record_opts) made;
       build_scope = scope.1 ∙ ap (λ (x : RunParts). Some x.build_scope) made;
       rerun_info = rerun.1 ∙ ap (λ (x : RunParts). Some x.rerun_info) made;
-      outputs = ap (λ (l : List RecordedEvent). outputs_of l es) (sym (ap (λ (x : RunParts). x.events) made)) ∙ outputs.1 ∙ ap (λ (x : RunParts). Some x.outputs) made;
+      outputs =
+          ap (λ (l : List RecordedEvent). outputs_of l es)
+          (sym (ap (λ (x : RunParts). x.events) made))
+          ∙ outputs.1 ∙ ap (λ (x : RunParts). Some x.outputs) made;
     }
 
 -- what a record was made of
-pub parts_of_record : (text log : List ℕ) (es : List Entry) (r : RunRecord) → record_of text log es ≡ Some r → (p : RunParts) × (parts_of text log es ≡ Some p) × (record_of_parts es p ≡ r)
+pub parts_of_record : (text log : List ℕ) (es : List Entry) (r : RunRecord)
+    → record_of text log es ≡ Some r
+    → (p : RunParts) × (parts_of text log es ≡ Some p) × (record_of_parts es p ≡ r)
 parts_of_record text log es r h = by (parts_of text log es) h
   where
-    by : (o : Option RunParts) → option_map (record_of_parts es) o ≡ Some r → (p : RunParts) × (o ≡ Some p) × (record_of_parts es p ≡ r)
+    by : (o : Option RunParts) → option_map (record_of_parts es) o ≡ Some r
+        → (p : RunParts) × (o ≡ Some p) × (record_of_parts es p ≡ r)
     by None h = absurd cc
     by (Some p) h = (p, refl, the_same (record_of_parts es p) r h)

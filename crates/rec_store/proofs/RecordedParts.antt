@@ -18,13 +18,23 @@ module _ (number : List ℕ → ℕ) (m : ℕ) (head : SessionHead) (events : Li
   -- as many events are recorded as there are
   pub same_info : run_info number m head events ≡ settled_info (recorded_parts number m head events)
   same_info =
-      ap (λ n. recorded_info head (record { log = sizes_of_log (length (run_log number m events)) n; store = sizes_of_store (run_store number m head events) }))
+      ap (λ n. recorded_info head (record {
+        log = sizes_of_log (length (run_log number m events)) n;
+        store = sizes_of_store (run_store number m head events);
+      }))
       (sym (length-map events (event_recorded number m)))
 
-  pub recorded_written : run_bundle number m head events ≡ written (recorded_parts number m head events)
+  pub recorded_written : run_bundle number m head events
+      ≡ written (recorded_parts number m head events)
   unfolding manifest_text
   recorded_written =
-      ap (λ (info : RecordedRunInfo). spell (bundle_entries (compact_text (manifest_value (manifest_of info))) (run_log number m events) (spell (run_store number m head events)))) same_info
+      ap (λ (info : RecordedRunInfo).
+      spell (bundle_entries (compact_text (manifest_value (manifest_of info)))
+      (run_log number m events) (spell (run_store number m head events))))
+      same_info
 
-  pub recorded_settled : settled (recorded_parts number m head events) ≡ recorded_parts number m head events
-  recorded_settled = ap (λ (info : RecordedRunInfo). record (recorded_parts number m head events) { run = info }) (sym same_info)
+  pub recorded_settled : settled (recorded_parts number m head events)
+      ≡ recorded_parts number m head events
+  recorded_settled =
+      ap (λ (info : RecordedRunInfo). record (recorded_parts number m head events) { run = info })
+      (sym same_info)

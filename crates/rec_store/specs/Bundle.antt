@@ -39,7 +39,10 @@ module _ (number : List ℕ → ℕ) (m : ℕ) where
 
   -- the sizes of a run
   abbrev pub run_sizes : SessionHead → List LiveEvent → RecordedSizes
-  run_sizes head events = record { log = sizes_of_log (length (run_log events)) (length events); store = sizes_of_store (run_store head events) }
+  run_sizes head events = record {
+    log = sizes_of_log (length (run_log events)) (length events);
+    store = sizes_of_store (run_store head events);
+  }
 
   -- the run information that a bundle holds
   abbrev pub run_info : SessionHead → List LiveEvent → RecordedRunInfo
@@ -50,7 +53,8 @@ module _ (number : List ℕ → ℕ) (m : ℕ) where
 
   -- the entries of a run's bundle
   abbrev pub run_entries : SessionHead → List LiveEvent → List Entry
-  run_entries head events = bundle_entries (manifest_text head events) (run_log events) (spell (run_store head events))
+  run_entries head events =
+      bundle_entries (manifest_text head events) (run_log events) (spell (run_store head events))
 
   -- the bundle of a run
   abbrev pub run_bundle : SessionHead → List LiveEvent → List ℕ

@@ -1,5 +1,6 @@
 -- Outputs that clash: the same path, other bytes.
-use Rattle.std.specs.Prelude.{ℕ, List, [], ◌∷◌, ◌++◌, Bool, false, not, Option, Some, None, is_some, if◌then◌else◌}
+use Rattle.std.specs.Prelude.{ℕ, List, [], ◌∷◌, ◌++◌, Bool, false, not}
+use Rattle.std.specs.Prelude.{Option, Some, None, is_some, if◌then◌else◌}
 use Rattle.std.specs.Str.{bytes_eq}
 use Rattle.rec_container.specs.Container.{Entry, content_of}
 
@@ -20,4 +21,5 @@ differs (Some held) content = not (bytes_eq held content)
 -- the name of the first of the entries that stands earlier with another content, if any does
 abbrev pub clash : List Entry → List Entry → Option (List ℕ)
 clash es [] = None
-clash es (f ∷ fs) = if differs (content_of es f.name) f.content then Some f.name else clash (with_entry es f) fs
+clash es (f ∷ fs) =
+    if differs (content_of es f.name) f.content then Some f.name else clash (with_entry es f) fs

@@ -1,6 +1,7 @@
 -- How an output is cut to a limit.
 use Rattle.std.specs.Fmt.{decimal}
-use Rattle.std.specs.Prelude.{ℕ, List, ◌++◌, ◌-◌, ◌/◌, nat_le, length, take, drop, if◌then◌else◌, codes, ⊤}
+use Rattle.std.specs.Prelude.{ℕ, List, ◌++◌, ◌-◌, ◌/◌, nat_le, length}
+use Rattle.std.specs.Prelude.{take, drop, if◌then◌else◌, codes, ⊤}
 use Rattle.rec_store.specs.declared.cut.CutOutput.TheVariants.{Borrowed, Owned}
 use Rattle.rec_store.specs.declared.cut.CutOutput.{CutOutput}
 
@@ -12,7 +13,8 @@ marker n = codes "\n\n... [truncated " ++ (decimal n ++ codes " bytes] ...\n\n")
 abbrev pub last : ℕ → List ℕ → List ℕ
 last k b = drop (length b - k) b
 
--- b where its length is at most m; else its two ends around the marker, which take half of the space each, the prefix rounded down
+-- b where its length is at most m; else its two ends around the marker, which take half of the
+-- space each, the prefix rounded down
 abbrev pub cut : List ℕ → ℕ → List ℕ
 cut b m =
     let n = length b - m in

@@ -27,7 +27,9 @@ json_entry path value = entry_named path (compact_text value)
 
 -- the entries of these three texts
 abbrev pub three_entries : List ℕ → List ℕ → List ℕ → List Entry
-three_entries list metadata opts = entry_named test_list_path list ∷ entry_named cargo_metadata_path metadata ∷ entry_named record_opts_path opts ∷ []
+three_entries list metadata opts =
+    entry_named test_list_path list ∷ entry_named cargo_metadata_path metadata
+    ∷ entry_named record_opts_path opts ∷ []
 
 -- the names of a bundle's entries
 abbrev pub manifest_name : List ℕ
@@ -41,4 +43,6 @@ store_name = codes "store.zip"
 
 -- a bundle of these three contents
 abbrev pub bundle_entries : List ℕ → List ℕ → List ℕ → List Entry
-bundle_entries manifest log store = entry_named manifest_name manifest ∷ entry_named log_name log ∷ entry_named store_name store ∷ []
+bundle_entries manifest log store =
+    entry_named manifest_name manifest ∷ entry_named log_name log ∷ entry_named store_name store
+    ∷ []

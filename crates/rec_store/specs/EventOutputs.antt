@@ -1,14 +1,21 @@
 -- What is stored of an event's outputs, and what the event is recorded as.
-use Rattle.std.specs.Prelude.{ℕ, List, [], ◌∷◌, ◌++◌, length, nat_le, ◌==◌, Bool, false, true, Option, Some, None, option_map, if◌then◌else◌}
+use Rattle.std.specs.Prelude.{ℕ, List, [], ◌∷◌, ◌++◌, length, nat_le, ◌==◌, Bool, false}
+use Rattle.std.specs.Prelude.{true, Option, Some, None, option_map, if◌then◌else◌}
 use Rattle.rec_container.specs.Container.{Entry}
 use Rattle.rec_container.specs.Writing.{entry_named}
-use Rattle.rec_events.specs.declared.events.OutputEventKind.TheVariants.{SetupScriptFinished, TestAttemptFailedWillRetry, TestFinished}
+use Rattle.rec_events.specs.declared.events.OutputEventKind.TheVariants.{
+  SetupScriptFinished,
+  TestAttemptFailedWillRetry,
+  TestFinished,
+}
 use Rattle.rec_events.specs.declared.events.OutputEventKind.{OutputEventKind}
 use Rattle.rec_events.specs.declared.events.TestEventKindSummary.{TestEventKindSummary}
 use Rattle.rec_events.specs.declared.output_names.OutputFileName.{OutputFileName}
 use Rattle.rec_events.specs.declared.output_names.OutputKind.TheVariants as kind
 use Rattle.rec_events.specs.declared.output_names.OutputKind.{OutputKind}
-use Rattle.rec_events.specs.declared.outputs.ChildExecutionOutputDescription.{ChildExecutionOutputDescription}
+use Rattle.rec_events.specs.declared.outputs.ChildExecutionOutputDescription.{
+  ChildExecutionOutputDescription,
+}
 use Rattle.rec_events.specs.declared.outputs.ChildOutputDescription.TheVariants as live
 use Rattle.rec_events.specs.declared.outputs.ChildOutputDescription.{ChildOutputDescription}
 use Rattle.rec_events.specs.declared.outputs.LiveSpec.{LiveSpec}
@@ -17,10 +24,14 @@ use Rattle.rec_events.specs.declared.outputs.ZipStoreOutput.TheVariants.{Empty, 
 use Rattle.rec_events.specs.declared.outputs.ZipStoreOutput.{ZipStoreOutput}
 use Rattle.rec_events.specs.declared.outputs.ZipStoreOutputDescription.TheVariants as stored
 use Rattle.rec_events.specs.declared.outputs.ZipStoreOutputDescription.{ZipStoreOutputDescription}
-use Rattle.rec_events.specs.declared.script_statuses.SetupScriptExecuteStatus.{SetupScriptExecuteStatus}
+use Rattle.rec_events.specs.declared.script_statuses.SetupScriptExecuteStatus.{
+  SetupScriptExecuteStatus,
+}
 use Rattle.rec_events.specs.declared.statuses.ExecuteStatus.{ExecuteStatus}
 use Rattle.rec_events.specs.declared.statuses.ExecutionStatuses.{ExecutionStatuses}
-use Rattle.rec_events.specs.EventMaps.{execution_with, status_with, statuses_with, script_status_with, output_kind_with, kind_with, event_with, of_execution, of_status, of_output_kind, of_kind, of_event}
+use Rattle.rec_events.specs.EventMaps.{execution_with, status_with, statuses_with}
+use Rattle.rec_events.specs.EventMaps.{script_status_with, output_kind_with, kind_with, event_with}
+use Rattle.rec_events.specs.EventMaps.{of_execution, of_status, of_output_kind, of_kind, of_event}
 use Rattle.rec_codec.specs.Event.{LiveEvent, RecordedEvent}
 use Rattle.rec_store.specs.Cut.{cut}
 use Rattle.rec_store.specs.OutputPaths.{output_path}
@@ -34,7 +45,8 @@ Recorded T = T RecordingSpec ZipStoreOutputDescription
 
 -- which of the kinds with outputs it is
 abbrev pub is_script_finished : Live OutputEventKind → Bool
-is_script_finished (SetupScriptFinished stress index total script program args no_capture status) = true
+is_script_finished (SetupScriptFinished stress index total script program args no_capture status) =
+    true
 is_script_finished kind = false
 
 abbrev pub is_failed_attempt : Live OutputEventKind → Bool
@@ -42,7 +54,9 @@ is_failed_attempt (TestAttemptFailedWillRetry stress test status delay failure r
 is_failed_attempt kind = false
 
 abbrev pub is_finished : Live OutputEventKind → Bool
-is_finished (TestFinished stress test success failure store_success store_failure flaky statuses stats running) = true
+is_finished (TestFinished stress test success failure store_success store_failure flaky statuses
+    stats running) =
+    true
 is_finished kind = false
 
 -- outputs are numbered by their bytes, and cut at m bytes
@@ -66,7 +80,8 @@ module _ (number : List ℕ → ℕ) (m : ℕ) where
   captured_entries kind (Some b) = output_entries kind b
 
   abbrev pub description_entries : ChildOutputDescription → List Entry
-  description_entries (live.Split out err) = captured_entries kind.Stdout out ++ captured_entries kind.Stderr err
+  description_entries (live.Split out err) =
+      captured_entries kind.Stdout out ++ captured_entries kind.Stderr err
   description_entries (live.Combined both) = output_entries kind.Combined both
   description_entries live.NotLoaded = []
 
@@ -98,11 +113,13 @@ module _ (number : List ℕ → ℕ) (m : ℕ) where
 
   -- what isn't loaded is not recorded at all; the value says nothing
   abbrev pub description_recorded : ChildOutputDescription → ZipStoreOutputDescription
-  description_recorded (live.Split out err) = stored.Split (option_map (stored_as kind.Stdout) out) (option_map (stored_as kind.Stderr) err)
+  description_recorded (live.Split out err) =
+      stored.Split (option_map (stored_as kind.Stdout) out) (option_map (stored_as kind.Stderr) err)
   description_recorded (live.Combined both) = stored.Combined (stored_as kind.Combined both)
   description_recorded live.NotLoaded = stored.Split None None
 
-  abbrev pub execution_recorded : Live ChildExecutionOutputDescription → Recorded ChildExecutionOutputDescription
+  abbrev pub execution_recorded : Live ChildExecutionOutputDescription
+      → Recorded ChildExecutionOutputDescription
   execution_recorded e = execution_with description_recorded e
 
   abbrev pub status_recorded : Live ExecuteStatus → Recorded ExecuteStatus
@@ -111,7 +128,8 @@ module _ (number : List ℕ → ℕ) (m : ℕ) where
   abbrev pub statuses_recorded : Live ExecutionStatuses → Recorded ExecutionStatuses
   statuses_recorded s = statuses_with description_recorded s
 
-  abbrev pub script_status_recorded : Live SetupScriptExecuteStatus → Recorded SetupScriptExecuteStatus
+  abbrev pub script_status_recorded : Live SetupScriptExecuteStatus
+      → Recorded SetupScriptExecuteStatus
   script_status_recorded s = script_status_with description_recorded s
 
   abbrev pub output_kind_recorded : Live OutputEventKind → Recorded OutputEventKind

@@ -1,6 +1,7 @@
 -- What is kept of an event's outputs: what a bundle is read as.
 use Rattle.std.specs.List.{AllByRecursion}
-use Rattle.std.specs.Prelude.{◌≡◌, ℕ, List, [], ◌∷◌, ◌++◌, length, nat_le, ◌==◌, Option, Some, None, IsTrue, is_some, map, option_map, unwrap_or, if◌then◌else◌}
+use Rattle.std.specs.Prelude.{◌≡◌, ℕ, List, [], ◌∷◌, ◌++◌, length, nat_le, ◌==◌, Option, Some}
+use Rattle.std.specs.Prelude.{None, IsTrue, is_some, map, option_map, unwrap_or, if◌then◌else◌}
 use Rattle.rec_container.specs.Container.{Entry, content_of}
 use Rattle.rec_events.specs.declared.events.TestEventSummary.{TestEventSummary}
 use Rattle.rec_events.specs.declared.output_names.OutputFileName.{OutputFileName}
@@ -35,7 +36,9 @@ KeptEvent = TestEventSummary RecordingSpec KeptOutputs
 
 module _ (m : ℕ) where
   abbrev pub kept : List ℕ → KeptOutput
-  kept b = if length b == 0 then empty else if nat_le (length b) m then full b else truncated (cut b m) (length b)
+  kept b =
+      if length b == 0 then empty else if nat_le (length b) m then full b
+      else truncated (cut b m) (length b)
 
   -- what isn't loaded is not recorded at all; the value says nothing
   abbrev pub outputs_kept : ChildOutputDescription → KeptOutputs
@@ -59,7 +62,8 @@ module _ (es : List Entry) where
   resolved (Truncated name size) = truncated (bytes_under name) size
 
   abbrev pub outputs_resolved : ZipStoreOutputDescription → KeptOutputs
-  outputs_resolved (stored.Split out err) = split (option_map resolved out) (option_map resolved err)
+  outputs_resolved (stored.Split out err) =
+      split (option_map resolved out) (option_map resolved err)
   outputs_resolved (stored.Combined both) = combined (resolved both)
 
   abbrev pub event_resolved : RecordedEvent → KeptEvent

@@ -12,7 +12,8 @@ byte_at_below : (i n : ℕ) → IsByte (byte_at i n)
 byte_at_below zero n = omega arith
 byte_at_below (suc i) n = let q = n / 256 ^ suc i in let r : q % 256 < 256 = omega arith in r
 
-bytes_append : (xs ys : List ℕ) → AllByRecursion IsByte xs → AllByRecursion IsByte ys → AllByRecursion IsByte (xs ++ ys)
+bytes_append : (xs ys : List ℕ) → AllByRecursion IsByte xs → AllByRecursion IsByte ys
+    → AllByRecursion IsByte (xs ++ ys)
 bytes_append [] ys p q = q
 bytes_append (x ∷ xs) ys p q = (p.0, bytes_append xs ys p.1 q)
 
@@ -38,10 +39,22 @@ word_below (a ∷ b ∷ []) p = omega (arith, p.0, p.1.0)
 word_below (a ∷ b ∷ c ∷ []) p = omega (arith, p.0, p.1.0, p.1.1.0)
 word_below (a ∷ b ∷ c ∷ d ∷ []) p = omega (arith, p.0, p.1.0, p.1.1.0, p.1.1.1.0)
 word_below (a ∷ b ∷ c ∷ d ∷ e ∷ []) p = omega (arith, p.0, p.1.0, p.1.1.0, p.1.1.1.0, p.1.1.1.1.0)
-word_below (a ∷ b ∷ c ∷ d ∷ e ∷ f ∷ []) p = omega (arith, p.0, p.1.0, p.1.1.0, p.1.1.1.0, p.1.1.1.1.0, p.1.1.1.1.1.0)
-word_below (a ∷ b ∷ c ∷ d ∷ e ∷ f ∷ g ∷ []) p = omega (arith, p.0, p.1.0, p.1.1.0, p.1.1.1.0, p.1.1.1.1.0, p.1.1.1.1.1.0, p.1.1.1.1.1.1.0)
+word_below (a ∷ b ∷ c ∷ d ∷ e ∷ f ∷ []) p =
+    omega (arith, p.0, p.1.0, p.1.1.0, p.1.1.1.0, p.1.1.1.1.0, p.1.1.1.1.1.0)
+word_below (a ∷ b ∷ c ∷ d ∷ e ∷ f ∷ g ∷ []) p =
+    omega (arith, p.0, p.1.0, p.1.1.0, p.1.1.1.0, p.1.1.1.1.0, p.1.1.1.1.1.0, p.1.1.1.1.1.1.0)
 word_below (a ∷ b ∷ c ∷ d ∷ e ∷ f ∷ g ∷ h ∷ rest) p =
-    omega (arith, p.0, p.1.0, p.1.1.0, p.1.1.1.0, p.1.1.1.1.0, p.1.1.1.1.1.0, p.1.1.1.1.1.1.0, p.1.1.1.1.1.1.1.0)
+    omega (
+      arith,
+      p.0,
+      p.1.0,
+      p.1.1.0,
+      p.1.1.1.0,
+      p.1.1.1.1.0,
+      p.1.1.1.1.1.0,
+      p.1.1.1.1.1.1.0,
+      p.1.1.1.1.1.1.1.0,
+    )
 
 pub sha256_number_below : (bytes : List ℕ) → sha256_number bytes < 2 ^ 64
 unfolding sha256_number sha256

@@ -1,6 +1,8 @@
--- The parts of a store: what its entries have under a path, as far as a limit allows, or why that is no part.
+-- The parts of a store: what its entries have under a path, as far as a limit allows,
+-- or why that is no part.
 use Rattle.std.specs.List.{AllByRecursion}
-use Rattle.std.specs.Prelude.{◌≡◌, ℕ, ◌≤◌, nat_lt, List, ◌++◌, length, map, codes, if◌then◌else◌, Option, Some, None, Result, Ok, Err}
+use Rattle.std.specs.Prelude.{◌≡◌, ℕ, ◌≤◌, nat_lt, List, ◌++◌, length, map, codes}
+use Rattle.std.specs.Prelude.{if◌then◌else◌, Option, Some, None, Result, Ok, Err}
 use Rattle.std.specs.Str.{is_utf8}
 use Rattle.serde_json.specs.Data.{Data}
 use Rattle.rec_container.specs.Container.{Entry, content_of}
@@ -20,15 +22,24 @@ use Rattle.rec_format.specs.ScopeForms.{recorded_scope_form}
 use Rattle.rec_codec.specs.Event.{RecordedEvent}
 use Rattle.rec_codec.specs.LineReading.{events_before_fault, first_line_fault}
 use Rattle.rec_codec.specs.Lines.{lines, numbered}
-use Rattle.rec_store.specs.declared.read_error.RecordReadError.TheVariants.{FileNotFound, FileTooLarge, NotUtf8, DeserializeMetadata, UnknownOutputType}
+use Rattle.rec_store.specs.declared.read_error.RecordReadError.TheVariants.{
+  FileNotFound,
+  FileTooLarge,
+  NotUtf8,
+  DeserializeMetadata,
+  UnknownOutputType,
+}
 use Rattle.rec_store.specs.declared.read_error.RecordReadError.{RecordReadError}
-use Rattle.rec_store.specs.Entries.{build_scope_path, cargo_metadata_path, record_opts_path, rerun_info_path, test_list_path}
+use Rattle.rec_store.specs.Entries.{build_scope_path, cargo_metadata_path}
+use Rattle.rec_store.specs.Entries.{record_opts_path, rerun_info_path, test_list_path}
 use Rattle.rec_store.specs.Kept.{event_resolved}
 use Rattle.rec_store.specs.Reading.{RunRecord}
 
 -- the content of an entry, where it is no longer than the limit
 abbrev pub content_within : List ℕ → ℕ → List ℕ → Result (List ℕ) RecordReadError
-content_within path limit content = if nat_lt limit (length content) then Err (FileTooLarge path (length content) limit) else Ok content
+content_within path limit content =
+    if nat_lt limit (length content) then Err (FileTooLarge path (length content) limit)
+    else Ok content
 
 abbrev pub found_within : List ℕ → ℕ → Option (List ℕ) → Result (List ℕ) RecordReadError
 found_within path limit None = Err (FileNotFound path)
@@ -48,7 +59,8 @@ abbrev pub item_of : {T : Type 0} → (Data → Option T) → List ℕ → List 
 item_of form path content = or_refused (DeserializeMetadata path) (bytes_form form content)
 
 -- test list, record options and build scope: the item of their form under their path
-abbrev pub metadata_part : {T : Type 0} → (Data → Option T) → List ℕ → List Entry → ℕ → Result T RecordReadError
+abbrev pub metadata_part : {T : Type 0} → (Data → Option T) → List ℕ → List Entry → ℕ
+    → Result T RecordReadError
 metadata_part form path es limit = entry_part es path limit >>= item_of form path
 
 -- a content that is a text
@@ -63,7 +75,8 @@ abbrev pub some_info : RerunInfo → Result (Option RerunInfo) RecordReadError
 some_info info = Ok (Some info)
 
 abbrev pub rerun_item : ℕ → List ℕ → Result RerunInfo RecordReadError
-rerun_item limit content = content_within rerun_info_path limit content >>= item_of rerun_info_form rerun_info_path
+rerun_item limit content =
+    content_within rerun_info_path limit content >>= item_of rerun_info_form rerun_info_path
 
 abbrev pub some_rerun_item : ℕ → List ℕ → Result (Option RerunInfo) RecordReadError
 some_rerun_item limit content = rerun_item limit content >>= some_info
@@ -88,7 +101,8 @@ path_of_output name = codes "out/" ++ name
 
 -- an output: the content under its path, and then its name says its kind
 abbrev pub output_part : List ℕ → List Entry → ℕ → Result (List ℕ) RecordReadError
-output_part name es limit = entry_part es (path_of_output name) limit >>= of_kind name (dict_of_name name)
+output_part name es limit =
+    entry_part es (path_of_output name) limit >>= of_kind name (dict_of_name name)
 
 -- no content is longer than the limit
 abbrev pub AreWithin : List Entry → ℕ → Type 0
@@ -96,7 +110,8 @@ AreWithin es limit = AllByRecursion (λ e. length e.content ≤ limit) es
 
 -- an output at this path and of this content is read under its name
 abbrev pub IsReadAs : List Entry → ℕ → List ℕ → List ℕ → Type 0
-IsReadAs es limit path content = (name : List ℕ) × (path ≡ path_of_output name) × (output_part name es limit ≡ Ok content)
+IsReadAs es limit path content =
+    (name : List ℕ) × (path ≡ path_of_output name) × (output_part name es limit ≡ Ok content)
 
 -- the manifest that a text is read as has the version and the run information of a record
 pub record IsManifestOf (text : List ℕ) (r : RunRecord) : Type 0 where
@@ -105,7 +120,8 @@ pub record IsManifestOf (text : List ℕ) (r : RunRecord) : Type 0 where
   pub format_version : manifest.format_version ≡ r.format_version
   pub run : info_of manifest.run ≡ r.run
 
--- no line of a log fails, and its lines give the events of a record, but for the names under which these entries are
+-- no line of a log fails, and its lines give the events of a record,
+-- but for the names under which these entries are
 pub record IsLogOf (log : List ℕ) (es : List Entry) (r : RunRecord) : Type 0 where
   pub events : List RecordedEvent
   pub given : events_before_fault (numbered 1 (lines log)) ≡ events
@@ -113,7 +129,8 @@ pub record IsLogOf (log : List ℕ) (es : List Entry) (r : RunRecord) : Type 0 w
   pub resolved : map (event_resolved es) events ≡ r.events
 
 -- the parts of a manifest, a log and a store are the components of what they are read as
-pub record ArePartsOf (text log_bytes : List ℕ) (es : List Entry) (limit : ℕ) (r : RunRecord) : Type 0 where
+pub record ArePartsOf (text log_bytes : List ℕ) (es : List Entry) (limit : ℕ)
+    (r : RunRecord) : Type 0 where
   pub manifest : IsManifestOf text r
   pub log : IsLogOf log_bytes es r
   pub cargo_metadata : utf8_part cargo_metadata_path es limit ≡ Ok r.cargo_metadata
@@ -121,4 +138,5 @@ pub record ArePartsOf (text log_bytes : List ℕ) (es : List Entry) (limit : ℕ
   pub record_opts : metadata_part record_opts_form record_opts_path es limit ≡ Ok r.record_opts
   pub build_scope : metadata_part recorded_scope_form build_scope_path es limit ≡ Ok r.build_scope
   pub rerun_info : rerun_info_part es limit ≡ Ok r.rerun_info
-  pub outputs : (path content : List ℕ) → content_of r.outputs path ≡ Some content → IsReadAs es limit path content
+  pub outputs : (path content : List ℕ) → content_of r.outputs path ≡ Some content
+      → IsReadAs es limit path content

@@ -7,7 +7,9 @@ use Rattle.rec_format.specs.declared.head.SessionHead.{SessionHead}
 use Rattle.rec_format.specs.declared.rerun.RerunInfo.{RerunInfo}
 use Rattle.rec_format.specs.declared.run.RecordedRunInfo.{RecordedRunInfo}
 use Rattle.rec_format.specs.declared.scope.RecordedBuildScope.{RecordedBuildScope}
-use Rattle.rec_format.specs.declared.versions.PortableRecordingFormatVersion.{PortableRecordingFormatVersion}
+use Rattle.rec_format.specs.declared.versions.PortableRecordingFormatVersion.{
+  PortableRecordingFormatVersion,
+}
 use Rattle.rec_format.specs.Versions.{portable_version}
 use Rattle.rec_codec.specs.Event.{LiveEvent}
 use Rattle.rec_store.specs.Bundle.{run_info, outputs_stored}

@@ -1,12 +1,22 @@
 -- What a recorder is, as contracts see it, and what its calls do.
-use Rattle.std.specs.Prelude.{◌≡◌, ℕ, ◌≤◌, List, [], ◌∷◌, ◌++◌, Bool, true, false, ◌||◌, Option, Some, None, ◌⊎◌}
+use Rattle.std.specs.Prelude.{◌≡◌, ℕ, ◌≤◌, List, [], ◌∷◌, ◌++◌, Bool}
+use Rattle.std.specs.Prelude.{true, false, ◌||◌, Option, Some, None, ◌⊎◌}
 use Rattle.rec_container.specs.Container.{Entry}
 use Rattle.rec_container.specs.declared.errors.ContainerWriteError.TheVariants as writing
 use Rattle.rec_container.specs.Writing.{Writing, Adds, RefusesLate, refusal}
-use Rattle.rec_store.specs.declared.error.RunStoreError.TheVariants.{Failed, NotLoadedOutput, NameCollision, CountOutOfRange, StoreWrite, RunLogWrite, OutOfMemory}
+use Rattle.rec_store.specs.declared.error.RunStoreError.TheVariants.{
+  Failed,
+  NotLoadedOutput,
+  NameCollision,
+  CountOutOfRange,
+  StoreWrite,
+  RunLogWrite,
+  OutOfMemory,
+}
 use Rattle.rec_store.specs.declared.error.RunStoreError.{RunStoreError}
 
--- the store's writer; the log's sink, whether it has failed, its length and its events; the namer and the limit of an output
+-- the store's writer; the log's sink, whether it has failed, its length and its events; the namer
+-- and the limit of an output
 pub record Recording (S L N : Type 0) : Type 0 where
   pub store : Writing S
   pub log : L
@@ -35,10 +45,12 @@ abbrev pub KeepsEntries : {S : Type 0} → Writing S → Writing S → Type 0
 KeepsEntries old new = (more : List Entry) × (new.entries ≡ old.entries ++ more)
 
 module _ {S : Type 0} (taken : S → Option (List ℕ)) (faults : S → ℕ) where
-  -- an entry was accepted, so another one of its name has the same content, and it was added; the sink's count of faults has not fallen
+  -- an entry was accepted, so another one of its name has the same content, and it was added; the
+  -- sink's count of faults has not fallen
   abbrev pub AddsEntry : Writing S → Writing S → Entry → Type 0
   AddsEntry old new e =
-      (refusal old.failed old.entries e.name e.content ≡ None) × Adds taken faults old new e.name e.content × (faults old.sink ≤ faults new.sink)
+      (refusal old.failed old.entries e.name e.content ≡ None)
+      × Adds taken faults old new e.name e.content × (faults old.sink ≤ faults new.sink)
 
   -- each of the entries was added, in order
   abbrev pub AddsEach : Writing S → Writing S → List Entry → Type 0
@@ -48,10 +60,14 @@ module _ {S : Type 0} (taken : S → Option (List ℕ)) (faults : S → ℕ) whe
   -- why an entry was not added, and what stands then
   abbrev pub RefusesEntry : Writing S → Writing S → Entry → RunStoreError → Type 0
   RefusesEntry old new e (NameCollision path) =
-      (path ≡ e.name) × (refusal old.failed old.entries e.name e.content ≡ Some writing.NameCollision) × (new ≡ old)
-  RefusesEntry old new e CountOutOfRange = (refusal old.failed old.entries e.name e.content ≡ Some writing.CountOutOfRange) × (new ≡ old)
+      (path ≡ e.name)
+      × (refusal old.failed old.entries e.name e.content ≡ Some writing.NameCollision) × (new ≡ old)
+  RefusesEntry old new e CountOutOfRange =
+      (refusal old.failed old.entries e.name e.content ≡ Some writing.CountOutOfRange) × (new ≡ old)
   RefusesEntry old new e StoreWrite =
-      (refusal old.failed old.entries e.name e.content ≡ None) × RefusesLate taken faults old new e.name e.content writing.SinkFault × (faults old.sink ≤ faults new.sink)
+      (refusal old.failed old.entries e.name e.content ≡ None)
+      × RefusesLate taken faults old new e.name e.content writing.SinkFault
+      × (faults old.sink ≤ faults new.sink)
   RefusesEntry old new e OutOfMemory = new ≡ old
   RefusesEntry old new e Failed = ⊥
   RefusesEntry old new e NotLoadedOutput = ⊥
@@ -60,7 +76,8 @@ module _ {S : Type 0} (taken : S → Option (List ℕ)) (faults : S → ℕ) whe
   -- some of the entries were added, and the next one was refused
   abbrev pub AddsUpTo : Writing S → Writing S → List Entry → RunStoreError → Type 0
   AddsUpTo old new [] e = ⊥
-  AddsUpTo old new (x ∷ xs) e = RefusesEntry old new x e ⊎ ((mid : Writing S) × AddsEntry old mid x × AddsUpTo mid new xs e)
+  AddsUpTo old new (x ∷ xs) e =
+      RefusesEntry old new x e ⊎ ((mid : Writing S) × AddsEntry old mid x × AddsUpTo mid new xs e)
 
 module _ {S L N : Type 0} (taken : S → Option (List ℕ)) (faults : S → ℕ) where
   -- no sink had failed, the entries were stored, and all else is as it was
@@ -73,7 +90,8 @@ module _ {S L N : Type 0} (taken : S → Option (List ℕ)) (faults : S → ℕ)
   abbrev pub Unstored : Recording S L N → Recording S L N → List Entry → RunStoreError → Type 0
   Unstored old new es e =
       ((e ≡ Failed) × (has_failed old ≡ true) × (new ≡ old))
-      ⊎ ((has_failed old ≡ false) × (new ≡ record old { store = new.store }) × AddsUpTo taken faults old.store new.store es e)
+      ⊎ ((has_failed old ≡ false) × (new ≡ record old { store = new.store })
+      × AddsUpTo taken faults old.store new.store es e)
 
 module _ {S L N : Type 0} (faults : S → ℕ) (log_faults : L → ℕ) where
   -- neither sink's count of faults has fallen

@@ -1,13 +1,15 @@
 -- The parts of a run: what manifest, log and store are read as, and what is written of them.
 use Rattle.std.specs.List.{list_any, list_all, flat_map}
-use Rattle.std.specs.Prelude.{◌≡◌, ℕ, Bool, not, ◌&&◌, List, [], ◌∷◌, ◌++◌, filter, length, Option, Some, None, IfSome, IsTrue, is_some, option_map, option_and_then}
+use Rattle.std.specs.Prelude.{◌≡◌, ℕ, Bool, not, ◌&&◌, List, [], ◌∷◌, ◌++◌, filter, length, Option}
+use Rattle.std.specs.Prelude.{Some, None, IfSome, IsTrue, is_some, option_map, option_and_then}
 use Rattle.std.specs.Str.{bytes_eq, is_utf8}
 use Rattle.serde_json.specs.Data.{Data}
 use Rattle.serde_json.specs.Written.{compact_text}
 use Rattle.rec_container.specs.Container.{Entry, content_of, spell, IsContainer}
 use Rattle.rec_events.specs.declared.recording.RecordOpts.{RecordOpts}
 use Rattle.rec_events.specs.declared.recording.TestListSummary.{TestListSummary}
-use Rattle.rec_forms.specs.Recording.{test_list_form, test_list_value, record_opts_form, record_opts_value}
+use Rattle.rec_forms.specs.Recording.{test_list_form, test_list_value}
+use Rattle.rec_forms.specs.Recording.{record_opts_form, record_opts_value}
 use Rattle.rec_forms.specs.Shape.{◌>>=◌, only}
 use Rattle.rec_forms.specs.TextForm.{bytes_form}
 use Rattle.rec_format.specs.declared.head.SessionHead.{SessionHead}
@@ -15,7 +17,9 @@ use Rattle.rec_format.specs.declared.rerun.RerunInfo.{RerunInfo}
 use Rattle.rec_format.specs.declared.run.RecordedRunInfo.{RecordedRunInfo}
 use Rattle.rec_format.specs.declared.scope.RecordedBuildScope.{RecordedBuildScope}
 use Rattle.rec_format.specs.declared.sizes.RecordedSizes.{RecordedSizes}
-use Rattle.rec_format.specs.declared.versions.PortableRecordingFormatVersion.{PortableRecordingFormatVersion}
+use Rattle.rec_format.specs.declared.versions.PortableRecordingFormatVersion.{
+  PortableRecordingFormatVersion,
+}
 use Rattle.rec_format.specs.RerunForms.{rerun_info_form}
 use Rattle.rec_format.specs.RunForms.{manifest_form, manifest_value}
 use Rattle.rec_format.specs.Runs.{info_of, manifest_of}
@@ -25,7 +29,8 @@ use Rattle.rec_codec.specs.Event.{LiveEvent, RecordedEvent, log_events, log_text
 use Rattle.rec_codec.specs.Lines.{lines}
 use Rattle.rec_store.specs.Bundle.{events_recorded, outputs_stored, run_info}
 use Rattle.rec_store.specs.Ending.{sizes_of_log, sizes_of_store}
-use Rattle.rec_store.specs.Entries.{build_scope_path, rerun_info_path, test_list_path, cargo_metadata_path, record_opts_path, bundle_entries}
+use Rattle.rec_store.specs.Entries.{build_scope_path, rerun_info_path, test_list_path}
+use Rattle.rec_store.specs.Entries.{cargo_metadata_path, record_opts_path, bundle_entries}
 use Rattle.rec_store.specs.Kept.{event_paths}
 use Rattle.rec_store.specs.Store.{build_scope_entry, metadata_of, rerun_entry}
 
@@ -45,7 +50,9 @@ abbrev pub text_part : List Entry → List ℕ → Option (List ℕ)
 text_part es path = option_and_then (λ s. only (is_utf8 s) s) (content_of es path)
 
 abbrev pub metadata_paths : List (List ℕ)
-metadata_paths = build_scope_path ∷ rerun_info_path ∷ test_list_path ∷ cargo_metadata_path ∷ record_opts_path ∷ []
+metadata_paths =
+    build_scope_path ∷ rerun_info_path ∷ test_list_path ∷ cargo_metadata_path ∷ record_opts_path
+    ∷ []
 
 abbrev pub is_metadata : List ℕ → Bool
 is_metadata path = list_any (λ p. bytes_eq path p) metadata_paths
@@ -55,7 +62,9 @@ abbrev pub outputs_of : List RecordedEvent → List Entry → Option (List Entry
 outputs_of events es =
     let paths = flat_map event_paths events in
     let others = filter (λ e. not (is_metadata e.name)) es in
-    only (list_all (λ p. is_some (content_of es p)) paths && list_all (λ e. list_any (λ p. bytes_eq e.name p) paths) others) others
+    only (list_all (λ p. is_some (content_of es p)) paths
+    && list_all (λ e. list_any (λ p. bytes_eq e.name p) paths) others)
+    others
 
 -- ---- what is read of a bundle
 
@@ -111,12 +120,17 @@ written_log p = log_text p.events
 
 -- the metadata goes first, in the order of a recording
 abbrev pub written_store : RunParts → List Entry
-written_store p = metadata_of p.build_scope p.rerun_info p.cargo_metadata p.test_list p.record_opts ++ p.outputs
+written_store p =
+    metadata_of p.build_scope p.rerun_info p.cargo_metadata p.test_list p.record_opts ++ p.outputs
 
 abbrev pub written_sizes : RunParts → RecordedSizes
-written_sizes p = record { log = sizes_of_log (length (written_log p)) (length p.events); store = sizes_of_store (written_store p) }
+written_sizes p = record {
+  log = sizes_of_log (length (written_log p)) (length p.events);
+  store = sizes_of_store (written_store p);
+}
 
--- the run information that is written: the version of the stores that are written, and the sizes of this log and this store
+-- the run information that is written: the version of the stores that are written,
+-- and the sizes of this log and this store
 abbrev pub settled_info : RunParts → RecordedRunInfo
 settled_info p = record p.run { store_format_version = store_version; sizes = written_sizes p }
 
@@ -138,11 +152,15 @@ written p = spell (written_entries p)
 pub record AreBack (p : RunParts) : Type 0 where
   pub manifest : bytes_form manifest_form (written_manifest p) ≡ Some (manifest_of (settled_info p))
   pub log : log_events (lines (written_log p)) ≡ Some p.events
-  pub build_scope : bytes_form recorded_scope_form (build_scope_entry p.build_scope).content ≡ Some p.build_scope
-  pub test_list : bytes_form test_list_form (compact_text (test_list_value p.test_list)) ≡ Some p.test_list
-  pub record_opts : bytes_form record_opts_form (compact_text (record_opts_value p.record_opts)) ≡ Some p.record_opts
+  pub build_scope : bytes_form recorded_scope_form (build_scope_entry p.build_scope).content
+      ≡ Some p.build_scope
+  pub test_list : bytes_form test_list_form (compact_text (test_list_value p.test_list))
+      ≡ Some p.test_list
+  pub record_opts : bytes_form record_opts_form (compact_text (record_opts_value p.record_opts))
+      ≡ Some p.record_opts
   pub cargo_metadata : IsTrue (is_utf8 p.cargo_metadata)
-  pub rerun_info : IfSome p.rerun_info (λ info. bytes_form rerun_info_form (rerun_entry info).content ≡ Some info)
+  pub rerun_info : IfSome p.rerun_info
+      (λ info. bytes_form rerun_info_form (rerun_entry info).content ≡ Some info)
   pub no_rerun : content_of p.outputs rerun_info_path ≡ None
   pub outputs : outputs_of p.events (written_store p) ≡ Some p.outputs
 

@@ -1,6 +1,7 @@
 -- What a recorder has accepted, and what is left of it where it is stopped.
 use Rattle.std.specs.List.{All, AllByRecursion}
-use Rattle.std.specs.Prelude.{◌≡◌, ℕ, ◌==◌, List, [], ◌∷◌, ◌++◌, Bool, false, true, Option, Some, IsSomeAnd, IsTrue, is_some, Result, Ok, Err, ⊤, if◌then◌else◌}
+use Rattle.std.specs.Prelude.{◌≡◌, ℕ, ◌==◌, List, [], ◌∷◌, ◌++◌, Bool, false, true, Option, Some}
+use Rattle.std.specs.Prelude.{IsSomeAnd, IsTrue, is_some, Result, Ok, Err, ⊤, if◌then◌else◌}
 use Rattle.std.specs.Str.{bytes_eq, is_utf8}
 use Rattle.rec_container.specs.Container.{Entry, IsEntry, AreFrom, prefix, addition, content_of}
 use Rattle.rec_container.specs.Taking.{TookPart}
@@ -12,7 +13,8 @@ use Rattle.rec_format.specs.ScopeForms.{recorded_scope_form}
 use Rattle.rec_codec.specs.Event.{LiveEvent, RecordedEvent, event_line, log_text, IsLogged}
 use Rattle.rec_store.specs.Bundle.{events_recorded, run_log, run_outputs}
 use Rattle.rec_store.specs.declared.error.RunStoreError.{RunStoreError}
-use Rattle.rec_store.specs.Entries.{build_scope_path, rerun_info_path, test_list_path, cargo_metadata_path, record_opts_path}
+use Rattle.rec_store.specs.Entries.{build_scope_path, rerun_info_path, test_list_path}
+use Rattle.rec_store.specs.Entries.{cargo_metadata_path, record_opts_path}
 use Rattle.rec_store.specs.Kept.{IsHeld}
 use Rattle.rec_store.specs.Recording.{Recording}
 use Rattle.rec_store.specs.RunParts.{part, maybe_part, text_part}
@@ -41,7 +43,8 @@ is_readable path content =
 abbrev pub IsReadable : Entry → Type 0
 IsReadable e = IsTrue (is_readable e.name e.content)
 
--- each part of the metadata stands among the entries and is read by its form; rerun information may be missing
+-- each part of the metadata stands among the entries and is read by its form;
+-- rerun information may be missing
 pub record HasMetadata (es : List Entry) : Type 0 where
   pub build_scope : IsTrue (is_some (part recorded_scope_form es build_scope_path))
   pub rerun_info : IsTrue (is_some (maybe_part rerun_info_form (content_of es rerun_info_path)))
@@ -57,8 +60,9 @@ IsUnended bytes = All (λ b. (b == 10) ≡ false) bytes
 
 -- outputs are numbered by their bytes, and cut at m bytes
 module _ (number : List ℕ → ℕ) (m : ℕ) where
-  -- log and store are what is left of a recording that had accepted these events, and was stopped then or in the middle of a write:
-  -- the lines of the events and perhaps bytes after them in which no line ends, and entries with the metadata and each output of the events
+  -- log and store are what is left of a recording that had accepted these events, and was stopped
+  -- then or in the middle of a write: the lines of the events and perhaps bytes after them in which
+  -- no line ends, and entries with the metadata and each output of the events
   pub record IsStopped (events : List LiveEvent) (log store : List ℕ) : Type 0 where
     pub entries : List Entry
     pub prefix : IsWholePrefix store entries
@@ -83,27 +87,36 @@ TookEntries true es now = (e : Entry) × IsEntry e × TookPart (Some (prefix es)
 -- a sink took the lines of the events; where it failed, then a part of one more
 abbrev pub TookLines : Bool → List RecordedEvent → Option (List ℕ) → Type 0
 TookLines false events now = now ≡ Some (log_text events)
-TookLines true events now = (e : RecordedEvent) × TookPart (Some (log_text events)) now (event_line e)
+TookLines true events now =
+    (e : RecordedEvent) × TookPart (Some (log_text events)) now (event_line e)
 
 -- an event that was accepted stands after the others; one that was refused changes nothing of them
 abbrev pub events_after : List LiveEvent → LiveEvent → Result ⊤ RunStoreError → List LiveEvent
 events_after events event (Ok done) = events ++ event ∷ []
 events_after events event (Err e) = events
 
-module _ {S L N : Type 0} (taken : S → Option (List ℕ)) (log_taken : L → Option (List ℕ)) (number : N → List ℕ → ℕ) where
-  -- a recorder has accepted exactly these events since its sinks were empty, and what they need stands in its log and its store
+module _ {S L N : Type 0} (taken : S → Option (List ℕ)) (log_taken : L → Option (List ℕ))
+    (number : N → List ℕ → ℕ) where
+  -- a recorder has accepted exactly these events since its sinks were empty, and what they need
+  -- stands in its log and its store
   pub record HasAccepted (events : List LiveEvent) (r : Recording S L N) : Type 0 where
     pub store : TookEntries r.store.failed r.store.entries (taken r.store.sink)
-    pub log : TookLines r.log_failed (events_recorded (number r.namer) r.max_output events) (log_taken r.log)
+    pub log : TookLines r.log_failed (events_recorded (number r.namer) r.max_output events)
+        (log_taken r.log)
     pub distinct : AreFrom [] r.store.entries
     pub readable : AllByRecursion IsReadable r.store.entries
-    pub outputs : AllByRecursion (IsHeld r.store.entries) (run_outputs (number r.namer) r.max_output events)
+    pub outputs : AllByRecursion (IsHeld r.store.entries)
+        (run_outputs (number r.namer) r.max_output events)
     pub logged : AllByRecursion IsLogged (events_recorded (number r.namer) r.max_output events)
 
   -- what was accepted before a call is what was accepted after it
   abbrev pub KeepsAccepted : Recording S L N → Recording S L N → Type 0
-  KeepsAccepted old new = (events : List LiveEvent) → HasAccepted events old → HasAccepted events new
+  KeepsAccepted old new =
+      (events : List LiveEvent) → HasAccepted events old → HasAccepted events new
 
   -- an event was accepted after those before, or was refused and leaves them as they were
-  abbrev pub AcceptsEvent : Recording S L N → Recording S L N → LiveEvent → Result ⊤ RunStoreError → Type 0
-  AcceptsEvent old new event result = (events : List LiveEvent) → HasAccepted events old → HasAccepted (events_after events event result) new
+  abbrev pub AcceptsEvent : Recording S L N → Recording S L N → LiveEvent → Result ⊤ RunStoreError
+      → Type 0
+  AcceptsEvent old new event result =
+      (events : List LiveEvent) → HasAccepted events old
+      → HasAccepted (events_after events event result) new

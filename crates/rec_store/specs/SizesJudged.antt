@@ -6,7 +6,9 @@ use Rattle.rec_store.specs.declared.sizes_judged.TooLarge.{TooLarge}
 
 -- an entry that is longer than the limit
 abbrev pub too_large : ℕ → Entry → Option TooLarge
-too_large limit e = if nat_le (length e.content) limit then None else Some (record { file_name = e.name; size = length e.content; limit = limit })
+too_large limit e =
+    if nat_le (length e.content) limit then None
+    else Some (record { file_name = e.name; size = length e.content; limit = limit })
 
 -- the first of several
 abbrev pub first_too_large : ℕ → List Entry → Option TooLarge

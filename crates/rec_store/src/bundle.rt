@@ -75,8 +75,8 @@ pub fn write_recorded_bundle<B: Sink, K: Sink>(
     write_nested(sink, &contents, STORE_ZIP_FILE_NAME, store)
 }
 
-/// Returns the length in bytes of the bundle that [`write_recorded_bundle`] writes, or none where that
-/// is no u64.
+/// Returns the length in bytes of the bundle that [`write_recorded_bundle`] writes, or none where
+/// that is no u64.
 pub fn recorded_bundle_length<K: Sink>(
     manifest: &[u8],
     log: &[u8],

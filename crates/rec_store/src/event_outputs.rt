@@ -2,7 +2,12 @@
 ghost use Rattle.std.specs.List.{flat_map};
 ghost use Rattle.std.specs.Prelude.{◌≡◌, false, true, Err};
 ghost use Rattle.rec_store.specs.declared.error.RunStoreError.TheVariants.{Failed};
-ghost use Rattle.rec_store.specs.EventOutputs.{status_entries, status_recorded, statuses_recorded, script_status_entries, script_status_recorded, is_script_finished, is_failed_attempt, is_finished, output_kind_entries, output_kind_recorded, kind_entries, kind_recorded, event_entries, event_recorded};
+ghost use Rattle.rec_store.specs.EventOutputs.{status_entries, status_recorded, statuses_recorded};
+ghost use Rattle.rec_store.specs.EventOutputs.{script_status_entries, script_status_recorded};
+ghost use Rattle.rec_store.specs.EventOutputs.{is_script_finished, is_failed_attempt, is_finished};
+ghost use Rattle.rec_store.specs.EventOutputs.{output_kind_entries, output_kind_recorded};
+ghost use Rattle.rec_store.specs.EventOutputs.{kind_entries, kind_recorded, event_entries};
+ghost use Rattle.rec_store.specs.EventOutputs.{event_recorded};
 ghost use Rattle.rec_store.specs.Stopping.{StoresAs};
 
 use crate::error::RunStoreError;
@@ -312,7 +317,8 @@ impl<'n, N: OutputNamer> OutputRules<'n, N> {
             (event_entries (N.number self.now.namer.now) self.now.max_size event)
             (event_recorded (N.number self.now.namer.now) self.now.max_size event) result }
     {
-        // The event is let go of by a call: in place, each of its kinds would be a case of the proof.
+        // The event is let go of by a call: in place,
+        // each of its kinds would be a case of the proof.
         if store.is_failed() {
             event.discard();
             return Err(RunStoreError::Failed);

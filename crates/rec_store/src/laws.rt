@@ -17,10 +17,13 @@ ghost use Rattle.rec_store.specs.EventOutputs.{output_entry};
 ghost use Rattle.rec_store.specs.JudgedParts.{first_unnamed, parts_judged};
 ghost use Rattle.rec_store.specs.Kept.{HavePaths, event_paths, event_resolved};
 ghost use Rattle.rec_store.specs.Parts.{ArePartsOf, AreWithin};
-ghost use Rattle.rec_store.specs.Reading.{IsReading, RunRecord, record_of, record_of_parts, recorded};
+ghost use Rattle.rec_store.specs.Reading.{IsReading, RunRecord, record_of};
+ghost use Rattle.rec_store.specs.Reading.{record_of_parts, recorded};
 ghost use Rattle.rec_store.specs.Recordable.{IsRecordable};
 ghost use Rattle.rec_store.specs.Recording.{Recording};
-ghost use Rattle.rec_store.specs.RunParts.{AreBack, HasParts, RunParts, parts_of, recorded_parts, settled, settled_info, written, written_log, written_manifest, written_store};
+ghost use Rattle.rec_store.specs.RunParts.{AreBack, HasParts, RunParts, parts_of};
+ghost use Rattle.rec_store.specs.RunParts.{recorded_parts, settled, settled_info, written};
+ghost use Rattle.rec_store.specs.RunParts.{written_log, written_manifest, written_store};
 ghost use Rattle.rec_store.specs.Saved.{AreStopped, HasAccepted, required_paths};
 
 use crate::namer::OutputNamer;
@@ -44,9 +47,9 @@ pub fn one_record()
     ensures { (bytes : List ℕ) (r s : RunRecord) → IsReading bytes r → IsReading bytes s → r ≡ s }
 {}
 
-/// States that the parts of a manifest, of a log and of a store are the components of what these are
-/// read as, where no entry of the store is longer than the limit: version and run information, the
-/// events of the log's lines, the metadata, and the output of each name.
+/// States that the parts of a manifest, of a log and of a store are the components of what these
+/// are read as, where no entry of the store is longer than the limit: version and run information,
+/// the events of the log's lines, the metadata, and the output of each name.
 pub fn parts_are_read()
     ensures { (text log : List ℕ) (es : List Entry) (limit : ℕ) (r : RunRecord)
         → record_of text log es ≡ Some r
@@ -54,8 +57,8 @@ pub fn parts_are_read()
         → ArePartsOf text log es limit r }
 {}
 
-/// States that the parts that are judged one by one are those of the run, where no other entry stands
-/// in the store.
+/// States that the parts that are judged one by one are those of the run, where no other entry
+/// stands in the store.
 pub fn judged_parts_are_read()
     ensures { (limit : ℕ) (manifest log : List ℕ) (m : PortableManifest) (es : List Entry)
         (p : RunParts)
@@ -80,16 +83,16 @@ pub fn settled_parts_stay()
     ensures bytes { (p : RunParts) → written (settled p) ≡ written p }
 {}
 
-/// States that parts whose texts are read back are read from what is written of them, with the version
-/// and the sizes that were written.
+/// States that parts whose texts are read back are read from what is written of them, with the
+/// version and the sizes that were written.
 pub fn written_parts_are_read()
     ensures { (p : RunParts)
         → AreBack p
         → parts_of (written_manifest p) (written_log p) (written_store p) ≡ Some (settled p) }
 {}
 
-/// States that the texts of the parts of each bundle are read back, where what is written of them has
-/// a length that is a u64.
+/// States that the texts of the parts of each bundle are read back, where what is written of them
+/// has a length that is a u64.
 pub fn parts_back()
     ensures { (bytes : List ℕ) (p : RunParts)
         → HasParts bytes p
@@ -112,22 +115,25 @@ pub fn written_reads()
         (record r { format_version = portable_version; run = settled_info p }) }
 {}
 
-/// States that the names in a run's events stand for the same bytes in the store that is written anew.
+/// States that the names in a run's events stand for the same bytes in the store that is written
+/// anew.
 pub fn resolved_stay()
     ensures { (manifest log : List ℕ) (es : List Entry) (p : RunParts)
         → parts_of manifest log es ≡ Some p
         → map (event_resolved (written_store p)) p.events ≡ map (event_resolved es) p.events }
 {}
 
-/// States that each bundle with a reading has the parts of a run, of which the reading is the record.
+/// States that each bundle with a reading has the parts of a run,
+/// of which the reading is the record.
 pub fn readings_have_parts()
     ensures { (bytes : List ℕ) (r : RunRecord)
         → IsReading bytes r
         → (p : RunParts) × (es : List Entry) × HasParts bytes p × (record_of_parts es p ≡ r) }
 {}
 
-/// States that two outputs that are equal once they are cut give one entry where they are of one kind,
-/// whatever the store has, and that outputs of two kinds give two in an empty store, whatever their bytes.
+/// States that two outputs that are equal once they are cut give one entry where they are of one
+/// kind, whatever the store has, and that outputs of two kinds give two in an empty store,
+/// whatever their bytes.
 pub fn equal_outputs_share_an_entry()
     ensures one { (number : List ℕ → ℕ) (m : ℕ) (a b : List ℕ) (kind : OutputKind) (es : List Entry)
         → cut a m ≡ cut b m

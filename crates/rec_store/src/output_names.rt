@@ -2,7 +2,8 @@
 ghost use Rattle.std.specs.List.{flat_map};
 ghost use Rattle.std.specs.Prelude.{◌≡◌, IfOk, OnOk, map};
 ghost use Rattle.rec_events.specs.EventMaps.{of_execution, of_output_kind, of_status};
-ghost use Rattle.rec_store.specs.Kept.{AddsNames, output_paths, captured_paths, description_paths, event_paths};
+ghost use Rattle.rec_store.specs.Kept.{AddsNames, output_paths, captured_paths};
+ghost use Rattle.rec_store.specs.Kept.{description_paths, event_paths};
 ghost use Rattle.rec_store.specs.OutputPaths as spec;
 
 use rec_events::{

@@ -3,7 +3,9 @@ ghost use Rattle.std.specs.Prelude.{option_map, nat_le, if◌then◌else◌};
 ghost use Rattle.std.specs.Prelude.{◌≡◌, ◌∷◌, [], false, true};
 ghost use Rattle.rec_container.specs.Writing.{entry_named, has_name_length};
 ghost use Rattle.rec_events.specs.declared.outputs.ZipStoreOutput.TheVariants.{Full, Truncated};
-ghost use Rattle.rec_store.specs.EventOutputs.{output_entries, captured_entries, description_entries, execution_entries, stored_as, description_recorded, execution_recorded};
+ghost use Rattle.rec_store.specs.EventOutputs.{output_entries, captured_entries};
+ghost use Rattle.rec_store.specs.EventOutputs.{description_entries, execution_entries, stored_as};
+ghost use Rattle.rec_store.specs.EventOutputs.{description_recorded, execution_recorded};
 ghost use Rattle.rec_store.specs.OutputPaths as spec;
 ghost use Rattle.rec_store.specs.Stopping.{StoresAs};
 

@@ -1,7 +1,9 @@
 //! The parts of a store whose entries are at hand.
 ghost use Rattle.std.specs.Prelude.{◌≡◌, IfOk, MatchOption, true, false, string_bytes};
 ghost use Rattle.std.specs.Str.{is_utf8};
-ghost use Rattle.rec_store.specs.Parts.{content_within, entry_part, item_of, metadata_part, of_kind, output_part, path_of_output, rerun_info_part, rerun_item, some_rerun_item, utf8_of, utf8_part};
+ghost use Rattle.rec_store.specs.Parts.{content_within, entry_part, item_of, metadata_part};
+ghost use Rattle.rec_store.specs.Parts.{of_kind, output_part, path_of_output, rerun_info_part};
+ghost use Rattle.rec_store.specs.Parts.{rerun_item, some_rerun_item, utf8_of, utf8_part};
 ghost use Rattle.rec_store.specs.Readers.{Extracts, NoDiskFault, Reads, SinkCause};
 
 use crate::read_error::RecordReadError;

@@ -1,6 +1,7 @@
 //! The recorder of one run.
 ghost use Rattle.std.specs.Io.KnownBytes.{Appends};
-ghost use Rattle.std.specs.Prelude.{◌≡◌, ◌<◌, ◌≤◌, List, Some, [], ◌∷◌, length, false, true, IfErr, OnOk, IfOk};
+ghost use Rattle.std.specs.Prelude.{◌≡◌, ◌<◌, ◌≤◌, List, Some, [], ◌∷◌};
+ghost use Rattle.std.specs.Prelude.{length, false, true, IfErr, OnOk, IfOk};
 ghost use Rattle.serde_json.specs.Written.{compact_text};
 ghost use Rattle.rec_container.specs.Container.{AreFrom};
 ghost use Rattle.rec_container.specs.Container.{ending};
@@ -14,8 +15,10 @@ ghost use Rattle.rec_store.specs.Entries.{build_scope_path, json_entry, three_en
 ghost use Rattle.rec_store.specs.EventOutputs.{event_entries, event_recorded};
 ghost use Rattle.rec_store.specs.Kept.{HasOutputs, HavePaths};
 ghost use Rattle.rec_store.specs.Logging.{AppendsAs, AppendsEvent, Logs, LogsLoaded, Unlogged};
-ghost use Rattle.rec_store.specs.Recording.{RefusesEntry, has_failed, KeepsEntries, KeepsCounts, Stores, Unstored, AddsEach, AddsUpTo, AddsEntry};
-ghost use Rattle.rec_store.specs.Saved.{AcceptsEvent, AreStopped, HasAccepted, KeepsAccepted, meta_paths, required_paths};
+ghost use Rattle.rec_store.specs.Recording.{RefusesEntry, has_failed, KeepsEntries, KeepsCounts};
+ghost use Rattle.rec_store.specs.Recording.{Stores, Unstored, AddsEach, AddsUpTo, AddsEntry};
+ghost use Rattle.rec_store.specs.Saved.{AcceptsEvent, AreStopped, HasAccepted};
+ghost use Rattle.rec_store.specs.Saved.{KeepsAccepted, meta_paths, required_paths};
 ghost use Rattle.rec_store.specs.Stopping.{StoresAs};
 ghost use Rattle.rec_store.specs.Store.{build_scope_entry, rerun_entry, meta_entries, AreMetaRead};
 
@@ -211,7 +214,8 @@ impl<'n, S: Sink, L: Sink, N: OutputNamer> RunRecorder<'n, S, L, N> {
                 store: component_sizes(sizes),
             }),
             Err(ContainerWriteError::SinkFault) => Err(RunStoreError::StoreWrite),
-            // An end mark takes no memory, and a writer that has not failed refuses it for its sink alone.
+            // An end mark takes no memory, and a writer that has not failed refuses it for its sink
+            // alone.
             Err(
                 ContainerWriteError::Failed
                 | ContainerWriteError::BadName
@@ -278,7 +282,8 @@ impl<'n, S: Sink, L: Sink, N: OutputNamer> RunRecorder<'n, S, L, N> {
     /// Those before the refused one are stored.
     ///
     /// - `Failed` comes exactly after a sink failed in an earlier call. Nothing is written.
-    /// - `NameCollision` comes exactly where the store has other bytes under one of the three paths.
+    /// - `NameCollision` comes exactly where the store has other bytes under one of the three
+    ///   paths.
     /// - `CountOutOfRange` comes exactly where the store would have 2^64 bytes or more.
     /// - `StoreWrite` comes where the store's sink fails now.
     /// - `OutOfMemory` comes where memory ran out.
@@ -311,20 +316,21 @@ impl<'n, S: Sink, L: Sink, N: OutputNamer> RunRecorder<'n, S, L, N> {
     /// Records one event: stores its outputs, in order, and then appends its line to the log.
     ///
     /// Outputs are stored one after the other, in the order of the attempts, stdout before stderr,
-    /// and each under its name; one that is there already is not stored again. Where one is refused,
-    /// those before it stay.
+    /// and each under its name; one that is there already is not stored again. Where one is
+    /// refused, those before it stay.
     ///
     /// # Errors
     ///
     /// - `Failed` comes exactly after a sink failed in an earlier call. Nothing is written.
-    /// - `NotLoadedOutput` comes exactly where an output of the event is not loaded. Nothing is stored.
+    /// - `NotLoadedOutput` comes exactly where an output of the event is not loaded. Nothing is
+    ///   stored.
     /// - `NameCollision` comes exactly where the store has other bytes under the path of an output.
     /// - `CountOutOfRange` comes exactly where store or log would have 2^64 bytes or more.
     /// - `StoreWrite` and `RunLogWrite` come where the sink of the store or of the log fails now.
     /// - `OutOfMemory` comes where memory ran out.
     ///
-    /// After `RunLogWrite` a part of the line may stand in the log. Any other refusal leaves the log
-    /// as it was.
+    /// After `RunLogWrite` a part of the line may stand in the log. Any other refusal leaves the
+    /// log as it was.
     pub fn write_event(&mut self, event: TestEventSummary<LiveSpec>) -> Result<(), RunStoreError>
         ensures ok { OnOk result
             (Logs S.taken S.faults L.taken L.faults N.number self.old self.new event) }
@@ -339,7 +345,8 @@ impl<'n, S: Sink, L: Sink, N: OutputNamer> RunRecorder<'n, S, L, N> {
             (event_recorded (N.number self.old.namer) self.old.max_output event)) }
         ensures accepted { AcceptsEvent S.taken L.taken N.number self.old self.new event result }
     {
-        // An event is let go of by a call: in place, each of its kinds would be a case of the proof.
+        // An event is let go of by a call: in place,
+        // each of its kinds would be a case of the proof.
         if self.is_failed() {
             event.discard();
             return Err(RunStoreError::Failed);

@@ -3,7 +3,8 @@ ghost use Rattle.std.specs.Prelude.{◌≡◌, List, ℕ, string_bytes};
 ghost use Rattle.rec_container.specs.Container.{Entry};
 ghost use Rattle.rec_forms.specs.Recording.{test_list_form, record_opts_form};
 ghost use Rattle.rec_format.specs.ScopeForms.{recorded_scope_form};
-ghost use Rattle.rec_store.specs.Entries.{build_scope_path, cargo_metadata_path, test_list_path, record_opts_path};
+ghost use Rattle.rec_store.specs.Entries.{build_scope_path, cargo_metadata_path};
+ghost use Rattle.rec_store.specs.Entries.{test_list_path, record_opts_path};
 ghost use Rattle.rec_store.specs.Parts.{metadata_part, output_part, rerun_info_part, utf8_part};
 ghost use Rattle.rec_store.specs.Readers.{Answers, DiskCause, Extracts, Keeps, SinkCause};
 
@@ -33,7 +34,8 @@ pub trait StoreReader {
     ///
     /// # Errors
     ///
-    /// Those of [`read_text_entry`](crate::parts::read_text_entry), or a fault of what it reads from.
+    /// Those of [`read_text_entry`](crate::parts::read_text_entry),
+    /// or a fault of what it reads from.
     fn read_cargo_metadata(&mut self, alloc: Global) -> Result<String, RecordReadError>
         ensures answer { (es : List Entry)
             → holds self.old es
@@ -84,7 +86,8 @@ pub trait StoreReader {
     ///
     /// # Errors
     ///
-    /// Those of [`read_rerun_info`](crate::parts::read_rerun_info), or a fault of what it reads from.
+    /// Those of [`read_rerun_info`](crate::parts::read_rerun_info),
+    /// or a fault of what it reads from.
     fn read_rerun_info(&mut self, alloc: Global) -> Result<Option<RerunInfo>, RecordReadError>
         ensures answer { (es : List Entry)
             → holds self.old es

@@ -1,4 +1,5 @@
-//! Recorders whose sinks fail, whose outputs clash, which are given metadata twice, or outputs that are not loaded.
+//! Recorders whose sinks fail, whose outputs clash, which are given metadata twice,
+//! or outputs that are not loaded.
 
 use crate::texts::{
     ABC, ABC_AND_HELLO, ABC_AND_HELLO_UNDER_SEVEN, ABC_UNDER_ZERO, COMBINED, COMBINED_UNDER_ZERO,
@@ -39,7 +40,8 @@ struct Case<'c> {
     calls: &'c [Call<'c>],
     /// A line a call, and whether the recorder failed.
     answers: &'c str,
-    /// The bytes, the bytes of the contents, and the entries of the log and of the store, and both totals.
+    /// The bytes, the bytes of the contents, and the entries of the log and of the store,
+    /// and both totals.
     sizes: &'c str,
     /// An entry a line.
     store: &'c str,
@@ -239,7 +241,8 @@ const CASES: &[Case<'static>] = &[
             Call::Event(COMBINED),
             Call::Event(NOT_STARTED),
         ],
-        answers: "accepted\nother bytes are stored under out/0000000000000000-stdout\naccepted\naccepted\nsound",
+        answers: "accepted\nother bytes are stored under out/0000000000000000-stdout\naccepted\n\
+            accepted\nsound",
         sizes: "1282 1282 3, 92 5 2, 1374 1287",
         store: "out/0000000000000000-stdout abc\nout/0000000000000000-combined no text\n",
         logged: &[ABC_UNDER_ZERO, COMBINED_UNDER_ZERO, NOT_STARTED],
@@ -255,7 +258,8 @@ const CASES: &[Case<'static>] = &[
             Call::Unloaded(Kind::Attempt),
             Call::Unloaded(Kind::Test),
         ],
-        answers: "accepted\nan output is not loaded\nan output is not loaded\nan output is not loaded\nsound",
+        answers: "accepted\nan output is not loaded\nan output is not loaded\n\
+            an output is not loaded\nsound",
         sizes: "445 445 1, 50 3 1, 495 448",
         store: "out/0000000000000000-stdout abc\n",
         logged: &[ABC_UNDER_ZERO],
@@ -272,12 +276,14 @@ const CASES: &[Case<'static>] = &[
             Call::Meta("{}"),
             Call::Meta("[]"),
         ],
-        answers: "accepted\naccepted\naccepted\naccepted\nother bytes are stored under meta/cargo-metadata.json\nsound",
+        answers: "accepted\naccepted\naccepted\naccepted\n\
+            other bytes are stored under meta/cargo-metadata.json\nsound",
         sizes: "0 0 0, 1066 897 5, 1066 897",
         store: STORED,
         logged: &[],
     },
-    // Nothing is written after a fault of the store. The content of the second entry is its fourth write.
+    // Nothing is written after a fault of the store. The content of the second entry is its fourth
+    // write.
     Case {
         number: 0,
         store_fails: 4,
@@ -300,7 +306,8 @@ const CASES: &[Case<'static>] = &[
             Call::Rerun,
             Call::Meta("{}"),
         ],
-        answers: "writing the log failed\nan earlier write failed\nan earlier write failed\nan earlier write failed\nan earlier write failed\nfailed",
+        answers: "writing the log failed\nan earlier write failed\nan earlier write failed\n\
+            an earlier write failed\nan earlier write failed\nfailed",
         sizes: "an earlier write failed",
         store: "0 bytes without an end\n",
         logged: &[],

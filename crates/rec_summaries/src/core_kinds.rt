@@ -34,7 +34,8 @@ pub(crate) fn summarize_core(
     }
 }
 
-/// Gives a start or an end of the run, or of one of a stress run's runs; `None` for the other kinds.
+/// Gives a start or an end of the run, or of one of a stress run's runs;
+/// `None` for the other kinds.
 fn summarize_run(
     alloc: Global,
     kind: &TestEventKind<'_>,

@@ -1,5 +1,6 @@
 -- What the changes of maps leave of it that no entry is kept that says nothing.
-use Rattle.std.proofs.Common.{◌≡◌, Bool, true, false, cond, Option, None, Some, IfSome, is_some, unwrap_or, refl, sym, ◌∙◌, ap, subst}
+use Rattle.std.proofs.Common.{◌≡◌, Bool, true, false, cond, Option, None, Some}
+use Rattle.std.proofs.Common.{IfSome, is_some, unwrap_or, refl, sym, ◌∙◌, ap, subst}
 use Rattle.std.proofs.lemmas.Bool.{false≢true}
 use Rattle.std.specs.BTreeMap.{BTreeMap, UpdatesBy}
 use Rattle.std.specs.Map.{lookup}
@@ -24,14 +25,19 @@ IsNamed o = IfSome o (λ named. named ≡ true)
 abbrev row_says : BTreeMap Row Bool → Row → Type 0
 row_says m q = IsNamed (lookup (row_eq q) m.entries)
 
-module _ (r : Row) (m n : BTreeMap Row Bool) (w : Option Bool) (changed : UpdatesBy rows.cmp-value.it (rows.cmp-value.it r) m n w) where
+module _ (r : Row) (m n : BTreeMap Row Bool) (w : Option Bool)
+    (changed : UpdatesBy rows.cmp-value.it (rows.cmp-value.it r) m n w) where
   -- the entries of other rows stay
   pub row-other : (q : Row) → row_eq r q ≡ false → row_says m q → row_says n q
-  row-other q other says = subst IsNamed (sym (row-updates r m n w changed q ∙ ap (λ x. cond x w (lookup (row_eq q) m.entries)) other)) says
+  row-other q other says =
+      subst IsNamed
+      (sym (row-updates r m n w changed q ∙ ap (λ x. cond x w (lookup (row_eq q) m.entries)) other))
+      says
 
   -- a row whose entry is changed has one that says something from here on, or none
   pub row-said : IsNamed w → (q : Row) → (row_eq r q ≡ false → row_says m q) → row_says n q
-  row-said says q others = subst IsNamed (sym (row-updates r m n w changed q)) (go (row_eq r q) refl)
+  row-said says q others =
+      subst IsNamed (sym (row-updates r m n w changed q)) (go (row_eq r q) refl)
     where
       go : (x : Bool) → row_eq r q ≡ x → IsNamed (cond x w (lookup (row_eq q) m.entries))
       go true h = says
@@ -47,11 +53,14 @@ entry-named None says = refl
 entry-named (Some b) says = sym says
 
 -- the entry of a row that was named says so
-pub row-says : (r : Row) (m : BTreeMap Row Bool) → unwrap_or (lookup (row_eq r) m.entries) false ≡ true → (q : Row) → (row_eq r q ≡ false → row_says m q) → row_says m q
+pub row-says : (r : Row) (m : BTreeMap Row Bool)
+    → unwrap_or (lookup (row_eq r) m.entries) false ≡ true → (q : Row)
+    → (row_eq r q ≡ false → row_says m q) → row_says m q
 row-says r m named q others = go (row_eq r q) refl
   where
     go : (x : Bool) → row_eq r q ≡ x → row_says m q
-    go true h = subst (row_says m) (row_eq-true r q h) (is-named (lookup (row_eq r) m.entries) named)
+    go true h =
+        subst (row_says m) (row_eq-true r q h) (is-named (lookup (row_eq r) m.entries) named)
     go false h = others h
 
 -- ---- tests
@@ -63,22 +72,30 @@ AreSaid o = IfSome o (λ n. notes_say n ≡ true)
 abbrev test_says : BTreeMap OwnedTestInstanceId TestNotes → OwnedTestInstanceId → Type 0
 test_says m q = AreSaid (lookup (test_eq q) m.entries)
 
-module _ (t : OwnedTestInstanceId) (m n : BTreeMap OwnedTestInstanceId TestNotes) (w : Option TestNotes)
+module _ (t : OwnedTestInstanceId) (m n : BTreeMap OwnedTestInstanceId TestNotes)
+    (w : Option TestNotes)
     (changed : UpdatesBy tests.cmp-value.it (tests.cmp-value.it t) m n w) where
   -- the entries of other tests stay
   pub test-other : (q : OwnedTestInstanceId) → test_eq t q ≡ false → test_says m q → test_says n q
-  test-other q other says = subst AreSaid (sym (test-updates t m n w changed q ∙ ap (λ x. cond x w (lookup (test_eq q) m.entries)) other)) says
+  test-other q other says =
+      subst AreSaid (sym
+      (test-updates t m n w changed q ∙ ap (λ x. cond x w (lookup (test_eq q) m.entries)) other))
+      says
 
   -- a test whose entry is changed has one that says something from here on, or none
-  pub test-said : AreSaid w → (q : OwnedTestInstanceId) → (test_eq t q ≡ false → test_says m q) → test_says n q
-  test-said says q others = subst AreSaid (sym (test-updates t m n w changed q)) (go (test_eq t q) refl)
+  pub test-said : AreSaid w → (q : OwnedTestInstanceId) → (test_eq t q ≡ false → test_says m q)
+      → test_says n q
+  test-said says q others =
+      subst AreSaid (sym (test-updates t m n w changed q)) (go (test_eq t q) refl)
     where
       go : (x : Bool) → test_eq t q ≡ x → AreSaid (cond x w (lookup (test_eq q) m.entries))
       go true h = says
       go false h = others h
 
 -- the entry of a test says something already
-pub test-says : (t : OwnedTestInstanceId) (m : BTreeMap OwnedTestInstanceId TestNotes) → test_says m t → (q : OwnedTestInstanceId) → (test_eq t q ≡ false → test_says m q) → test_says m q
+pub test-says : (t : OwnedTestInstanceId) (m : BTreeMap OwnedTestInstanceId TestNotes)
+    → test_says m t → (q : OwnedTestInstanceId) → (test_eq t q ≡ false → test_says m q)
+    → test_says m q
 test-says t m says q others = go (test_eq t q) refl
   where
     go : (x : Bool) → test_eq t q ≡ x → test_says m q

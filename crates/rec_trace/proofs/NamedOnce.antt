@@ -1,5 +1,6 @@
 -- A trace names each process and each row once.
-use Rattle.std.proofs.Common.{◌≡◌, ◌||◌, ℕ, Bool, true, false, cond, List, [], ◌∷◌, ◌++◌, Option, Some, None, refl, sym, subst, ap, ◌∙◌, inl, inr, ◌⊎◌}
+use Rattle.std.proofs.Common.{◌≡◌, ◌||◌, ℕ, Bool, true, false, cond, List, [], ◌∷◌, ◌++◌}
+use Rattle.std.proofs.Common.{Option, Some, None, refl, sym, subst, ap, ◌∙◌, inl, inr, ◌⊎◌}
 use Rattle.std.proofs.lemmas.List.Concat.{flat_map-append}
 use Rattle.semver.specs.Parse.{Parts}
 use Rattle.rec_trace_events.specs.declared.rows.Row.{Row}
@@ -37,15 +38,21 @@ module _ (is_named : Row → Bool) where
       go true true = tt
       go true false = ((λ h. h), tt)
       go false true = ((λ h. h), tt)
-      go false false = ((λ h. elim h [ inl e ↦ process_is_no_row row.pid row (sym e) | inr w ↦ w ]), ((λ h. h), tt))
+      go false false = (
+        (λ h. elim h [ inl e ↦ process_is_no_row row.pid row (sym e) | inr w ↦ w ]),
+        ((λ h. h), tt),
+      )
 
   -- what is named newly wasn't named before, and is asked for
-  newly-is_new : (asked : Option Row) (n : Named) → Has (newly_named is_named asked) n → (is_named (row_of_named n) ≡ false) × (names asked (row_of_named n) ≡ true)
+  newly-is_new : (asked : Option Row) (n : Named) → Has (newly_named is_named asked) n
+      → (is_named (row_of_named n) ≡ false) × (names asked (row_of_named n) ≡ true)
   newly-is_new None n h = absurd h
   newly-is_new (Some row) n h = go (is_named (process_row row.pid)) refl (is_named row) refl h
     where
       process_asked : names (Some row) (process_row row.pid) ≡ true
-      process_asked = ap (λ b. row_eq row (process_row row.pid) || b) (row_eq-self (process_row row.pid)) ∙ or_true (row_eq row (process_row row.pid))
+      process_asked =
+          ap (λ b. row_eq row (process_row row.pid) || b) (row_eq-self (process_row row.pid))
+          ∙ or_true (row_eq row (process_row row.pid))
         where
           or_true : (b : Bool) → (b || true) ≡ true
           or_true true = refl
@@ -54,22 +61,35 @@ module _ (is_named : Row → Bool) where
       row_asked : names (Some row) row ≡ true
       row_asked = ap (λ b. b || row_eq (process_row row.pid) row) (row_eq-self row)
 
-      of_process : is_named (process_row row.pid) ≡ false → Process row.pid ≡ n → (is_named (row_of_named n) ≡ false) × (names (Some row) (row_of_named n) ≡ true)
-      of_process free e = subst (λ m. (is_named (row_of_named m) ≡ false) × (names (Some row) (row_of_named m) ≡ true)) e (free, process_asked)
+      of_process : is_named (process_row row.pid) ≡ false → Process row.pid ≡ n
+          → (is_named (row_of_named n) ≡ false) × (names (Some row) (row_of_named n) ≡ true)
+      of_process free e =
+          subst
+          (λ m. (is_named (row_of_named m) ≡ false) × (names (Some row) (row_of_named m) ≡ true)) e
+          (free, process_asked)
 
-      of_row : is_named row ≡ false → Thread row ≡ n → (is_named (row_of_named n) ≡ false) × (names (Some row) (row_of_named n) ≡ true)
-      of_row free e = subst (λ m. (is_named (row_of_named m) ≡ false) × (names (Some row) (row_of_named m) ≡ true)) e (free, row_asked)
+      of_row : is_named row ≡ false → Thread row ≡ n
+          → (is_named (row_of_named n) ≡ false) × (names (Some row) (row_of_named n) ≡ true)
+      of_row free e =
+          subst
+          (λ m. (is_named (row_of_named m) ≡ false) × (names (Some row) (row_of_named m) ≡ true)) e
+          (free, row_asked)
 
-      go : (p : Bool) → is_named (process_row row.pid) ≡ p → (q : Bool) → is_named row ≡ q → Has (cond p [] (Process row.pid ∷ []) ++ cond q [] (Thread row ∷ [])) n
+      go : (p : Bool) → is_named (process_row row.pid) ≡ p → (q : Bool) → is_named row ≡ q
+          → Has (cond p [] (Process row.pid ∷ []) ++ cond q [] (Thread row ∷ [])) n
           → (is_named (row_of_named n) ≡ false) × (names (Some row) (row_of_named n) ≡ true)
       go true p true q h = absurd h
       go true p false q h = elim h [ inl e ↦ of_row q e | inr w ↦ absurd w ]
       go false p true q h = elim h [ inl e ↦ of_process p e | inr w ↦ absurd w ]
-      go false p false q h = elim h [ inl e ↦ of_process p e | inr w ↦ elim w [ inl e ↦ of_row q e | inr v ↦ absurd v ] ]
+      go false p false q h = elim h [
+        | inl e ↦ of_process p e
+        | inr w ↦ elim w [ inl e ↦ of_row q e | inr v ↦ absurd v ]
+      ]
 
 -- ---- two lists that have nothing in common
 
-once-append : {X : Type 0} (xs ys : List X) → IsOnce xs → IsOnce ys → ((x : X) → Has xs x → Has ys x → ⊥) → IsOnce (xs ++ ys)
+once-append : {X : Type 0} (xs ys : List X) → IsOnce xs → IsOnce ys
+    → ((x : X) → Has xs x → Has ys x → ⊥) → IsOnce (xs ++ ys)
 once-append [] ys a b apart = b
 once-append (x ∷ xs) ys a b apart = (
   (λ h. elim ((Has-append xs ys x).0 h) [ inl w ↦ a.0 w | inr w ↦ apart x (inl refl) w ]),
@@ -82,9 +102,12 @@ module _ (version : Parts) (g : ChromeTraceGroupBy) where
   -- what was named was named once, and is known to be named
   abbrev AreNamed : List PlainEvent → Type 0
   AreNamed events =
-      IsOnce (all_named (trace_drawn version g events)) × ((n : Named) → Has (all_named (trace_drawn version g events)) n → (known_of g events).is_named (row_of_named n) ≡ true)
+      IsOnce (all_named (trace_drawn version g events))
+      × ((n : Named) → Has (all_named (trace_drawn version g events)) n
+      → (known_of g events).is_named (row_of_named n) ≡ true)
 
-  named-push : (events : List PlainEvent) (event : PlainEvent) → AreNamed events → AreNamed (events ++ event ∷ [])
+  named-push : (events : List PlainEvent) (event : PlainEvent) → AreNamed events
+      → AreNamed (events ++ event ∷ [])
   named-push events event h =
       let past = after [] (history g events) in
       let known = known_of g events in
@@ -93,18 +116,29 @@ module _ (version : Parts) (g : ChromeTraceGroupBy) where
       let now = newly_named known.is_named asked in
       let is : all_named (trace_drawn version g (events ++ event ∷ [])) ≡ before ++ now =
       ap all_named (drawn-push version g events event)
-      ∙ flat_map-append named_by (trace_drawn version g events) (drawn version g (state_after past) known event)
-      ∙ ap (λ (ns : List Named). before ++ ns) (names-of-drawn version g (state_after past) known event) in
-      let apart : (n : Named) → Has before n → Has now n → ⊥ = λ n a b. (let t = h.1 n a in let f = (newly-is_new known.is_named asked n b).0 in cc (t, f)) in
-      let next : (n : Named) → (known_of g (events ++ event ∷ [])).is_named (row_of_named n) ≡ (names asked (row_of_named n) || known.is_named (row_of_named n)) =
+      ∙ flat_map-append named_by (trace_drawn version g events)
+      (drawn version g (state_after past) known event)
+      ∙ ap (λ (ns : List Named). before ++ ns)
+      (names-of-drawn version g (state_after past) known event) in
+      let apart : (n : Named) → Has before n → Has now n → ⊥ = λ n a b.
+      (let t = h.1 n a in let f = (newly-is_new known.is_named asked n b).0 in cc (t, f)) in
+      let next : (n : Named)
+      → (known_of g (events ++ event ∷ [])).is_named (row_of_named n)
+      ≡ (names asked (row_of_named n) || known.is_named (row_of_named n)) =
       λ n. ap (λ (k : Known). k.is_named (row_of_named n)) (known-push g events event) in (
         subst IsOnce (sym is) (once-append before now h.0 (newly-once known.is_named asked) apart),
-        λ n w. next n ∙ either n asked known.is_named (elim ((Has-append before now n).0 (subst (λ ns. Has ns n) is w)) [ inl a ↦ inl (h.1 n a) | inr b ↦ inr (newly-is_new known.is_named asked n b).1 ]),
+        λ n w. next n ∙ either n asked known.is_named
+            (elim ((Has-append before now n).0 (subst (λ ns. Has ns n) is w)) [
+              | inl a ↦ inl (h.1 n a)
+              | inr b ↦ inr (newly-is_new known.is_named asked n b).1
+            ]),
       )
     where
-      either : (n : Named) (asked : Option Row) (is_named : Row → Bool) → (is_named (row_of_named n) ≡ true) ⊎ (names asked (row_of_named n) ≡ true)
+      either : (n : Named) (asked : Option Row) (is_named : Row → Bool)
+          → (is_named (row_of_named n) ≡ true) ⊎ (names asked (row_of_named n) ≡ true)
           → (names asked (row_of_named n) || is_named (row_of_named n)) ≡ true
-      either n asked is_named (inl a) = go (names asked (row_of_named n)) (is_named (row_of_named n)) a
+      either n asked is_named (inl a) =
+          go (names asked (row_of_named n)) (is_named (row_of_named n)) a
         where
           go : (p q : Bool) → q ≡ true → (p || q) ≡ true
           go true q e = refl

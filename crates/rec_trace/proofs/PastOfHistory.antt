@@ -13,5 +13,8 @@ after-append past (x ∷ xs) ys = after-append (x ∷ past) xs ys
 
 -- the event stands before all others, of which the newest is the first
 pub past-push : (g : ChromeTraceGroupBy) (events : List PlainEvent) (event : PlainEvent)
-    → after [] (history g (events ++ event ∷ [])) ≡ next_input g (history g events) event ∷ after [] (history g events)
-past-push g events event = ap (after []) (history_after-append g [] events (event ∷ [])) ∙ after-append [] (history g events) (history_after g (after [] (history g events)) (event ∷ []))
+    → after [] (history g (events ++ event ∷ []))
+    ≡ next_input g (history g events) event ∷ after [] (history g events)
+past-push g events event =
+    ap (after []) (history_after-append g [] events (event ∷ [])) ∙ after-append []
+    (history g events) (history_after g (after [] (history g events)) (event ∷ []))

@@ -1,5 +1,6 @@
 -- The texts of trace events are put after those so far.
-use Rattle.std.proofs.Common.{◌≡◌, ℕ, List, [], ◌∷◌, ◌++◌, Bool, true, false, ◌||◌, length, take, refl, sym, ap, ◌∙◌}
+use Rattle.std.proofs.Common.{◌≡◌, ℕ, List, [], ◌∷◌, ◌++◌, Bool, true}
+use Rattle.std.proofs.Common.{false, ◌||◌, length, take, refl, sym, ap, ◌∙◌}
 use Rattle.serde_json.specs.Data.{Data}
 use Rattle.serde_json.specs.Written.{comma_if}
 use Rattle.rec_trace.proofs.TraceTexts.{regroup}
@@ -16,13 +17,17 @@ take-prefix [] ys = refl
 take-prefix (x ∷ xs) ys = ap (λ zs. x ∷ zs) (take-prefix xs ys)
 
 pub texts-append : (format : ChromeTraceMessageFormat) (later : Bool) (xs ys : List Data)
-    → event_texts format later (xs ++ ys) ≡ event_texts format later xs ++ event_texts format (later || has_some xs) ys
+    → event_texts format later (xs ++ ys)
+    ≡ event_texts format later xs ++ event_texts format (later || has_some xs) ys
 texts-append format true [] ys = refl
 texts-append format false [] ys = refl
 texts-append format later (x ∷ xs) ys =
     ap (λ s. comma_if later ++ (event_text format x ++ s)) (texts-append format true xs ys)
-    ∙ ap (λ b. comma_if later ++ (event_text format x ++ (event_texts format true xs ++ event_texts format b ys))) (sym (or-true later))
-    ∙ regroup (comma_if later) (event_text format x) (event_texts format true xs) (event_texts format (later || true) ys)
+    ∙ ap (λ b. comma_if later
+    ++ (event_text format x ++ (event_texts format true xs ++ event_texts format b ys)))
+    (sym (or-true later))
+    ∙ regroup (comma_if later) (event_text format x) (event_texts format true xs)
+    (event_texts format (later || true) ys)
   where
     or-true : (b : Bool) → (b || true) ≡ true
     or-true true = refl

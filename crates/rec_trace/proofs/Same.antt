@@ -15,7 +15,13 @@ same-is same =
 
 -- the same is known as is known
 pub same-self : (a : Known) → SameKnown a a
-same-self a = record { is_named = λ row. refl; running = refl; last_run = refl; group = λ test. refl; arrow = λ test. refl }
+same-self a = record {
+  is_named = λ row. refl;
+  running = refl;
+  last_run = refl;
+  group = λ test. refl;
+  arrow = λ test. refl;
+}
 
 -- what is equal is the same
 pub same-from : {a b : Known} → a ≡ b → SameKnown a b

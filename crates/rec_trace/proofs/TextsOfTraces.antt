@@ -13,10 +13,14 @@ use Rattle.rec_trace.specs.Kept.{AreKept}
 use Rattle.rec_trace.specs.Texts.{other_data, text_in, trace_value}
 use Rattle.rec_trace.specs.Traces.{trace_text}
 
-pub trace-written : (format : ChromeTraceMessageFormat) (g : ChromeTraceGroupBy) (version : Parts) (events : List PlainEvent)
-    (printed : Printed) (own : Parts) (run : Option RunStart) (s : List ℕ) → own ≡ version → run ≡ (known_of g events).last_run
-    → ((f : ChromeTraceMessageFormat) (es : List Data) → AreKept f es printed → s ≡ text_in f (trace_value (other_data own run) es))
-    → AreKept format (all_events (trace_drawn version g events)) printed → s ≡ trace_text format g version events
+pub trace-written : (format : ChromeTraceMessageFormat) (g : ChromeTraceGroupBy) (version : Parts)
+    (events : List PlainEvent) (printed : Printed) (own : Parts) (run : Option RunStart)
+    (s : List ℕ)
+    → own ≡ version → run ≡ (known_of g events).last_run
+    → ((f : ChromeTraceMessageFormat) (es : List Data) → AreKept f es printed
+    → s ≡ text_in f (trace_value (other_data own run) es))
+    → AreKept format (all_events (trace_drawn version g events)) printed
+    → s ≡ trace_text format g version events
 unfolding trace_text
 trace-written format g version events printed own run s own_is run_is written kept =
     let es = all_events (trace_drawn version g events) in

@@ -9,15 +9,19 @@ use Rattle.rec_trace_events.specs.declared.instants.RunMark.{RunMark}
 use Rattle.rec_trace_events.specs.declared.rows.Category.TheVariants as categories
 use Rattle.rec_trace_events.specs.declared.rows.Category.{Category}
 use Rattle.rec_trace_events.specs.declared.rows.Row.{Row}
-use Rattle.rec_trace_events.specs.TraceEvents.{arrow_finish, arrow_start, begin_event, concurrency_event, end_event, mark_event, process_metadata, results_event, slow_event, thread_metadata}
+use Rattle.rec_trace_events.specs.TraceEvents.{arrow_finish, arrow_start, begin_event}
+use Rattle.rec_trace_events.specs.TraceEvents.{concurrency_event, end_event, mark_event}
+use Rattle.rec_trace_events.specs.TraceEvents.{process_metadata, results_event}
+use Rattle.rec_trace_events.specs.TraceEvents.{slow_event, thread_metadata}
 use Rattle.rec_spans.specs.declared.spans.Phase.TheVariants.{Begin, End}
 use Rattle.rec_spans.specs.declared.spans.Phase.{Phase}
 use Rattle.rec_spans.specs.declared.spans.SpanKey.TheVariants as keys
 use Rattle.rec_spans.specs.declared.spans.SpanKey.{SpanKey}
 use Rattle.rec_spans.specs.Past.{Mark}
 
--- the begin or the end of a slice; the name of a process, or of a row; how many tests and setup scripts run; how many tests ended, and how;
--- a mark over the whole run; that something is slow; the start or the finish of the arrow of a test
+-- the begin or the end of a slice; the name of a process, or of a row; how many tests and setup
+-- scripts run; how many tests ended, and how; a mark over the whole run; that something is slow;
+-- the start or the finish of the arrow of a test
 pub data Drawn : Type 0 where
   Slice : (mark : Mark) (args : Option Data) → Drawn
   ProcessNamed : (pid : ℕ) (name : List ℕ) → Drawn

@@ -1,5 +1,6 @@
--- No entry is kept that says nothing: neither one of a row that wasn't named nor one of a test of which nothing is noted. So the entry of a test that
--- ended isn't kept, unless an arrow is pending for it.
+-- No entry is kept that says nothing: neither one of a row that wasn't named nor one of a test of
+-- which nothing is noted. So the entry of a test that ended isn't kept,
+-- unless an arrow is pending for it.
 use Rattle.std.specs.Prelude.{◌≡◌, ◌||◌, Bool, true, false, Option, None, Some, is_some, IfSome}
 use Rattle.rec_events.specs.declared.instances.OwnedTestInstanceId.{OwnedTestInstanceId}
 use Rattle.rec_events.specs.Tests.{test_eq}
@@ -45,7 +46,8 @@ is_about (Some news) test = test_eq news.test test
 
 -- room may have been made for the notes of the test of which there is this news
 abbrev pub EachTestSaysBut : Option TestNews → Notes → Type 0
-EachTestSaysBut news notes = (test : OwnedTestInstanceId) → is_about news test ≡ false → TestSays notes test
+EachTestSaysBut news notes =
+    (test : OwnedTestInstanceId) → is_about news test ≡ false → TestSays notes test
 
 -- ---- all that is kept
 

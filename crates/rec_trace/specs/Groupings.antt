@@ -1,11 +1,13 @@
--- What both groupings draw alike: all but the names of processes and rows, the pids of the rows of tests, and the names of their slices.
+-- What both groupings draw alike: all but the names of processes and rows, the pids of the rows of
+-- tests, and the names of their slices.
 use Rattle.std.specs.List.{flat_map}
 use Rattle.std.specs.Prelude.{List, [], ◌∷◌}
 use Rattle.rec_trace_events.specs.declared.rows.Category.TheVariants as categories
 use Rattle.rec_trace_events.specs.declared.rows.Category.{Category}
 use Rattle.rec_trace_events.specs.declared.rows.Row.{Row}
 use Rattle.rec_spans.specs.Groupings.{ungrouped_mark}
-use Rattle.rec_trace.specs.Drawn.Drawn.{Slice, ProcessNamed, RowNamed, Running, Results, RunMarked, Slow, ArrowStarts, ArrowFinishes}
+use Rattle.rec_trace.specs.Drawn.Drawn.{Slice, ProcessNamed, RowNamed, Running, Results}
+use Rattle.rec_trace.specs.Drawn.Drawn.{RunMarked, Slow, ArrowStarts, ArrowFinishes}
 use Rattle.rec_trace.specs.Drawn.{Drawn}
 
 -- a row of a test without the pid, which the grouping decides
@@ -28,7 +30,8 @@ ungrouped_drawn (Results counts at) = Results counts at ∷ []
 ungrouped_drawn (RunMarked mark counts at) = RunMarked mark counts at ∷ []
 ungrouped_drawn (Slow category row at args) = Slow category (slow_row category row) at args ∷ []
 ungrouped_drawn (ArrowStarts test row at flow) = ArrowStarts test (ungrouped_row row) at flow ∷ []
-ungrouped_drawn (ArrowFinishes test row at flow) = ArrowFinishes test (ungrouped_row row) at flow ∷ []
+ungrouped_drawn (ArrowFinishes test row at flow) =
+    ArrowFinishes test (ungrouped_row row) at flow ∷ []
 
 abbrev pub all_ungrouped : List Drawn → List Drawn
 all_ungrouped drawn = flat_map ungrouped_drawn drawn

@@ -23,11 +23,14 @@ abbrev pub binaries_held : ChromeTraceGroupBy → List (List ℕ × ℕ) → ℕ
 binaries_held Binary seen = length seen
 binaries_held Slot seen = 0
 
--- The open spans, the rows and processes that were named, where the first row of a process stands for the process, the tests of which an arrow is
--- pending, and the binaries that are processes, added up, as far as a usize counts
+-- The open spans, the rows and processes that were named, where the first row of a process stands
+-- for the process, the tests of which an arrow is pending, and the binaries that are processes,
+-- added up, as far as a usize counts
 pub record IsHeld (g : ChromeTraceGroupBy) (events : List PlainEvent) (held : ℕ) : Type 0 where
   pub named : ℕ
   pub pending : ℕ
   pub names : IsCountOf row_eq (known_of g events).is_named named
   pub arrows : IsCountOf test_eq (λ test. is_some ((known_of g events).arrow test)) pending
-  pub adds : held ≡ min (length (open_spans (after [] (history g events))) + named + pending + binaries_held g (binaries (after [] (history g events)))) (2 ^ 64 - 1)
+  pub adds : held ≡ min (length (open_spans (after [] (history g events))) + named + pending
+      + binaries_held g (binaries (after [] (history g events))))
+      (2 ^ 64 - 1)

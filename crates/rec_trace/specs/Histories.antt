@@ -12,20 +12,24 @@ use Rattle.rec_trace.specs.Table.{drawn}
 
 -- what is known after one event more
 abbrev pub known_after_event : ChromeTraceGroupBy → List TraceInput → PlainEvent → Known → Known
-known_after_event g past event known = next_known (next_flow past) (trace_input g (binaries past) event) event.kind known
+known_after_event g past event known =
+    next_known (next_flow past) (trace_input g (binaries past) event) event.kind known
 
 -- what is known after these events, of which each is seen after the past before it
 abbrev pub known_after : ChromeTraceGroupBy → List TraceInput → Known → List PlainEvent → Known
 known_after g past known [] = known
 known_after g past known (event ∷ events) =
-    known_after g (trace_input g (binaries past) event ∷ past) (known_after_event g past event known) events
+    known_after g (trace_input g (binaries past) event ∷ past)
+    (known_after_event g past event known) events
 
 -- what these events draw, in order
-abbrev pub drawn_after : Parts → ChromeTraceGroupBy → List TraceInput → Known → List PlainEvent → List Drawn
+abbrev pub drawn_after : Parts → ChromeTraceGroupBy → List TraceInput → Known → List PlainEvent
+    → List Drawn
 drawn_after version g past known [] = []
 drawn_after version g past known (event ∷ events) =
     drawn version g (state_after past) known event
-    ++ drawn_after version g (trace_input g (binaries past) event ∷ past) (known_after_event g past event known) events
+    ++ drawn_after version g (trace_input g (binaries past) event ∷ past)
+    (known_after_event g past event known) events
 
 -- what is known after all events of a history
 abbrev pub known_of : ChromeTraceGroupBy → List PlainEvent → Known

@@ -20,7 +20,8 @@ abbrev pub AreWritable : List Data → Type 0
 AreWritable events = AllByRecursion (IsWritable 9) events
 
 -- the texts of these trace events are kept, with commas between them
-pub record AreKept (format : ChromeTraceMessageFormat) (events : List Data) (p : Printed) : Type 0 where
+pub record AreKept (format : ChromeTraceMessageFormat) (events : List Data)
+    (p : Printed) : Type 0 where
   pub format_kept : p.format ≡ format
   pub some : p.has_events ≡ has_some events
   pub text : p.text.items ≡ event_texts format false events

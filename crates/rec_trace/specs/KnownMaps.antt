@@ -2,7 +2,8 @@
 use Rattle.std.specs.Bool.{⊤}
 use Rattle.std.specs.Map.{lookup}
 use Rattle.std.specs.Option.{unwrap_or}
-use Rattle.std.specs.Prelude.{ℕ, Bool, false, Option, None, Some, IsSome, option_and_then, option_copied}
+use Rattle.std.specs.Prelude.{ℕ, Bool, false, Option, None, Some}
+use Rattle.std.specs.Prelude.{IsSome, option_and_then, option_copied}
 use Rattle.rec_events.specs.declared.groups.TestGroup.{TestGroup}
 use Rattle.rec_events.specs.declared.instances.OwnedTestInstanceId.{OwnedTestInstanceId}
 use Rattle.rec_events.specs.Tests.{test_eq}
@@ -64,14 +65,17 @@ arrow_with Stays before = before
 arrow_with Finishes before = None
 arrow_with (Starts flow) before = Some flow
 
-abbrev pub groups_with : Option TestNews → (OwnedTestInstanceId → Option TestGroup) → OwnedTestInstanceId → Option TestGroup
+abbrev pub groups_with : Option TestNews → (OwnedTestInstanceId → Option TestGroup)
+    → OwnedTestInstanceId → Option TestGroup
 groups_with None before = before
 groups_with (Some news) before = of_test news.test news.group before
 
-abbrev pub arrows_with : Option TestNews → (OwnedTestInstanceId → Option ℕ) → OwnedTestInstanceId → Option ℕ
+abbrev pub arrows_with : Option TestNews → (OwnedTestInstanceId → Option ℕ) → OwnedTestInstanceId
+    → Option ℕ
 arrows_with None before = before
 arrows_with (Some news) before = of_test news.test (arrow_with news.arrow (before news.test)) before
 
 -- news that is lent is the news of which it lends
 abbrev pub test_told : NewTest → TestNews
-test_told news = record { test = news.test.now; group = option_copied news.group; arrow = news.arrow }
+test_told news =
+    record { test = news.test.now; group = option_copied news.group; arrow = news.arrow }

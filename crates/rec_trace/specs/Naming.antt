@@ -29,4 +29,5 @@ row_of_named (Thread row) = row
 abbrev pub newly_named : (Row → Bool) → Option Row → List Named
 newly_named is_named None = []
 newly_named is_named (Some row) =
-    (if is_named (process_row row.pid) then [] else Process row.pid ∷ []) ++ (if is_named row then [] else Thread row ∷ [])
+    (if is_named (process_row row.pid) then [] else Process row.pid ∷ [])
+    ++ (if is_named row then [] else Thread row ∷ [])

@@ -11,11 +11,14 @@ use Rattle.rec_trace.specs.Entries.{EachSays}
 use Rattle.rec_trace.specs.Histories.{known_of}
 use Rattle.rec_trace.specs.KnownNews.{known_in}
 
--- Each thing that is kept is that of these events, of runs by this version of the runner, and they have no cause to be refused: their number, the
--- open spans with their rows and names, the binaries, both running counts, the next flow number and whether the run is in a pause; the rows that
--- were named, the test group of each open attempt, the pending arrows and the last start of a run. No entry is kept that says nothing, so
--- that of a test that ended isn't, unless an arrow is pending
-pub record StandsFor (g : ChromeTraceGroupBy) (version : Parts) (events : List PlainEvent) (t : Tracer) : Type 0 where
+-- Each thing that is kept is that of these events, of runs by this version of the runner, and they
+-- have no cause to be refused: their number, the open spans with their rows and names, the
+-- binaries, both running counts, the next flow number and whether the run is in a pause; the rows
+-- that were named, the test group of each open attempt, the pending arrows and the last start of a
+-- run. No entry is kept that says nothing, so that of a test that ended isn't,
+-- unless an arrow is pending
+pub record StandsFor (g : ChromeTraceGroupBy) (version : Parts) (events : List PlainEvent)
+    (t : Tracer) : Type 0 where
   pub group_kept : t.group_by ≡ g
   pub version_kept : t.version ≡ version
   pub stands : t.tracker ≡ state_after (after [] (history g events))

@@ -1,4 +1,5 @@
--- What becomes of a tracer with one event more: what it draws, and what it leaves where it is accepted, or let go.
+-- What becomes of a tracer with one event more: what it draws,
+-- and what it leaves where it is accepted, or let go.
 use Rattle.std.specs.Prelude.{◌≡◌, suc, List}
 use Rattle.serde_json.specs.Data.{Data}
 use Rattle.rec_spans.specs.History.{next_state}
@@ -31,13 +32,15 @@ pub record StaysSame (old new : Tracer) : Type 0 where
   pub each_says : EachSays old.known → EachSays new.known
 
 -- the event was opened, its news is what it decides, and there is room for that
-pub record IsPrepared (old : Tracer) (event : PlainEvent) (new : Tracer) (p : PreparedEvent) : Type 0 where
+pub record IsPrepared (old : Tracer) (event : PlainEvent) (new : Tracer)
+    (p : PreparedEvent) : Type 0 where
   pub group : new.group_by ≡ old.group_by
   pub version : new.version ≡ old.version
   pub opened : IsOpened old.tracker (seen_by old event) p.opened
   pub stands : new.tracker ≡ state_opened (seen_by old event) old.tracker
   pub knows : SameKnown (known_in new.known) (known_in old.known)
-  pub told : SameKnown (known_with p.news (known_in old.known)) (next_known old.tracker.next_flow (seen_by old event) event.kind (known_in old.known))
+  pub told : SameKnown (known_with p.news (known_in old.known))
+      (next_known old.tracker.next_flow (seen_by old event) event.kind (known_in old.known))
   pub has_room : HasRoom p.news new.known
   pub each_says : EachSays old.known → EachSaysBut p.news new.known
   pub numbered : p.opened.number ≡ suc new.tracker.number
@@ -51,5 +54,6 @@ pub record Advances (old : Tracer) (event : PlainEvent) (new : Tracer) : Type 0 
   pub group : new.group_by ≡ old.group_by
   pub version : new.version ≡ old.version
   pub stands : new.tracker ≡ next_state (seen_by old event) old.tracker
-  pub knows : SameKnown (known_in new.known) (next_known old.tracker.next_flow (seen_by old event) event.kind (known_in old.known))
+  pub knows : SameKnown (known_in new.known)
+      (next_known old.tracker.next_flow (seen_by old event) event.kind (known_in old.known))
   pub each_says : EachSays old.known → EachSays new.known

@@ -1,5 +1,6 @@
 -- The text of a trace.
-use Rattle.std.specs.Prelude.{ℕ, Bool, true, false, List, [], ◌∷◌, ◌++◌, length, nat_lt, Option, None, Some, codes}
+use Rattle.std.specs.Prelude.{ℕ, Bool, true, false, List, [], ◌∷◌, ◌++◌}
+use Rattle.std.specs.Prelude.{length, nat_lt, Option, None, Some, codes}
 use Rattle.json.specs.Layout.{bracket, pretty, pretty_from}
 use Rattle.json.specs.Token.{string as string_token}
 use Rattle.json.specs.Token.{Token, begin_array, begin_object, key}
@@ -33,7 +34,8 @@ run_fields (Some run) =
 
 -- what a trace says of the run beside its events
 unfoldable pub other_data : Parts → Option RunStart → Data
-other_data version run = struct (field (codes "nextest_version") (version_value version) ∷ run_fields run)
+other_data version run =
+    struct (field (codes "nextest_version") (version_value version) ∷ run_fields run)
 
 -- the trace with these events
 unfoldable pub trace_value : Data → List Data → Data
@@ -52,7 +54,8 @@ text_in JsonPretty d = pretty_text d
 
 -- ---- parts of the text
 
--- an event, as it stands in the list of a trace: over several lines it is two levels deep, with the end of the line before it
+-- an event, as it stands in the list of a trace: over several lines it is two levels deep, with the
+-- end of the line before it
 abbrev pub event_text : ChromeTraceMessageFormat → Data → List ℕ
 event_text Json d = compact_text d
 event_text JsonPretty d = pretty_from (bracket, 2) (json_tokens (outline d))
@@ -64,15 +67,19 @@ nested_text d = pretty (begin_array ∷ begin_array ∷ json_tokens (outline d))
 -- trace events, each after a comma where something stands before it
 abbrev pub event_texts : ChromeTraceMessageFormat → Bool → List Data → List ℕ
 event_texts format later [] = []
-event_texts format later (d ∷ ds) = comma_if later ++ (event_text format d ++ event_texts format true ds)
+event_texts format later (d ∷ ds) =
+    comma_if later ++ (event_text format d ++ event_texts format true ds)
 
 -- what stands before the events in one line
 unfoldable pub compact_prefix : Data → List ℕ
-compact_prefix other = (codes "{\"displayTimeUnit\":\"ms\",\"otherData\":" ++ compact_text other) ++ codes ",\"traceEvents\":["
+compact_prefix other =
+    (codes "{\"displayTimeUnit\":\"ms\",\"otherData\":" ++ compact_text other)
+    ++ codes ",\"traceEvents\":["
 
 abbrev pub prefix_tokens : Data → List Token
 prefix_tokens other =
-    begin_object ∷ key (codes "displayTimeUnit") ∷ string_token (codes "ms") ∷ key (codes "otherData")
+    begin_object ∷ key (codes "displayTimeUnit") ∷ string_token (codes "ms")
+    ∷ key (codes "otherData")
     ∷ (json_tokens (outline other) ++ key (codes "traceEvents") ∷ begin_array ∷ [])
 
 -- what stands before the events

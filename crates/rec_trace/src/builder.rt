@@ -120,17 +120,18 @@ impl<'t, T: TraceTarget> TraceBuilder<'t, T> {
         })
     }
 
-    /// Hands the trace events of an event on to the target, one after the other, and accepts the event once all were
-    /// taken. All memory is taken before the first of them.
+    /// Hands the trace events of an event on to the target, one after the other, and accepts the
+    /// event once all were taken. All memory is taken before the first of them.
     ///
     /// # Errors
     ///
     /// The event isn't accepted, and the trace is that of the events before it:
     ///
     /// - `Failed`: the target failed at an earlier event. It gets nothing any more.
-    /// - `Refused`: the event has a cause to be refused, which is never `ReadError` or `OutOfMemory`. The target
-    ///   gets nothing, and the trace may be built on.
-    /// - `TargetFault`: the target failed. It got the trace events before the one at which it failed.
+    /// - `Refused`: the event has a cause to be refused, which is never `ReadError` or
+    ///   `OutOfMemory`. The target gets nothing, and the trace may be built on.
+    /// - `TargetFault`: the target failed. It got the trace events before the one at which it
+    ///   failed.
     /// - `OutOfMemory`: memory ran out. The target gets nothing, and the trace may be built on.
     pub fn process_event(
         &mut self,
@@ -154,9 +155,10 @@ impl<'t, T: TraceTarget> TraceBuilder<'t, T> {
         self.handing.failed
     }
 
-    /// Counts what is kept of the events so far: the open spans, the rows and processes that were named, the arrows
-    /// that are pending, and where tests are grouped by binary, the binaries that have started an attempt. It is at
-    /// most the greatest usize. To count takes as long as there is much to count.
+    /// Counts what is kept of the events so far: the open spans, the rows and processes that were
+    /// named, the arrows that are pending, and where tests are grouped by binary, the binaries that
+    /// have started an attempt. It is at most the greatest usize.
+    /// To count takes as long as there is much to count.
     pub fn held(&self) -> usize
         ensures { (g : ChromeTraceGroupBy) (version : Parts) (events : List PlainEvent)
             → HandsOn g version events self.now.handing
@@ -165,8 +167,8 @@ impl<'t, T: TraceTarget> TraceBuilder<'t, T> {
         self.handing.tracer.held()
     }
 
-    /// Ends the trace, and returns what it says of the run beside its events: the version of the runner, and the
-    /// last start of a run.
+    /// Ends the trace, and returns what it says of the run beside its events: the version of the
+    /// runner, and the last start of a run.
     ///
     /// # Errors
     ///

@@ -30,18 +30,19 @@ use std::alloc::Global;
 /// The first item that is refused is the cause:
 ///
 /// - `ReadError`: it is a fault of the reader, other than want of memory.
-/// - `MissingTestStart`: it is of a test that isn't running: its end, a failed attempt, or that it is slow.
+/// - `MissingTestStart`: it is of a test that isn't running: its end, a failed attempt, or that it
+///   is slow.
 /// - `MissingScriptStart`: it is of a setup script that isn't running: its end, or that it is slow.
 /// - `MissingStressSubRunStart`: it ends a sub-run, and none is running.
 /// - `SpanAlreadyOpen`: it starts what is running already.
 /// - `SlotBusy`: it starts a test on a slot on which another runs.
 /// - `TimestampOutOfRange`: its instant in microseconds isn't an i64.
 /// - `RowOutOfRange`: it starts a test or a setup script on a row whose number isn't a u64.
-/// - `CountOutOfRange`: it counts 2^64 failed tests or running setup scripts or more, or its own number isn't
-///   a u64.
+/// - `CountOutOfRange`: it counts 2^64 failed tests or running setup scripts or more, or its own
+///   number isn't a u64.
 ///
-/// Where an event has several of these causes, the first in the order that `ChromeTraceError` gives is
-/// answered. `OutOfMemory` may come at any time, and stands for the reader's want of memory too.
+/// Where an event has several of these causes, the first in the order that `ChromeTraceError` gives
+/// is answered. `OutOfMemory` may come at any time, and stands for the reader's want of memory too.
 pub fn convert_to_chrome_trace<I>(
     alloc: Global,
     version: &Version,
@@ -69,8 +70,8 @@ where
     Ok(text)
 }
 
-/// Adds the trace events of an event, or answers the fault that was read in its place. The event is let go here and
-/// by a call: to drop one of that many kinds in place is too much for a proof.
+/// Adds the trace events of an event, or answers the fault that was read in its place. The event is
+/// let go here and by a call: to drop one of that many kinds in place is too much for a proof.
 fn add_item(
     alloc: Global,
     trace: &mut PrintedTrace,

@@ -4,7 +4,9 @@ ghost use Rattle.serde_json.specs.Data.{Data};
 ghost use Rattle.serde_json.specs.Written.{comma_if};
 ghost use Rattle.rec_forms.specs.Writable.{IsWritable};
 ghost use Rattle.rec_trace_events.specs.EventTexts.{event_value};
-ghost use Rattle.rec_trace.specs.declared.settings.ChromeTraceMessageFormat.TheVariants.{JsonPretty};
+ghost use Rattle.rec_trace.specs.declared.settings.ChromeTraceMessageFormat.TheVariants.{
+  JsonPretty,
+};
 ghost use Rattle.rec_trace.specs.Kept.{AreWritable, StartsWith, has_some};
 ghost use Rattle.rec_trace.specs.Texts.{event_text, event_texts, nested_text};
 
@@ -21,8 +23,9 @@ fn separator(later: bool) -> &'static str
     if later { "," } else { "" }
 }
 
-/// Writes trace events with commas between them, and one before them where others stand there. Returns whether any
-/// stand there then. `scratch` is what reading the text of an event takes, where events are laid out.
+/// Writes trace events with commas between them, and one before them where others stand there.
+/// Returns whether any stand there then. `scratch` is what reading the text of an event takes,
+/// where events are laid out.
 ///
 /// # Errors
 ///
@@ -71,8 +74,8 @@ fn write_event(
     }
 }
 
-/// Writes a trace event over several lines, as it stands in the list of a trace: two levels deep, and with the end of
-/// the line before it.
+/// Writes a trace event over several lines, as it stands in the list of a trace: two levels deep,
+/// and with the end of the line before it.
 fn write_lines(
     alloc: Global,
     scratch: &mut Scratch,

@@ -95,8 +95,8 @@ impl Known {
         self.notes.pending()
     }
 
-    /// Takes all memory that it takes to know of an event, which has this next flow number and starts this
-    /// span. What is known stays the same, whatever the answer is.
+    /// Takes all memory that it takes to know of an event, which has this next flow number and
+    /// starts this span. What is known stays the same, whatever the answer is.
     ///
     /// # Errors
     ///
@@ -148,7 +148,8 @@ impl Known {
         self.notes.take(news.test);
     }
 
-    /// Lets the news of an event go, and the room that was made for it. What is known stays the same.
+    /// Lets the news of an event go, and the room that was made for it.
+    /// What is known stays the same.
     pub fn let_go(&mut self, news: News)
         ensures same { SameKnown (known_in self.new) (known_in self.old) }
         ensures says { EachSaysBut news self.old → EachSays self.new }

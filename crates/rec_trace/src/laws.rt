@@ -22,8 +22,8 @@ ghost use Rattle.rec_trace.specs.Table.{drawn};
 // The laws of the marks of a trace.
 pub use rec_spans::laws::{open_at, pauses, prefixes, slices, timeline, times};
 
-/// States what a history draws and makes known with one event more, and that each prefix of a history that has a
-/// trace has one too, and draws the first of what the whole draws.
+/// States what a history draws and makes known with one event more, and that each prefix of a
+/// history that has a trace has one too, and draws the first of what the whole draws.
 pub fn drawn_prefixes()
     ensures drawn { (version : Parts) (group : group_by.ChromeTraceGroupBy)
         (events : List PlainEvent) (event : PlainEvent)
@@ -41,8 +41,8 @@ pub fn drawn_prefixes()
         → KeepsDrawn version group events }
 {}
 
-/// States that the begins and ends of slices in a trace are the marks of its events: of the next event after any
-/// state, whatever is known, and of a whole history.
+/// States that the begins and ends of slices in a trace are the marks of its events: of the next
+/// event after any state, whatever is known, and of a whole history.
 pub fn marks()
     ensures event { (version : Parts) (group : group_by.ChromeTraceGroupBy) (state : TraceState)
         (known : knowns.Known) (event : PlainEvent)
@@ -53,31 +53,33 @@ pub fn marks()
         → marks_of (trace_drawn version group events) ≡ trace_marks (history group events) }
 {}
 
-/// States that the arrows of a history that has a trace pair: each number starts at most once, and each finish has a
-/// start of its number before it, for the same test, and no other finish of its number.
+/// States that the arrows of a history that has a trace pair: each number starts at most once, and
+/// each finish has a start of its number before it, for the same test,
+/// and no other finish of its number.
 pub fn arrows()
     ensures { (version : Parts) (group : group_by.ChromeTraceGroupBy) (events : List PlainEvent)
         → events_refusal group events ≡ None
         → ArrowsPair (arrow_ends (trace_drawn version group events)) }
 {}
 
-/// States that both groupings draw the same of any events but for the names of processes and rows, the pids of the
-/// rows of tests, and the names of their slices.
+/// States that both groupings draw the same of any events but for the names of processes and rows,
+/// the pids of the rows of tests, and the names of their slices.
 pub fn groupings()
     ensures { (version : Parts) (events : List PlainEvent)
         → all_ungrouped (trace_drawn version grouped_by.Binary events)
         ≡ all_ungrouped (trace_drawn version grouped_by.Slot events) }
 {}
 
-/// States what earlier events decide of a trace, by their positions: the count of running tests, the run that started
-/// last, the group and the arrow of each test, and which rows are named.
+/// States what earlier events decide of a trace, by their positions: the count of running tests,
+/// the run that started last, the group and the arrow of each test, and which rows are named.
 pub fn known_by_places()
     ensures { (group : group_by.ChromeTraceGroupBy) (events : List PlainEvent)
         → IsKnownByPlaces group events (known_of group events) }
 {}
 
-/// States which processes and rows an event names, after any state and whatever is known: the row that it asks for and
-/// its process, each where it wasn't named before. So a whole history names each once.
+/// States which processes and rows an event names, after any state and whatever is known: the row
+/// that it asks for and its process, each where it wasn't named before.
+/// So a whole history names each once.
 pub fn names()
     ensures event { (version : Parts) (group : group_by.ChromeTraceGroupBy) (state : TraceState)
         (known : knowns.Known) (event : PlainEvent)
@@ -88,9 +90,10 @@ pub fn names()
         → IsOnce (all_named (trace_drawn version group events)) }
 {}
 
-/// States which arrows an event starts and finishes, after any state and whatever is known: a failed attempt starts one
-/// for each open span of its test, with the next number, which is how many attempts failed before; and an attempt that
-/// starts as a retry finishes the pending arrow of its test.
+/// States which arrows an event starts and finishes, after any state and whatever is known: a
+/// failed attempt starts one for each open span of its test, with the next number, which is how
+/// many attempts failed before; and an attempt that starts as a retry finishes the pending arrow of
+/// its test.
 pub fn arrows_of_events()
     ensures ends { (version : Parts) (group : group_by.ChromeTraceGroupBy) (state : TraceState)
         (known : knowns.Known) (event : PlainEvent)

@@ -62,8 +62,8 @@ fn write_version(alloc: Global, text: &mut JsonText, version: &Version) -> Resul
     object.end(text)
 }
 
-/// Writes what a trace says of runs by this version of the runner, of which this one started last, as its compact JSON
-/// text.
+/// Writes what a trace says of runs by this version of the runner, of which this one started last,
+/// as its compact JSON text.
 ///
 /// # Errors
 ///

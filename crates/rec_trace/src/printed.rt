@@ -2,7 +2,9 @@
 ghost use Rattle.std.specs.Prelude.{◌≡◌, List, [], ◌++◌, map, IfOk, OnOk, OnErr};
 ghost use Rattle.serde_json.specs.Data.{Data};
 ghost use Rattle.rec_trace_events.specs.EventTexts.{event_value};
-ghost use Rattle.rec_trace.specs.declared.settings.ChromeTraceMessageFormat.{ChromeTraceMessageFormat};
+ghost use Rattle.rec_trace.specs.declared.settings.ChromeTraceMessageFormat.{
+  ChromeTraceMessageFormat,
+};
 ghost use Rattle.rec_trace.specs.Kept.{AreKept};
 ghost use Rattle.rec_trace.specs.Texts.{other_data, text_in, trace_value};
 
@@ -17,7 +19,8 @@ use rec_events::Version;
 use rec_trace_events::TraceEvent;
 use std::alloc::{AllocError, Global};
 
-/// Holds the texts of the trace events so far, with commas between them, as they stand in the text of the trace.
+/// Holds the texts of the trace events so far, with commas between them,
+/// as they stand in the text of the trace.
 #[derive(Drop)]
 pub struct Printed {
     format: ChromeTraceMessageFormat,
@@ -74,8 +77,9 @@ impl Printed {
         }
     }
 
-    /// Writes the text of the trace, of runs by this version of the runner, of which this one started last. The texts
-    /// of the events are moved and not copied, so that a long trace isn't held twice.
+    /// Writes the text of the trace, of runs by this version of the runner, of which this one
+    /// started last. The texts of the events are moved and not copied,
+    /// so that a long trace isn't held twice.
     ///
     /// # Errors
     ///

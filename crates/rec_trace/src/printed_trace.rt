@@ -4,7 +4,9 @@ ghost use Rattle.semver.specs.Parse.{Parts};
 ghost use Rattle.rec_trace_events.specs.EventTexts.{event_value};
 ghost use Rattle.rec_spans.specs.declared.settings.ChromeTraceGroupBy.{ChromeTraceGroupBy};
 ghost use Rattle.rec_spans.specs.Plain.{PlainEvent, plain};
-ghost use Rattle.rec_trace.specs.declared.settings.ChromeTraceMessageFormat.{ChromeTraceMessageFormat};
+ghost use Rattle.rec_trace.specs.declared.settings.ChromeTraceMessageFormat.{
+  ChromeTraceMessageFormat,
+};
 ghost use Rattle.rec_trace.specs.declared.tracer.Tracer.{Tracer};
 ghost use Rattle.rec_trace.specs.KnownNews.{HasRoom};
 ghost use Rattle.rec_trace.specs.Steps.{IsNumbered, IsPrepared};
@@ -17,8 +19,8 @@ use rec_events::{OutputSpec, TestEventSummary, Version};
 use rec_spans::{ChromeTraceError, ChromeTraceGroupBy};
 use std::alloc::{AllocError, Global};
 
-/// Builds the text of a trace event by event, from events with outputs of either form. The trace events of each are
-/// printed at once.
+/// Builds the text of a trace event by event, from events with outputs of either form. The trace
+/// events of each are printed at once.
 #[derive(Drop)]
 pub struct PrintedTrace {
     tracer: Tracer,
@@ -26,8 +28,8 @@ pub struct PrintedTrace {
 }
 
 impl PrintedTrace {
-    /// Makes the text of a trace without an event so far, of runs by this version of the runner, which is
-    /// written in this form.
+    /// Makes the text of a trace without an event so far, of runs by this version of the runner,
+    /// which is written in this form.
     pub fn new(
         alloc: Global,
         version: Version,
@@ -46,8 +48,9 @@ impl PrintedTrace {
     ///
     /// # Errors
     ///
-    /// Answers the first cause for which the event is refused, in the order that `ChromeTraceError` gives, or
-    /// `OutOfMemory` where memory ran out. The trace is then that of the events before, and may be built on.
+    /// Answers the first cause for which the event is refused, in the order that `ChromeTraceError`
+    /// gives, or `OutOfMemory` where memory ran out.
+    /// The trace is then that of the events before, and may be built on.
     pub fn process_event<S: OutputSpec>(
         &mut self,
         alloc: Global,

@@ -7,7 +7,8 @@ ghost use Rattle.rec_trace.specs.Targets.{Takes, TakesPart};
 use crate::target::{TargetFailed, TraceTarget};
 use rec_trace_events::TraceEvent;
 
-/// Puts events in their order, up to the first at which the target fails. It takes no memory itself.
+/// Puts events in their order, up to the first at which the target fails.
+/// It takes no memory itself.
 pub fn put_all<T: TraceTarget>(target: &mut T, events: Vec<TraceEvent>) -> Result<(), TargetFailed>
     ensures all { OnOk result (Takes T.holds target.old target.new (map event_value events.items)) }
     ensures part { OnErr result

@@ -25,7 +25,8 @@ pub trait TraceTarget {
     ///
     /// # Errors
     ///
-    /// `TargetFailed` means that the target failed: its count of faults rose, and it has the events that it had.
+    /// `TargetFailed` means that the target failed: its count of faults rose,
+    /// and it has the events that it had.
     fn put(&mut self, event: TraceEvent) -> Result<(), TargetFailed>
         ensures taken { OnOk result (Takes holds self.old self.new (event_value event ∷ [])) }
         ensures same { OnErr result (Stays holds self.old self.new) }

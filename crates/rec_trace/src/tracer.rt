@@ -1,5 +1,5 @@
-//! Traces events one after the other: an event is judged and drawn first, and accepted or let go once it is known
-//! whether what it draws was taken.
+//! Traces events one after the other: an event is judged and drawn first, and accepted or let go
+//! once it is known whether what it draws was taken.
 ghost use Rattle.std.specs.Prelude.{◌≡◌, List, [], suc, map, IfOk, OnErr};
 ghost use Rattle.semver.specs.Parse.{Parts};
 ghost use Rattle.rec_trace_events.specs.EventTexts.{event_value};
@@ -73,8 +73,9 @@ impl Tracer {
         self.known.last_run()
     }
 
-    /// Counts what is kept of the events so far: the open spans, the rows and processes that were named, the pending
-    /// arrows, and where each binary is a process, the binaries. It goes over the tests of which something is noted.
+    /// Counts what is kept of the events so far: the open spans, the rows and processes that were
+    /// named, the pending arrows, and where each binary is a process, the binaries. It goes over
+    /// the tests of which something is noted.
     pub fn held(&self) -> usize
         ensures { (version : Parts) (events : List PlainEvent)
             → StandsFor self.now.group_by version events self.now
@@ -97,13 +98,13 @@ impl Tracer {
         }
     }
 
-    /// Judges and draws the next event, and takes all memory that it takes to accept it. Nothing else may be drawn
-    /// until the event is accepted or let go.
+    /// Judges and draws the next event, and takes all memory that it takes to accept it. Nothing
+    /// else may be drawn until the event is accepted or let go.
     ///
     /// # Errors
     ///
-    /// Answers the first cause for which the event is refused, in the order that `ChromeTraceError` gives, or
-    /// `OutOfMemory`. The tracer then stays as it was.
+    /// Answers the first cause for which the event is refused, in the order that `ChromeTraceError`
+    /// gives, or `OutOfMemory`. The tracer then stays as it was.
     pub fn prepare<S: OutputSpec>(
         &mut self,
         alloc: Global,

@@ -1,5 +1,6 @@
 //! A target in memory, which fails at the calls that it is given.
-ghost use Rattle.std.specs.Prelude.{◌≡◌, ◌≤◌, ◌+◌, ◌⊎◌, [], ◌∷◌, Contains, OnOk, OnErr, vec_len, vec_capacity};
+ghost use Rattle.std.specs.Prelude.{◌≡◌, ◌≤◌, ◌+◌, ◌⊎◌, [], ◌∷◌, Contains};
+ghost use Rattle.std.specs.Prelude.{OnOk, OnErr, vec_len, vec_capacity};
 ghost use Rattle.rec_container.specs.Causes.{HasCause, next_count};
 ghost use Rattle.rec_trace_events.specs.EventTexts.{event_value};
 ghost use Rattle.rec_trace.specs.Targets.{AreIn, Stays, Takes};
@@ -18,7 +19,8 @@ pub struct VecTarget {
 }
 
 impl VecTarget {
-    /// Makes a target without events, faults or spare places, which fails at the calls with these numbers.
+    /// Makes a target without events, faults or spare places,
+    /// which fails at the calls with these numbers.
     pub fn new(alloc: Global, fail_at: Vec<u64>) -> VecTarget
         ensures events { AreIn result [] }
         ensures faults { result.faults ≡ 0 }

@@ -3,7 +3,9 @@ ghost use Rattle.std.specs.Prelude.{◌≡◌, IfOk, string_bytes};
 ghost use Rattle.serde_json.specs.Data.{Data};
 ghost use Rattle.serde_json.specs.Written.{compact_text};
 ghost use Rattle.rec_forms.specs.Writable.{IsWritable};
-ghost use Rattle.rec_trace.specs.declared.settings.ChromeTraceMessageFormat.TheVariants.{JsonPretty};
+ghost use Rattle.rec_trace.specs.declared.settings.ChromeTraceMessageFormat.TheVariants.{
+  JsonPretty,
+};
 ghost use Rattle.rec_trace.specs.Texts.{compact_prefix, trace_end, trace_prefix};
 
 use crate::layout::lay_out;
@@ -43,8 +45,8 @@ fn compact_prefix(alloc: Global, other_data: &str) -> Result<String, AllocError>
     Ok(prefix)
 }
 
-/// Writes over several lines what stands before the events, from what stands there in one line: that is what a trace
-/// without events has before its end.
+/// Writes over several lines what stands before the events, from what stands there in one line:
+/// that is what a trace without events has before its end.
 fn pretty_prefix(alloc: Global, mut prefix: String) -> Result<Vec<u8>, AllocError>
     ensures { IfOk result
         (λ s. (other : Data) → string_bytes prefix ≡ compact_prefix other → IsWritable 8 other

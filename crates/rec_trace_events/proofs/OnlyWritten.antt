@@ -10,7 +10,9 @@ use Rattle.rec_forms.specs.Shape.{only}
 use Rattle.rec_forms.specs.Writable.{IsWritable, IfWritten}
 
 -- such a field was written
-pub only_written : {a b test : Bool} {x y : List Token} {k : List ℕ} {d : Data} {K : Type 0} → test ≡ true → (K → IsWritable 7 d)
-    → Writes a x b y ((k, Some d) ∷ []) K → Writes a x b y ((k, only test d) ∷ []) (IfWritten 7 (only test d))
+pub only_written : {a b test : Bool} {x y : List Token} {k : List ℕ} {d : Data} {K : Type 0}
+    → test ≡ true → (K → IsWritable 7 d)
+    → Writes a x b y ((k, Some d) ∷ []) K
+    → Writes a x b y ((k, only test d) ∷ []) (IfWritten 7 (only test d))
 only_written {test = true} holds says w = saying says w
 only_written {test = false} holds says w = absurd (false≢true holds)

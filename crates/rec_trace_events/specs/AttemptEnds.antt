@@ -38,7 +38,8 @@ module _ {S O : Type 0} where
       ∷ []
 
   -- the keys from `stress_index` to `total_attempts`
-  abbrev pub last_fields : OwnedTestInstanceId → Option StressIndexSummary → TestGroup → ExecuteStatus S O → List Field
+  abbrev pub last_fields : OwnedTestInstanceId → Option StressIndexSummary → TestGroup
+      → ExecuteStatus S O → List Field
   last_fields test stress_index test_group s =
       stress_index_field stress_index
       ∷ field (codes "test_group") (test_group_value test_group)

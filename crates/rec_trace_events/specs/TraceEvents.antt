@@ -9,9 +9,14 @@ use Rattle.rec_forms.specs.Shape.{Field, field, integer, natural, optional, stru
 use Rattle.rec_trace_events.specs.Args.{given}
 use Rattle.rec_trace_events.specs.declared.counts.RunningCounts.{RunningCounts}
 use Rattle.rec_trace_events.specs.declared.counts.TestCounts.{TestCounts}
-use Rattle.rec_trace_events.specs.declared.instants.RunMark.TheVariants.{Cancelled, Paused, Continued}
+use Rattle.rec_trace_events.specs.declared.instants.RunMark.TheVariants.{
+  Cancelled,
+  Paused,
+  Continued,
+}
 use Rattle.rec_trace_events.specs.declared.instants.RunMark.{RunMark}
-use Rattle.rec_trace_events.specs.declared.rows.Category.TheVariants.{Run, Stress, SetupScript, Test}
+use Rattle.rec_trace_events.specs.declared.rows.Category.TheVariants.{Run, Stress}
+use Rattle.rec_trace_events.specs.declared.rows.Category.TheVariants.{SetupScript, Test}
 use Rattle.rec_trace_events.specs.declared.rows.Category.{Category}
 use Rattle.rec_trace_events.specs.declared.rows.Row.{Row}
 
@@ -43,7 +48,9 @@ event_fields phase name category row at =
 
 -- args are left out where there are none
 abbrev pub slice_event : List ℕ → List ℕ → Category → Row → ℤ → Option Data → Data
-slice_event phase name category row at args = struct (event_fields phase name (category_text category) row at ++ given (codes "args") args ∷ [])
+slice_event phase name category row at args =
+    struct
+    (event_fields phase name (category_text category) row at ++ given (codes "args") args ∷ [])
 
 unfoldable pub begin_event : List ℕ → Category → Row → ℤ → Option Data → Data
 begin_event name category row at args = slice_event (codes "B") name category row at args
@@ -54,7 +61,8 @@ end_event name category row at args = slice_event (codes "E") name category row 
 -- ---- metadata
 
 abbrev pub metadata_event : List ℕ → Row → Data → Data
-metadata_event name row args = struct (event_fields (codes "M") name [] row (pos 0) ++ field (codes "args") args ∷ [])
+metadata_event name row args =
+    struct (event_fields (codes "M") name [] row (pos 0) ++ field (codes "args") args ∷ [])
 
 abbrev pub name_args : List ℕ → Data
 name_args name = struct (field (codes "name") (string name) ∷ [])
@@ -72,20 +80,27 @@ place_event event row place = metadata_event event row (place_args place)
 -- the name of a process, and its place, which is that of its number
 abbrev pub process_metadata : ℕ → List ℕ → List Data
 process_metadata pid name =
-    name_event (codes "process_name") (process_row pid) name ∷ place_event (codes "process_sort_index") (process_row pid) pid ∷ []
+    name_event (codes "process_name") (process_row pid) name
+    ∷ place_event (codes "process_sort_index") (process_row pid) pid ∷ []
 
 -- the name of a row, and its place among the others of its process
 abbrev pub thread_metadata : Row → List ℕ → List Data
-thread_metadata row name = name_event (codes "thread_name") row name ∷ place_event (codes "thread_sort_index") row row.tid ∷ []
+thread_metadata row name =
+    name_event (codes "thread_name") row name ∷ place_event (codes "thread_sort_index") row row.tid
+    ∷ []
 
 -- ---- counters
 
 abbrev pub counter_event : List ℕ → ℤ → Data → Data
-counter_event name at counts = struct (event_fields (codes "C") name (category_text Run) (process_row 0) at ++ field (codes "args") counts ∷ [])
+counter_event name at counts =
+    struct (event_fields (codes "C") name (category_text Run) (process_row 0) at
+    ++ field (codes "args") counts ∷ [])
 
 -- how many tests and setup scripts run
 abbrev pub running_args : RunningCounts → Data
-running_args running = struct (field (codes "running_tests") (natural running.tests) ∷ field (codes "running_scripts") (natural running.scripts) ∷ [])
+running_args running =
+    struct (field (codes "running_tests") (natural running.tests)
+    ∷ field (codes "running_scripts") (natural running.scripts) ∷ [])
 
 unfoldable pub concurrency_event : RunningCounts → ℤ → Data
 concurrency_event running at = counter_event (codes "concurrency") at (running_args running)
@@ -96,7 +111,9 @@ test_counts s = record { passed = s.passed; flaky = s.flaky; failed = failures s
 
 abbrev pub results_args : TestCounts → Data
 results_args counts =
-    struct (field (codes "passed") (natural counts.passed) ∷ field (codes "flaky") (natural counts.flaky) ∷ field (codes "failed") (natural counts.failed) ∷ [])
+    struct
+    (field (codes "passed") (natural counts.passed) ∷ field (codes "flaky") (natural counts.flaky)
+    ∷ field (codes "failed") (natural counts.failed) ∷ [])
 
 unfoldable pub results_event : TestCounts → ℤ → Data
 results_event counts at = counter_event (codes "test results") at (results_args counts)
@@ -130,7 +147,8 @@ instant_event name category row at scope args = struct (
 
 -- a mark over the whole process
 unfoldable pub mark_event : RunMark → RunningCounts → ℤ → Data
-mark_event mark running at = instant_event (mark_name mark) Run run_row at (codes "p") (mark_args mark running)
+mark_event mark running at =
+    instant_event (mark_name mark) Run run_row at (codes "p") (mark_args mark running)
 
 -- on one row
 unfoldable pub slow_event : Category → Row → ℤ → Data → Data
@@ -139,11 +157,14 @@ slow_event category row at args = instant_event (codes "slow") category row at (
 -- ---- arrows, from a failed attempt to the next one
 
 abbrev pub arrow_fields : List ℕ → Row → ℤ → ℕ → List Field
-arrow_fields phase row at id = event_fields phase (codes "retry") (category_text Test) row at ++ field (codes "id") (natural id) ∷ []
+arrow_fields phase row at id =
+    event_fields phase (codes "retry") (category_text Test) row at
+    ++ field (codes "id") (natural id) ∷ []
 
 unfoldable pub arrow_start : Row → ℤ → ℕ → Data
 arrow_start row at id = struct (arrow_fields (codes "s") row at id)
 
 -- it ends at the slice that begins there
 unfoldable pub arrow_finish : Row → ℤ → ℕ → Data
-arrow_finish row at id = struct (arrow_fields (codes "f") row at id ++ field (codes "bp") (string (codes "e")) ∷ [])
+arrow_finish row at id =
+    struct (arrow_fields (codes "f") row at id ++ field (codes "bp") (string (codes "e")) ∷ [])

@@ -4,7 +4,8 @@ ghost use Rattle.rec_forms.specs.Groups.{test_group_value};
 ghost use Rattle.rec_forms.specs.ObjectWriting.{Writes};
 ghost use Rattle.rec_forms.specs.Writable.{EachWritten, IsWritable};
 ghost use Rattle.rec_trace_events.specs.Args.{counted_flaky_result};
-ghost use Rattle.rec_trace_events.specs.AttemptEnds.{first_fields, group_or_global, last_fields, middle_fields};
+ghost use Rattle.rec_trace_events.specs.AttemptEnds.{first_fields, group_or_global};
+ghost use Rattle.rec_trace_events.specs.AttemptEnds.{last_fields, middle_fields};
 
 use crate::args::Args;
 use crate::error_args::with_attempt_error;

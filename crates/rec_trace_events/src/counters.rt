@@ -1,7 +1,11 @@
 //! The counters of a trace.
 ghost use Rattle.std.specs.Prelude.{◌≡◌, IfOk};
 ghost use Rattle.rec_trace_events.specs.EventTexts.{event_value};
-ghost use Rattle.rec_trace_events.specs.TraceEvents.{concurrency_event, counter_event, results_event};
+ghost use Rattle.rec_trace_events.specs.TraceEvents.{
+  concurrency_event,
+  counter_event,
+  results_event,
+};
 
 use crate::args::Args;
 use crate::counts::{RunningCounts, TestCounts};

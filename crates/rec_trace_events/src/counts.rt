@@ -26,8 +26,8 @@ pub struct TestCounts {
 }
 
 impl TestCounts {
-    /// Takes the counts from those of a run. `None` exactly where the number of tests that failed, for any
-    /// cause, is no `usize`.
+    /// Takes the counts from those of a run. `None` exactly where the number of tests that failed,
+    /// for any cause, is no `usize`.
     pub fn of(stats: &RunStats) -> Option<TestCounts>
         ensures some { IsSome result ↔ (failures stats.now < 2 ^ 64) }
         ensures value { IfSome result (λ counts. counts ≡ test_counts stats.now) }

@@ -69,7 +69,8 @@ fn with_flaky_error(
     }
 }
 
-/// Writes the summary of an attempt's error, or else what is said of a flaky test, where there is one.
+/// Writes the summary of an attempt's error, or else what is said of a flaky test,
+/// where there is one.
 ///
 /// # Errors
 ///

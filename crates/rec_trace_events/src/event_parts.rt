@@ -1,5 +1,6 @@
 //! What an event of a trace has beside its args.
-ghost use Rattle.std.specs.Prelude.{◌≡◌, ◌++◌, [], ◌∷◌, IfSome, OnOk, codes, option_copied, option_map};
+ghost use Rattle.std.specs.Prelude.{◌≡◌, ◌++◌, [], ◌∷◌, IfSome, OnOk};
+ghost use Rattle.std.specs.Prelude.{codes, option_copied, option_map};
 ghost use Rattle.serde_json.specs.Data.{string};
 ghost use Rattle.rec_json.specs.Tokens.{value_tokens, with_field};
 ghost use Rattle.rec_events.specs.Names.{IsText};

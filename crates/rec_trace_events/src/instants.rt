@@ -1,7 +1,8 @@
 //! What happens at one instant: marks of the whole run, and what is slow.
 ghost use Rattle.std.specs.Prelude.{◌≡◌, IfOk};
 ghost use Rattle.rec_trace_events.specs.EventTexts.{event_value};
-ghost use Rattle.rec_trace_events.specs.TraceEvents.{instant_event, mark_event, mark_name, mark_reason, slow_event};
+ghost use Rattle.rec_trace_events.specs.TraceEvents.{instant_event, mark_event};
+ghost use Rattle.rec_trace_events.specs.TraceEvents.{mark_name, mark_reason, slow_event};
 
 use crate::args::Args;
 use crate::counts::RunningCounts;

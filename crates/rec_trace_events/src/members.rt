@@ -3,7 +3,8 @@ ghost use Rattle.std.specs.Prelude.{◌<◌, ◌^◌, [], ◌∷◌, Some, codes
 ghost use Rattle.rec_forms.specs.ObjectWriting.{Writes};
 ghost use Rattle.rec_forms.specs.Stress.{count_or_null};
 ghost use Rattle.rec_forms.specs.Writable.{IfWritten, IsWritable};
-ghost use Rattle.rec_trace_events.specs.Args.{command_line_field, delay_field, stress_index_args, stress_index_field};
+ghost use Rattle.rec_trace_events.specs.Args.{command_line_field, delay_field};
+ghost use Rattle.rec_trace_events.specs.Args.{stress_index_args, stress_index_field};
 
 use rec_events::{Duration, Items, NonZeroCount, StressIndexSummary, Text};
 use rec_forms::ObjectWriter;

@@ -1,7 +1,8 @@
 //! The names of processes and rows, and their order.
 ghost use Rattle.std.specs.Prelude.{◌≡◌, [], ◌∷◌, map, IfOk};
 ghost use Rattle.rec_trace_events.specs.EventTexts.{event_value};
-ghost use Rattle.rec_trace_events.specs.TraceEvents.{metadata_event, name_event, place_event, process_metadata, thread_metadata};
+ghost use Rattle.rec_trace_events.specs.TraceEvents.{metadata_event, name_event, place_event};
+ghost use Rattle.rec_trace_events.specs.TraceEvents.{process_metadata, thread_metadata};
 
 use crate::args::Args;
 use crate::event::{TraceEvent, event};
@@ -125,8 +126,8 @@ pub fn process_metadata(alloc: Global, pid: u64, name: &str) -> Result<Vec<Trace
     name_and_place(alloc, "process_name", "process_sort_index", row, name, pid)
 }
 
-/// Makes the events that name a row and say its place among the others of its process, which is that of its
-/// number.
+/// Makes the events that name a row and say its place among the others of its process, which is
+/// that of its number.
 ///
 /// # Errors
 ///

@@ -7,7 +7,8 @@ use rec_forms::ObjectWriter;
 use rec_json::JsonText;
 use std::alloc::{AllocError, Global};
 
-/// Holds the args of the begin of a test's first attempt. A command line without a word is left out.
+/// Holds the args of the begin of a test's first attempt.
+/// A command line without a word is left out.
 #[derive(Drop)]
 pub struct TestBeginArgs<'a> {
     /// The test.

@@ -1,4 +1,5 @@
-//! Trace events that are handed on one by one, to a target that takes them all and to one that fails.
+//! Trace events that are handed on one by one, to a target that takes them all and to one that
+//! fails.
 
 use crate::logs::log;
 use rec_codec::LineIter;
@@ -31,7 +32,8 @@ fn processed(
     name
 }
 
-/// Hands the events of a log to the builder, and names what becomes of each, and in which state the builder is then.
+/// Hands the events of a log to the builder, and names what becomes of each,
+/// and in which state the builder is then.
 fn handed(
     alloc: Global,
     builder: &mut TraceBuilder<'_, VecTarget>,
@@ -94,7 +96,8 @@ fn phases(alloc: Global, events: &[TraceEvent]) -> Result<String, AllocError> {
     Ok(text)
 }
 
-/// What becomes of the events of a log, where the target fails at the call of this number, and the phases of what it took.
+/// What becomes of the events of a log, where the target fails at the call of this number,
+/// and the phases of what it took.
 fn taken(alloc: Global, log: &str, failed: u64) -> Result<String, Fail> {
     let version = Version::parse(alloc, "0.9.111")?;
     let mut target = VecTarget::new(alloc, vec![in alloc; failed]?);
@@ -107,7 +110,8 @@ fn taken(alloc: Global, log: &str, failed: u64) -> Result<String, Fail> {
     Ok(format!(in alloc; "{traced}; {phases}")?)
 }
 
-/// Asserts what becomes of the events of so many first lines, where the target fails at the call of this number.
+/// Asserts what becomes of the events of so many first lines,
+/// where the target fails at the call of this number.
 fn check(
     rt: &impl Abort,
     alloc: Global,
@@ -125,19 +129,36 @@ fn check(
 
 /// A test that starts, is interrupted by a pause, and ends.
 fn interrupted_test() -> &'static str {
-    r#"taken 1000 "test-instance":{"binary-id":"alpha::a","test-name":"t1"},"running":1,"kind":"test-started","slot-assignment":{"global-slot":0,"test-group":"@global"},"current-stats":$stats$,"command-line":[]
-taken 1001 "kind":"run-paused","setup-scripts-running":0,"running":1
-taken 1002 "kind":"run-continued","setup-scripts-running":0,"running":1
-taken 1003 "test-instance":{"binary-id":"alpha::a","test-name":"t1"},"running":0,$passed$,"current-stats":$stats$
-"#
+    concat!(
+        r#"taken 1000 "test-instance":{"binary-id":"alpha::a","test-name":"t1"},"running":1,"#,
+        r#""kind":"test-started","slot-assignment":{"global-slot":0,"test-group":"@global"},"#,
+        r#""current-stats":$stats$,"command-line":[]"#,
+        "\n",
+        r#"taken 1001 "kind":"run-paused","setup-scripts-running":0,"running":1"#,
+        "\n",
+        r#"taken 1002 "kind":"run-continued","setup-scripts-running":0,"running":1"#,
+        "\n",
+        r#"taken 1003 "test-instance":{"binary-id":"alpha::a","test-name":"t1"},"running":0,"#,
+        r#"$passed$,"current-stats":$stats$"#,
+        "\n"
+    )
 }
 
 /// A test that starts, another one that starts on its slot, and the end of the first.
 fn busy_slot() -> &'static str {
-    r#"taken 1000 "test-instance":{"binary-id":"alpha::a","test-name":"t1"},"running":1,"kind":"test-started","slot-assignment":{"global-slot":0,"test-group":"@global"},"current-stats":$stats$,"command-line":[]
-refused 1001 "test-instance":{"binary-id":"alpha::a","test-name":"t2"},"running":2,"kind":"test-started","slot-assignment":{"global-slot":0,"test-group":"@global"},"current-stats":$stats$,"command-line":[]
-taken 1002 "test-instance":{"binary-id":"alpha::a","test-name":"t1"},"running":1,$passed$,"current-stats":$stats$
-"#
+    concat!(
+        r#"taken 1000 "test-instance":{"binary-id":"alpha::a","test-name":"t1"},"running":1,"#,
+        r#""kind":"test-started","slot-assignment":{"global-slot":0,"test-group":"@global"},"#,
+        r#""current-stats":$stats$,"command-line":[]"#,
+        "\n",
+        r#"refused 1001 "test-instance":{"binary-id":"alpha::a","test-name":"t2"},"running":2,"#,
+        r#""kind":"test-started","slot-assignment":{"global-slot":0,"test-group":"@global"},"#,
+        r#""current-stats":$stats$,"command-line":[]"#,
+        "\n",
+        r#"taken 1002 "test-instance":{"binary-id":"alpha::a","test-name":"t1"},"running":1,"#,
+        r#"$passed$,"current-stats":$stats$"#,
+        "\n"
+    )
 }
 
 #[test]
@@ -154,15 +175,24 @@ fn each_trace_event_is_handed_on_at_once(rt: HostRuntime) -> Result<(), Fail> {
             ),
             (
                 2,
-                "taken, taken, sound, holding 6, with {\"nextest_version\":\"0.9.111\"}; MMMMBCCEMMMMi",
+                concat!(
+                    "taken, taken, sound, holding 6,",
+                    r#" with {"nextest_version":"0.9.111"}; MMMMBCCEMMMMi"#
+                ),
             ),
             (
                 3,
-                "taken, taken, taken, sound, holding 6, with {\"nextest_version\":\"0.9.111\"}; MMMMBCCEMMMMiCiB",
+                concat!(
+                    "taken, taken, taken, sound, holding 6,",
+                    r#" with {"nextest_version":"0.9.111"}; MMMMBCCEMMMMiCiB"#
+                ),
             ),
             (
                 4,
-                "taken, taken, taken, taken, sound, holding 5, with {\"nextest_version\":\"0.9.111\"}; MMMMBCCEMMMMiCiBECC",
+                concat!(
+                    "taken, taken, taken, taken, sound, holding 5,",
+                    r#" with {"nextest_version":"0.9.111"}; MMMMBCCEMMMMiCiBECC"#
+                ),
             ),
         ],
     )
@@ -177,7 +207,10 @@ fn a_target_that_fails_ends_the_trace(rt: HostRuntime) -> Result<(), Fail> {
         3,
         &[(
             4,
-            "target fault, failed, failed, failed, failed, holding 0, with {\"nextest_version\":\"0.9.111\"}; MM",
+            concat!(
+                "target fault, failed, failed, failed, failed, holding 0,",
+                r#" with {"nextest_version":"0.9.111"}; MM"#
+            ),
         )],
     )
 }
@@ -191,7 +224,10 @@ fn a_refused_event_is_not_handed_on(rt: HostRuntime) -> Result<(), Fail> {
         0,
         &[(
             3,
-            "taken, refused, taken, sound, holding 3, with {\"nextest_version\":\"0.9.111\"}; MMMMBCECC",
+            concat!(
+                "taken, refused, taken, sound, holding 3,",
+                r#" with {"nextest_version":"0.9.111"}; MMMMBCECC"#
+            ),
         )],
     )
 }

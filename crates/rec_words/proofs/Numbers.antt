@@ -1,7 +1,9 @@
 -- What `parse` gives for a text with no sign.
-use Rattle.std.proofs.Common.{◌≡◌, ◌≢◌, ℕ, List, [], ◌∷◌, None, Result, Ok, Err, true, refl, arith, get_or}
+use Rattle.std.proofs.Common.{◌≡◌, ◌≢◌, ℕ, List, [], ◌∷◌, None, Result}
+use Rattle.std.proofs.Common.{Ok, Err, true, refl, arith, get_or}
 use Rattle.std.proofs.lemmas.Bool.Decides.{nat_tests}
-use Rattle.std.proofs.lemmas.Str.Parse.{IsNumeralModel, numerals_by_value, tells_all_ascii_digits, parse_plain}
+use Rattle.std.proofs.lemmas.Str.Parse.{IsNumeralModel, numerals_by_value}
+use Rattle.std.proofs.lemmas.Str.Parse.{tells_all_ascii_digits, parse_plain}
 use Rattle.std.specs.Result.{result_ok}
 use Rattle.std.specs.Str.Parse.{ParsesUnsigned, digits_value}
 use Rattle.std.specs.Str.{all_ascii_digits}
@@ -16,7 +18,10 @@ unfolding number_of
 number_of_signed [] h = refl
 number_of_signed (c ∷ cs) h = rw h refl
 
-pub number_of_plain : {E : Type 0} (text : List ℕ) (r : Result ℕ E) → ParsesUnsigned 64 10 text r → get_or text 0 0 ≢ 43 → result_ok r ≡ number_of text
+pub number_of_plain : {E : Type 0} (text : List ℕ) (r : Result ℕ E) → ParsesUnsigned 64 10 text r
+    → get_or text 0 0 ≢ 43 → result_ok r ≡ number_of text
 unfolding number_of
-number_of_plain {E = E} text (Ok n) h plain = let is = parse_plain own {E = E} 64 text (Ok n) h plain in grind (arith, nat_tests, is)
-number_of_plain {E = E} text (Err e) h plain = let is = parse_plain own {E = E} 64 text (Err e) h plain in grind (arith, nat_tests, is)
+number_of_plain {E = E} text (Ok n) h plain =
+    let is = parse_plain own {E = E} 64 text (Ok n) h plain in grind (arith, nat_tests, is)
+number_of_plain {E = E} text (Err e) h plain =
+    let is = parse_plain own {E = E} 64 text (Err e) h plain in grind (arith, nat_tests, is)

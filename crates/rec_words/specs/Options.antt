@@ -1,6 +1,8 @@
 -- The options of the commands, and the settings that they give.
 use Rattle.std.specs.Option.{ok_or}
-use Rattle.std.specs.Prelude.{ℕ, ◌+◌, ◌^◌, List, [], ◌∷◌, length, nat_lt, ◌&&◌, Bool, true, false, Option, Some, None, is_some, option_map, option_and_then, unwrap_or, Result, Ok, Err, codes, if◌then◌else◌}
+use Rattle.std.specs.Prelude.{ℕ, ◌+◌, ◌^◌, List, [], ◌∷◌, length, nat_lt, ◌&&◌, Bool, true}
+use Rattle.std.specs.Prelude.{false, Option, Some, None, is_some, option_map, option_and_then}
+use Rattle.std.specs.Prelude.{unwrap_or, Result, Ok, Err, codes, if◌then◌else◌}
 use Rattle.std.specs.Str.Parse.{digits_value}
 use Rattle.std.specs.Str.{bytes_eq, all_ascii_digits}
 use Rattle.rec_container.specs.Reading.{◌>>=◌}
@@ -10,13 +12,21 @@ use Rattle.rec_spans.specs.declared.settings.ChromeTraceGroupBy.TheVariants.{Bin
 use Rattle.rec_spans.specs.declared.settings.ChromeTraceGroupBy.{ChromeTraceGroupBy}
 use Rattle.rec_trace.specs.declared.settings.ChromeTraceMessageFormat.TheVariants.{Json, JsonPretty}
 use Rattle.rec_trace.specs.declared.settings.ChromeTraceMessageFormat.{ChromeTraceMessageFormat}
-use Rattle.rec_errors.specs.declared.words_error.WordsError.TheVariants.{UnknownOption, RepeatedOption, MissingValue, BadValue}
+use Rattle.rec_errors.specs.declared.words_error.WordsError.TheVariants.{
+  UnknownOption,
+  RepeatedOption,
+  MissingValue,
+  BadValue,
+}
 use Rattle.rec_errors.specs.declared.words_error.WordsError.{WordsError}
 use Rattle.rec_export.specs.declared.settings.Settings.{Settings}
 use Rattle.rec_export.specs.Settings.{default_settings}
-use Rattle.rec_words.specs.declared.options.CommandName.TheVariants.{Record, Trace, Replay, Sample, Upgrade, Salvage}
+use Rattle.rec_words.specs.declared.options.CommandName.TheVariants.{Record, Trace, Replay}
+use Rattle.rec_words.specs.declared.options.CommandName.TheVariants.{Sample, Upgrade, Salvage}
 use Rattle.rec_words.specs.declared.options.CommandName.{CommandName}
-use Rattle.rec_words.specs.declared.options.OptionName.TheVariants.{GroupBy, MessageFormat, MaxOutput, ReadLimit, SessionLimit, Output}
+use Rattle.rec_words.specs.declared.options.OptionName.TheVariants.{GroupBy, MessageFormat}
+use Rattle.rec_words.specs.declared.options.OptionName.TheVariants.{MaxOutput, ReadLimit}
+use Rattle.rec_words.specs.declared.options.OptionName.TheVariants.{SessionLimit, Output}
 use Rattle.rec_words.specs.declared.options.OptionName.{OptionName}
 use Rattle.rec_words.specs.declared.options.OptionValues.{OptionValues}
 
@@ -58,7 +68,8 @@ takes command Output = replays command
 takes command ReadLimit = true
 takes command SessionLimit = true
 
--- the index of the word at which the options of a command begin: its name and its positional words stand before
+-- the index of the word at which the options of a command begin:
+-- its name and its positional words stand before
 abbrev pub options_at : CommandName → ℕ
 options_at Record = 2
 options_at Sample = 3
@@ -69,7 +80,9 @@ options_at command = 1
 -- the number that one or more decimal digits write, where it fits 64 bits
 unfoldable pub number_of : List ℕ → Option ℕ
 number_of text =
-    if all_ascii_digits text && nat_lt 0 (length text) && nat_lt (digits_value 10 text) (2 ^ 64) then Some (digits_value 10 text) else None
+    if all_ascii_digits text && nat_lt 0 (length text) && nat_lt (digits_value 10 text) (2 ^ 64)
+    then Some (digits_value 10 text)
+    else None
 
 -- the number of tests of a generated session that digits write, up to 10000
 unfoldable pub tests_of : List ℕ → Option ℕ
@@ -77,19 +90,32 @@ tests_of text = option_and_then (λ n. if nat_lt 10000 n then None else Some n) 
 
 -- the grouping of a name
 unfoldable pub group_by_of : List ℕ → Option ChromeTraceGroupBy
-group_by_of word = if bytes_eq word (codes "binary") then Some Binary else if bytes_eq word (codes "slot") then Some Slot else None
+group_by_of word =
+    if bytes_eq word (codes "binary") then Some Binary
+    else if bytes_eq word (codes "slot") then Some Slot else None
 
 -- the form of a name
 unfoldable pub message_format_of : List ℕ → Option ChromeTraceMessageFormat
-message_format_of word = if bytes_eq word (codes "json") then Some Json else if bytes_eq word (codes "json-pretty") then Some JsonPretty else None
+message_format_of word =
+    if bytes_eq word (codes "json") then Some Json
+    else if bytes_eq word (codes "json-pretty") then Some JsonPretty else None
 
 -- whether outputs are loaded, by a name for it
 unfoldable pub output_of : List ℕ → Option LoadOutput
-output_of word = if bytes_eq word (codes "load") then Some Load else if bytes_eq word (codes "skip") then Some Skip else None
+output_of word =
+    if bytes_eq word (codes "load") then Some Load
+    else if bytes_eq word (codes "skip") then Some Skip else None
 
 -- no option came yet
 abbrev pub no_values : OptionValues
-no_values = record { group_by = None; message_format = None; max_output = None; read_limit = None; session_limit = None; output = None }
+no_values = record {
+  group_by = None;
+  message_format = None;
+  max_output = None;
+  read_limit = None;
+  session_limit = None;
+  output = None;
+}
 
 -- whether an option came
 abbrev pub has_come : OptionValues → OptionName → Bool
@@ -102,12 +128,18 @@ has_come values Output = is_some values.output
 
 -- the values after an option and the text of its value, where the option takes it
 abbrev pub with_value : OptionValues → OptionName → List ℕ → Option OptionValues
-with_value values GroupBy text = option_map (λ g. record values { group_by = Some g }) (group_by_of text)
-with_value values MessageFormat text = option_map (λ format. record values { message_format = Some format }) (message_format_of text)
-with_value values MaxOutput text = option_map (λ limit. record values { max_output = Some limit }) (number_of text)
-with_value values ReadLimit text = option_map (λ limit. record values { read_limit = Some limit }) (number_of text)
-with_value values SessionLimit text = option_map (λ limit. record values { session_limit = Some limit }) (number_of text)
-with_value values Output text = option_map (λ load. record values { output = Some load }) (output_of text)
+with_value values GroupBy text =
+    option_map (λ g. record values { group_by = Some g }) (group_by_of text)
+with_value values MessageFormat text =
+    option_map (λ format. record values { message_format = Some format }) (message_format_of text)
+with_value values MaxOutput text =
+    option_map (λ limit. record values { max_output = Some limit }) (number_of text)
+with_value values ReadLimit text =
+    option_map (λ limit. record values { read_limit = Some limit }) (number_of text)
+with_value values SessionLimit text =
+    option_map (λ limit. record values { session_limit = Some limit }) (number_of text)
+with_value values Output text =
+    option_map (λ load. record values { output = Some load }) (output_of text)
 
 -- the values of options, and the defaults elsewhere
 abbrev pub settings_of : OptionValues → Settings
@@ -123,20 +155,27 @@ settings_of values = record {
 abbrev pub load_of : OptionValues → LoadOutput
 load_of values = unwrap_or values.output Load
 
--- an option that a word names, that the command takes and that didn't come before, or what is wrong with it
-abbrev pub new_option : CommandName → OptionValues → ℕ → Option OptionName → Result OptionName WordsError
+-- an option that a word names, that the command takes and that didn't come before,
+-- or what is wrong with it
+abbrev pub new_option : CommandName → OptionValues → ℕ → Option OptionName
+    → Result OptionName WordsError
 new_option command values at None = Err (UnknownOption at)
 new_option command values at (Some name) =
-    if takes command name then (if has_come values name then Err (RepeatedOption at) else Ok name) else Err (UnknownOption at)
+    if takes command name then (if has_come values name then Err (RepeatedOption at) else Ok name)
+    else Err (UnknownOption at)
 
 -- the values after all words, the first of which is the word `at`; or their first fault
-abbrev pub values_from : CommandName → OptionValues → ℕ → List (List ℕ) → Result OptionValues WordsError
+abbrev pub values_from : CommandName → OptionValues → ℕ → List (List ℕ)
+    → Result OptionValues WordsError
 values_from command values at [] = Ok values
-values_from command values at (word ∷ []) = new_option command values at (option_named word) >>= (λ name. Err (MissingValue (at + 1)))
+values_from command values at (word ∷ []) =
+    new_option command values at (option_named word) >>= (λ name. Err (MissingValue (at + 1)))
 values_from command values at (word ∷ text ∷ words) =
     new_option command values at (option_named word) >>= (λ name.
-    ok_or (with_value values name text) (BadValue (at + 1)) >>= (λ more. values_from command more (at + 2) words))
+    ok_or (with_value values name text) (BadValue (at + 1))
+    >>= (λ more. values_from command more (at + 2) words))
 
 -- the settings that the options of a command give, or their first fault
 abbrev pub settings_from : CommandName → List (List ℕ) → Result Settings WordsError
-settings_from command words = values_from command no_values (options_at command) words >>= (λ values. Ok (settings_of values))
+settings_from command words =
+    values_from command no_values (options_at command) words >>= (λ values. Ok (settings_of values))

@@ -7,4 +7,5 @@ abbrev pub versions_text : List ℕ
 versions_text =
     codes "rezovamy 0.1.0\nportable recording format "
     ++ (version_text portable_version.major portable_version.minor
-    ++ (codes "\nstore format " ++ (version_text store_version.major store_version.minor ++ codes "\n")))
+    ++ (codes "\nstore format "
+    ++ (version_text store_version.major store_version.minor ++ codes "\n")))

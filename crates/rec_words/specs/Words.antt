@@ -1,23 +1,33 @@
 -- The words of the command line.
 use Rattle.std.specs.declared.alloc.Global.{Global}
 use Rattle.std.specs.Option.{ok_or}
-use Rattle.std.specs.Prelude.{◌≡◌, ◌≤◌, ℕ, List, [], ◌∷◌, map, Option, Some, None, Result, Ok, Err, String, string_bytes, codes, if◌then◌else◌, ⊤}
+use Rattle.std.specs.Prelude.{◌≡◌, ◌≤◌, ℕ, List, [], ◌∷◌, map, Option, Some, None, Result}
+use Rattle.std.specs.Prelude.{Ok, Err, String, string_bytes, codes, if◌then◌else◌, ⊤}
 use Rattle.std.specs.Str.{bytes_eq}
 use Rattle.rec_container.specs.Reading.{◌>>=◌}
 use Rattle.rec_replay.specs.declared.output_load.LoadOutput.{LoadOutput}
-use Rattle.rec_errors.specs.declared.words_error.WordsError.TheVariants.{NoCommand, UnknownCommand, MissingPositional, BadNumber}
+use Rattle.rec_errors.specs.declared.words_error.WordsError.TheVariants.{
+  NoCommand,
+  UnknownCommand,
+  MissingPositional,
+  BadNumber,
+}
 use Rattle.rec_errors.specs.declared.words_error.WordsError.{WordsError}
 use Rattle.rec_export.specs.declared.settings.Settings.{Settings}
-use Rattle.rec_words.specs.declared.options.CommandName.TheVariants.{Record, Trace, Replay, Report, Info, Slots, Rerun, Sample, Upgrade, Salvage}
+use Rattle.rec_words.specs.declared.options.CommandName.TheVariants.{Record, Trace, Replay}
+use Rattle.rec_words.specs.declared.options.CommandName.TheVariants.{Report, Info, Slots, Rerun}
+use Rattle.rec_words.specs.declared.options.CommandName.TheVariants.{Sample, Upgrade, Salvage}
 use Rattle.rec_words.specs.declared.options.CommandName.{CommandName}
 use Rattle.rec_words.specs.declared.words.BundleWords.{BundleWords}
 use Rattle.rec_words.specs.declared.words.Command.TheVariants as commands
 use Rattle.rec_words.specs.declared.words.Command.{Command}
-use Rattle.rec_words.specs.Options.{load_of, no_values, options_at, settings_from, settings_of, tests_of, values_from}
+use Rattle.rec_words.specs.Options.{load_of, no_values, options_at, settings_from}
+use Rattle.rec_words.specs.Options.{settings_of, tests_of, values_from}
 
--- what words ask for: a recording into a bundle at a path; the trace of a bundle, its events, its reports, what its manifest says, how its
--- slots were used, or which tests to run again; a recording of a generated session of so many tests; a bundle upgraded, or what is salvaged
--- of it, at a path; or a text about the program
+-- what words ask for: a recording into a bundle at a path; the trace of a bundle, its events, its
+-- reports, what its manifest says, how its slots were used, or which tests to run again; a
+-- recording of a generated session of so many tests; a bundle upgraded, or what is salvaged of it,
+-- at a path; or a text about the program
 pub data Asked : Type 0 where
   recording : List ℕ → Settings → Asked
   tracing : Settings → Asked
@@ -74,31 +84,38 @@ command_named word =
 -- the words after a command that takes a bundle alone: its path, and the options
 abbrev pub bundle_after : CommandName → List (List ℕ) → Result BundleAsked WordsError
 bundle_after name [] = Err (MissingPositional 1)
-bundle_after name (bundle ∷ words) = settings_from name words >>= (λ settings. Ok (record { path = bundle; settings = settings }))
+bundle_after name (bundle ∷ words) =
+    settings_from name words >>= (λ settings. Ok (record { path = bundle; settings = settings }))
 
--- what `sample` asks for with the words after its number of tests: the path of the bundle, and then its options
+-- what `sample` asks for with the words after its number of tests: the path of the bundle,
+-- and then its options
 abbrev pub sample_after : ℕ → List (List ℕ) → Result Asked WordsError
 sample_after n [] = Err (MissingPositional 2)
-sample_after n (bundle ∷ words) = settings_from Sample words >>= (λ settings. Ok (sampling n bundle settings))
+sample_after n (bundle ∷ words) =
+    settings_from Sample words >>= (λ settings. Ok (sampling n bundle settings))
 
 -- what a command asks for with the words after its name: its positional words, and then its options
 abbrev pub command_after : CommandName → List (List ℕ) → Result Asked WordsError
 command_after Record words = bundle_after Record words >>= (λ b. Ok (recording b.path b.settings))
 command_after Trace words = settings_from Trace words >>= (λ settings. Ok (tracing settings))
-command_after Replay words = values_from Replay no_values (options_at Replay) words >>= (λ values. Ok (replaying (load_of values) (settings_of values)))
+command_after Replay words =
+    values_from Replay no_values (options_at Replay) words
+    >>= (λ values. Ok (replaying (load_of values) (settings_of values)))
 command_after Report words = settings_from Report words >>= (λ settings. Ok (reporting settings))
 command_after Info words = settings_from Info words >>= (λ settings. Ok (informing settings))
 command_after Slots words = settings_from Slots words >>= (λ settings. Ok (slotting settings))
 command_after Rerun words = settings_from Rerun words >>= (λ settings. Ok (rerunning settings))
 command_after Sample [] = Err (MissingPositional 1)
-command_after Sample (number ∷ words) = ok_or (tests_of number) (BadNumber 1) >>= (λ n. sample_after n words)
+command_after Sample (number ∷ words) =
+    ok_or (tests_of number) (BadNumber 1) >>= (λ n. sample_after n words)
 command_after Upgrade words = bundle_after Upgrade words >>= (λ b. Ok (upgrading b.path b.settings))
 command_after Salvage words = bundle_after Salvage words >>= (λ b. Ok (salvaging b.path b.settings))
 
 -- what a word asks for that is the name of no such command, with the words after it
 abbrev pub other_command : List ℕ → List (List ℕ) → Result Asked WordsError
 other_command word [] =
-    if bytes_eq word (codes "--help") then Ok help else if bytes_eq word (codes "--version") then Ok version else Err (UnknownCommand 0)
+    if bytes_eq word (codes "--help") then Ok help
+    else if bytes_eq word (codes "--version") then Ok version else Err (UnknownCommand 0)
 other_command word (next ∷ words) = Err (UnknownCommand 0)
 
 -- what the first word asks for, by the command that it names, with the words after it

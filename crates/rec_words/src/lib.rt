@@ -1,5 +1,5 @@
-//! The words of the command line: the commands and their options, the faults of words, and the texts that say how the program
-//! is used.
+//! The words of the command line: the commands and their options, the faults of words, and the
+//! texts that say how the program is used.
 #![tactic(auto)]
 
 mod options;

@@ -1,6 +1,9 @@
 //! The options of the commands.
 ghost use Rattle.std.specs.Prelude.{◌≡◌, ◌≤◌, IfSome};
-ghost use Rattle.rec_words.specs.Options.{draws, group_by_of, has_come, load_of, message_format_of, new_option, no_values, number_of, option_named, options_at, output_of, records, replays, settings_from, settings_of, takes, tests_of, values_from, with_value};
+ghost use Rattle.rec_words.specs.Options.{draws, group_by_of, has_come, load_of, message_format_of};
+ghost use Rattle.rec_words.specs.Options.{new_option, no_values, number_of, option_named};
+ghost use Rattle.rec_words.specs.Options.{options_at, output_of, records, replays, settings_from};
+ghost use Rattle.rec_words.specs.Options.{settings_of, takes, tests_of, values_from, with_value};
 ghost use Rattle.rec_words.specs.Words.{texts};
 
 use rec_errors::WordsError;
@@ -241,8 +244,8 @@ impl OptionValues {
 ///
 /// # Errors
 ///
-/// The first fault from the left. At one option it is judged whether the command takes it, whether it
-/// came before, whether a value follows, and whether it takes that value, in this order.
+/// The first fault from the left. At one option it is judged whether the command takes it, whether
+/// it came before, whether a value follows, and whether it takes that value, in this order.
 pub fn read_settings(command: CommandName, words: &[String]) -> Result<Settings, WordsError>
     ensures { result ≡ settings_from command (texts words.now) }
 {

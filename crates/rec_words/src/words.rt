@@ -1,8 +1,11 @@
 //! The words of the command line.
 ghost use Rattle.std.specs.Option.{option_map};
 ghost use Rattle.std.specs.Prelude.{◌≡◌, ◌≤◌, IfOk};
-ghost use Rattle.rec_words.specs.declared.options.CommandName.TheVariants.{Record, Replay, Sample, Salvage, Upgrade};
-ghost use Rattle.rec_words.specs.Words.{texts, bundle_after, command, command_after, command_named, other_command, bundle_of, sample_after, HasTests, Reads, ReadsBundle};
+ghost use Rattle.rec_words.specs.declared.options.CommandName.TheVariants.{Record, Replay, Sample};
+ghost use Rattle.rec_words.specs.declared.options.CommandName.TheVariants.{Salvage, Upgrade};
+ghost use Rattle.rec_words.specs.Words.{texts, bundle_after, command, command_after};
+ghost use Rattle.rec_words.specs.Words.{command_named, other_command, bundle_of};
+ghost use Rattle.rec_words.specs.Words.{sample_after, HasTests, Reads, ReadsBundle};
 
 use crate::options::{CommandName, read_options, read_settings, tests};
 use rec_errors::WordsError;
@@ -36,7 +39,8 @@ pub enum Command<'w> {
     Info {
         settings: Settings,
     },
-    /// Prints how long each slot of the run in the bundle on standard input was busy, paused and idle.
+    /// Prints how long each slot of the run in the bundle on standard input was busy,
+    /// paused and idle.
     Slots {
         settings: Settings,
     },
@@ -50,12 +54,14 @@ pub enum Command<'w> {
         bundle: &'w str,
         settings: Settings,
     },
-    /// Writes the bundle on standard input anew into the file `bundle`, as it would be recorded today.
+    /// Writes the bundle on standard input anew into the file `bundle`,
+    /// as it would be recorded today.
     Upgrade {
         bundle: &'w str,
         settings: Settings,
     },
-    /// Writes what is whole in the bundle on standard input, whose recording was stopped, into the file `bundle`.
+    /// Writes what is whole in the bundle on standard input, whose recording was stopped,
+    /// into the file `bundle`.
     Salvage {
         bundle: &'w str,
         settings: Settings,
@@ -105,7 +111,8 @@ fn command_named(word: &str) -> Option<CommandName>
     }
 }
 
-/// Reads the words after the name of a command: its positional words, and options with their values.
+/// Reads the words after the name of a command: its positional words,
+/// and options with their values.
 fn read_command(name: CommandName, words: &[String]) -> Result<Command<'_>, WordsError>
     ensures reads { Reads result (command_after name (texts words.now)) }
     ensures within { IfOk result HasTests }

@@ -17,7 +17,8 @@ fn words_of<R: Env + AllocGlobal>(rt: &R) -> io::Result<Vec<String>> {
     Ok(words)
 }
 
-/// Returns the status where the words can't be had. Only for a word that isn't UTF-8 there is no line.
+/// Returns the status where the words can't be had.
+/// Only for a word that isn't UTF-8 there is no line.
 fn status_without_words<G: Sink>(error: &io::Error, diag: &mut G) -> u8 {
     match error.kind() {
         io::ErrorKind::OutOfMemory => status_without_memory(diag),
@@ -39,7 +40,8 @@ fn path_of(alloc: Global, words: &[String]) -> Result<String, AllocError>
     String::from_str(alloc, bundle_path(words).unwrap_or(""))
 }
 
-/// Does what the words ask for with the standard streams and the bundle's file, and returns the status.
+/// Does what the words ask for with the standard streams and the bundle's file,
+/// and returns the status.
 fn status_of<R: AllocGlobal + Files + Input + Print, G: Sink>(
     rt: &R,
     words: &[String],
@@ -55,8 +57,8 @@ fn status_of<R: AllocGlobal + Files + Input + Print, G: Sink>(
 }
 
 fn main(rt: HostRuntime) -> ExitCode {
-    // Where a standard stream is closed, the next file that is opened would take its place. So these are
-    // opened first: the root folder can neither be read nor written as a file.
+    // Where a standard stream is closed, the next file that is opened would take its place. So
+    // these are opened first: the root folder can neither be read nor written as a file.
     let _first = fs::open(&rt, "/").ok();
     let _second = fs::open(&rt, "/").ok();
     let _third = fs::open(&rt, "/").ok();

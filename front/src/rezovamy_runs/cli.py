@@ -1,20 +1,26 @@
-"""The words of the front end: which command they ask for, and what becomes of a fault.
+"""The words of the front end: which command they ask for, and what becomes of a fault."""
 
-A command is a module of this package with SUMMARY, a line for `--help`; `add_options(parser)`; and `run(words)`, which answers
-the status. Where it has TAKES_REST, what stands after a word `--` is handed over as `words.rest`.
-"""
+from __future__ import annotations
 
 import argparse
+import gc
 import importlib
-import os
+import io
 import sys
+from collections.abc import Sequence
+from typing import TYPE_CHECKING, NoReturn, Protocol
 
-from rezovamy_runs.command_line import say
+from rezovamy_runs.command_line import discard, say
 from rezovamy_runs.faults.fault import Fault
+
+if TYPE_CHECKING:
+    from rezovamy_runs.commands import again, compare, explain, flaky, junit
+    from rezovamy_runs.commands import list as list_command
+    from rezovamy_runs.commands import page, prune, show, test, trace
 
 PROGRAM = "rezovamy-runs"
 ABOUT = "Records the test runs of a Rust workspace, and shows what was recorded."
-# The commands in the order of `--help`; a module of `commands` has the name of each.
+# The commands in the order of `--help`.
 COMMANDS = (
     "test",
     "again",
@@ -29,78 +35,104 @@ COMMANDS = (
     "explain",
 )
 WRONG_WORDS, INTERRUPTED, BROKEN_PIPE = 2, 130, 141
+# A run is many values that go all at once, and to look for circles among them takes longer than
+# to read them.
+VALUES_BEFORE_A_LOOK = 1_000_000
+
+
+class Command(Protocol):
+    """A command, which is a module of `commands` with its name."""
+
+    # A line for `--help`.
+    SUMMARY: str
+    # Whether what stands after a word `--` is handed over as `words.rest`.
+    TAKES_REST: bool
+
+    def add_options(self, parser: argparse.ArgumentParser) -> None:
+        """Let a parser take the options."""
+
+    def run(self, words: argparse.Namespace) -> int:
+        """Do what the words ask for, and return the status."""
 
 
 class Parser(argparse.ArgumentParser):
     """A parser whose faults are one line."""
 
-    def error(self, message):
+    def error(self, message: str) -> NoReturn:
+        """End with a fault of the words."""
         raise Fault(f"{message}; `{self.prog} --help` says what is taken", WRONG_WORDS)
 
 
-def module_of(command):
+def module_of(command: str) -> Command:
+    """Return a command by its name; no other one is imported."""
     return importlib.import_module(f"rezovamy_runs.commands.{command}")
 
 
-def parser(names=COMMANDS):
-    """The parser of all commands, or of the named ones."""
+def parser(names: Sequence[str] = COMMANDS) -> Parser:
+    """Return the parser of all commands, or of the named ones."""
     made = Parser(prog=PROGRAM, description=ABOUT, allow_abbrev=False)
     commands = made.add_subparsers(dest="command", metavar="COMMAND", parser_class=Parser)
-    for command in names:
-        module = module_of(command)
+    for name in names:
+        command = module_of(name)
         of_command = commands.add_parser(
-            command, help=module.SUMMARY, description=module.SUMMARY, allow_abbrev=False
+            name, help=command.SUMMARY, description=command.SUMMARY, allow_abbrev=False
         )
-        module.add_options(of_command)
+        command.add_options(of_command)
     return made
 
 
-def run(arguments):
-    """Does what the words ask for, and answers the status."""
-    command = arguments[0] if arguments else None
-    takes_rest = command in COMMANDS and getattr(module_of(command), "TAKES_REST", False)
-    rest = []
-    if takes_rest and "--" in arguments:
-        place = arguments.index("--")
-        arguments, rest = arguments[:place], arguments[place + 1 :]
-    words = (parser([command]) if command in COMMANDS else parser()).parse_args(arguments)
+def split_rest(arguments: list[str]) -> tuple[list[str], list[str]]:
+    """Return the words of the front end, and those behind a `--` if the command takes them."""
+    takes_rest = bool(arguments) and arguments[0] in COMMANDS and module_of(arguments[0]).TAKES_REST
+    if not takes_rest or "--" not in arguments:
+        return arguments, []
+    place = arguments.index("--")
+    return arguments[:place], arguments[place + 1 :]
+
+
+def run(arguments: list[str]) -> int:
+    """Do what the words ask for, and return the status."""
+    own, rest = split_rest(arguments)
+    words = parser(own[:1] if own and own[0] in COMMANDS else COMMANDS).parse_args(own)
     words.rest = rest
     if words.command is None:
         raise Fault(
-            f"a command is wanted, one of {', '.join(COMMANDS)}; `{PROGRAM} --help` says what each does",
+            f"a command is wanted, one of {', '.join(COMMANDS)}; "
+            f"`{PROGRAM} --help` says what each does",
             WRONG_WORDS,
         )
     return module_of(words.command).run(words)
 
 
-def settle_streams():
-    """Lets the streams spell what their encoding doesn't have."""
+def settle_streams() -> None:
+    """Let the streams spell what their encoding doesn't have."""
     for stream in (sys.stdout, sys.stderr):
-        if stream is not None:
+        if isinstance(stream, io.TextIOWrapper):
             stream.reconfigure(errors="backslashreplace")
 
 
-def give_up_output():
-    """Lets nothing more be written to standard output, where it can't be."""
+def give_up_output() -> None:
+    """Let nothing more be written to standard output, where it can't be."""
     if sys.stdout is not None:
-        os.dup2(os.open(os.devnull, os.O_WRONLY), sys.stdout.fileno())
+        discard(sys.stdout)
 
 
-def complain(line):
-    """Says a fault, where somebody listens."""
+def complain(line: str) -> None:
+    """Say a fault, where somebody listens."""
     try:
         say(f"{PROGRAM}: {line}")
     except (OSError, ValueError):
         pass
 
 
-def told(status):
-    """The status as a process can tell it, by one byte; none but 0 becomes 0."""
+def told(status: int) -> int:
+    """Return the status as a process can tell it, by one byte; none but 0 becomes 0."""
     return status & 255 or int(status != 0)
 
 
-def main():
-    """Runs the front end on the words of the process, and answers its status."""
+def main() -> int:
+    """Run the front end on the words of the process, and return its status."""
+    gc.set_threshold(VALUES_BEFORE_A_LOOK)
     settle_streams()
     try:
         status = run(sys.argv[1:])
@@ -120,6 +152,24 @@ def main():
         give_up_output()
         where = error.filename or "standard output or a file"
         complain(
-            f"{where} can't be read or written: {error.strerror or error}; make room or give access, and try again"
+            f"{where} can't be read or written: {error.strerror or error}; "
+            "make room or give access, and try again"
         )
         return 1
+
+
+if TYPE_CHECKING:
+    # Each of these modules is a command.
+    CHECKED: tuple[Command, ...] = (
+        test,
+        again,
+        list_command,
+        show,
+        page,
+        trace,
+        junit,
+        compare,
+        flaky,
+        prune,
+        explain,
+    )

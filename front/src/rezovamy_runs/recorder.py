@@ -1,23 +1,47 @@
-"""The built program: where it is, and what it answers."""
+"""The built program: where it is, and what it answers. Nothing else starts it."""
+
+from __future__ import annotations
 
 import os
 import pathlib
 import shutil
 import signal
 import subprocess
+from collections.abc import Sequence
+from typing import IO, Protocol
 
+from rezovamy_runs.bundles import bundle
 from rezovamy_runs.faults import file_kinds
 from rezovamy_runs.faults.causes import Call
 from rezovamy_runs.faults.explain import explain_or_show
 from rezovamy_runs.faults.fault import Fault
+from rezovamy_runs.store.run_folder import Store
 
-# The folder that holds the package's `src`: `front` of a clone, or `lib/rezovamy` of an installation.
+# The folder that holds the package's `src`: `front` of a clone, or `lib/rezovamy` of an
+# installation.
 FRONT = pathlib.Path(__file__).resolve().parents[2]
 DEFAULT_LIMIT = 268435456
 
+Word = str | os.PathLike[str]
 
-def places():
-    """Where the program may be: where REZOVAMY says, beside the front end, in this repository, on the path."""
+
+class Session(Protocol):
+    """What a run is recorded from: lines of JSON, a line for each event."""
+
+    @property
+    def run_id(self) -> str:
+        """Return the id of the run."""
+
+    @property
+    def data(self) -> bytes:
+        """Return the lines."""
+
+
+def places() -> list[pathlib.Path]:
+    """Return where the program may be.
+
+    That is where REZOVAMY says, beside the front end, in this repository, or on the path.
+    """
     if os.environ.get("REZOVAMY"):
         return [pathlib.Path(os.environ["REZOVAMY"])]
     found = shutil.which("rezovamy")
@@ -27,96 +51,113 @@ def places():
     )
 
 
-def find():
-    """The path of the program."""
+def find() -> pathlib.Path:
+    """Return the path of the program."""
     for path in places():
         if path.is_file() and os.access(path, os.X_OK):
             return path.resolve()
     if os.environ.get("REZOVAMY"):
         raise Fault(
-            f"no program is at {os.environ['REZOVAMY']}, where REZOVAMY says: correct it, or unset it"
+            f"no program is at {os.environ['REZOVAMY']}, where REZOVAMY says: "
+            "correct it, or unset it"
         )
     raise Fault(
         "the program rezovamy isn't there: build it as README.md says, or name its path in REZOVAMY"
     )
 
 
-def limits(size):
-    """Options that let the program take so many bytes."""
+def limits(size: int) -> list[str]:
+    """Return options that let the program take so many bytes."""
     most = str(max(DEFAULT_LIMIT, size))
     return ["--session-limit", most, "--read-limit", most] if size > DEFAULT_LIMIT else []
 
 
-def run(words, **streams):
-    """What the program prints, as bytes. Streams are `input`, `stdin` or `stdout` of `subprocess.run`.
+def run(
+    words: Sequence[Word],
+    *,
+    input: bytes | None = None,
+    stdin: IO[bytes] | None = None,
+    stdout: IO[bytes] | int = subprocess.PIPE,
+) -> bytes:
+    """Run the program, and return what it prints; its input is bytes, or comes from a stream.
 
     It runs in a group of its own, so that a key that ends the front end doesn't end it halfway.
     """
     path = find()
-    streams.setdefault("stdout", subprocess.PIPE)
     try:
         done = subprocess.run(
-            [path, *words], stderr=subprocess.PIPE, start_new_session=True, check=False, **streams
+            [path, *words],
+            input=input,
+            stdin=stdin,
+            stdout=stdout,
+            stderr=subprocess.PIPE,
+            start_new_session=True,
+            check=False,
         )
     except OSError as error:
         raise Fault(
             f"{path} can't be run: {error.strerror}; build it anew, or name another in REZOVAMY"
         ) from error
     if done.returncode != 0:
-        raise Fault(
-            sentence(
-                words,
-                done.returncode,
-                done.stderr.decode("utf-8", "replace").strip(),
-                begin_of(streams),
-            )
-        )
-    return done.stdout
+        line = done.stderr.decode("utf-8", "replace").strip()
+        begins = input[: file_kinds.MOST] if input is not None else begin_of(stdin)
+        raise Fault(sentence(words, done.returncode, line, begins))
+    return done.stdout or b""
 
 
-def begin_of(streams):
-    """The first bytes of what the program was given, None where they can't be read again."""
-    if "input" in streams:
-        return streams["input"][: file_kinds.MOST]
-    stream = streams.get("stdin")
+def run_on_bundle(
+    words: Sequence[Word], path: pathlib.Path, stdout: IO[bytes] | int = subprocess.PIPE
+) -> bytes:
+    """Run a command that reads a bundle on that at a path, and return what it prints."""
+    with bundle.opened(path) as opened:
+        return run([*words, *limits(path.stat().st_size)], stdin=opened, stdout=stdout)
+
+
+def begin_of(stream: IO[bytes] | None) -> bytes | None:
+    """Return the first bytes of what the program was given, None where they can't be read again."""
     try:
         return os.pread(stream.fileno(), file_kinds.MOST, 0) if stream else None
-    except (AttributeError, OSError, ValueError):
+    except (OSError, ValueError):
         return None
 
 
-def signal_of(number):
-    """The name of a signal."""
+def signal_of(number: int) -> str:
+    """Return the name of a signal."""
     try:
         return signal.Signals(number).name
     except ValueError:
         return f"signal {number}"
 
 
-def sentence(words, status, line, begins=None):
-    """What a fault of the program means, and what to do."""
+def sentence(words: Sequence[Word], status: int, line: str, begins: bytes | None = None) -> str:
+    """Say what a fault of the program means, and what to do."""
+    command = f"rezovamy {words[0]}"
     if status < 0:
-        return f"rezovamy {words[0]} was ended by {signal_of(-status)}: see what `ulimit -a` allows, and try it again"
+        ended = f"{command} was ended by {signal_of(-status)}"
+        return f"{ended}: see what `ulimit -a` allows, and try it again"
     if not line:
-        return f"rezovamy {words[0]} ended with status {status} and said nothing: try it again, or build the program anew"
-    return f"rezovamy {words[0]}: {explain_or_show(line, Call(tuple(map(str, words)), begins))}"
+        ended = f"{command} ended with status {status} and said nothing"
+        return f"{ended}: try it again, or build the program anew"
+    call = Call(tuple(os.fspath(word) for word in words), begins)
+    return f"{command}: {explain_or_show(line, call)}"
 
 
-def hear_signals():
-    """Lets a signal break off what is done next, where it was heard while the run went on."""
+def hear_signals() -> None:
+    """Let a signal break off what is done next, where it was heard while the run went on."""
     for number in (signal.SIGINT, signal.SIGTERM, signal.SIGHUP):
         if signal.getsignal(number) is not signal.SIG_IGN:
             signal.signal(number, signal.default_int_handler)
 
 
-def record(store, session):
-    """Records a session, and answers the path of its bundle. After a fault the folder is as it was."""
+def record(store: Store, session: Session) -> pathlib.Path:
+    """Record a session, and return its bundle's path. After a fault the folder is as it was."""
     with store.adding(session.run_id) as aside:
         words = ["record", str(aside), *limits(3 * len(session.data))]
         run(words, input=session.data, stdout=subprocess.DEVNULL)
         # A program that is another one may end well, and leave the file as it is made: empty.
         if not aside.stat().st_size:
             raise Fault(
-                f"{find()} wrote no bundle: it isn't rezovamy, so name another program in REZOVAMY"
+                f"{find()} wrote no bundle: it isn't rezovamy, "
+                "so name another program in REZOVAMY"
             )
     return store.path_of(session.run_id)

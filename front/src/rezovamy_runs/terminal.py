@@ -1,21 +1,36 @@
 """What a terminal takes: colours, and as much of a line as it has columns."""
 
+from __future__ import annotations
+
+import dataclasses
 import os
 import unicodedata
+from typing import Literal, TextIO
 
-CODES = {"red": "31", "green": "32", "yellow": "33", "cyan": "36", "bold": "1", "dim": "2"}
+Colour = Literal["red", "green", "yellow", "cyan", "bold", "dim"]
+CODES: dict[Colour, str] = {
+    "red": "31",
+    "green": "32",
+    "yellow": "33",
+    "cyan": "36",
+    "bold": "1",
+    "dim": "2",
+}
 
 
-def columns(text):
-    """How many columns of a terminal a text takes: wide characters take two, and those that stand upon others none."""
+def columns(text: str) -> int:
+    """Return how many columns of a terminal a text takes.
+
+    Wide characters take two, and those that stand upon others none.
+    """
     return sum(
         0 if unicodedata.combining(one) else 2 if unicodedata.east_asian_width(one) in "WF" else 1
         for one in text
     )
 
 
-def cut(line, width):
-    """The line, or as much of its begin as a terminal of this width doesn't wrap."""
+def cut(line: str, width: int) -> str:
+    """Return the line, or as much of its begin as a terminal of this width doesn't wrap."""
     if columns(line) < width:
         return line
     kept, room = 0, width - 4 - columns(line[:1])
@@ -25,21 +40,22 @@ def cut(line, width):
     return f"{line[:kept]} .."[: max(0, width - 1)]
 
 
-def is_terminal(stream):
-    """Whether a stream is a terminal that can erase what stands in a line."""
+def is_terminal(stream: TextIO | None) -> bool:
+    """Tell whether a stream is a terminal that can erase what stands in a line."""
     return bool(stream and stream.isatty() and os.environ.get("TERM") != "dumb")
 
 
-def colours(stream):
-    """Whether a stream takes colours: it is a terminal, and nobody asked for none."""
+def colours(stream: TextIO | None) -> bool:
+    """Tell whether a stream takes colours: it is a terminal, and nobody asked for none."""
     return is_terminal(stream) and not os.environ.get("NO_COLOR")
 
 
+@dataclasses.dataclass
 class Paint:
     """Colours texts, or leaves them as they are."""
 
-    def __init__(self, is_on):
-        self.is_on = is_on
+    is_on: bool
 
-    def __call__(self, colour, text):
+    def __call__(self, colour: Colour, text: str) -> str:
+        """Return a text in a colour."""
         return f"\x1b[{CODES[colour]}m{text}\x1b[0m" if self.is_on else text

@@ -7,7 +7,11 @@ use std::alloc::{AllocError, Global};
 impl Form for PortableManifest {
     ghost use Rattle.std.specs.Prelude.{refl};
     ghost use Rattle.rec_forms.specs.Writable.{within_depth};
-    ghost use Rattle.rec_format.specs.RunFormLaws.{manifest_back, manifest_writable, manifest_well_formed};
+    ghost use Rattle.rec_format.specs.RunFormLaws.{
+      manifest_back,
+      manifest_writable,
+      manifest_well_formed,
+    };
     ghost use Rattle.rec_format.specs.RunForms.{manifest_value, manifest_form, IsManifest};
 
     ghost well_formed = { IsManifest };

@@ -1,6 +1,6 @@
 //! The fields that a head and a run's metadata share, and those that both kinds of a run's metadata
-//! share, as they are read. Each part stands in JSON without a gap: its fields follow each other in the
-//! order of all keys.
+//! share, as they are read. Each part stands in JSON without a gap: its fields follow each other in
+//! the order of all keys.
 ghost use Rattle.rec_json.specs.Nodes.{members_view};
 ghost use Rattle.rec_forms.specs.Gives.{Gives};
 

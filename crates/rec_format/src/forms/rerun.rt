@@ -7,7 +7,11 @@ use std::alloc::{AllocError, Global};
 impl Form for RerunRootInfo {
     ghost use Rattle.std.specs.Prelude.{refl};
     ghost use Rattle.rec_forms.specs.Writable.{within_depth};
-    ghost use Rattle.rec_format.specs.RerunFormLaws.{rerun_root_back, rerun_root_writable, rerun_root_well_formed};
+    ghost use Rattle.rec_format.specs.RerunFormLaws.{
+      rerun_root_back,
+      rerun_root_writable,
+      rerun_root_well_formed,
+    };
     ghost use Rattle.rec_format.specs.RerunForms.{rerun_root_value, rerun_root_form, IsRerunRoot};
 
     ghost well_formed = { IsRerunRoot };
@@ -46,7 +50,11 @@ impl Form for RerunRootInfo {
 impl Form for RerunInfo {
     ghost use Rattle.std.specs.Prelude.{refl};
     ghost use Rattle.rec_forms.specs.Writable.{within_depth};
-    ghost use Rattle.rec_format.specs.RerunFormLaws.{rerun_info_back, rerun_info_writable, rerun_info_well_formed};
+    ghost use Rattle.rec_format.specs.RerunFormLaws.{
+      rerun_info_back,
+      rerun_info_writable,
+      rerun_info_well_formed,
+    };
     ghost use Rattle.rec_format.specs.RerunForms.{rerun_info_value, rerun_info_form, IsRerunInfo};
 
     ghost well_formed = { IsRerunInfo };

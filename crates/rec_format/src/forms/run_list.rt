@@ -10,7 +10,11 @@ use std::alloc::{AllocError, Global};
 impl Form for RecordedRunList {
     ghost use Rattle.std.specs.Prelude.{refl};
     ghost use Rattle.rec_forms.specs.Writable.{within_depth};
-    ghost use Rattle.rec_format.specs.RunListFormLaws.{run_list_back, run_list_writable, run_list_well_formed};
+    ghost use Rattle.rec_format.specs.RunListFormLaws.{
+      run_list_back,
+      run_list_writable,
+      run_list_well_formed,
+    };
     ghost use Rattle.rec_format.specs.RunListForms.{run_list_value, run_list_form, IsRunList};
 
     ghost well_formed = { IsRunList };

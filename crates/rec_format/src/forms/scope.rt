@@ -48,8 +48,16 @@ impl Form for BuildKind {
 impl Form for RecordedBuildScope {
     ghost use Rattle.std.specs.Prelude.{refl};
     ghost use Rattle.rec_forms.specs.Writable.{within_depth};
-    ghost use Rattle.rec_format.specs.ScopeFormLaws.{recorded_scope_back, recorded_scope_writable, recorded_scope_well_formed};
-    ghost use Rattle.rec_format.specs.ScopeForms.{recorded_scope_value, recorded_scope_form, IsRecordedScope};
+    ghost use Rattle.rec_format.specs.ScopeFormLaws.{
+      recorded_scope_back,
+      recorded_scope_writable,
+      recorded_scope_well_formed,
+    };
+    ghost use Rattle.rec_format.specs.ScopeForms.{
+      recorded_scope_value,
+      recorded_scope_form,
+      IsRecordedScope,
+    };
 
     ghost well_formed = { IsRecordedScope };
 

@@ -9,8 +9,16 @@ use std::alloc::{AllocError, Global};
 impl Form for ComponentSizesFormat {
     ghost use Rattle.std.specs.Prelude.{refl};
     ghost use Rattle.rec_forms.specs.Writable.{within_depth};
-    ghost use Rattle.rec_format.specs.SizeFormLaws.{component_format_back, component_format_writable, component_format_well_formed};
-    ghost use Rattle.rec_format.specs.SizeForms.{component_format_value, component_format_form, IsComponentFormat};
+    ghost use Rattle.rec_format.specs.SizeFormLaws.{
+      component_format_back,
+      component_format_writable,
+      component_format_well_formed,
+    };
+    ghost use Rattle.rec_format.specs.SizeForms.{
+      component_format_value,
+      component_format_form,
+      IsComponentFormat,
+    };
 
     ghost well_formed = { IsComponentFormat };
 
@@ -62,8 +70,16 @@ impl Held for ComponentSizesFormat {
 impl Form for RecordedSizesFormat {
     ghost use Rattle.std.specs.Prelude.{refl};
     ghost use Rattle.rec_forms.specs.Writable.{within_depth};
-    ghost use Rattle.rec_format.specs.SizeFormLaws.{sizes_format_back, sizes_format_writable, sizes_format_well_formed};
-    ghost use Rattle.rec_format.specs.SizeForms.{sizes_format_value, sizes_format_form, IsSizesFormat};
+    ghost use Rattle.rec_format.specs.SizeFormLaws.{
+      sizes_format_back,
+      sizes_format_writable,
+      sizes_format_well_formed,
+    };
+    ghost use Rattle.rec_format.specs.SizeForms.{
+      sizes_format_value,
+      sizes_format_form,
+      IsSizesFormat,
+    };
 
     ghost well_formed = { IsSizesFormat };
 
@@ -105,7 +121,11 @@ impl Held for RecordedSizesFormat {
 impl Form for ComponentSizes {
     ghost use Rattle.std.specs.Prelude.{refl};
     ghost use Rattle.rec_forms.specs.Writable.{within_depth};
-    ghost use Rattle.rec_format.specs.SizeFormLaws.{component_back, component_writable, component_well_formed};
+    ghost use Rattle.rec_format.specs.SizeFormLaws.{
+      component_back,
+      component_writable,
+      component_well_formed,
+    };
     ghost use Rattle.rec_format.specs.SizeForms.{component_value, component_form, IsComponent};
 
     ghost well_formed = { IsComponent };

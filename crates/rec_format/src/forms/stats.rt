@@ -76,8 +76,16 @@ impl CompletedRunStats {
 impl Form for CompletedRunStats {
     ghost use Rattle.std.specs.Prelude.{refl};
     ghost use Rattle.rec_forms.specs.Writable.{within_depth};
-    ghost use Rattle.rec_format.specs.StatsFormLaws.{completed_stats_back, completed_stats_writable, completed_stats_well_formed};
-    ghost use Rattle.rec_format.specs.StatsForms.{completed_stats_value, completed_stats_form, AreCompleted};
+    ghost use Rattle.rec_format.specs.StatsFormLaws.{
+      completed_stats_back,
+      completed_stats_writable,
+      completed_stats_well_formed,
+    };
+    ghost use Rattle.rec_format.specs.StatsForms.{
+      completed_stats_value,
+      completed_stats_form,
+      AreCompleted,
+    };
 
     ghost well_formed = { AreCompleted };
 
@@ -173,7 +181,11 @@ impl StressCompletedRunStats {
 impl Form for StressCompletedRunStats {
     ghost use Rattle.std.specs.Prelude.{refl};
     ghost use Rattle.rec_forms.specs.Writable.{within_depth};
-    ghost use Rattle.rec_format.specs.StatsFormLaws.{stress_stats_back, stress_stats_writable, stress_stats_well_formed};
+    ghost use Rattle.rec_format.specs.StatsFormLaws.{
+      stress_stats_back,
+      stress_stats_writable,
+      stress_stats_well_formed,
+    };
     ghost use Rattle.rec_format.specs.StatsForms.{stress_stats_value, stress_stats_form, AreStress};
 
     ghost well_formed = { AreStress };

@@ -6,7 +6,8 @@ ghost use Rattle.rec_json.specs.Tokens.{value_tokens};
 ghost use Rattle.rec_forms.specs.Gives.{Gives};
 ghost use Rattle.rec_forms.specs.Shape.{required};
 ghost use Rattle.rec_format.specs.StatsForms.{AreCompleted, AreStress};
-ghost use Rattle.rec_format.specs.StatusForms.{bare_value, completed_value, stress_value, status_with};
+ghost use Rattle.rec_format.specs.StatusForms.{bare_value, completed_value};
+ghost use Rattle.rec_format.specs.StatusForms.{stress_value, status_with};
 
 use crate::{
     CompletedRunStats, RecordedRunStatus, RecordedRunStatusFormat, StressCompletedRunStats,
@@ -89,7 +90,11 @@ fn status_in<'a>(
 impl Form for RecordedRunStatus {
     ghost use Rattle.std.specs.Prelude.{refl};
     ghost use Rattle.rec_forms.specs.Writable.{within_depth};
-    ghost use Rattle.rec_format.specs.StatusFormLaws.{status_back, status_writable, status_well_formed};
+    ghost use Rattle.rec_format.specs.StatusFormLaws.{
+      status_back,
+      status_writable,
+      status_well_formed,
+    };
     ghost use Rattle.rec_format.specs.StatusForms.{status_value, status_form, IsStatus};
 
     ghost well_formed = { IsStatus };
@@ -156,8 +161,16 @@ impl Held for RecordedRunStatus {
 impl Form for RecordedRunStatusFormat {
     ghost use Rattle.std.specs.Prelude.{refl};
     ghost use Rattle.rec_forms.specs.Writable.{within_depth};
-    ghost use Rattle.rec_format.specs.StatusFormLaws.{status_format_back, status_format_writable, status_format_well_formed};
-    ghost use Rattle.rec_format.specs.StatusForms.{status_format_value, status_format_form, IsStatusFormat};
+    ghost use Rattle.rec_format.specs.StatusFormLaws.{
+      status_format_back,
+      status_format_writable,
+      status_format_well_formed,
+    };
+    ghost use Rattle.rec_format.specs.StatusForms.{
+      status_format_value,
+      status_format_form,
+      IsStatusFormat,
+    };
 
     ghost well_formed = { IsStatusFormat };
 

@@ -70,7 +70,11 @@ impl Form for RerunTestSuiteInfo {
 impl Form for RerunSuites {
     ghost use Rattle.std.specs.Prelude.{refl};
     ghost use Rattle.rec_forms.specs.Writable.{within_depth};
-    ghost use Rattle.rec_format.specs.SuiteFormLaws.{suites_back, suites_writable, suites_well_formed};
+    ghost use Rattle.rec_format.specs.SuiteFormLaws.{
+      suites_back,
+      suites_writable,
+      suites_well_formed,
+    };
     ghost use Rattle.rec_format.specs.SuiteForms.{suites_value, suites_form, AreSuites};
 
     ghost well_formed = { AreSuites };

@@ -212,8 +212,16 @@ impl Form for RunsJsonFormatVersion {
 impl Form for StoreFormatVersion {
     ghost use Rattle.std.specs.Prelude.{refl};
     ghost use Rattle.rec_forms.specs.Writable.{within_depth};
-    ghost use Rattle.rec_format.specs.VersionFormLaws.{store_version_back, store_version_writable, store_version_well_formed};
-    ghost use Rattle.rec_format.specs.VersionForms.{store_version_value, store_version_form, IsStoreVersion};
+    ghost use Rattle.rec_format.specs.VersionFormLaws.{
+      store_version_back,
+      store_version_writable,
+      store_version_well_formed,
+    };
+    ghost use Rattle.rec_format.specs.VersionForms.{
+      store_version_value,
+      store_version_form,
+      IsStoreVersion,
+    };
 
     ghost well_formed = { IsStoreVersion };
 
@@ -248,8 +256,16 @@ impl Form for StoreFormatVersion {
 impl Form for PortableRecordingFormatVersion {
     ghost use Rattle.std.specs.Prelude.{refl};
     ghost use Rattle.rec_forms.specs.Writable.{within_depth};
-    ghost use Rattle.rec_format.specs.VersionFormLaws.{portable_version_back, portable_version_writable, portable_version_well_formed};
-    ghost use Rattle.rec_format.specs.VersionForms.{portable_version_value, portable_version_form, IsPortableVersion};
+    ghost use Rattle.rec_format.specs.VersionFormLaws.{
+      portable_version_back,
+      portable_version_writable,
+      portable_version_well_formed,
+    };
+    ghost use Rattle.rec_format.specs.VersionForms.{
+      portable_version_value,
+      portable_version_form,
+      IsPortableVersion,
+    };
 
     ghost well_formed = { IsPortableVersion };
 

@@ -3,7 +3,8 @@ ghost use Rattle.std.specs.Prelude.{◌≡◌, length, map, IfOk};
 ghost use Rattle.serde_json.specs.Written.{compact_text};
 ghost use Rattle.rec_container.specs.NamedContents.{entry_of};
 ghost use Rattle.rec_store.specs.Parts.{metadata_part, rerun_info_part};
-ghost use Rattle.rec_portable.specs.Rewriting.{IsRerunText, Rewrites, metadata_entries, metadata_judged, text_entries};
+ghost use Rattle.rec_portable.specs.Rewriting.{IsRerunText, Rewrites, metadata_entries};
+ghost use Rattle.rec_portable.specs.Rewriting.{metadata_judged, text_entries};
 
 use rec_container::{Container, NamedContent};
 use rec_events::{RecordOpts, TestListSummary};

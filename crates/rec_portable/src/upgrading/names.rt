@@ -5,7 +5,8 @@ ghost use Rattle.std.specs.Prelude.{◌≡◌, ◌||◌, List, ℕ};
 ghost use Rattle.rec_store.specs.JudgedParts.{first_unnamed};
 ghost use Rattle.rec_store.specs.RunParts.{is_metadata as is_metadata_path};
 ghost use Rattle.rec_portable.specs.Rewriting.{ArePaths, Judges};
-ghost use Rattle.rec_portable.specs.Upgrading.{first_foreign, is_in_place as is_place_of, names_judged, none_foreign};
+ghost use Rattle.rec_portable.specs.Upgrading.{first_foreign, is_in_place as is_place_of};
+ghost use Rattle.rec_portable.specs.Upgrading.{names_judged, none_foreign};
 
 use crate::upgrade_error::UpgradeError;
 use rec_container::Container;

@@ -1,13 +1,17 @@
 //! The store of a run, written anew.
 ghost use Rattle.std.specs.List.{AllByRecursion};
 ghost use Rattle.std.specs.Option.{SomeIff};
-ghost use Rattle.std.specs.Prelude.{◌≡◌, ◌⊎◌, ◌<◌, ◌^◌, ◌++◌, ◌∷◌, [], length, map, IfOk, IfErr, OnOk, if◌then◌else◌};
+ghost use Rattle.std.specs.Prelude.{◌≡◌, ◌⊎◌, ◌<◌, ◌^◌, ◌++◌, ◌∷◌, [], length};
+ghost use Rattle.std.specs.Prelude.{map, IfOk, IfErr, OnOk, if◌then◌else◌};
 ghost use Rattle.rec_container.specs.Container.{content_bytes};
 ghost use Rattle.rec_container.specs.NamedContents.{container_of, entry_of};
 ghost use Rattle.rec_container.specs.Writing.{entry_named};
 ghost use Rattle.rec_store.specs.Ending.{sizes_of_store};
 ghost use Rattle.rec_store.specs.RunParts.{is_metadata as is_metadata_path};
-ghost use Rattle.rec_portable.specs.declared.upgrade_error.UpgradeError.TheVariants.{CountOutOfRange, OutOfMemory};
+ghost use Rattle.rec_portable.specs.declared.upgrade_error.UpgradeError.TheVariants.{
+  CountOutOfRange,
+  OutOfMemory,
+};
 ghost use Rattle.rec_portable.specs.Rewriting.{other_entries, text_entries};
 
 use crate::upgrade_error::UpgradeError;
@@ -17,8 +21,8 @@ use rec_container::{Container, GrowingSink, NamedContent, container_length, writ
 use rec_store::ComponentSizes;
 use std::alloc::{AllocError, Global};
 
-/// Lends what a store is written of: the texts of its metadata, and then its outputs, which are windows
-/// of the bytes that were read.
+/// Lends what a store is written of: the texts of its metadata, and then its outputs, which are
+/// windows of the bytes that were read.
 pub(crate) fn store_contents<'a>(
     alloc: Global,
     metadata: &'a MetadataTexts,

@@ -9,7 +9,8 @@ ghost use Rattle.rec_spans.specs.Kinds.{test_span};
 ghost use Rattle.rec_spans.specs.Plain.{plain_output_kind};
 ghost use Rattle.rec_trace.specs.Drawing.{Draws, IsJudgedAct, in_sight};
 ghost use Rattle.rec_trace.specs.Drawn.Drawn.{ArrowFinishes};
-ghost use Rattle.rec_trace.specs.Table.{attempt_starts, drawn_core, drawn_output, naming, test_process};
+ghost use Rattle.rec_trace.specs.Table.{attempt_starts, drawn_core};
+ghost use Rattle.rec_trace.specs.Table.{drawn_output, naming, test_process};
 
 use crate::drawing::primitives::{
     draw_arrow_finish, draw_arrow_start, draw_counter, draw_end, draw_in_pause, draw_names,
@@ -34,7 +35,8 @@ fn test_process(group_by: ChromeTraceGroupBy, test: &OwnedTestInstanceId) -> &st
     }
 }
 
-/// Names the process of the row of a test, and the row of this slot, each where it wasn't named before.
+/// Names the process of the row of a test, and the row of this slot,
+/// each where it wasn't named before.
 fn draw_attempt_names(
     sight: &Sight<'_>,
     row: Row,
@@ -52,8 +54,8 @@ fn draw_attempt_names(
     draw_names(sight, row, process, name.as_str(), events)
 }
 
-/// Draws that an attempt of a test started on a slot, at which the arrow of this number finishes, if there is
-/// one. `running` is how many tests run with it.
+/// Draws that an attempt of a test started on a slot, at which the arrow of this number finishes,
+/// if there is one. `running` is how many tests run with it.
 fn draw_attempt_start<A: Args>(
     sight: &Sight<'_>,
     test: &OwnedTestInstanceId,

@@ -1,14 +1,17 @@
 //! Draws the parts of which the trace events of every kind of event are made.
-ghost use Rattle.std.specs.Prelude.{◌≡◌, ◌++◌, [], ◌∷◌, Some, IfOk, OnOk, if◌then◌else◌, map, option_copied, option_map, option_to_list};
+ghost use Rattle.std.specs.Prelude.{◌≡◌, ◌++◌, [], ◌∷◌, Some, IfOk, OnOk, if◌then◌else◌};
+ghost use Rattle.std.specs.Prelude.{map, option_copied, option_map, option_to_list};
 ghost use Rattle.serde_json.specs.Data.{Data};
 ghost use Rattle.rec_trace_events.specs.EventTexts.{event_value};
 ghost use Rattle.rec_trace_events.specs.TraceEvents.{process_row};
 ghost use Rattle.rec_spans.specs.Past.{mark};
 ghost use Rattle.rec_trace.specs.Drawing.{Draws, in_sight};
-ghost use Rattle.rec_trace.specs.Drawn.Drawn.{ArrowStarts, ArrowFinishes, ProcessNamed, Results, RowNamed, Slice, Slow};
+ghost use Rattle.rec_trace.specs.Drawn.Drawn.{ArrowStarts, ArrowFinishes, ProcessNamed};
+ghost use Rattle.rec_trace.specs.Drawn.Drawn.{Results, RowNamed, Slice, Slow};
 ghost use Rattle.rec_trace.specs.Drawn.{category_of};
 ghost use Rattle.rec_trace.specs.KnownNews.{known_in};
-ghost use Rattle.rec_trace.specs.Table.{bare, closes, counter, naming, opens, run_marked, run_process};
+ghost use Rattle.rec_trace.specs.Table.{bare, closes, counter, naming};
+ghost use Rattle.rec_trace.specs.Table.{opens, run_marked, run_process};
 
 use crate::drawing::sight::Sight;
 use rec_events::{OwnedTestInstanceId, Text};
@@ -297,7 +300,8 @@ pub fn draw_slow<A: Args>(
 
 // ---- arrows
 
-/// Draws the start of the arrow of a test, of the next flow number, on the row of its attempt, where one is open.
+/// Draws the start of the arrow of a test, of the next flow number,
+/// on the row of its attempt, where one is open.
 pub fn draw_arrow_start(
     sight: &Sight<'_>,
     test: &OwnedTestInstanceId,

@@ -17,8 +17,8 @@ use rec_trace_events::{
 };
 use std::alloc::{AllocError, Global};
 
-/// Names the process of the run, under the profile that its start names, and its row, each where it wasn't named
-/// before.
+/// Names the process of the run, under the profile that its start names, and its row, each where it
+/// wasn't named before.
 fn draw_profile_names(
     sight: &Sight<'_>,
     row: Row,

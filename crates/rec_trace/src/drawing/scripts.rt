@@ -16,7 +16,8 @@ use rec_trace_events::{
 };
 use std::alloc::AllocError;
 
-/// Names the process of the setup scripts, and the row of the one of this index, each where it wasn't named before.
+/// Names the process of the setup scripts, and the row of the one of this index,
+/// each where it wasn't named before.
 fn draw_script_names(
     sight: &Sight<'_>,
     row: Row,
@@ -54,7 +55,8 @@ pub fn draw_script_start(
     draw_counter(sight, tests, scripts, events)
 }
 
-/// Draws that a setup script is slow: of those that run under its id, the one with the smallest index.
+/// Draws that a setup script is slow: of those that run under its id,
+/// the one with the smallest index.
 pub fn draw_slow_script(
     sight: &Sight<'_>,
     kind: &CoreEventKind,

@@ -12,8 +12,9 @@ use rec_trace_events::Row;
 use std::alloc::{AllocError, Global};
 use std::collections::BTreeMap;
 
-/// Says of rows whether they were named. The first row of a process stands for the process. An entry of a row that
-/// wasn't named is room for its name, and stays no longer than the event for which it was made.
+/// Says of rows whether they were named. The first row of a process stands for the process. An
+/// entry of a row that wasn't named is room for its name,
+/// and stays no longer than the event for which it was made.
 #[derive(Drop)]
 pub struct Names {
     rows: BTreeMap<Row, bool>,
@@ -45,7 +46,8 @@ impl Names {
         self.rows.len()
     }
 
-    /// Makes room for the names of a row and of its process. None is named by that, whatever the answer is.
+    /// Makes room for the names of a row and of its process. None is named by that,
+    /// whatever the answer is.
     ///
     /// # Errors
     ///
@@ -91,7 +93,8 @@ impl Names {
         }
     }
 
-    /// Takes the room away that was made for the names of a row and of its process, of those that weren't named.
+    /// Takes the room away that was made for the names of a row and of its process,
+    /// of those that weren't named.
     pub fn let_go(&mut self, row: Option<Row>)
         ensures same { (other : Row) → row_named self.new other ≡ row_named self.old other }
         ensures says { EachRowSaysBut row self.old → EachRowSays self.new }

@@ -3,7 +3,8 @@ ghost use Rattle.std.specs.Prelude.{◌≡◌, IfOk, option_copied, option_map};
 ghost use Rattle.rec_trace_events.specs.TraceEvents.{run_row};
 ghost use Rattle.rec_spans.specs.Acts.{act_of, core_act};
 ghost use Rattle.rec_spans.specs.Plain.{plain_kind, plain_output_kind};
-ghost use Rattle.rec_trace.specs.Known.{core_run, core_running, marked_row, output_running, run_of, running_of};
+ghost use Rattle.rec_trace.specs.Known.{core_run, core_running, marked_row};
+ghost use Rattle.rec_trace.specs.Known.{output_running, run_of, running_of};
 ghost use Rattle.rec_trace.specs.KnownMaps.{test_told};
 ghost use Rattle.rec_trace.specs.KnownNews.{core_test, news_with, output_test, row_of, test_news};
 

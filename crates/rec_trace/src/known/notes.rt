@@ -5,7 +5,8 @@ ghost use Rattle.rec_events.specs.Tests.{test_eq};
 ghost use Rattle.rec_trace.specs.Entries.{EachTestSays, EachTestSaysBut, TestSays, notes_say};
 ghost use Rattle.rec_trace.specs.Held.{IsCountOf};
 ghost use Rattle.rec_trace.specs.Known.{of_test};
-ghost use Rattle.rec_trace.specs.KnownMaps.{HasTest, HasTests, arrow_noted, arrow_with, arrows_with, group_noted, groups_with};
+ghost use Rattle.rec_trace.specs.KnownMaps.{HasTest, HasTests, arrow_noted, arrow_with};
+ghost use Rattle.rec_trace.specs.KnownMaps.{arrows_with, group_noted, groups_with};
 
 use super::news::{ArrowNews, TestNews};
 use rec_events::{OwnedTestInstanceId, TestGroup, TryClone};
@@ -21,8 +22,8 @@ pub struct TestNotes {
     pub arrow: Option<u64>,
 }
 
-/// Keeps the notes of each test. An empty note says as much as none: it is room for what an event notes, and stays
-/// no longer than that event.
+/// Keeps the notes of each test. An empty note says as much as none: it is room for what an event
+/// notes, and stays no longer than that event.
 #[derive(Drop)]
 pub struct Notes {
     tests: BTreeMap<OwnedTestInstanceId, TestNotes>,
@@ -73,7 +74,8 @@ impl Notes {
         count
     }
 
-    /// Makes room for the notes of a test of which there is news. Nothing is noted by that, whatever the answer is.
+    /// Makes room for the notes of a test of which there is news.
+    /// Nothing is noted by that, whatever the answer is.
     ///
     /// # Errors
     ///
@@ -188,7 +190,8 @@ impl Notes {
         self.put(news.test, notes);
     }
 
-    /// Puts notes of a test in the place of those before, and removes its entry where they are empty.
+    /// Puts notes of a test in the place of those before,
+    /// and removes its entry where they are empty.
     fn put(&mut self, test: OwnedTestInstanceId, notes: TestNotes)
         requires { HasTest test self.old }
         ensures groups { (other : OwnedTestInstanceId)

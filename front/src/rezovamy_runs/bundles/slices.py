@@ -1,146 +1,178 @@
-"""The slices of attempts and setup scripts, cut by pauses, as a trace draws them; docs/FORMATS.md says how under Trace.
+"""The slices of attempts and setup scripts, cut by pauses, as a trace draws them.
 
-Instants are whole microseconds since 1970-01-01 UTC, rounded down as in a trace.
+docs/FORMATS.md says how under Trace. Instants are whole microseconds since 1970-01-01 UTC, rounded
+down as in a trace.
 """
 
+from __future__ import annotations
+
 import dataclasses
+from collections.abc import Iterable
+
+from rezovamy_runs.bundles.events import (
+    AttemptFailed,
+    Event,
+    RunCancelled,
+    RunContinued,
+    RunPaused,
+    ScriptFinished,
+    ScriptStarted,
+    TestFinished,
+    TestRetried,
+    TestSlow,
+    TestStarted,
+    microseconds,
+)
+from rezovamy_runs.model import TestName
+
+Slice = tuple[int, int]
 
 
 @dataclasses.dataclass
 class Span:
-    """An attempt of a test or the run of a setup script, from its start to its end.
-
-    Each slice is a begin and an end. One that is open has its begin in `begin`; in a pause none is open.
-    """
+    """An attempt of a test or the run of a setup script, from its start to its end."""
 
     slot: int
     number: int = 1
-    slices: list[tuple[int, int]] = dataclasses.field(default_factory=list)
-    begin: int | None = None
+    # A begin and an end each.
+    slices: list[Slice] = dataclasses.field(default_factory=list)
     slow: list[int] = dataclasses.field(default_factory=list)
+    # The begin of the slice that is open; in a pause none is.
+    begin: int | None = None
+
+    def open(self, now: int, is_paused: bool) -> None:
+        """Begin the first slice; in a pause it has no length."""
+        if is_paused:
+            self.slices.append((now, now))
+        else:
+            self.begin = now
+
+    def cut(self, now: int) -> None:
+        """End the slice that is open, if one is."""
+        if self.begin is not None:
+            self.slices.append((self.begin, now))
+            self.begin = None
+
+    def close(self, now: int, is_paused: bool) -> None:
+        """End the last slice; in a pause it has no length."""
+        if is_paused:
+            self.begin = now
+        self.cut(now)
 
 
-def microseconds(instant):
-    """The whole microseconds of an instant, rounded down."""
-    return instant["secs"] * 1_000_000 + instant["nanos"] // 1000
-
-
-def names_of(event):
-    test = event["test-instance"]
-    return test["binary-id"], test["test-name"]
-
-
+@dataclasses.dataclass(frozen=True)
 class Drawing:
+    """What a run looks like: when its attempts and its setup scripts ran."""
+
+    begin: int
+    end: int
+    # The spans of each time that a test ran, which are several in a stress run.
+    tests: dict[TestName, list[list[Span]]]
+    scripts: list[Span]
+    pauses: list[Slice]
+    cancellations: list[tuple[int, str]]
+
+
+class DrawingBuilder:
     """Takes the events of a log one by one, and keeps the slices of each test and setup script."""
 
-    def __init__(self):
-        # By binary and test name the spans of each time that it ran, which are several in a stress run.
-        self.tests = {}
-        self.scripts = []
-        self.pauses = []
-        self.cancellations = []
-        self.begin = self.end = 0
-        self.has_begun = self.is_paused = False
+    def __init__(self) -> None:
+        self._begin: int | None = None
+        self._now = 0
+        self._tests: dict[TestName, list[list[Span]]] = {}
+        self._scripts: list[Span] = []
+        self._pauses: list[Slice] = []
+        self._paused_at: int | None = None
+        self._cancellations: list[tuple[int, str]] = []
         # The spans that run, by the names of their tests or the indices of their scripts.
-        self.open = {}
+        self._open: dict[TestName | int, Span] = {}
         # The spans of tests that haven't finished, of which an attempt may run or not.
-        self.unfinished = {}
+        self._unfinished: dict[TestName, list[Span]] = {}
 
-    def take(self, event):
-        """Takes the next event."""
-        self.end = microseconds(event["timestamp"])
-        if not self.has_begun:
-            self.begin, self.has_begun = self.end, True
-        step = getattr(self, "take_" + event["kind"].replace("-", "_"), None)
-        if step is not None:
-            step(event)
+    def take(self, event: Event) -> None:
+        """Take the next event."""
+        self._now = microseconds(event.at)
+        if self._begin is None:
+            self._begin = self._now
+        match event:
+            case TestStarted() | TestRetried():
+                self._start_attempt(event)
+            case TestFinished():
+                self._stop(event.test, event.ends[-1].number)
+                self._unfinished.pop(event.test, None)
+            case AttemptFailed():
+                self._stop(event.test, event.end.number)
+            case TestSlow():
+                if event.test in self._open:
+                    self._open[event.test].slow.append(self._now)
+            case ScriptStarted():
+                self._scripts.append(self._start(event.index, Span(event.index)))
+            case ScriptFinished():
+                self._stop(event.index)
+            case RunCancelled():
+                self._cancellations.append((self._now, event.reason))
+            case RunPaused():
+                self._pause()
+            case RunContinued():
+                self._go_on()
 
-    def start(self, key, span):
-        """Opens a span; in a pause its first slice has no length."""
-        self.open[key] = span
-        if self.is_paused:
-            span.slices.append((self.end, self.end))
+    def _start_attempt(self, event: TestStarted | TestRetried) -> None:
+        """Take the start of an attempt: a further one of a test that runs, or the first one."""
+        spans = self._unfinished.get(event.test)
+        if isinstance(event, TestRetried) and spans is not None:
+            span = Span(event.slot, event.number)
         else:
-            span.begin = self.end
+            span, spans = Span(event.slot), []
+            self._unfinished[event.test] = spans
+            self._tests.setdefault(event.test, []).append(spans)
+        spans.append(self._start(event.test, span))
 
-    def stop(self, key):
-        """Closes a span; in a pause its last slice has no length."""
-        span = self.open.pop(key, None)
-        if span is not None:
-            span.slices.append((self.end if self.is_paused else span.begin, self.end))
-            span.begin = None
+    def _start(self, key: TestName | int, span: Span) -> Span:
+        """Open a span."""
+        span.open(self._now, self._paused_at is not None)
+        self._open[key] = span
         return span
 
-    def take_test_started(self, event):
-        spans = self.unfinished[names_of(event)] = [Span(event["slot-assignment"]["global-slot"])]
-        self.tests.setdefault(names_of(event), []).append(spans)
-        self.start(names_of(event), spans[0])
-
-    def take_test_retry_started(self, event):
-        if names_of(event) not in self.unfinished:
-            self.take_test_started(event)
-            return
-        span = Span(event["slot-assignment"]["global-slot"], event["retry-data"]["attempt"])
-        self.unfinished[names_of(event)].append(span)
-        self.start(names_of(event), span)
-
-    def take_test_slow(self, event):
-        if names_of(event) in self.open:
-            self.open[names_of(event)].slow.append(self.end)
-
-    def take_test_attempt_failed_will_retry(self, event):
-        self.stop_attempt(event, event["run-status"])
-
-    def take_test_finished(self, event):
-        self.stop_attempt(event, event["run-statuses"]["statuses"][-1])
-        self.unfinished.pop(names_of(event), None)
-
-    def stop_attempt(self, event, status):
-        span = self.stop(names_of(event))
+    def _stop(self, key: TestName | int, number: int = 1) -> None:
+        """Close a span, whose number is known by now."""
+        span = self._open.pop(key, None)
         if span is not None:
-            span.number = status["retry-data"]["attempt"]
+            span.close(self._now, self._paused_at is not None)
+            span.number = number
 
-    def take_setup_script_started(self, event):
-        span = Span(event["index"])
-        self.scripts.append(span)
-        self.start(event["index"], span)
+    def _pause(self) -> None:
+        """Cut what runs."""
+        if self._paused_at is None:
+            self._paused_at = self._now
+            for span in self._open.values():
+                span.cut(self._now)
 
-    def take_setup_script_finished(self, event):
-        self.stop(event["index"])
+    def _go_on(self) -> None:
+        """Let what runs go on."""
+        if self._paused_at is not None:
+            self._pauses.append((self._paused_at, self._now))
+            self._paused_at = None
+            for span in self._open.values():
+                span.begin = self._now
 
-    def take_run_begin_cancel(self, event):
-        self.cancellations.append((self.end, event["reason"]))
+    def drawing(self) -> Drawing:
+        """Return what was drawn.
 
-    def take_run_paused(self, _event):
-        if self.is_paused:
-            return
-        for span in self.open.values():
-            span.slices.append((span.begin, self.end))
-            span.begin = None
-        self.is_paused = True
-        self.pauses.append((self.end, None))
-
-    def take_run_continued(self, _event):
-        if not self.is_paused:
-            return
-        for span in self.open.values():
-            span.begin = self.end
-        self.is_paused = False
-        self.pauses[-1] = (self.pauses[-1][0], self.end)
-
-    def close(self):
-        """Lets what is still open, which a trace leaves without an end, end with the last event."""
-        for span in self.open.values():
-            if span.begin is not None:
-                span.slices.append((span.begin, self.end))
-        if self.is_paused:
-            self.pauses[-1] = (self.pauses[-1][0], self.end)
+        What is still open, which a trace leaves without an end, ends with the last event.
+        """
+        for span in self._open.values():
+            span.cut(self._now)
+        pauses = [*self._pauses]
+        if self._paused_at is not None:
+            pauses.append((self._paused_at, self._now))
+        return Drawing(
+            self._begin or 0, self._now, self._tests, self._scripts, pauses, self._cancellations
+        )
 
 
-def draw(events):
-    """The slices of a log's events."""
-    drawing = Drawing()
+def draw(events: Iterable[Event]) -> Drawing:
+    """Return the slices of a log's events."""
+    builder = DrawingBuilder()
     for event in events:
-        drawing.take(event)
-    drawing.close()
-    return drawing
+        builder.take(event)
+    return builder.drawing()

@@ -105,11 +105,10 @@ def never_started(path: pathlib.Path) -> list[str]:
     The bundle may be gone by now.
     """
     try:
-        last = bundle.read(path, lambda opened: opened.first_and_last()[1]) or {}
+        end = bundle.read_end(path)
     except (FileNotFoundError, Fault):
         return []
-    unseen = last.get("outstanding-not-seen") or {}
-    count = unseen.get("total-not-seen", 0) - len(unseen.get("not-seen", []))
+    count = end.unseen - len(end.unseen_names) if end else 0
     if count <= 0:
         return []
     nameless = f"{formatting.count(count, 'test')} of the run never started, and nothing names them"

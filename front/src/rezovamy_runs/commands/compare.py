@@ -12,6 +12,7 @@ from rezovamy_runs.report import tables
 SUMMARY = (
     "say what differs between two runs: newly failing, fixed, new and gone tests, and slower ones"
 )
+TAKES_REST = False
 MOST_RUNS = 10
 PARTS = (
     ("newly failing", "newly_failing", "red"),

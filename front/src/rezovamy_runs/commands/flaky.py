@@ -11,6 +11,7 @@ from rezovamy_runs.faults.fault import Fault
 SUMMARY = (
     "say how often each test passed, failed and was tried again over the runs, least trusted first"
 )
+TAKES_REST = False
 HEADS = ("failed", "tried again", "passed", "runs", "test")
 MOST_RUNS = 50
 

@@ -6,6 +6,7 @@ from rezovamy_runs.store import run_folder
 from rezovamy_runs.report import tables
 
 SUMMARY = "list the recorded runs, the latest first"
+TAKES_REST = False
 HEADS = (
     "run",
     "started",

@@ -10,6 +10,7 @@ from rezovamy_runs.page.data import MOST_OUTPUT
 from rezovamy_runs.store import run_folder
 
 SUMMARY = "write a run as one HTML page: timeline, failures, outputs"
+TAKES_REST = False
 
 
 def add_options(parser):

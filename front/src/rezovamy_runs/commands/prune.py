@@ -5,6 +5,7 @@ from rezovamy_runs import formatting
 from rezovamy_runs.store import run_folder
 
 SUMMARY = "remove all runs but the latest N"
+TAKES_REST = False
 
 
 def add_options(parser):

@@ -10,6 +10,7 @@ from rezovamy_runs.faults.fault import Fault
 from rezovamy_runs.report.run_text import Printer
 
 SUMMARY = "show what failed in a run with its outputs, or one test"
+TAKES_REST = False
 
 
 def add_options(parser):

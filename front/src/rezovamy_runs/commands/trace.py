@@ -9,6 +9,7 @@ from rezovamy_runs.store import run_folder
 from rezovamy_runs.faults.fault import Fault
 
 SUMMARY = "print the trace of a run, for a viewer as ui.perfetto.dev"
+TAKES_REST = False
 
 
 def add_options(parser):

@@ -1,4 +1,9 @@
-"""Says more exactly why a call of the program went wrong, by its words, its input, and the place of its bundle."""
+"""Says more exactly why a call of the program went wrong.
+
+It looks at the words of the call, at its input, and at the place of its bundle.
+"""
+
+from __future__ import annotations
 
 import dataclasses
 import difflib
@@ -6,23 +11,12 @@ import os
 import pathlib
 import resource
 import shlex
+from collections.abc import Callable, Iterable, Mapping, Sequence
 
 from rezovamy_runs.faults import file_kinds
 
 # What file systems commonly take.
 LONGEST_NAME = 255
-COMMANDS = (
-    "record",
-    "info",
-    "trace",
-    "replay",
-    "report",
-    "slots",
-    "rerun",
-    "sample",
-    "upgrade",
-    "salvage",
-)
 PLACES = {"record": 1, "sample": 2, "upgrade": 1, "salvage": 1}
 OPTIONS = {
     "--group-by": "binary or slot",
@@ -32,56 +26,71 @@ OPTIONS = {
     "--session-limit": "a number of bytes",
     "--output": "load or skip",
 }
+LIMITS = ("--read-limit", "--session-limit")
+DRAWING = ("--group-by", "--message-format")
 TAKEN = {
-    "record": ("--group-by", "--message-format", "--max-output", "--read-limit", "--session-limit"),
-    "sample": ("--group-by", "--message-format", "--max-output", "--read-limit", "--session-limit"),
-    "trace": ("--group-by", "--message-format", "--read-limit", "--session-limit"),
-    "replay": ("--read-limit", "--session-limit", "--output"),
-    "report": ("--read-limit", "--session-limit"),
-    "info": ("--read-limit", "--session-limit"),
-    "slots": ("--read-limit", "--session-limit"),
-    "rerun": ("--read-limit", "--session-limit"),
-    "upgrade": ("--read-limit", "--session-limit"),
-    "salvage": ("--read-limit", "--session-limit"),
+    "record": (*DRAWING, "--max-output", *LIMITS),
+    "info": LIMITS,
+    "trace": (*DRAWING, *LIMITS),
+    "replay": (*LIMITS, "--output"),
+    "report": LIMITS,
+    "slots": LIMITS,
+    "rerun": LIMITS,
+    "sample": (*DRAWING, "--max-output", *LIMITS),
+    "upgrade": LIMITS,
+    "salvage": LIMITS,
 }
+COMMANDS = tuple(TAKEN)
 
 
 @dataclasses.dataclass(frozen=True)
 class Call:
-    """A call of the program: the words after its name, and the first bytes of its standard input, None where unknown."""
+    """A call of the program: the words after its name, and the first bytes of its input."""
 
-    words: tuple = ()
+    words: tuple[str, ...] = ()
+    # None where they are unknown.
     begins: bytes | None = None
 
     @property
-    def command(self):
+    def command(self) -> str:
+        """Return the name of the command, which may be empty."""
         return self.words[0] if self.words else ""
 
-    def word(self, values):
-        """The word that a line names by `at`, None where it isn't known."""
+    @property
+    def input_kind(self) -> str | None:
+        """Return what the input is, with its article; None where it isn't known."""
+        return None if self.begins is None else file_kinds.kind_of(self.begins)
+
+    def word(self, values: Values) -> str | None:
+        """Return the word that a line names by `at`, None where it isn't known."""
         at = int(values["at"])
         return self.words[at] if at < len(self.words) else None
 
 
-def cause(form, call, values):
-    """The sentence for a line of this form, where the call shows more than the line; None where it doesn't."""
+# The values of a line by their names.
+Values = Mapping[str, str]
+Cause = Callable[[Call, Values], str | None]
+
+
+def cause(form: str, call: Call, values: Values) -> str | None:
+    """Return the sentence for a line of this form, where the call shows more than the line."""
     about = ABOUT.get(form.partition(" at={at}")[0])
     return about(call, values) if about else None
 
 
-def listed(words):
-    """Words in a row, as `a, b or c`."""
+def listed(words: Iterable[str]) -> str:
+    """Return words in a row, as `a, b or c`."""
     *others, last = words
     return f"{', '.join(others)} or {last}" if others else last
 
 
-def nearest(word, known):
-    """The known word that a mistyped one is likely to be, None where there is none."""
+def nearest(word: str, known: Sequence[str]) -> str | None:
+    """Return the known word that a mistyped one is likely to be, None where there is none."""
     return next(iter(difflib.get_close_matches(word, known, 1)), None)
 
 
-def about_command(call, values):
-    """What to do about a word that is no command."""
+def about_command(call: Call, values: Values) -> str | None:
+    """Say what to do about a word that is no command."""
     word = call.word(values)
     if word is None:
         return None
@@ -93,32 +102,36 @@ def about_command(call, values):
     )
 
 
-def about_missing(call, _values):
-    """Which argument is missing."""
-    if call.command == "record":
+def about_missing(call: Call, _values: Values) -> str | None:
+    """Say which argument is missing."""
+    command = call.command
+    if command == "record":
         return "`record` wants the file that it is to write: rezovamy record BUNDLE < SESSION"
-    if call.command in ("upgrade", "salvage"):
-        return f"`{call.command}` wants the file that it is to write: rezovamy {call.command} BUNDLE < OLDER"
-    if call.command == "sample":
-        return "`sample` wants a number of tests, and the file that it is to write: rezovamy sample 80 BUNDLE"
+    if command in ("upgrade", "salvage"):
+        wanted = f"`{command}` wants the file that it is to write"
+        return f"{wanted}: rezovamy {command} BUNDLE < OLDER"
+    if command == "sample":
+        return (
+            "`sample` wants a number of tests, and the file that it is to write: "
+            "rezovamy sample 80 BUNDLE"
+        )
     return None
 
 
-def about_number(call, values):
-    """What to do about a number of tests that is none."""
+def about_number(call: Call, values: Values) -> str | None:
+    """Say what to do about a number of tests that is none."""
     word = call.word(values)
     return word and f"{word!r} is no whole number from 0 to 10000: rezovamy sample 80 BUNDLE"
 
 
-def about_option(call, values):
-    """What to do about a word that isn't an option of the command."""
+def about_option(call: Call, values: Values) -> str | None:
+    """Say what to do about a word that isn't an option of the command."""
     word, taken = call.word(values), TAKEN.get(call.command)
     if word is None or taken is None:
         return None
     if not word.startswith("-") and call.command not in PLACES:
-        return (
-            f"`{call.command}` reads standard input: rezovamy {call.command} < {shlex.quote(word)}"
-        )
+        reads = f"`{call.command}` reads standard input"
+        return f"{reads}: rezovamy {call.command} < {shlex.quote(word)}"
     name, equals, value = word.partition("=")
     if equals and name in taken:
         return f"an option and its value are two words: {name} {value}"
@@ -128,14 +141,14 @@ def about_option(call, values):
     return f"`{call.command}` doesn't take {word!r}, but {listed(taken)}"
 
 
-def about_repeated(call, values):
-    """Which option stands there twice."""
+def about_repeated(call: Call, values: Values) -> str | None:
+    """Say which option stands there twice."""
     word = call.word(values)
     return word and f"{word} stands there twice: leave one out"
 
 
-def about_value(call, values):
-    """Which values the option takes."""
+def about_value(call: Call, values: Values) -> str | None:
+    """Say which values the option takes."""
     at = int(values["at"])
     option = call.words[at - 1] if 0 < at <= len(call.words) else None
     if option not in OPTIONS:
@@ -145,53 +158,67 @@ def about_value(call, values):
     return f"{option} takes {OPTIONS[option]}, and not {call.words[at]!r}"
 
 
-def about_head(call, _values):
-    """What was handed over in place of a session."""
-    kind = None if call.begins is None else file_kinds.kind_of(call.begins)
-    if kind == "empty":
-        return "standard input is empty: rezovamy record BUNDLE < SESSION, with what session_from_libtest prints"
-    if kind == "a bundle":
-        return "this is a bundle, not a session: it is recorded already, and rezovamy info, trace, replay or report reads it"
-    if kind == "what a test run printed":
-        return (
-            "this is what a test run printed, not a session: session_from_libtest makes one of it"
-        )
-    return (
-        None
-        if kind in (None, "a session")
-        else f"this is {kind}, not a session: session_from_libtest prints one"
-    )
+def about_head(call: Call, _values: Values) -> str | None:
+    """Say what was handed over in place of a session."""
+    match call.input_kind:
+        case None | "a session":
+            return None
+        case "empty":
+            return (
+                "standard input is empty: rezovamy record BUNDLE < SESSION, "
+                "with what session_from_libtest prints"
+            )
+        case "a bundle":
+            return (
+                "this is a bundle, not a session: it is recorded already, "
+                "and rezovamy info, trace, replay or report reads it"
+            )
+        case "what a test run printed":
+            return (
+                "this is what a test run printed, not a session: "
+                "session_from_libtest makes one of it"
+            )
+        case other:
+            return f"this is {other}, not a session: session_from_libtest prints one"
 
 
-def about_archive(call, _values):
-    """What was handed over in place of a bundle."""
-    kind = None if call.begins is None else file_kinds.kind_of(call.begins)
+def about_archive(call: Call, _values: Values) -> str | None:
+    """Say what was handed over in place of a bundle."""
     command = call.command or "info"
-    if kind == "empty":
-        return f"standard input is empty: rezovamy {command} < BUNDLE"
-    if kind == "a session":
-        return f"this is a session, not a bundle: rezovamy record BUNDLE < SESSION makes one, then rezovamy {command} < BUNDLE"
-    if kind == "what a test run printed":
-        return "this is what a test run printed, not a bundle: rezovamy-runs test --from FILE records it"
-    if kind == "a zip file":
-        return "this is a zip file, as nextest's own recordings are, which can't be read here: record the tests anew"
-    return (
-        None
-        if kind in (None, "a bundle")
-        else f"this is {kind}, not a bundle: hand over the file that `record` wrote"
-    )
+    match call.input_kind:
+        case None | "a bundle":
+            return None
+        case "empty":
+            return f"standard input is empty: rezovamy {command} < BUNDLE"
+        case "a session":
+            return (
+                "this is a session, not a bundle: rezovamy record BUNDLE < SESSION makes one, "
+                f"then rezovamy {command} < BUNDLE"
+            )
+        case "what a test run printed":
+            return (
+                "this is what a test run printed, not a bundle: "
+                "rezovamy-runs test --from FILE records it"
+            )
+        case "a zip file":
+            return (
+                "this is a zip file, as nextest's own recordings are, "
+                "which can't be read here: record the tests anew"
+            )
+        case other:
+            return f"this is {other}, not a bundle: hand over the file that `record` wrote"
 
 
-def about_bundle(call, _values):
-    """Why the file of the bundle can't be written, as far as its place shows."""
+def about_bundle(call: Call, _values: Values) -> str | None:
+    """Say why the file of the bundle can't be written, as far as its place shows."""
     at = PLACES.get(call.command)
     if at is None or at >= len(call.words):
         return None
     return why_unwritten(call.words[at])
 
 
-def why_unwritten(path):
-    """Why a file can't be written, and what to do; None where nothing is seen."""
+def why_unwritten(path: str) -> str | None:
+    """Say why a file can't be written, and what to do; None where nothing is seen."""
     folder = os.path.dirname(path) or "."
     if path == "":
         return "the path of the bundle is the empty word: name a file"
@@ -210,35 +237,32 @@ def why_unwritten(path):
         return f"{place} may not be written: name a file elsewhere, or see to its permissions"
     longest = resource.getrlimit(resource.RLIMIT_FSIZE)[0]
     if longest != resource.RLIM_INFINITY:
-        return f"files may have at most {longest} bytes here: raise that by `ulimit -f`, or ask who set it"
+        return (
+            f"files may have at most {longest} bytes here: "
+            "raise that by `ulimit -f`, or ask who set it"
+        )
     return None
 
 
-def file_above(path):
-    """The file that a path has in the place of a folder, None where it has none."""
-    return next(
-        (
-            str(place)
-            for place in pathlib.Path(path).parents
-            if place.exists() and not place.is_dir()
-        ),
-        None,
-    )
+def file_above(path: str) -> str | None:
+    """Return the file that a path has in the place of a folder, None where it has none."""
+    above = (place for place in pathlib.Path(path).parents if place.exists())
+    return next((str(place) for place in above if not place.is_dir()), None)
 
 
-def is_full(folder):
-    """Whether no block or no file more fits into the file system of a folder."""
+def is_full(folder: str) -> bool:
+    """Tell whether no block or no file more fits into the file system of a folder."""
     room = os.statvfs(folder)
     return room.f_blocks > 0 and room.f_bavail == 0 or room.f_files > 0 and room.f_favail == 0
 
 
-def mount_of(folder):
-    """The folder at which the file system of a folder is mounted."""
-    folder = pathlib.Path(folder).resolve()
-    return next(place for place in (folder, *folder.parents) if os.path.ismount(place))
+def mount_of(folder: str) -> pathlib.Path:
+    """Return the folder at which the file system of a folder is mounted."""
+    whole = pathlib.Path(folder).resolve()
+    return next(place for place in (whole, *whole.parents) if os.path.ismount(place))
 
 
-ABOUT = {
+ABOUT: Mapping[str, Cause] = {
     "UnknownCommand": about_command,
     "MissingPositional": about_missing,
     "BadNumber": about_number,

@@ -1,22 +1,19 @@
 """Says what a fault line of the program means, and what to do about it.
 
-`TABLE` has each line that the program can print on standard error, as a form and a sentence. In a form `{name}` stands for a
-value, which the sentence may show; besides it may have the phrases of `PHRASES`. workshop/check_pages.py holds the table against
-the list of lines in docs/CLI.md. Where more is known of the call, faults/causes.py has a more exact sentence for some of them.
+faults/sentences.py has a sentence for each line. Where more is known of the call,
+faults/causes.py has a more exact one for some of them.
 """
+
+from __future__ import annotations
 
 import functools
 import re
+from typing import NamedTuple
 
-from rezovamy_runs.faults import causes
 from rezovamy_runs import formatting
+from rezovamy_runs.faults import causes
+from rezovamy_runs.faults.sentences import PHRASES, SENTENCES
 
-PHRASES = {
-    "counted": "the words after `rezovamy` are counted from 0",
-    "contradicts": "the events contradict each other, so ask the tool that wrote them",
-    "damaged": "the bundle is damaged, so take another copy of it, or record its session again",
-    "newer": "a newer rezovamy wrote this bundle, so read it with that one",
-}
 VERSION = r"[\d.]+"
 TEXT = ".*?"
 VALUES = {
@@ -28,286 +25,22 @@ VALUES = {
     "supported": VERSION,
     "last": VERSION,
 }
+# The forms and their sentences, as pairs.
+TABLE = tuple(SENTENCES.items())
+UNKNOWN_CALL = causes.Call()
 
-TABLE = (
-    # The words.
-    ("NoCommand", "rezovamy was given no command: rezovamy --help lists them"),
-    (
-        "UnknownCommand at={at}",
-        "word {at} is no command ({counted}): rezovamy --help lists them; --help and --version stand alone",
-    ),
-    (
-        "MissingPositional at={at}",
-        "an argument is missing: rezovamy record BUNDLE < SESSION, or rezovamy sample N BUNDLE",
-    ),
-    (
-        "BadNumber at={at}",
-        "the number of tests of `sample` is no whole number from 0 to 10000: rezovamy sample 80 BUNDLE",
-    ),
-    (
-        "UnknownOption at={at}",
-        "word {at} is no option of the command ({counted}); a file is no word, but read from standard input: rezovamy "
-        "info < FILE",
-    ),
-    (
-        "RepeatedOption at={at}",
-        "the option that is word {at} stands there twice ({counted}): leave one out",
-    ),
-    (
-        "MissingValue at={at}",
-        "the last option has no value: word {at} has to be one ({counted}), as in --read-limit 1000000",
-    ),
-    (
-        "BadValue at={at}",
-        "word {at} is no value of the option before it ({counted}): limits are decimal digits alone, and rezovamy --help "
-        "has the words of the others",
-    ),
-    # What a session becomes.
-    (
-        "SourceFault",
-        "standard input could not be read: hand over a file or a pipe, as in rezovamy info < FILE",
-    ),
-    (
-        "SessionTooLarge limit={limit}",
-        "the session has more than {limit} bytes: the option --session-limit of `record` raises that",
-    ),
-    (
-        "ParseHead",
-        "line 1 is no head of a session: `record` takes what session_from_libtest prints; docs/FORMATS.md "
-        "describes the head",
-    ),
-    (
-        "ReadRunLog line_number={line_number}",
-        "line {line_number} isn't UTF-8: sessions and logs are text, so ask the tool that wrote it",
-    ),
-    (
-        "ParseEvent line_number={line_number}",
-        "line {line_number} is neither blank nor an event: hold it against the table of kinds in docs/FORMATS.md",
-    ),
-    (
-        "NameCollision file_name={file_name}",
-        "two different outputs would both be stored as {file_name}, as their digests begin alike: leave one of them out",
-    ),
-    (
-        "FileTooLarge file_name={file_name} size={size} limit={limit}",
-        "{file_name} has {size} bytes, and {limit} may be read: the option --read-limit {size} takes it",
-    ),
-    (
-        "MissingTestStart event={event} binary_id={binary_id} test_name={test_name}",
-        "event {event} is of the test {binary_id} {test_name}, which doesn't run at that point: {contradicts}",
-    ),
-    (
-        "MissingScriptStart event={event} script_id={script_id}",
-        "event {event} is of the setup script {script_id}, which doesn't run at that point: {contradicts}",
-    ),
-    (
-        "MissingStressSubRunStart event={event}",
-        "event {event} ends a sub-run, and none runs at that point: {contradicts}",
-    ),
-    (
-        "SpanAlreadyOpen event={event} span=Run",
-        "event {event} starts the run, which runs already: {contradicts}",
-    ),
-    (
-        "SpanAlreadyOpen event={event} span=SubRun",
-        "event {event} starts a sub-run, while another runs: {contradicts}",
-    ),
-    (
-        "SpanAlreadyOpen event={event} span=Script {script}",
-        "event {event} starts setup script {script}, which runs already: {contradicts}",
-    ),
-    (
-        "SpanAlreadyOpen event={event} span=Test binary_id={binary_id} test_name={test_name}",
-        "event {event} starts the test {binary_id} {test_name}, which runs already: {contradicts}",
-    ),
-    (
-        "SlotBusy event={event} slot={slot}",
-        "event {event} starts a test on slot {slot}, where another runs: {contradicts}",
-    ),
-    ("CountOutOfRange event=None", "all sizes together are past 64 bits: record less at once"),
-    (
-        "TimestampOutOfRange event={event}",
-        "the instant of event {event} is past 64 bits of microseconds: {contradicts}",
-    ),
-    (
-        "RowOutOfRange event={event} number={number}",
-        "the slot or the script of event {event} has the number {number}, too high for a row: {contradicts}",
-    ),
-    ("CountOutOfRange event={event}", "event {event} counts more than 64 bits: {contradicts}"),
-    (
-        "BundleFault",
-        "the bundle could not be written whole, and a part of it may be left: see that its folder is there and may be written, "
-        "that BUNDLE is no folder, and that the disk and `ulimit -f` have room for it",
-    ),
-    (
-        "TraceFault",
-        "the bundle was written, but not the trace: see where standard output goes, and whether there is room; `trace` "
-        "prints it again",
-    ),
-    (
-        "SinkFailed",
-        "standard output could not be written: see that it is open, and that there is room where it goes; with status 10 of "
-        "`salvage` it is the file of the bundle that could not be written",
-    ),
-    (
-        "OutOfMemory",
-        "memory ran out: close other programs or raise the limit of memory; a run takes about three times its session",
-    ),
-    (
-        "AllocError",
-        "memory ran out for the words: close other programs or raise the limit of memory",
-    ),
-    # What a bundle becomes.
-    (
-        "SpoolTooLarge limit={limit}",
-        "the bundle has more than {limit} bytes: the option --session-limit raises that",
-    ),
-    (
-        "ReadArchive fault=BadMagic",
-        "this is no bundle, or its store is broken: rezovamy record BUNDLE < SESSION makes a bundle",
-    ),
-    (
-        "ReadArchive fault=Truncated at={at}",
-        "the bundle, or its store, ends at byte {at} before it is whole, as after a broken copy or a full disk: take "
-        "another copy, or record again",
-    ),
-    ("ReadArchive fault=BadTag at={at}", "byte {at} begins no entry: {damaged}"),
-    (
-        "ReadArchive fault=BadName at={at}",
-        "the name of an entry at byte {at} isn't text: {damaged}",
-    ),
-    (
-        "ReadArchive fault=DuplicateName at={at}",
-        "the name at byte {at} stands there twice: {damaged}",
-    ),
-    (
-        "ReadArchive fault=TrailingBytes at={at}",
-        "more stands after the end, from byte {at} on: {damaged}",
-    ),
-    (
-        "NotAWrapperArchive file_count={file_count} zip_count={zip_count}",
-        "this is no bundle, since none of its entries is manifest.json: hand over the whole file that `record` wrote",
-    ),
-    (
-        "ParseManifest",
-        "manifest.json of the bundle is no manifest: docs/FORMATS.md describes it, so ask the tool that wrote it",
-    ),
-    (
-        "UnsupportedFormatVersion found={found} supported={supported} incompatibility=MajorMismatch "
-        "recording_major={recording_major} supported_major={supported_major}",
-        "the bundle has format {found}, and this rezovamy reads {supported}: read it with the version that wrote it",
-    ),
-    (
-        "UnsupportedFormatVersion found={found} supported={supported} incompatibility=MinorTooNew "
-        "recording_minor={recording_minor} supported_minor={supported_minor}",
-        "the bundle has format {found}, and this rezovamy reads up to {supported}: {newer}",
-    ),
-    (
-        "UnsupportedStoreFormatVersion found={found} supported={supported} incompatibility=RecordingTooOld "
-        "recording_major={recording_major} supported_major={supported_major} guidance=Discard last_nextest_version={last}",
-        "the store has format {found}, which ended with nextest {last}, and this rezovamy reads {supported}: record the "
-        "tests anew",
-    ),
-    (
-        "UnsupportedStoreFormatVersion found={found} supported={supported} incompatibility=RecordingTooOld "
-        "recording_major={recording_major} supported_major={supported_major} guidance=Unknown",
-        "the store has format {found}, of which nothing is known, and this rezovamy reads {supported}: record the tests anew",
-    ),
-    (
-        "UnsupportedStoreFormatVersion found={found} supported={supported} incompatibility=RecordingTooNew "
-        "recording_major={recording_major} supported_major={supported_major}",
-        "the store has format {found}, and this rezovamy reads {supported}: {newer}",
-    ),
-    (
-        "UnsupportedStoreFormatVersion found={found} supported={supported} incompatibility=MinorTooNew "
-        "recording_minor={recording_minor} supported_minor={supported_minor}",
-        "the store has format {found}, and this rezovamy reads up to {supported}: {newer}",
-    ),
-    (
-        "MissingFile file_name={file_name}",
-        "the bundle has no {file_name}, which `record` always writes: take a whole copy of it",
-    ),
-    (
-        "FileNotFound file_name={file_name}",
-        "the store of the bundle lacks {file_name}, which `record` always writes: take a whole copy of it",
-    ),
-    (
-        "DeserializeMetadata file_name={file_name}",
-        "{file_name} in the store isn't what docs/FORMATS.md says: ask the tool that wrote the bundle",
-    ),
-    (
-        "NotUtf8 file_name={file_name}",
-        "{file_name} in the store isn't UTF-8: ask the tool that wrote the bundle",
-    ),
-    (
-        "ForeignEntry file_name={file_name}",
-        "{file_name} has no place in a bundle of today: `upgrade` takes a bundle of manifest, log and store alone, whose store has "
-        "metadata and the outputs of its events",
-    ),
-    (
-        "CountOutOfRange",
-        "what is to be written is longer than 64 bits count: take a smaller bundle",
-    ),
-    (
-        "BadMagic",
-        "the store in the bundle doesn't begin as one does, so nothing can be salvaged of it: pack the directory again",
-    ),
-    (
-        "MissingMeta file_name={file_name}",
-        "the store was stopped before {file_name} was whole, so no event stands in it: there is nothing to salvage",
-    ),
-    (
-        "BadMeta file_name={file_name}",
-        "{file_name} in the store isn't what docs/FORMATS.md says, so nothing is salvaged: ask the tool that wrote the store",
-    ),
-    (
-        "ReadError ReadRunLog line_number={line_number}",
-        "line {line_number} of the bundle's log isn't UTF-8: {damaged}",
-    ),
-    (
-        "ReadError ParseEvent line_number={line_number}",
-        "line {line_number} of the bundle's log is no event: hold it against the table of kinds in docs/FORMATS.md",
-    ),
-    (
-        "TestNotFound binary_id={binary_id} test_name={test_name}",
-        "the test {binary_id} {test_name} ran, and the test list of the head lacks it: add it there, and record again; "
-        "`trace` reads the bundle as it is",
-    ),
-    (
-        "InvalidStressCount",
-        "a run of the log starts with a stress count of 0: ask the tool that wrote the session for 1 or more",
-    ),
-    (
-        "RecordRead FileNotFound file_name={file_name}",
-        "the store of the bundle lacks the output {file_name}: take a whole copy; replay --output skip does without outputs",
-    ),
-    (
-        "RecordRead FileTooLarge file_name={file_name} size={size} limit={limit}",
-        "the output {file_name} has {size} bytes, and {limit} may be read: the option --read-limit {size} takes it",
-    ),
-    (
-        "SuccessAsFailure",
-        "an attempt of a test follows one that passed, so there is no report: ask the tool that wrote the session",
-    ),
-    (
-        "NotOneRun",
-        "the log isn't that of one run from its start to its end, so its slots have no times: take the bundle of a run that finished",
-    ),
-    (
-        "AttemptOutside event={event}",
-        "event {event} starts an attempt of a test that doesn't end before the run does, or starts before it: {contradicts}",
-    ),
-    (
-        "StampFell event={event}",
-        "the instant of event {event} is before that of the event before it, so times between them mean nothing: see whether a "
-        "clock was set back while the run was recorded",
-    ),
-)
+
+class Explained(NamedTuple):
+    """The form of a line, its sentence, and the values that stand in the line."""
+
+    form: str
+    sentence: str
+    values: dict[str, str]
 
 
 @functools.cache
-def pattern_of(form):
-    """The regular expression of a form, with a group for each value."""
+def pattern_of(form: str) -> re.Pattern[str]:
+    """Return the regular expression of a form, with a group for each value."""
     parts = re.split(r"\{(\w+)\}", form)
     made = [
         f"(?P<{part}>{VALUES.get(part, '[0-9]+')})" if number % 2 else re.escape(part)
@@ -316,35 +49,36 @@ def pattern_of(form):
     return re.compile("".join(made), re.S | re.A)
 
 
-def find(line):
-    """The form of the table that a line has, its sentence, and its values; None where it has none.
+def find(line: str) -> Explained | None:
+    """Return the form that a line has, its sentence, and its values; None where it has none.
 
-    What `slots` doesn't take of a log, and `upgrade` of a bundle, as other commands don't, they answer after a word of their own.
+    What `slots` doesn't take of a log, and `upgrade` of a bundle, as other commands don't, they
+    answer after a word of their own.
     """
     said = line
     for word in ("Refused ", "Open ", "Read "):
         said = said.removeprefix(word)
-    for form, sentence in TABLE:
+    for form, sentence in SENTENCES.items():
         found = pattern_of(form).fullmatch(said)
         if found:
-            return form, sentence, found.groupdict()
+            return Explained(form, sentence, found.groupdict())
     return None
 
 
-def explain(line, call=causes.Call()):
-    """The sentence for a fault line, as exact as the call lets it be; None where no line of the program is like it."""
+def explain(line: str, call: causes.Call = UNKNOWN_CALL) -> str | None:
+    """Return the sentence for a fault line, as exact as the call lets it be.
+
+    It is None where no line of the program is like it.
+    """
     found = find(line.removesuffix("\n"))
     if found is None:
         return None
-    form, sentence, values = found
-    return formatting.name(
-        causes.cause(form, call, values) or sentence.format_map(PHRASES | values)
-    )
+    sentence = causes.cause(found.form, call, found.values)
+    return formatting.name(sentence or found.sentence.format_map(PHRASES | found.values))
 
 
-def explain_or_show(line, call=causes.Call()):
-    """The sentence for a line that the program printed, or the line itself where the table lacks it."""
-    return (
-        explain(line, call)
-        or f"rezovamy says `{formatting.name(line.strip())}`, which docs/CLI.md of its version explains"
-    )
+def explain_or_show(line: str, call: causes.Call = UNKNOWN_CALL) -> str:
+    """Return the sentence for a line that the program printed, or the line if it has none."""
+    shown = formatting.name(line.strip())
+    unknown = f"rezovamy says `{shown}`, which docs/CLI.md of its version explains"
+    return explain(line, call) or unknown

@@ -1,9 +1,19 @@
-"""Says by their first bytes what bytes are: a bundle, a session, a trace, or what is taken for one of them by mistake."""
+"""Says by their first bytes what bytes are.
 
+They are a bundle, a session, a trace, or what is taken for one of them by mistake.
+"""
+
+from __future__ import annotations
+
+import os
 import re
 
 MOST = 65536
-RUN_LINE = rb"(?m)^\s*\{ ?\"(?:reason|type)\"\s*:\s*\"|^\s+(?:Compiling|Running|Finished) |^running \d+ tests?$"
+RUN_LINE = re.compile(
+    rb"(?m)^\s*\{ ?\"(?:reason|type)\"\s*:\s*\""
+    rb"|^\s+(?:Compiling|Running|Finished) "
+    rb"|^running \d+ tests?$"
+)
 TEXTS = (
     (rb"\{[^\n]*\"nextest-version\"\s*:", "a session"),
     (rb"\{\s*\"displayTimeUnit\"\s*:|\{[^\n]*\"traceEvents\"\s*:", "a trace"),
@@ -14,8 +24,8 @@ TEXTS = (
 )
 
 
-def kind_of(begins):
-    """What the bytes begin, with its article, as `a session`; None where it isn't known."""
+def kind_of(begins: bytes) -> str | None:
+    """Return what the bytes begin, with its article, as `a session`; None where it isn't known."""
     if not begins:
         return "empty"
     if begins.startswith(b"nxtcont1"):
@@ -23,11 +33,11 @@ def kind_of(begins):
     if begins.startswith(b"PK\3\4"):
         return "a zip file"
     kind = next((kind for pattern, kind in TEXTS if re.match(pattern, begins)), None)
-    return kind or ("what a test run printed" if re.search(RUN_LINE, begins) else None)
+    return kind or ("what a test run printed" if RUN_LINE.search(begins) else None)
 
 
-def first_bytes(path):
-    """The first bytes of a file, None where it can't be read."""
+def first_bytes(path: str | os.PathLike[str]) -> bytes | None:
+    """Return the first bytes of a file, None where it can't be read."""
     try:
         with open(path, "rb") as file:
             return file.read(MOST)

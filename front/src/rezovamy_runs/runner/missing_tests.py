@@ -56,7 +56,7 @@ def is_same_build(first: pathlib.Path, words: list[str]) -> bool:
     Its bundle may be gone.
     """
     try:
-        before = bundle.read_summary(first).cli_args
+        before = list(bundle.read_summary(first).cli_args)
     except (FileNotFoundError, Fault):
         return False
     is_cargo = list(before[:2]) == ["cargo", "test"]

@@ -1,80 +1,58 @@
-"""The folder of recorded runs: where it is, which runs are in it, and how a run comes into it whole or not at all."""
+"""The folder of recorded runs: which are in it, and how a run comes in whole or not at all."""
+
+from __future__ import annotations
 
 import contextlib
 import errno
 import functools
-import json
 import os
 import pathlib
 import re
-import subprocess
-import tempfile
 import time
+from collections.abc import Callable, Iterator
 
-from rezovamy_runs.bundles import bundle
 from rezovamy_runs import formatting
+from rezovamy_runs.bundles import bundle
+from rezovamy_runs.command_line import add_run as add_run  # noqa: F401
 from rezovamy_runs.faults.fault import Fault
+from rezovamy_runs.model import Summary
+from rezovamy_runs.store import location, whole_file
+from rezovamy_runs.store.whole_file import current_umask as current_umask  # noqa: F401
 
-FOLDER, ENDING, ASIDE = "rezovamy-runs", ".bundle", ".aside"
+ENDING, ASIDE = ".bundle", ".aside"
 RUN_ID = re.compile(r"[0-9a-f]{8}(?:-[0-9a-f]{4}){3}-[0-9a-f]{12}")
-WORKSPACE = re.compile(r"^\s*\[workspace", re.M)
 # What marks a folder as one of files that can be made anew.
 TAG_FILE = "CACHEDIR.TAG"
-TAG = "Signature: 8a477f597d28d172789f06886806bc55\n# The target directory of cargo, which can be made anew.\n"
+TAG = (
+    "Signature: 8a477f597d28d172789f06886806bc55\n"
+    "# The target directory of cargo, which can be made anew.\n"
+)
 # A file that was written aside and has no writer any more; no recording takes that long.
 ABANDONED_AFTER = 24 * 3600
-
-
-def target_of_cargo(manifest=None):
-    """The target directory of the workspace as cargo says it, None where it can't be asked."""
-    words = ["cargo", "metadata", "--no-deps", "--offline", "--format-version", "1"]
-    words += ["--manifest-path", manifest] if manifest else []
-    try:
-        done = subprocess.run(words, capture_output=True, check=True, stdin=subprocess.DEVNULL)
-        return pathlib.Path(json.loads(done.stdout)["target_directory"])
-    except (OSError, subprocess.CalledProcessError, ValueError, KeyError):
-        return None
-
-
-def target_by_manifests(folder):
-    """The target directory of the nearest package, or of the workspace above it, None where there is neither."""
-    manifests = [place for place in (folder, *folder.parents) if (place / "Cargo.toml").is_file()]
-    workspaces = [
-        place
-        for place in manifests
-        if WORKSPACE.search((place / "Cargo.toml").read_text(errors="replace"))
-    ]
-    return (workspaces or manifests)[0] / "target" if manifests else None
-
-
-def runs_folder(manifest=None):
-    """The folder of the runs: REZOVAMY_RUNS, or `rezovamy-runs` in the target directory of the workspace."""
-    if os.environ.get("REZOVAMY_RUNS"):
-        return pathlib.Path(os.environ["REZOVAMY_RUNS"])
-    folder = pathlib.Path(manifest).resolve().parent if manifest else pathlib.Path.cwd()
-    target = target_of_cargo(manifest) or target_by_manifests(folder)
-    if target is None:
-        raise Fault(
-            "no Cargo.toml is here or above: go into a workspace, or name the folder of the runs in REZOVAMY_RUNS"
-        )
-    return target / FOLDER
+SHORTEST_PREFIX = 4
 
 
 class Store:
     """The runs of a folder, a file `RUNID.bundle` each."""
 
-    def __init__(self, folder):
-        self.folder = pathlib.Path(folder)
+    def __init__(self, folder: str | pathlib.Path) -> None:
+        self._folder = pathlib.Path(folder)
 
-    def path_of(self, run_id):
+    @property
+    def folder(self) -> pathlib.Path:
+        """Return the folder."""
+        return self._folder
+
+    def path_of(self, run_id: str) -> pathlib.Path:
+        """Return the path of a run's bundle."""
         return self.folder / f"{run_id}{ENDING}"
 
-    def is_somewhere(self):
-        """Whether it is known where the folder is."""
+    def is_somewhere(self) -> bool:
+        """Tell whether it is known where the folder is."""
         return True
 
-    def ids(self):
-        """The ids of the runs, in the order of their letters."""
+    def ids(self) -> list[str]:
+        """Return the ids of the runs, in the order of their letters."""
         if not self.folder.is_dir():
             return []
         names = (
@@ -82,8 +60,8 @@ class Store:
         )
         return sorted(name for name in names if RUN_ID.fullmatch(name))
 
-    def summaries(self, say=None):
-        """The runs, the latest first. A file that can't be read is a fault, or a line for `say`."""
+    def summaries(self, say: Callable[[str], object] | None = None) -> list[Summary]:
+        """Return the runs, the latest first. An unreadable file is a fault, or a line for `say`."""
         found = []
         for run_id in self.ids():
             try:
@@ -96,8 +74,11 @@ class Store:
                 say(str(fault))
         return sorted(found, key=lambda run: (run.started, run.id), reverse=True)
 
-    def find(self, word):
-        """The bundle of the run that a word names: `last`, the beginning of its id, or the path of a bundle."""
+    def find(self, word: str) -> pathlib.Path:
+        """Return the bundle of the run that a word names.
+
+        The word is `last`, the beginning of the run's id, or the path of a bundle.
+        """
         if word == "last":
             return self.last()
         if is_bundle(word):
@@ -110,25 +91,25 @@ class Store:
         if len(found) == 1:
             return self.path_of(found[0])
         if found:
-            raise Fault(
-                f"{word} is the beginning of {len(found)} runs, as of {found[0]} and {found[1]}: give more of it"
-            )
+            runs = f"{len(found)} runs, as of {found[0]} and {found[1]}"
+            raise Fault(f"{word} is the beginning of {runs}: give more of it")
         raise Fault(
-            f"no run begins with {word}, and no bundle is there: `rezovamy-runs list` has the runs of {self.folder}"
+            f"no run begins with {word}, and no bundle is there: "
+            f"`rezovamy-runs list` has the runs of {self.folder}"
         )
 
-    def names_run(self, word):
-        """Whether `find` takes a word for the name of a run, be it one or more."""
+    def names_run(self, word: str) -> bool:
+        """Tell whether `find` takes a word for the name of a run, be it one or more."""
         return (
             word == "last" or is_bundle(word) or word.endswith(ENDING) or bool(self.matching(word))
         )
 
-    def matching(self, word):
-        """The ids that begin with a word, which may be in upper case."""
+    def matching(self, word: str) -> list[str]:
+        """Return the ids that begin with a word, which may be in upper case."""
         return [run_id for run_id in self.ids() if word and run_id.startswith(word.lower())]
 
-    def last(self):
-        """The bundle of the run that started last; one that can't be read isn't it."""
+    def last(self) -> pathlib.Path:
+        """Return the bundle of the run that started last; one that can't be read isn't it."""
         started = []
         for run_id in self.ids():
             with contextlib.suppress(Fault, FileNotFoundError):
@@ -137,35 +118,39 @@ class Store:
             raise Fault(f"no run is in {self.folder}: record one with `rezovamy-runs test`")
         return self.path_of(max(started)[1])
 
-    def prefixes(self):
-        """For each id the shortest beginning that no other one has, of at least four letters."""
+    def prefixes(self) -> dict[str, str]:
+        """Return for each id its shortest beginning of four letters or more that no other has."""
         ids, found = self.ids(), {}
         for place, run_id in enumerate(ids):
             neighbours = ids[max(0, place - 1) : place] + ids[place + 1 : place + 2]
-            shared = max(
-                (len(os.path.commonprefix([run_id, other])) for other in neighbours), default=0
-            )
-            found[run_id] = run_id[: max(4, shared + 1)]
+            shared = [len(os.path.commonprefix([run_id, other])) for other in neighbours]
+            found[run_id] = run_id[: max(SHORTEST_PREFIX, max(shared, default=0) + 1)]
         return found
 
-    def shortest(self, run_id):
-        """The shortest beginning of an id that no other run has; the id of a run from elsewhere is whole."""
+    def shortest(self, run_id: str) -> str:
+        """Return the shortest beginning of an id that no other run has.
+
+        The id of a run from elsewhere is whole.
+        """
         return self.prefixes().get(run_id, run_id) if self.is_somewhere() else run_id
 
     @contextlib.contextmanager
-    def writable(self):
-        """Says of what fails meanwhile that the folder can't be written."""
+    def writable(self) -> Iterator[None]:
+        """Say of what fails meanwhile that the folder can't be written."""
         try:
             yield
         except OSError as error:
-            said = f"nothing can be written into {self.folder}: {error.strerror}; name another folder in REZOVAMY_RUNS"
-            raise Fault(said) from error
+            raise Fault(
+                f"nothing can be written into {self.folder}: {error.strerror}; "
+                f"name another folder in {location.VARIABLE}"
+            ) from error
 
-    def prepare(self):
-        """Makes the folder, so that a fault is known before anything runs that shall come into it."""
+    def prepare(self) -> None:
+        """Make the folder, so that a fault is known before anything runs that comes into it."""
         if not formatting.is_text(str(self.folder)):
             raise Fault(
-                f"{self.folder} is no UTF-8, and the program takes no other path: name another folder in REZOVAMY_RUNS"
+                f"{self.folder} is no UTF-8, and the program takes no other path: "
+                f"name another folder in {location.VARIABLE}"
             )
         with self.writable():
             self.folder.mkdir(parents=True, exist_ok=True)
@@ -173,88 +158,87 @@ class Store:
                 raise PermissionError(errno.EACCES, os.strerror(errno.EACCES))
 
     @contextlib.contextmanager
-    def adding(self, run_id):
-        """A path beside the runs to write a bundle to; it becomes the run's once all went well, and goes otherwise."""
+    def adding(self, run_id: str) -> Iterator[pathlib.Path]:
+        """Lend a path beside the runs to write a bundle to.
+
+        It becomes the run's once all went well, and goes otherwise.
+        """
         self.prepare()
+        target = self.path_of(run_id)
         with self.writable():
-            descriptor, aside = tempfile.mkstemp(
-                prefix=f".{run_id}.", suffix=ASIDE, dir=self.folder
-            )
-        try:
-            os.close(descriptor)
-            yield pathlib.Path(aside)
-            os.chmod(aside, 0o666 & ~current_umask())
-            with open(aside, "rb") as written:
-                os.fsync(written.fileno())
-            os.replace(aside, self.path_of(run_id))
-        finally:
-            with contextlib.suppress(FileNotFoundError):
-                os.unlink(aside)
+            aside = whole_file.made_aside(target, run_id, ASIDE)
+        with whole_file.becoming(target, aside):
+            yield aside
 
-    def remove(self, run_id):
-        """Removes a run and its page; another one may have removed it before."""
-        with contextlib.suppress(FileNotFoundError):
-            self.path_of(run_id).unlink()
-        with contextlib.suppress(FileNotFoundError):
-            self.path_of(run_id).with_suffix(".html").unlink()
+    def remove(self, run_id: str) -> None:
+        """Remove a run and its page; another one may have removed it before."""
+        self.path_of(run_id).unlink(missing_ok=True)
+        self.path_of(run_id).with_suffix(".html").unlink(missing_ok=True)
 
-    def abandoned(self):
-        """Files that a recording left that was killed."""
+    def abandoned(self) -> Iterator[pathlib.Path]:
+        """Find the files that a recording left that was killed."""
         now = time.time()
         for path in self.folder.glob(f".*{ASIDE}"):
             with contextlib.suppress(FileNotFoundError):
                 if now - path.stat().st_mtime > ABANDONED_AFTER:
                     yield path
 
+    def prune(self, keep: int) -> list[Summary]:
+        """Remove all runs but the latest ones, and return them.
 
-def is_bundle(word):
-    """Whether a word is the path of a file that may be a bundle."""
+        What recordings left that were killed long ago goes too.
+        """
+        # A file that can't be read is no run of which it is known that it is old.
+        old = self.summaries(lambda line: None)[keep:]
+        for run in old:
+            # By its file: in a copy under another name stands the id of a run that may have to
+            # stay.
+            self.remove(run.bundle.stem)
+        for path in self.abandoned():
+            path.unlink(missing_ok=True)
+        return old
+
+
+def is_bundle(word: str) -> bool:
+    """Tell whether a word is the path of a file that may be a bundle."""
     return (os.sep in word or word.endswith(ENDING)) and os.path.isfile(word)
 
 
-def current_umask():
-    mask = os.umask(0o077)
-    os.umask(mask)
-    return mask
-
-
 class Here(Store):
-    """A store whose folder is looked for when it is needed, so that a bundle's path is taken where there is no workspace."""
+    """A store whose folder is looked for when it is needed.
 
-    def __init__(self, manifest=None):
+    So the path of a bundle is taken where there is no workspace.
+    """
+
+    def __init__(self, manifest: str | None = None) -> None:
         self.manifest = manifest
 
     @functools.cached_property
-    def folder(self):
-        return runs_folder(self.manifest)
+    def folder(self) -> pathlib.Path:
+        """Return the folder, which may be looked for in vain."""
+        return location.runs_folder(self.manifest)
 
-    def is_somewhere(self):
+    def is_somewhere(self) -> bool:
+        """Tell whether it is known where the folder is."""
         try:
             return self.folder is not None
         except Fault:
             return False
 
-    def prepare(self):
-        """Makes the folder. A target directory that is made with it is marked as cargo marks its own: no backup has it then."""
+    def prepare(self) -> None:
+        """Make the folder.
+
+        A target directory that is made with it is marked as cargo marks its own: no backup has it
+        then.
+        """
         target = self.folder.parent
-        is_cargos = not os.environ.get("REZOVAMY_RUNS") and not target.exists()
+        is_cargos = location.named_folder() is None and not target.exists()
         super().prepare()
         if is_cargos:
             with self.writable():
                 (target / TAG_FILE).write_text(TAG)
 
 
-def here(manifest=None):
-    """The store of the workspace in which the front end was started, or of that of a manifest."""
+def here(manifest: str | None = None) -> Store:
+    """Return the store of the workspace in which the front end was started, or of a manifest's."""
     return Here(manifest)
-
-
-def add_run(parser, default="last"):
-    """Lets a command take the name of a run."""
-    parser.add_argument(
-        "run",
-        nargs="?",
-        default=default,
-        metavar="RUN",
-        help="the beginning of a run's id, the path of a bundle, or last (last)",
-    )

@@ -13,9 +13,16 @@ returns-in_err-timestamp g c =
 pub returns-in_err-kind : goal.returns-in_err-kind
 unfolding event_form
 returns-in_err-kind g c =
-    let p = err_from_is_err_and c.from_residual-in_err-kind.result c.from_residual-in_err-kind.ensures.1 in
-    rw (p.1, p.2, ← c.in-Some.ensures, c.in_ok-timestamp.ensures.0, c.in_ok-timestamp.ensures.1) (at_first _ _ _ c.in_err-kind.ensures)
+    let p =
+    err_from_is_err_and c.from_residual-in_err-kind.result c.from_residual-in_err-kind.ensures.1 in
+    rw (p.1, p.2, ← c.in-Some.ensures, c.in_ok-timestamp.ensures.0, c.in_ok-timestamp.ensures.1)
+    (at_first _ _ _ c.in_err-kind.ensures)
 
 pub returns : goal.returns
 unfolding event_form
-returns g c = rw (← c.in-Some.ensures, c.in_ok-timestamp.ensures.0, c.in_ok-timestamp.ensures.1, c.in_ok-kind.ensures) refl
+returns g c = rw (
+  ← c.in-Some.ensures,
+  c.in_ok-timestamp.ensures.0,
+  c.in_ok-timestamp.ensures.1,
+  c.in_ok-kind.ensures,
+) refl

@@ -2,4 +2,6 @@ use Rattle.rec_forms.proofs.Writing.{◌▸◌, saying}
 use Rattle.rec_codec.proofs.event_parts.with_test.Goals as goal
 
 pub returns : goal.returns
-returns c = saying (λ k. (k.0, k.1.0, k.1.1)) (c.optional-object.ensures ▸ c.field-object.ensures ▸ c.field.ensures)
+returns c =
+    saying (λ k. (k.0, k.1.0, k.1.1))
+    (c.optional-object.ensures ▸ c.field-object.ensures ▸ c.field.ensures)

@@ -6,7 +6,9 @@ pub returns-clause-drained : goal.returns-clause-drained
 returns-clause-drained g c = drained (event_form {S = g.row.S.Denot} g.S.OutputForm.output_form)
 
 pub returns-clause-failed : goal.returns-clause-failed
-returns-clause-failed g c = λ events all rest fault. failed (event_form {S = g.row.S.Denot} g.S.OutputForm.output_form) events all rest fault
+returns-clause-failed g c =
+    λ events all rest fault.
+    failed (event_form {S = g.row.S.Denot} g.S.OutputForm.output_form) events all rest fault
 
 pub returns-clause-yielded : goal.returns-clause-yielded
 returns-clause-yielded g c = yielded (event_form {S = g.row.S.Denot} g.S.OutputForm.output_form)

@@ -27,7 +27,8 @@ module _ {S O : Type 0} (value : O → Data) (s : ExecuteStatus S O) where
 
   -- where each field is there or not, both orders come to the same members
   stays : (summary : Option ErrorSummary) (slice : Option OutputErrorSlice)
-      → compact_text (status_value value (with_texts summary slice)) ≡ compact_text (status_value_3_0 value (with_texts summary slice))
+      → compact_text (status_value value (with_texts summary slice))
+      ≡ compact_text (status_value_3_0 value (with_texts summary slice))
   unfolding members_of
   stays None None = refl
   stays None (Some slice) = refl
@@ -36,4 +37,5 @@ module _ {S O : Type 0} (value : O → Data) (s : ExecuteStatus S O) where
 
 pub returns : goal.returns
 unfolding members_of
-returns g c = λ s none. rw none (stays g.S.OutputForm.output_value s s.error_summary s.output_error_slice)
+returns g c =
+    λ s none. rw none (stays g.S.OutputForm.output_value s s.error_summary s.output_error_slice)

@@ -1,5 +1,6 @@
 use Rattle.rec_codec.proofs.laws.read_events_are_well_formed.Goals as goal
-use Rattle.rec_codec.proofs.ReadEventLaws.{live_form_well_formed, recorded_form_well_formed, live_event_well_formed, recorded_event_well_formed}
+use Rattle.rec_codec.proofs.ReadEventLaws.{live_form_well_formed, recorded_form_well_formed}
+use Rattle.rec_codec.proofs.ReadEventLaws.{live_event_well_formed, recorded_event_well_formed}
 
 pub returns-clause-live : goal.returns-clause-live
 returns-clause-live c = live_form_well_formed

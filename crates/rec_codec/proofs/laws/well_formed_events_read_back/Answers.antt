@@ -11,4 +11,6 @@ pub returns-clause-live : goal.returns-clause-live
 returns-clause-live c = event_back {S = LiveSpec} IsLive live_value live_form live_back
 
 pub returns-clause-recorded : goal.returns-clause-recorded
-returns-clause-recorded c = event_back {S = RecordingSpec} IsStoredOutputs stored_outputs_value stored_outputs_form stored_outputs_back
+returns-clause-recorded c =
+    event_back {S = RecordingSpec}
+    IsStoredOutputs stored_outputs_value stored_outputs_form stored_outputs_back

@@ -6,4 +6,6 @@ use Rattle.rec_codec.specs.Writes.{every}
 
 -- what is left decides
 abbrev pub invariant-loop-attempt : goal.invariant-loop-attempt
-invariant-loop-attempt l = every (status_loaded is_loaded) (drop l.attempt-index l.attempts) ≡ every (status_loaded is_loaded) l.attempts
+invariant-loop-attempt l =
+    every (status_loaded is_loaded) (drop l.attempt-index l.attempts)
+    ≡ every (status_loaded is_loaded) l.attempts

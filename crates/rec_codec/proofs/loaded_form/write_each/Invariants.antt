@@ -11,6 +11,8 @@ invariant-loop-item g l = record {
   written :
       with_items l.text (map g.T.LoadedForm.value_of (drop l.item-index l.items))
       ≡ with_items (l.fn.text ++ begin_array ∷ []) (map g.T.LoadedForm.value_of l.items);
-  loaded : every g.T.LoadedForm.loaded (drop l.item-index l.items) ≡ every g.T.LoadedForm.loaded l.items;
-  known : AllByRecursion g.T.LoadedForm.well_formed (drop l.item-index l.items) → AllByRecursion g.T.LoadedForm.well_formed l.items;
+  loaded : every g.T.LoadedForm.loaded (drop l.item-index l.items)
+      ≡ every g.T.LoadedForm.loaded l.items;
+  known : AllByRecursion g.T.LoadedForm.well_formed (drop l.item-index l.items)
+      → AllByRecursion g.T.LoadedForm.well_formed l.items;
 }

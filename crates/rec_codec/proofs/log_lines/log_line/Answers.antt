@@ -10,7 +10,8 @@ pub returns-clause-line : goal.returns-clause-line
 unfolding event_text
 returns-clause-line c =
     let value = event_value stored_outputs_value c.args.event.now in
-    let alone = c.in_ok-write_recorded.ensures.written ∙ ap (λ ts. ts ++ value_tokens value) c.new-text.ensures in
+    let alone = c.in_ok-write_recorded.ensures.written
+    ∙ ap (λ ts. ts ++ value_tokens value) c.new-text.ensures in
     rw (c.in_ok-push.ensures.items, c.into_bytes-line.ensures.compact value alone) refl
 
 pub returns-clause-logged : goal.returns-clause-logged

@@ -13,13 +13,24 @@ returns-in_err-stress_index g c =
 pub returns-in_err-delay_before_next_attempt : goal.returns-in_err-delay_before_next_attempt
 unfolding attempt_failed_form
 returns-in_err-delay_before_next_attempt g c =
-    let p = err_from_is_err_and c.from_residual-in_err-delay_before_next_attempt.result c.from_residual-in_err-delay_before_next_attempt.ensures.1 in
-    rw (p.1, p.2, c.in_ok-stress_index.ensures) (around_four _ _ _ _ _ _ _ c.in_err-delay_before_next_attempt.ensures)
+    let p = err_from_is_err_and c.from_residual-in_err-delay_before_next_attempt.result
+    c.from_residual-in_err-delay_before_next_attempt.ensures.1 in
+    rw (p.1, p.2, c.in_ok-stress_index.ensures)
+    (around_four _ _ _ _ _ _ _ c.in_err-delay_before_next_attempt.ensures)
 
 pub returns-in-Err : goal.returns-in-Err
 unfolding attempt_failed_form
-returns-in-Err g c = rw (c.in_ok-stress_index.ensures, c.in_ok-delay_before_next_attempt.ensures.3) (at_first _ _ _ c.in-Err.ensures)
+returns-in-Err g c =
+    rw (c.in_ok-stress_index.ensures, c.in_ok-delay_before_next_attempt.ensures.3)
+    (at_first _ _ _ c.in-Err.ensures)
 
 pub returns : goal.returns
 unfolding attempt_failed_form
-returns g c = rw (c.in_ok-stress_index.ensures, c.in_ok-delay_before_next_attempt.ensures.3, c.in-Ok.ensures, c.in_ok-delay_before_next_attempt.ensures.0, c.in_ok-delay_before_next_attempt.ensures.1, c.in_ok-delay_before_next_attempt.ensures.2) refl
+returns g c = rw (
+  c.in_ok-stress_index.ensures,
+  c.in_ok-delay_before_next_attempt.ensures.3,
+  c.in-Ok.ensures,
+  c.in_ok-delay_before_next_attempt.ensures.0,
+  c.in_ok-delay_before_next_attempt.ensures.1,
+  c.in_ok-delay_before_next_attempt.ensures.2,
+) refl

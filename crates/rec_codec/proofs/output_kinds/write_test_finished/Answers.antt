@@ -5,9 +5,16 @@ use Rattle.rec_codec.proofs.output_kinds.write_test_finished.Goals as goal
 -- which kind it is, and what the calls wrote, one after the other
 pub returns : goal.returns
 returns g c =
-    let all = c.field-object.ensures ▸ c.field-object-2.ensures ▸ c.with_reporting-object.ensures ▸ c.text-object.ensures ▸ c.in_ok-object.ensures.written ▸ c.field-object-3.ensures ▸ c.with_finished-object.ensures in
+    let all = c.field-object.ensures ▸ c.field-object-2.ensures ▸ c.with_reporting-object.ensures ▸
+    c.text-object.ensures ▸ c.in_ok-object.ensures.written ▸ c.field-object-3.ensures ▸
+    c.with_finished-object.ensures in
     rw c.in-TestFinished.is (record {
       written = at_end _ _ c.left_open.result all.written c.left_open.ensures;
-      loaded = loaded_at_end _ _ c.left_open.result c.in_ok-object.ensures.loaded c.left_open.ensures;
-      known = at_end _ _ c.left_open.result (saying (λ k. (k.1.1.1.1.1.1.2, k.1.0, (k.1.1.1.1.1.1.0, k.1.1.1.1.1.1.1, k.1.1.1.1.0, k.0, k.1.1.1.1.1.0))) all).known c.left_open.ensures;
+      loaded =
+          loaded_at_end _ _ c.left_open.result c.in_ok-object.ensures.loaded c.left_open.ensures;
+      known = at_end _ _ c.left_open.result (saying (λ k. (
+        k.1.1.1.1.1.1.2,
+        k.1.0,
+        (k.1.1.1.1.1.1.0, k.1.1.1.1.1.1.1, k.1.1.1.1.0, k.0, k.1.1.1.1.1.0),
+      )) all).known c.left_open.ensures;
     })

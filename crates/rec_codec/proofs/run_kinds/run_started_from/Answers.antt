@@ -4,4 +4,9 @@ use Rattle.rec_codec.specs.CoreKindForms.{run_started_form}
 
 pub returns : goal.returns
 unfolding run_started_form
-returns c = rw (c.in_ok-run_id.ensures.0, c.in_ok-run_id.ensures.1, c.in_ok-run_id.ensures.2, c.in_ok-stress_condition.ensures) refl
+returns c = rw (
+  c.in_ok-run_id.ensures.0,
+  c.in_ok-run_id.ensures.1,
+  c.in_ok-run_id.ensures.2,
+  c.in_ok-stress_condition.ensures,
+) refl

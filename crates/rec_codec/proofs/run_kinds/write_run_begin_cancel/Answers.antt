@@ -5,8 +5,11 @@ use Rattle.rec_codec.proofs.run_kinds.write_run_begin_cancel.Goals as goal
 -- which kind it is, and what the calls wrote, one after the other
 pub returns : goal.returns
 returns c =
-    let all = c.with_elapsed_and_kind-object.ensures ▸ c.field-object.ensures ▸ c.with_running-object.ensures in
+    let all = c.with_elapsed_and_kind-object.ensures ▸ c.field-object.ensures ▸
+    c.with_running-object.ensures in
     rw c.in-RunBeginCancel.is (record {
       written = on_ok_weaker c.leave_open.result all.written c.leave_open.ensures;
-      known = on_ok_weaker c.leave_open.result (saying (λ k. (k.1.1.2, k.0, (k.1.1.0, k.1.1.1))) all).known c.leave_open.ensures;
+      known =
+          on_ok_weaker c.leave_open.result
+          (saying (λ k. (k.1.1.2, k.0, (k.1.1.0, k.1.1.1))) all).known c.leave_open.ensures;
     })

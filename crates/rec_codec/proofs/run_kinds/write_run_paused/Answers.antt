@@ -8,5 +8,7 @@ returns c =
     let all = c.with_elapsed_and_kind-object.ensures ▸ c.with_running-object.ensures in
     rw c.in-RunPaused.is (record {
       written = on_ok_weaker c.leave_open.result all.written c.leave_open.ensures;
-      known = on_ok_weaker c.leave_open.result (saying (λ k. (k.1.2, k.0, (k.1.0, k.1.1))) all).known c.leave_open.ensures;
+      known =
+          on_ok_weaker c.leave_open.result (saying (λ k. (k.1.2, k.0, (k.1.0, k.1.1))) all).known
+          c.leave_open.ensures;
     })

@@ -13,15 +13,24 @@ returns-in_err-stress_index c =
 pub returns-in_err-elapsed : goal.returns-in_err-elapsed
 unfolding setup_script_slow_form
 returns-in_err-elapsed c =
-    let p = err_from_is_err_and c.from_residual-in_err-elapsed.result c.from_residual-in_err-elapsed.ensures.1 in
+    let p = err_from_is_err_and c.from_residual-in_err-elapsed.result
+    c.from_residual-in_err-elapsed.ensures.1 in
     rw (p.1, p.2, c.in_ok-stress_index.ensures) (at_two _ _ _ _ c.in_err-elapsed.ensures)
 
 pub returns-in_err-command : goal.returns-in_err-command
 unfolding setup_script_slow_form
 returns-in_err-command c =
-    let p = err_from_is_err_and c.from_residual-in_err-command.result c.from_residual-in_err-command.ensures.1 in
-    rw (p.1, p.2, c.in_ok-stress_index.ensures, c.in_ok-elapsed.ensures.0, c.in_ok-elapsed.ensures.1) (at_first _ _ _ c.in_err-command.ensures)
+    let p = err_from_is_err_and c.from_residual-in_err-command.result
+    c.from_residual-in_err-command.ensures.1 in
+    rw
+    (p.1, p.2, c.in_ok-stress_index.ensures, c.in_ok-elapsed.ensures.0, c.in_ok-elapsed.ensures.1)
+    (at_first _ _ _ c.in_err-command.ensures)
 
 pub returns : goal.returns
 unfolding setup_script_slow_form
-returns c = rw (c.in_ok-stress_index.ensures, c.in_ok-elapsed.ensures.0, c.in_ok-elapsed.ensures.1, c.in_ok-command.ensures) refl
+returns c = rw (
+  c.in_ok-stress_index.ensures,
+  c.in_ok-elapsed.ensures.0,
+  c.in_ok-elapsed.ensures.1,
+  c.in_ok-command.ensures,
+) refl

@@ -5,8 +5,13 @@ use Rattle.rec_codec.proofs.script_kinds.write_setup_script_started.Goals as goa
 -- which kind it is, and what the calls wrote, one after the other
 pub returns : goal.returns
 returns c =
-    let all = c.with_args_to_index-object.ensures ▸ c.text-object.ensures ▸ c.field-object.ensures ▸ c.field-object-2.ensures ▸ c.with_script-object.ensures in
+    let all = c.with_args_to_index-object.ensures ▸ c.text-object.ensures ▸ c.field-object.ensures ▸
+    c.field-object-2.ensures ▸ c.with_script-object.ensures in
     rw c.in-SetupScriptStarted.is (record {
       written = on_ok_weaker c.leave_open.result all.written c.leave_open.ensures;
-      known = on_ok_weaker c.leave_open.result (saying (λ k. (k.1.1.1.1.2, k.0.1, (k.1.1.1.1.1, k.0.2, k.1.1.1.1.3, k.1.1.1.1.0, k.1.1.1.0, k.0.0))) all).known c.leave_open.ensures;
+      known = on_ok_weaker c.leave_open.result (saying (λ k. (
+        k.1.1.1.1.2,
+        k.0.1,
+        (k.1.1.1.1.1, k.0.2, k.1.1.1.1.3, k.1.1.1.1.0, k.1.1.1.0, k.0.0),
+      )) all).known c.leave_open.ensures;
     })

@@ -13,9 +13,18 @@ returns-in_err-stress_index c =
 pub returns-in_err-test_instance : goal.returns-in_err-test_instance
 unfolding test_started_form
 returns-in_err-test_instance c =
-    let p = err_from_is_err_and c.from_residual-in_err-test_instance.result c.from_residual-in_err-test_instance.ensures.1 in
-    rw (p.1, p.2, c.in_ok-stress_index.ensures) (at_five _ _ _ _ _ _ _ c.in_err-test_instance.ensures)
+    let p = err_from_is_err_and c.from_residual-in_err-test_instance.result
+    c.from_residual-in_err-test_instance.ensures.1 in
+    rw (p.1, p.2, c.in_ok-stress_index.ensures)
+    (at_five _ _ _ _ _ _ _ c.in_err-test_instance.ensures)
 
 pub returns : goal.returns
 unfolding test_started_form
-returns c = rw (c.in_ok-stress_index.ensures, c.in_ok-test_instance.ensures.0, c.in_ok-test_instance.ensures.1, c.in_ok-test_instance.ensures.2, c.in_ok-test_instance.ensures.3, c.in_ok-test_instance.ensures.4) refl
+returns c = rw (
+  c.in_ok-stress_index.ensures,
+  c.in_ok-test_instance.ensures.0,
+  c.in_ok-test_instance.ensures.1,
+  c.in_ok-test_instance.ensures.2,
+  c.in_ok-test_instance.ensures.3,
+  c.in_ok-test_instance.ensures.4,
+) refl

@@ -5,8 +5,12 @@ use Rattle.rec_codec.proofs.test_kinds.write_test_slow.Goals as goal
 -- which kind it is, and what the calls wrote, one after the other
 pub returns : goal.returns
 returns c =
-    let all = c.with_elapsed_and_kind-object.ensures ▸ c.field-object.ensures ▸ c.field-object-2.ensures ▸ c.with_test-object.ensures ▸ c.field-object-3.ensures in
+    let all = c.with_elapsed_and_kind-object.ensures ▸ c.field-object.ensures ▸
+    c.field-object-2.ensures ▸ c.with_test-object.ensures ▸ c.field-object-3.ensures in
     rw c.in-TestSlow.is (record {
       written = on_ok_weaker c.leave_open.result all.written c.leave_open.ensures;
-      known = on_ok_weaker c.leave_open.result (saying (λ k. (k.1.1.1.0.2, k.0, (k.1.1.1.0.0, k.1.1.1.0.1, k.1.0, k.1.1.0))) all).known c.leave_open.ensures;
+      known =
+          on_ok_weaker c.leave_open.result
+          (saying (λ k. (k.1.1.1.0.2, k.0, (k.1.1.1.0.0, k.1.1.1.0.1, k.1.0, k.1.1.0))) all).known
+          c.leave_open.ensures;
     })

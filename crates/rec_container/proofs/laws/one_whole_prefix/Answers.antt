@@ -1,6 +1,7 @@
 use Rattle.std.proofs.Common.{◌∷◌}
 use Rattle.rec_container.proofs.laws.one_whole_prefix.Goals as goal
-use Rattle.rec_container.proofs.WholePrefixes.{prefix_longest, prefix_one, stopped_prefix, spelled_prefix}
+use Rattle.rec_container.proofs.WholePrefixes.{prefix_longest, prefix_one}
+use Rattle.rec_container.proofs.WholePrefixes.{stopped_prefix, spelled_prefix}
 
 pub returns-clause-longest : goal.returns-clause-longest
 returns-clause-longest c = λ bytes more es fs. prefix_longest bytes es fs more

@@ -9,8 +9,11 @@ pub returns-in-Equal-clause-found : goal.returns-in-Equal-clause-found
 returns-in-Equal-clause-found g c =
     let here = c.loop-from in
     let test = here.invariant.inside in
-    found_at c.args.sorted.now c.args.name.now (here.from + (here.to - here.from) / 2) _ _ c.requires (slice_get-get_or c.args.sorted.now _ _ (let t = c.loop-from-test.true in omega arith))
-    (ap (slice_cmp nat_cmp c.args.name.now) (sym c.as_bytes.ensures.value) ∙ sym c.in-Equal.ensures.order)
+    found_at c.args.sorted.now c.args.name.now (here.from + (here.to - here.from) / 2)
+    _ _ c.requires
+    (slice_get-get_or c.args.sorted.now _ _ (let t = c.loop-from-test.true in omega arith))
+    (ap (slice_cmp nat_cmp c.args.name.now) (sym c.as_bytes.ensures.value)
+    ∙ sym c.in-Equal.ensures.order)
 
 pub returns-in-Equal-clause-cost : goal.returns-in-Equal-clause-cost
 returns-in-Equal-clause-cost g c =
@@ -18,7 +21,8 @@ returns-in-Equal-clause-cost g c =
     let test = c.loop-from-test.true in
     let step = c.in-Equal.ensures.step in
     let later = here.invariant.later in
-    let h = halve _ _ (c.compare.new.steps - c.args.steps.now) _ 0 here.invariant.halved (omega arith) (omega arith) (omega arith) in
+    let h = halve _ _ (c.compare.new.steps - c.args.steps.now) _ 0 here.invariant.halved
+    (omega arith) (omega arith) (omega arith) in
     h.cheap
 
 pub loop-from-preserved-in-Less : goal.loop-from-preserved-in-Less
@@ -33,7 +37,14 @@ loop-from-preserved-in-Less g c =
       inside = omega arith;
       later = omega arith;
       halved = halve _ _ _ _ _ here.invariant.halved (omega arith) (omega arith) (omega arith);
-      between = record { before = here.invariant.between.before; after = before_it c.args.sorted.now c.args.name.now _ _ (slice_get-get_or c.args.sorted.now _ _ (omega arith)) (ap (slice_cmp nat_cmp c.args.name.now) (sym c.as_bytes.ensures.value) ∙ sym c.in-Less.ensures.order) };
+      between = record {
+        before = here.invariant.between.before;
+        after =
+            before_it c.args.sorted.now c.args.name.now _ _
+            (slice_get-get_or c.args.sorted.now _ _ (omega arith))
+            (ap (slice_cmp nat_cmp c.args.name.now) (sym c.as_bytes.ensures.value)
+            ∙ sym c.in-Less.ensures.order);
+      };
     }
 
 pub loop-from-preserved : goal.loop-from-preserved
@@ -48,7 +59,14 @@ loop-from-preserved g c =
       inside = here.invariant.inside;
       later = omega arith;
       halved = halve _ _ _ _ _ here.invariant.halved (omega arith) (omega arith) (omega arith);
-      between = record { before = after_all c.args.sorted.now c.args.name.now _ _ c.requires (slice_get-get_or c.args.sorted.now _ _ (omega arith)) (ap (slice_cmp nat_cmp c.args.name.now) (sym c.as_bytes.ensures.value) ∙ sym c.in-Greater.ensures.order); after = here.invariant.between.after };
+      between = record {
+        before =
+            after_all c.args.sorted.now c.args.name.now _ _ c.requires
+            (slice_get-get_or c.args.sorted.now _ _ (omega arith))
+            (ap (slice_cmp nat_cmp c.args.name.now) (sym c.as_bytes.ensures.value)
+            ∙ sym c.in-Greater.ensures.order);
+        after = here.invariant.between.after;
+      };
     }
 
 pub returns-clause-found : goal.returns-clause-found
@@ -56,7 +74,8 @@ returns-clause-found g c =
     let here = c.loop-from in
     let ordered = here.invariant.ordered in
     let test = c.loop-from-test.false in
-    none_between c.args.sorted.now c.args.name.now here.from here.to c.requires here.invariant.between (omega arith)
+    none_between c.args.sorted.now c.args.name.now here.from here.to c.requires
+    here.invariant.between (omega arith)
 
 pub overflow_add-middle : goal.overflow_add-middle
 overflow_add-middle g c = omega (arith, c.loop-from-test.true, c.loop-from.invariant.inside)

@@ -7,5 +7,6 @@ use Rattle.rec_container.specs.NamedContents.{container_of, entry_of}
 abbrev pub invariant-loop-content : goal.invariant-loop-content
 invariant-loop-content l = record {
   fits : l.length < 2 ^ 64;
-  whole : l.length + length (left entry_of l.contents l.content-index) ≡ length (container_of l.contents);
+  whole : l.length + length (left entry_of l.contents l.content-index)
+      ≡ length (container_of l.contents);
 }

@@ -3,7 +3,9 @@ use Rattle.rec_container.proofs.streams.write_all.Given as goal
 use Rattle.rec_container.proofs.Written.{Written}
 
 abbrev pub invariant-loop-at : goal.invariant-loop-at
-invariant-loop-at g l = Written (g.K.Sink.taken l.fn.sink) (g.K.Sink.taken l.sink) (g.K.Sink.faults l.fn.sink) (g.K.Sink.faults l.sink) l.bytes l.at
+invariant-loop-at g l =
+    Written (g.K.Sink.taken l.fn.sink) (g.K.Sink.taken l.sink) (g.K.Sink.faults l.fn.sink)
+    (g.K.Sink.faults l.sink) l.bytes l.at
 
 abbrev pub decreases-loop-at : goal.decreases-loop-at
 decreases-loop-at g l = length l.bytes - l.at

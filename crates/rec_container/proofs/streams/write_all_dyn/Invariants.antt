@@ -8,7 +8,8 @@ invariant-loop-done g l =
     let now = l.sink.now in
     let old = goal.Sink-dyn g before in
     let new = goal.Sink-dyn g now in
-    Written (old.taken before.1) (new.taken now.1) (old.faults before.1) (new.faults now.1) l.bytes l.done
+    Written (old.taken before.1) (new.taken now.1) (old.faults before.1) (new.faults now.1)
+    l.bytes l.done
 
 abbrev pub decreases-loop-done : goal.decreases-loop-done
 decreases-loop-done g l = length l.bytes - l.done

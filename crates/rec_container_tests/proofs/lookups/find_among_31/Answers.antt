@@ -4,5 +4,7 @@ use Rattle.rec_container_tests.proofs.lookups.find_among_31.Goals as goal
 
 pub returns : goal.returns
 returns g c =
-    let few = exponent (c.get_counted.new.steps - c.args.steps.now) 5 (2 * length c.args.container.now.entries + 1) c.get_counted.ensures.cost (omega (arith, c.requires)) in
+    let few = exponent (c.get_counted.new.steps - c.args.steps.now) 5
+    (2 * length c.args.container.now.entries + 1) c.get_counted.ensures.cost
+    (omega (arith, c.requires)) in
     omega (arith, few, c.get_counted.ensures.later)

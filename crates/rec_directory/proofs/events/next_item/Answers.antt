@@ -14,10 +14,15 @@ returns-in-Some-clause-fewer g c =
     let items : Vec ℕ Global → List ℕ = λ v. v.items in
     let item = c.item_at.result in
     let new = c.item_at.new.place in
-    let P : Option (Vec ℕ Global) → Type 0 = λ o. OnSome item (length (left_at c.in-Some.bytes.items new) < most_of c.args.len (left_of (option_map items o) c.args.place.now)) in
+    let P : Option (Vec ℕ Global) → Type 0 =
+    λ o. OnSome item (length (left_at c.in-Some.bytes.items new)
+    < most_of c.args.len (left_of (option_map items o) c.args.place.now)) in
     subst P (sym c.in-Some.is)
-    (subst (λ (b : List ℕ). OnSome item (length (left_at b new) < length (left_at b c.args.place.now))) c.deref.ensures.value
-    (fewer_lifted (event_form {S = RecordingSpec} stored_outputs_form) (left_at c.deref.result.now c.args.place.now) item (left_at c.deref.result.now new) c.item_at.ensures.gives))
+    (subst
+    (λ (b : List ℕ). OnSome item (length (left_at b new) < length (left_at b c.args.place.now)))
+    c.deref.ensures.value
+    (fewer_lifted (event_form {S = RecordingSpec} stored_outputs_form) (left_at c.deref.result.now
+    c.args.place.now) item (left_at c.deref.result.now new) c.item_at.ensures.gives))
 
 pub returns-in-Ok-clause-fewer : goal.returns-in-Ok-clause-fewer
 returns-in-Ok-clause-fewer g c =
@@ -26,7 +31,11 @@ returns-in-Ok-clause-fewer g c =
     let new = c.item_at-item.new.place in
     let first : LogPlace = record { at = 0; number = 1 } in
     let form = event_form {S = RecordingSpec} stored_outputs_form in
-    let P : Option (Vec ℕ Global) → Type 0 = λ o. OnSome item (length (left_at c.in-Ok.bytes.items new) < most_of c.args.len (left_of (option_map items o) c.args.place.now)) in
-    let gives = subst (λ (b : List ℕ). GivesLifted form (left_at b first) item (left_at b new)) c.deref-in-Ok.ensures.value c.item_at-item.ensures.gives in
+    let P : Option (Vec ℕ Global) → Type 0 =
+    λ o. OnSome item (length (left_at c.in-Ok.bytes.items new)
+    < most_of c.args.len (left_of (option_map items o) c.args.place.now)) in
+    let gives = subst (λ (b : List ℕ). GivesLifted form (left_at b first) item (left_at b new))
+    c.deref-in-Ok.ensures.value c.item_at-item.ensures.gives in
     subst P (sym c.in_default.is)
-    (fewer_first form (g.D.Disk.files c.args.disk.now) c.args.path.now c.args.len c.in-Ok.bytes.items item (left_at c.in-Ok.bytes.items new) c.in-Ok.ensures.ok gives)
+    (fewer_first form (g.D.Disk.files c.args.disk.now) c.args.path.now c.args.len
+    c.in-Ok.bytes.items item (left_at c.in-Ok.bytes.items new) c.in-Ok.ensures.ok gives)

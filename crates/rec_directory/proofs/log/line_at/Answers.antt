@@ -8,7 +8,9 @@ returns c =
     let after = c.after_line-after in
     record {
       line = (
-        next_left c.args.log.now c.args.place after.result (line_view c.in_ok-line.line) c.next.new.self (sym c.new.ensures ∙ c.in_ok-line.ensures.steps) after.ensures.at after.ensures.number,
+        next_left c.args.log.now c.args.place after.result (line_view c.in_ok-line.line)
+            c.next.new.self (sym c.new.ensures ∙ c.in_ok-line.ensures.steps)
+            after.ensures.at after.ensures.number,
         after.ensures.place,
         omega (arith, after.ensures.at, c.if-place-log.false),
       );

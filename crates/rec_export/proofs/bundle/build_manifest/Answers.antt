@@ -6,4 +6,7 @@ use Rattle.rec_format.specs.Runs.{manifest_of}
 use Rattle.rec_export.proofs.bundle.build_manifest.Goals as goal
 
 pub returns : goal.returns
-returns c = subst (λ (i : RecordedRunInfo). IfOk c.write_manifest-text.result (λ b. b.items ≡ compact_text (manifest_value (manifest_of i)))) c.in_ok-info.ensures c.write_manifest-text.ensures
+returns c =
+    subst (λ (i : RecordedRunInfo). IfOk c.write_manifest-text.result
+    (λ b. b.items ≡ compact_text (manifest_value (manifest_of i))))
+    c.in_ok-info.ensures c.write_manifest-text.ensures

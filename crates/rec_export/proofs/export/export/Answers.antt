@@ -10,5 +10,7 @@ returns-in_err-deliver-clause-err g c =
     let bundle = prepared_bundle c.in_ok-prepared.prepared in
     let trace = c.in_ok-prepared.prepared.trace.items in
     let are = c.in_ok-prepared.ensures.texts in
-    let p = err_from_is_err_and c.from_residual-in_err-deliver.result c.from_residual-in_err-deliver.ensures.1 in
-    rw (p.1, p.2) (inr (inr (session, bundle, trace, c.in_ok-session.ensures.ok, are, c.in_err-deliver.ensures.err)))
+    let p = err_from_is_err_and c.from_residual-in_err-deliver.result
+    c.from_residual-in_err-deliver.ensures.1 in
+    rw (p.1, p.2) (inr
+    (inr (session, bundle, trace, c.in_ok-session.ensures.ok, are, c.in_err-deliver.ensures.err)))

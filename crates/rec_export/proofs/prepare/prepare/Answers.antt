@@ -1,4 +1,5 @@
-use Rattle.std.proofs.Common.{◌≡◌, ◌⊎◌, List, ◌∙◌, ap, sym, subst, inl, inr, length, map, Option, Some, None, Result, Ok, Err, IfOk, IfErr, OnOk}
+use Rattle.std.proofs.Common.{◌≡◌, ◌⊎◌, List, ◌∙◌, ap, sym, subst, inl, inr, length, map}
+use Rattle.std.proofs.Common.{Option, Some, None, Result, Ok, Err, IfOk, IfErr, OnOk}
 use Rattle.std.proofs.lemmas.Result.{err_from_is_err_and}
 use Rattle.rec_codec.specs.Event.{LiveEvent}
 use Rattle.rec_store.specs.Bundle.{outputs_stored, run_bundle}
@@ -16,22 +17,27 @@ use Rattle.rec_export.specs.Session.{event_lines, events_of, head_text}
 use Rattle.rec_export.specs.SessionTraces.{run_trace}
 
 -- five facts of an answer make a sixth
-joined : {T E V W : Type 0} {P Q A R : T → Type 0} (r : Result T E) → ((x : T) → P x → Q x → A x → V → W → R x) → IfOk r P → IfOk r Q → IfOk r A → OnOk r V → OnOk r W → IfOk r R
+joined : {T E V W : Type 0} {P Q A R : T → Type 0} (r : Result T E)
+    → ((x : T) → P x → Q x → A x → V → W → R x) → IfOk r P → IfOk r Q → IfOk r A → OnOk r V
+    → OnOk r W → IfOk r R
 joined (Ok x) f p q a v w = f x p q a v w
 joined (Err e) f p q a v w = tt
 
 -- four facts make a fifth
-counted : {T E : Type 0} {P Q A V R : T → Type 0} (r : Result T E) → ((x : T) → P x → Q x → A x → V x → R x) → IfOk r P → IfOk r Q → IfOk r A → IfOk r V → IfOk r R
+counted : {T E : Type 0} {P Q A V R : T → Type 0} (r : Result T E)
+    → ((x : T) → P x → Q x → A x → V x → R x) → IfOk r P → IfOk r Q → IfOk r A → IfOk r V → IfOk r R
 counted (Ok x) f p q a v = f x p q a v
 counted (Err e) f p q a v = tt
 
 pub returns-in_err-head-clause-err : goal.returns-in_err-head-clause-err
 returns-in_err-head-clause-err g c =
     let text = c.head_line.ensures ∙ ap head_text c.in_ok-lines.ensures in
-    let p = err_from_is_err_and c.from_residual-in_err-head.result c.from_residual-in_err-head.ensures.1 in
+    let p =
+    err_from_is_err_and c.from_residual-in_err-head.result c.from_residual-in_err-head.ensures.1 in
     rw (p.1, p.2) (let r = c.in_err-head.ensures.err in elim r [
       | inl h ↦ inl h
-      | inr h ↦ inr (refused_head (g.N.OutputNamer.number c.args.namer.now) c.args.settings.now c.args.session.items (ap head_in (sym text) ∙ h.1) ∙ ap Some (sym h.0))
+      | inr h ↦ inr (refused_head (g.N.OutputNamer.number c.args.namer.now) c.args.settings.now
+          c.args.session.items (ap head_in (sym text) ∙ h.1) ∙ ap Some (sym h.0))
     ])
 
 pub returns-clause-texts : goal.returns-clause-texts
@@ -47,13 +53,23 @@ returns-clause-texts g c =
     joined c.prepare_run-result.result (λ prepared spelled reads traced valid accepted. record {
       head = head;
       has_head = has_head;
-      valid = after_head number settings session head has_head ∙ ap (refusal_after number settings (Some head)) (sym lines) ∙ valid;
+      valid =
+          after_head number settings session head has_head
+          ∙ ap (refusal_after number settings (Some head)) (sym lines) ∙ valid;
       spelled = spelled ∙ ap (run_bundle number settings.max_output head) events;
-      reads = subst (λ (es : List LiveEvent). IsReading (prepared_bundle prepared) (recorded number settings.max_output head es)) events reads;
+      reads =
+          subst (λ (es : List LiveEvent).
+          IsReading (prepared_bundle prepared) (recorded number settings.max_output head es))
+          events reads;
       traced = traced ∙ ap (run_trace settings head) events;
-      drawn = draws_timeline head.nextest_version settings.group_by (map plain (session_events session))
-          (subst (λ (es : List LiveEvent). events_refusal settings.group_by (map plain es) ≡ None) events accepted);
-    }) c.prepare_run-result.ensures.bundle (c.prepare_run-result.ensures.reads c.in_ok-head.ensures.known) c.prepare_run-result.ensures.trace c.prepare_run-result.ensures.valid c.prepare_run-result.ensures.accepted
+      drawn =
+          draws_timeline head.nextest_version settings.group_by (map plain (session_events session))
+          (subst (λ (es : List LiveEvent). events_refusal settings.group_by (map plain es) ≡ None)
+          events accepted);
+    }) c.prepare_run-result.ensures.bundle
+    (c.prepare_run-result.ensures.reads c.in_ok-head.ensures.known)
+    c.prepare_run-result.ensures.trace c.prepare_run-result.ensures.valid
+    c.prepare_run-result.ensures.accepted
 
 pub returns-clause-counts : goal.returns-clause-counts
 returns-clause-counts g c =
@@ -77,5 +93,8 @@ returns-clause-err g c =
     let text = c.head_line.ensures ∙ ap head_text c.in_ok-lines.ensures in
     let has_head = ap head_in (sym text) ∙ c.in_ok-head.ensures.head in
     let lines = c.drop_first.ensures ∙ ap event_lines c.in_ok-lines.ensures in
-    let same = ap (refusal_after number settings (Some head)) lines ∙ sym (after_head number settings c.args.session.items head has_head) in
-    subst (λ (o : Option RecordExportError). IfErr c.prepare_run-result.result (λ e. (e ≡ OutOfMemory) ⊎ (o ≡ Some e))) same c.prepare_run-result.ensures.err
+    let same = ap (refusal_after number settings (Some head)) lines
+    ∙ sym (after_head number settings c.args.session.items head has_head) in
+    subst (λ (o : Option RecordExportError).
+    IfErr c.prepare_run-result.result (λ e. (e ≡ OutOfMemory) ⊎ (o ≡ Some e)))
+    same c.prepare_run-result.ensures.err

@@ -33,11 +33,15 @@ loop-line-preserved g c = record {
       let rest = c.drop_first.new.self in
       let all = first_of_all c.loop-line.lines line rest c.in-Some.ensures c.drop_first.ensures in
       let before = c.loop-line.invariant.recorded head events had in
-      let here = line_with number namer m head before.0 line old c.record_line.new.recorder (Ok c.in_ok-record_line.field-0) before.1
-      (c.in_ok-record_line.ensures.recorded head before.0 (made_with number namer m head before.0 old before.1)) in (
+      let here = line_with number namer m head before.0 line old c.record_line.new.recorder
+      (Ok c.in_ok-record_line.field-0) before.1
+      (c.in_ok-record_line.ensures.recorded head before.0
+      (made_with number namer m head before.0 old before.1)) in (
         before.0 ++ option_to_list (event_at line),
         here.1,
-        λ r new after. before.2 r new (subst (λ (ls : List NumberedLine). RecordsLines number namer m head before.0 ls new r) (sym all)
+        λ r new after. before.2 r new
+            (subst (λ (ls : List NumberedLine). RecordsLines number namer m head before.0 ls new r)
+            (sym all)
             (recorded_here number namer m head before.0 line rest new r here.0 after)),
       );
   traced = λ format group version events had.
@@ -61,15 +65,24 @@ returns-clause-recorded g c = λ head events had.
     let now = c.loop-line.recorder in
     let none_left = none_first c.loop-line.lines c.in_default.ensures in
     let before = c.loop-line.invariant.recorded head events had in
-    let none : RecordsLines number namer m head before.0 [] now (Ok tt) = (refl, subst (λ (es : List LiveEvent). HasRecorded number namer m head es now) (sym (append-nil before.0)) before.1) in
-    before.2 (Ok tt) now (subst (λ (ls : List NumberedLine). RecordsLines number namer m head before.0 ls now (Ok tt)) (sym none_left) none)
+    let none : RecordsLines number namer m head before.0 [] now (Ok tt) = (
+      refl,
+      subst (λ (es : List LiveEvent). HasRecorded number namer m head es now)
+          (sym (append-nil before.0)) before.1,
+    ) in
+    before.2 (Ok tt) now
+    (subst (λ (ls : List NumberedLine). RecordsLines number namer m head before.0 ls now (Ok tt))
+    (sym none_left) none)
 
 pub returns-clause-traced : goal.returns-clause-traced
 returns-clause-traced g c = λ format group version events had.
     let before = c.loop-line.invariant.traced format group version events had in
     let none_left = none_first c.loop-line.lines c.in_default.ensures in
-    let all = before.2 ∙ ap (λ (ls : List NumberedLine). before.0 ++ map plain (events_of ls)) none_left ∙ append-nil before.0 in
-    subst (λ (es : List PlainEvent). IsTraceOf format group version es c.loop-line.trace) (sym all) before.1
+    let all =
+    before.2 ∙ ap (λ (ls : List NumberedLine). before.0 ++ map plain (events_of ls)) none_left
+    ∙ append-nil before.0 in
+    subst (λ (es : List PlainEvent). IsTraceOf format group version es c.loop-line.trace) (sym all)
+    before.1
 
 pub returns-in_err-record_line-clause-recorded : goal.returns-in_err-record_line-clause-recorded
 returns-in_err-record_line-clause-recorded g c = λ head events had.
@@ -84,7 +97,9 @@ returns-in_err-record_line-clause-recorded g c = λ head events had.
     let all = first_of_all c.loop-line.lines line rest c.in-Some.ensures refl in
     let before = c.loop-line.invariant.recorded head events had in
     let here = line_with number namer m head before.0 line old new (Err e) before.1
-    (c.in_err-record_line.ensures.recorded head before.0 (made_with number namer m head before.0 old before.1)) in
+    (c.in_err-record_line.ensures.recorded head before.0
+    (made_with number namer m head before.0 old before.1)) in
     let p = err_from_is_err_and c.from_residual.result c.from_residual.ensures.1 in
-    rw (p.1, p.2) (before.2 (Err e) new (subst (λ (ls : List NumberedLine). RecordsLines number namer m head before.0 ls new (Err e)) (sym all)
+    rw (p.1, p.2) (before.2 (Err e) new (subst
+    (λ (ls : List NumberedLine). RecordsLines number namer m head before.0 ls new (Err e)) (sym all)
     (refused_here number namer m head before.0 line rest new e here)))

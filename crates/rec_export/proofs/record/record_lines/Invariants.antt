@@ -23,10 +23,15 @@ invariant-loop-line g l =
     let m = l.fn.recorder.max_output in
     record {
       sound : has_failed l.recorder ≡ false;
-      recorded : (head : SessionHead) (events : List LiveEvent) → HasRecorded number namer m head events l.fn.recorder
+      recorded : (head : SessionHead) (events : List LiveEvent)
+          → HasRecorded number namer m head events l.fn.recorder
           → (so_far : List LiveEvent) × HasRecorded number namer m head so_far l.recorder
-          × ((r : Result ⊤ RecordExportError) (new : Recording DiscardingSink GrowingSinkState _) → RecordsLines number namer m head so_far l.lines new r → RecordsLines number namer m head events l.fn.lines new r);
-      traced : (format : ChromeTraceMessageFormat) (group : ChromeTraceGroupBy) (version : Parts) (before : List PlainEvent) → IsTraceOf format group version before l.fn.trace
+          × ((r : Result ⊤ RecordExportError) (new : Recording DiscardingSink GrowingSinkState _)
+          → RecordsLines number namer m head so_far l.lines new r
+          → RecordsLines number namer m head events l.fn.lines new r);
+      traced : (format : ChromeTraceMessageFormat) (group : ChromeTraceGroupBy) (version : Parts)
+          (before : List PlainEvent)
+          → IsTraceOf format group version before l.fn.trace
           → (so_far : List PlainEvent) × IsTraceOf format group version so_far l.trace
           × (before ++ map plain (events_of l.fn.lines) ≡ so_far ++ map plain (events_of l.lines));
     }

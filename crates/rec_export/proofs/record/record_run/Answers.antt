@@ -19,9 +19,14 @@ returns-in-Err-clause-err g c =
     let m = c.args.settings.now.max_output in
     let head = c.args.head.now in
     let start = c.record_head.new.recorder in
-    let stored = subst (λ (r : Recording DiscardingSink GrowingSinkState g.row.N.Denot). Stores unknown never r start (store_entries head)) c.new-recorder.ensures.made c.in-Ok.ensures.ok in
-    let has = begun number unknown never head namer m (record {}) c.new.result start c.new.ensures.bytes stored in
-    lines_with number namer m head [] c.args.lines start c.record_lines.new.recorder (Err c.in-Err.error) has (c.in-Err.ensures.recorded head [] (made_with number namer m head [] start has))
+    let stored = subst (λ (r : Recording DiscardingSink GrowingSinkState g.row.N.Denot).
+    Stores unknown never r start (store_entries head))
+    c.new-recorder.ensures.made c.in-Ok.ensures.ok in
+    let has = begun number unknown never head namer m (record {})
+    c.new.result start c.new.ensures.bytes stored in
+    lines_with number namer m head [] c.args.lines start c.record_lines.new.recorder
+    (Err c.in-Err.error) has
+    (c.in-Err.ensures.recorded head [] (made_with number namer m head [] start has))
 
 pub returns-in-Ok-record_lines-clause-valid : goal.returns-in-Ok-record_lines-clause-valid
 returns-in-Ok-record_lines-clause-valid g c =
@@ -30,9 +35,14 @@ returns-in-Ok-record_lines-clause-valid g c =
     let m = c.args.settings.now.max_output in
     let head = c.args.head.now in
     let start = c.record_head.new.recorder in
-    let stored = subst (λ (r : Recording DiscardingSink GrowingSinkState g.row.N.Denot). Stores unknown never r start (store_entries head)) c.new-recorder.ensures.made c.in-Ok.ensures.ok in
-    let has = begun number unknown never head namer m (record {}) c.new.result start c.new.ensures.bytes stored in
-    let recorded = lines_with number namer m head [] c.args.lines start c.record_lines.new.recorder (Ok tt) has (c.in-Ok-record_lines.ensures.recorded head [] (made_with number namer m head [] start has)) in
+    let stored = subst (λ (r : Recording DiscardingSink GrowingSinkState g.row.N.Denot).
+    Stores unknown never r start (store_entries head))
+    c.new-recorder.ensures.made c.in-Ok.ensures.ok in
+    let has = begun number unknown never head namer m (record {})
+    c.new.result start c.new.ensures.bytes stored in
+    let recorded =
+    lines_with number namer m head [] c.args.lines start c.record_lines.new.recorder (Ok tt) has
+    (c.in-Ok-record_lines.ensures.recorded head [] (made_with number namer m head [] start has)) in
     always c.end_run.result recorded.0
 
 pub returns-in-Ok-record_lines-clause-run : goal.returns-in-Ok-record_lines-clause-run
@@ -42,9 +52,14 @@ returns-in-Ok-record_lines-clause-run g c =
     let m = c.args.settings.now.max_output in
     let head = c.args.head.now in
     let start = c.record_head.new.recorder in
-    let stored = subst (λ (r : Recording DiscardingSink GrowingSinkState g.row.N.Denot). Stores unknown never r start (store_entries head)) c.new-recorder.ensures.made c.in-Ok.ensures.ok in
-    let has = begun number unknown never head namer m (record {}) c.new.result start c.new.ensures.bytes stored in
-    let recorded = lines_with number namer m head [] c.args.lines start c.record_lines.new.recorder (Ok tt) has (c.in-Ok-record_lines.ensures.recorded head [] (made_with number namer m head [] start has)) in
+    let stored = subst (λ (r : Recording DiscardingSink GrowingSinkState g.row.N.Denot).
+    Stores unknown never r start (store_entries head))
+    c.new-recorder.ensures.made c.in-Ok.ensures.ok in
+    let has = begun number unknown never head namer m (record {})
+    c.new.result start c.new.ensures.bytes stored in
+    let recorded =
+    lines_with number namer m head [] c.args.lines start c.record_lines.new.recorder (Ok tt) has
+    (c.in-Ok-record_lines.ensures.recorded head [] (made_with number namer m head [] start has)) in
     c.end_run.ensures.run namer m head (events_of c.args.lines) recorded.1
 
 pub returns-in-Ok-record_lines-clause-too_large : goal.returns-in-Ok-record_lines-clause-too_large
@@ -54,9 +69,14 @@ returns-in-Ok-record_lines-clause-too_large g c =
     let m = c.args.settings.now.max_output in
     let head = c.args.head.now in
     let start = c.record_head.new.recorder in
-    let stored = subst (λ (r : Recording DiscardingSink GrowingSinkState g.row.N.Denot). Stores unknown never r start (store_entries head)) c.new-recorder.ensures.made c.in-Ok.ensures.ok in
-    let has = begun number unknown never head namer m (record {}) c.new.result start c.new.ensures.bytes stored in
-    let recorded = lines_with number namer m head [] c.args.lines start c.record_lines.new.recorder (Ok tt) has (c.in-Ok-record_lines.ensures.recorded head [] (made_with number namer m head [] start has)) in
+    let stored = subst (λ (r : Recording DiscardingSink GrowingSinkState g.row.N.Denot).
+    Stores unknown never r start (store_entries head))
+    c.new-recorder.ensures.made c.in-Ok.ensures.ok in
+    let has = begun number unknown never head namer m (record {})
+    c.new.result start c.new.ensures.bytes stored in
+    let recorded =
+    lines_with number namer m head [] c.args.lines start c.record_lines.new.recorder (Ok tt) has
+    (c.in-Ok-record_lines.ensures.recorded head [] (made_with number namer m head [] start has)) in
     c.end_run.ensures.too_large namer m head (events_of c.args.lines) recorded.1
 
 pub returns-in-Ok-record_lines-clause-traced : goal.returns-in-Ok-record_lines-clause-traced
@@ -65,9 +85,12 @@ returns-in-Ok-record_lines-clause-traced g c =
     let group_by = c.args.settings.now.group_by in
     let version = c.args.head.now.nextest_version in
     let events = map plain (events_of c.args.lines) in
-    let traced = c.in-Ok-record_lines.ensures.traced format group_by version [] c.in_ok-trace.ensures in
-    IfOk-weaker c.end_run.result (λ (r : RecordedInMemory). r.trace ≡ c.record_lines.new.trace) (λ (r : RecordedInMemory). IsTraceOf format group_by version events r.trace)
-    (λ r same. subst (IsTraceOf format group_by version events) (sym same) traced) c.end_run.ensures.traced
+    let traced =
+    c.in-Ok-record_lines.ensures.traced format group_by version [] c.in_ok-trace.ensures in
+    IfOk-weaker c.end_run.result (λ (r : RecordedInMemory). r.trace ≡ c.record_lines.new.trace)
+    (λ (r : RecordedInMemory). IsTraceOf format group_by version events r.trace)
+    (λ r same. subst (IsTraceOf format group_by version events) (sym same) traced)
+    c.end_run.ensures.traced
 
 pub returns-in-Ok-record_lines-clause-err : goal.returns-in-Ok-record_lines-clause-err
 returns-in-Ok-record_lines-clause-err g c =

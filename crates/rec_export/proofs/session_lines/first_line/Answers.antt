@@ -9,7 +9,9 @@ returns-in-Some c =
     let text = c.args.text.now in
     let end = c.in-Some.end in
     record {
-      first = lines_found text end (sym c.in-Some.ensures) ∙ ap (λ (l : List ℕ). take end text ∷ lines l) (slice_from text (end + 1));
+      first =
+          lines_found text end (sym c.in-Some.ensures)
+          ∙ ap (λ (l : List ℕ). take end text ∷ lines l) (slice_from text (end + 1));
       some = omega arith;
       inside = found_inside text end (sym c.in-Some.ensures);
     }
@@ -18,7 +20,9 @@ pub returns-in-None : goal.returns-in-None
 returns-in-None c =
     let text = c.args.text.now in
     record {
-      first = lines_missing text (sym c.in-None.ensures) c.requires ∙ ap (λ (l : List ℕ). text ∷ lines l) (slice_from text (length text));
+      first =
+          lines_missing text (sym c.in-None.ensures) c.requires
+          ∙ ap (λ (l : List ℕ). text ∷ lines l) (slice_from text (length text));
       some = c.requires;
       inside = omega arith;
     }

@@ -8,6 +8,7 @@ returns c =
     let text = c.args.text.now in
     let at = c.in_ok-newline.newline in
     let newline = c.in_ok-newline.ensures in
-    let inside : c.in_ok-end.end < length text = let e = c.in_ok-end.ensures in grind (arith, nat_tests) in
+    let inside : c.in_ok-end.end < length text = let e = c.in_ok-end.ensures in
+    grind (arith, nat_tests) in
     let found = found_before text c.in_ok-end.end at inside newline.0.high newline.1 in
     begins_last_block text at found.0 found.1

@@ -2,4 +2,10 @@ use Rattle.rec_faults.proofs.bundle.unsupported_store.Goals as goal
 use Rattle.rec_faults.proofs.Lines.{◌▸◌}
 
 pub returns : goal.returns
-returns g c = rw (← c.number-found_minor.ensures, ← c.number-supported_minor.ensures, ← c.number.ensures, ← c.number-2.ensures) (c.version.ensures ▸ c.version-2.ensures ▸ c.name-line.ensures ▸ c.write_store_version.ensures)
+returns g c = rw (
+  ← c.number-found_minor.ensures,
+  ← c.number-supported_minor.ensures,
+  ← c.number.ensures,
+  ← c.number-2.ensures,
+)
+    (c.version.ensures ▸ c.version-2.ensures ▸ c.name-line.ensures ▸ c.write_store_version.ensures)

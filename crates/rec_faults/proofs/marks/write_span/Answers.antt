@@ -11,4 +11,6 @@ pub returns-in-Script : goal.returns-in-Script
 returns-in-Script g c = rw c.in-Script.is c.number.ensures
 
 pub returns-in-Test : goal.returns-in-Test
-returns-in-Test g c = rw (c.in-Test.is, ← c.as_str.ensures.value, ← c.as_str-in-Test.ensures.value) (c.text.ensures ▸ c.text-in-Test.ensures)
+returns-in-Test g c =
+    rw (c.in-Test.is, ← c.as_str.ensures.value, ← c.as_str-in-Test.ensures.value)
+    (c.text.ensures ▸ c.text-in-Test.ensures)

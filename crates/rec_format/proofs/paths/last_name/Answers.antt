@@ -10,6 +10,7 @@ pub returns : goal.returns
 returns c =
     last_from_yields_List c.last.result c.last.ensures.ran
     (YieldsList-from_filter _ is_name
-    (YieldsList-at c.filter.ensures.source (YieldsList-from_str_split 47 c.args.path.now (lit< tt) c.split.ensures.text c.split.ensures.has_more c.split.ensures.pattern))
+    (YieldsList-at c.filter.ensures.source (YieldsList-from_str_split 47 c.args.path.now (lit< tt)
+    c.split.ensures.text c.split.ensures.has_more c.split.ensures.pattern))
     c.filter.ensures.closure
     (λ x r q k. search (rules, tests)))

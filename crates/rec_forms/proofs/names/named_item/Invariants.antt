@@ -5,4 +5,5 @@ use Rattle.rec_forms.specs.Tables.{table}
 
 -- what is left decides
 abbrev pub invariant-loop-name : goal.invariant-loop-name
-invariant-loop-name g l = named (table l.items) l.text ≡ named (table (drop l.name-index l.items)) l.text
+invariant-loop-name g l =
+    named (table l.items) l.text ≡ named (table (drop l.name-index l.items)) l.text

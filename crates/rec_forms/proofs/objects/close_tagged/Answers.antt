@@ -5,4 +5,5 @@ use Rattle.rec_forms.proofs.objects.close_tagged.Goals as goal
 
 pub returns : goal.returns
 returns c = λ before tag fs is.
-    c.in_ok-end_tagged.ensures before tag (struct fs) (c.in_ok-end_struct.ensures ((before ++ begin_object ∷ []) ++ key tag ∷ []) fs is)
+    c.in_ok-end_tagged.ensures before tag (struct fs)
+    (c.in_ok-end_struct.ensures ((before ++ begin_object ∷ []) ++ key tag ∷ []) fs is)

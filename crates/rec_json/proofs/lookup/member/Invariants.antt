@@ -7,7 +7,8 @@ use Rattle.rec_json.specs.Nodes.{members_view}
 abbrev pub invariant-last : goal.invariant-last
 invariant-last l = record {
   within : l.end ≤ length l.object;
-  same : get_member l.key (members_view l.object) ≡ get_member l.key (members_view (take l.end l.object));
+  same : get_member l.key (members_view l.object)
+      ≡ get_member l.key (members_view (take l.end l.object));
 }
 
 abbrev pub decreases-last : goal.decreases-last

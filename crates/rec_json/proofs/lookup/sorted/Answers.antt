@@ -10,5 +10,8 @@ loop-key-preserved c =
     let object = c.args.object.now in
     let i = c.loop-key.key-index in
     let e = c.loop-key-item.result in
-    let more : take (i + 1) object ≡ take i object ++ e ∷ [] = take_more object i e c.loop-key-test.true ∙ ap (λ x. take i object ++ x ∷ []) (sym c.loop-key-item.is) in
-    c.in_ok-put_in.ensures ∙ ap (put e.0.now (view e.1)) c.loop-key.invariant ∙ sym (members_view-one_more (take i object) e.0 e.1) ∙ ap members_view (sym more)
+    let more : take (i + 1) object ≡ take i object ++ e ∷ [] =
+    take_more object i e c.loop-key-test.true
+    ∙ ap (λ x. take i object ++ x ∷ []) (sym c.loop-key-item.is) in
+    c.in_ok-put_in.ensures ∙ ap (put e.0.now (view e.1)) c.loop-key.invariant
+    ∙ sym (members_view-one_more (take i object) e.0 e.1) ∙ ap members_view (sym more)

@@ -22,7 +22,8 @@ invariant-read_items-items l =
     record {
       turns : ℕ;
       enough : length l.reader ≤ turns;
-      whole : converted of_items (items (value l.depth) (length l.initial.reader) l.initial.reader) ≡ after l.found.items (converted of_items (items (value l.depth) turns l.reader));
+      whole : converted of_items (items (value l.depth) (length l.initial.reader) l.initial.reader)
+          ≡ after l.found.items (converted of_items (items (value l.depth) turns l.reader));
       shorter : length l.reader ≤ length l.initial.reader;
     }
 
@@ -35,7 +36,9 @@ invariant-read_members-members l =
     record {
       turns : ℕ;
       enough : length l.reader ≤ turns;
-      whole : converted (into no_members) (members (value l.depth) (length l.initial.reader) l.initial.reader) ≡ converted (into (members_view l.found.items)) (members (value l.depth) turns l.reader);
+      whole : converted (into no_members)
+          (members (value l.depth) (length l.initial.reader) l.initial.reader)
+          ≡ converted (into (members_view l.found.items)) (members (value l.depth) turns l.reader);
       shorter : length l.reader ≤ length l.initial.reader;
     }
 

@@ -13,9 +13,13 @@ seen_members-loop-key-preserved t c =
     let done = l.invariant.0 in
     let e : Entry = (c.in-Some.key.now, c.in-Some.value.now) in
     let left = c.next.new.self in
-    let all : c.args.object.now.entries ≡ done ++ e ∷ left = l.invariant.1 ∙ ap (λ es. done ++ es) c.in-Some.ensures.steps in
-    let last = put_last done e left (subst (λ es. IsStrictlySortedBy string_cmp (keys_of es)) all c.iter-key-items.ensures.ordered) in (
+    let all : c.args.object.now.entries ≡ done ++ e ∷ left =
+    l.invariant.1 ∙ ap (λ es. done ++ es) c.in-Some.ensures.steps in
+    let last = put_last done e left (subst (λ es. IsStrictlySortedBy string_cmp (keys_of es)) all
+    c.iter-key-items.ensures.ordered) in (
       done ++ e ∷ [],
       all ∙ sym (append_assoc done (e ∷ []) left),
-      ap members_view c.in_ok-push.ensures.items ∙ members_view-one_more l.members.items c.as_str.result c.in_ok-node.node ∙ rw (c.as_str.ensures.value, c.in_ok-node.ensures, l.invariant.2) last,
+      ap members_view c.in_ok-push.ensures.items
+          ∙ members_view-one_more l.members.items c.as_str.result c.in_ok-node.node
+          ∙ rw (c.as_str.ensures.value, c.in_ok-node.ensures, l.invariant.2) last,
     )

@@ -5,4 +5,6 @@ use Rattle.rec_junit.specs.Additions.{variables}
 
 -- what is left completes the properties
 abbrev pub invariant-loop-name : goal.invariant-loop-name
-invariant-loop-name l = l.properties.items ++ variables (Some (pairs l.name-iterator)) ≡ l.fn.properties.items ++ variables (Some l.fn.env_map)
+invariant-loop-name l =
+    l.properties.items ++ variables (Some (pairs l.name-iterator))
+    ≡ l.fn.properties.items ++ variables (Some l.fn.env_map)

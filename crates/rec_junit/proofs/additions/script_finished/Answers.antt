@@ -12,5 +12,7 @@ returns g c =
     (record { success = is.junit_store_success_output; failure = is.junit_store_failure_output })
     key is.script_id is.program args is.run_status in
     rw is.is
-    (subst (λ (key : SuiteKey). Judges c.script_addition.result (added key is.args)) c.in_ok-key.ensures
-    (subst (λ (args : List (List ℕ)). Judges c.script_addition.result (added c.in_ok-key.key args)) c.as_slice.ensures c.script_addition.ensures))
+    (subst (λ (key : SuiteKey). Judges c.script_addition.result (added key is.args))
+    c.in_ok-key.ensures
+    (subst (λ (args : List (List ℕ)). Judges c.script_addition.result (added c.in_ok-key.key args))
+    c.as_slice.ensures c.script_addition.ensures))

@@ -6,4 +6,6 @@ use Rattle.rec_junit.specs.Shell.{shell_word, shell_words}
 -- what is left completes the line
 abbrev pub invariant-loop-word : goal.invariant-loop-word
 invariant-loop-word g l =
-    string_bytes l.line ++ flat_map (λ w. codes " " ++ shell_word (g.W.Word.text_of w)) (drop l.word-index l.others) ≡ shell_words g.W.Word.text_of l.words
+    string_bytes l.line
+    ++ flat_map (λ w. codes " " ++ shell_word (g.W.Word.text_of w)) (drop l.word-index l.others)
+    ≡ shell_words g.W.Word.text_of l.words

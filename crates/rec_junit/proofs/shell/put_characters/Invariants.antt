@@ -4,4 +4,5 @@ use Rattle.rec_junit.proofs.shell.put_characters.Given as goal
 use Rattle.rec_junit.specs.Shell.{within_quotes}
 
 abbrev pub invariant-loop-character : goal.invariant-loop-character
-invariant-loop-character l = string_bytes l.line ≡ string_bytes l.fn.line ++ flat_map within_quotes l.yielded
+invariant-loop-character l =
+    string_bytes l.line ≡ string_bytes l.fn.line ++ flat_map within_quotes l.yielded

@@ -5,4 +5,6 @@ use Rattle.rec_portable.specs.Rewriting.{Judges}
 use Rattle.rec_portable.specs.Upgrading.{names_judged}
 
 pub returns : goal.returns
-returns c = λ es is. subst (λ (fs : List Entry). Judges (names_judged fs) c.judge_names-judged.result) (c.in_ok-outer.ensures es is) c.judge_names-judged.ensures
+returns c =
+    λ es is. subst (λ (fs : List Entry). Judges (names_judged fs) c.judge_names-judged.result)
+    (c.in_ok-outer.ensures es is) c.judge_names-judged.ensures

@@ -5,7 +5,8 @@ use Rattle.rec_portable_writer.specs.Replacing.{IsPut}
 
 abbrev pub invariant-pieces : goal.invariant-pieces
 invariant-pieces g l = record {
-  put : BothKnown (g.D.Disk.files l.fn.disk) (g.D.Disk.files l.disk) (λ fs gs. IsPut fs gs l.path (take l.at l.bytes));
+  put : BothKnown (g.D.Disk.files l.fn.disk) (g.D.Disk.files l.disk)
+      (λ fs gs. IsPut fs gs l.path (take l.at l.bytes));
   later : g.D.Disk.faults l.fn.disk ≤ g.D.Disk.faults l.disk;
   within : l.at ≤ length l.bytes;
 }

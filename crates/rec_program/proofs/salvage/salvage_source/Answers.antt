@@ -9,16 +9,20 @@ pub returns-in_err-bundle-clause-err : goal.returns-in_err-bundle-clause-err
 returns-in_err-bundle-clause-err g c =
     let settings = c.args.settings.now in
     let p = err_from_is_err_and c.from_residual.result c.from_residual.ensures.1 in
-    rw (p.1, p.2) (unopened bundle_refusal SalvagesRun settings.read_limit g.S.Source.left g.S.Source.faults settings.session_limit c.args.source.now c.open_bundle.new.source _ c.in_err-bundle.ensures.err)
+    rw (p.1, p.2)
+    (unopened bundle_refusal SalvagesRun settings.read_limit g.S.Source.left g.S.Source.faults
+    settings.session_limit c.args.source.now c.open_bundle.new.source _ c.in_err-bundle.ensures.err)
 
 pub returns-clause-ok : goal.returns-clause-ok
 returns-clause-ok g c =
     let settings = c.args.settings.now in
-    opened_salvaged settings.read_limit g.S.Source.left g.S.Source.faults settings.session_limit c.args.source.now c.open_bundle.new.source [] c.in_ok-bundle.bundle c.in_ok-bundle.ensures.ok
+    opened_salvaged settings.read_limit g.S.Source.left g.S.Source.faults settings.session_limit
+    c.args.source.now c.open_bundle.new.source [] c.in_ok-bundle.bundle c.in_ok-bundle.ensures.ok
     c.salvage_opened-result.result c.salvage_opened-result.ensures
 
 pub returns-clause-err : goal.returns-clause-err
 returns-clause-err g c =
     let settings = c.args.settings.now in
-    opened_refused settings.read_limit g.S.Source.left g.S.Source.faults settings.session_limit c.args.source.now c.open_bundle.new.source [] c.in_ok-bundle.bundle c.in_ok-bundle.ensures.ok
+    opened_refused settings.read_limit g.S.Source.left g.S.Source.faults settings.session_limit
+    c.args.source.now c.open_bundle.new.source [] c.in_ok-bundle.bundle c.in_ok-bundle.ensures.ok
     c.salvage_opened-result.result c.salvage_opened-result.ensures

@@ -9,6 +9,10 @@ use Rattle.rec_program.specs.Samples.{SampleFails}
 pub returns-clause-err : goal.returns-clause-err
 returns-clause-err g c =
     let now = c.record_and_export.new in
-    subst (λ (e : RecordExportError). SampleFails g.B.Sink.taken g.B.Sink.faults sha256_number c.args.settings.now c.args.session.now c.args.bundle.now now.bundle e) (sym c.made_error.ensures)
-    (failed g.B.Sink.taken g.B.Sink.faults (λ (s : GrowingSinkState). Some s.bytes) (λ (s : GrowingSinkState). s.faults) sha256_number c.args.settings.now c.args.session.now
-    c.new-source.result now.source c.args.bundle.now now.bundle c.new-trace.result now.trace c.new-source.ensures c.in-Err.error c.in-Err.ensures.err)
+    subst (λ (e : RecordExportError). SampleFails g.B.Sink.taken g.B.Sink.faults sha256_number
+    c.args.settings.now c.args.session.now c.args.bundle.now now.bundle e)
+    (sym c.made_error.ensures)
+    (failed g.B.Sink.taken g.B.Sink.faults (λ (s : GrowingSinkState). Some s.bytes)
+    (λ (s : GrowingSinkState). s.faults) sha256_number c.args.settings.now c.args.session.now
+    c.new-source.result now.source c.args.bundle.now now.bundle c.new-trace.result now.trace
+    c.new-source.ensures c.in-Err.error c.in-Err.ensures.err)

@@ -7,10 +7,12 @@ pub returns-in_err-read_record_opts-clause-opts : goal.returns-in_err-read_recor
 returns-in_err-read_record_opts-clause-opts c =
     let p = err_from_is_err_and c.from_residual.result c.from_residual.ensures.1 in
     let e = c.in_err-read_record_opts in
-    rw (p.1, p.2) (part-refused _ _ (e.ensures.answer c.args.store.now.entries refl) e.ensures.cause.failed)
+    rw (p.1, p.2)
+    (part-refused _ _ (e.ensures.answer c.args.store.now.entries refl) e.ensures.cause.failed)
 
 pub returns-in_err-read_record_opts-clause-same : goal.returns-in_err-read_record_opts-clause-same
-returns-in_err-read_record_opts-clause-same c = same-store _ _ c.in_err-read_record_opts.ensures.same
+returns-in_err-read_record_opts-clause-same c =
+    same-store _ _ c.in_err-read_record_opts.ensures.same
 
 pub returns-clause-same : goal.returns-clause-same
 returns-clause-same c = same-store _ _ c.in_ok-read_record_opts.ensures.same

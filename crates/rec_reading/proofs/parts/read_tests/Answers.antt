@@ -7,7 +7,8 @@ pub returns-in_err-read_test_list-clause-tests : goal.returns-in_err-read_test_l
 returns-in_err-read_test_list-clause-tests c =
     let p = err_from_is_err_and c.from_residual.result c.from_residual.ensures.1 in
     let e = c.in_err-read_test_list in
-    rw (p.1, p.2) (part-refused _ _ (e.ensures.answer c.args.store.now.entries refl) e.ensures.cause.failed)
+    rw (p.1, p.2)
+    (part-refused _ _ (e.ensures.answer c.args.store.now.entries refl) e.ensures.cause.failed)
 
 pub returns-in_err-read_test_list-clause-same : goal.returns-in_err-read_test_list-clause-same
 returns-in_err-read_test_list-clause-same c = same-store _ _ c.in_err-read_test_list.ensures.same

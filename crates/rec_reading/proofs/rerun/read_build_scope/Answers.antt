@@ -7,10 +7,12 @@ pub returns-in_err-read_build_scope-clause-scope : goal.returns-in_err-read_buil
 returns-in_err-read_build_scope-clause-scope c =
     let p = err_from_is_err_and c.from_residual.result c.from_residual.ensures.1 in
     let e = c.in_err-read_build_scope in
-    rw (p.1, p.2) (part-refused _ _ (e.ensures.answer c.args.store.now.entries refl) e.ensures.cause.failed)
+    rw (p.1, p.2)
+    (part-refused _ _ (e.ensures.answer c.args.store.now.entries refl) e.ensures.cause.failed)
 
 pub returns-in_err-read_build_scope-clause-same : goal.returns-in_err-read_build_scope-clause-same
-returns-in_err-read_build_scope-clause-same c = same-store _ _ c.in_err-read_build_scope.ensures.same
+returns-in_err-read_build_scope-clause-same c =
+    same-store _ _ c.in_err-read_build_scope.ensures.same
 
 pub returns-clause-same : goal.returns-clause-same
 returns-clause-same c = same-store _ _ c.in_ok-read_build_scope.ensures.same

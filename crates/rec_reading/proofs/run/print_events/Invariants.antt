@@ -17,6 +17,9 @@ invariant-loop-item g l =
       never : (x : _) → (goal.StoreReader-dyn g (now.0, x)).failures x ≡ 0;
       same : Keeps (old.limit before.1) (new.limit now.1) (old.holds before.1) (new.holds now.1);
       same_printer : g.P.EventPrinter.prints l.printer ≡ g.P.EventPrinter.prints l.fn.printer;
-      printed : (es : List Entry) → old.holds before.1 es → HasPrinted (g.P.EventPrinter.prints l.fn.printer)
-          (converted (is_registered l.fn.context.tests) l.fn.context.test_list l.fn.load_output es (old.limit before.1)) (g.P.EventPrinter.stands l.printer) l.yielded l.fn.text.items l.text.items;
+      printed : (es : List Entry) → old.holds before.1 es
+          → HasPrinted (g.P.EventPrinter.prints l.fn.printer)
+          (converted (is_registered l.fn.context.tests) l.fn.context.test_list l.fn.load_output es
+          (old.limit before.1))
+          (g.P.EventPrinter.stands l.printer) l.yielded l.fn.text.items l.text.items;
     }

@@ -17,10 +17,18 @@ returns g c =
     let run = c.args.run.now in
     let same = same-1-1 c.print_events-arg-2-1.given in
     let context = c.register_tests.new.context in
-    subst (λ (r : Result (List ℕ) ReadingError). Adds r c.args.text.now.items c.print_events.new.text.items c.print_events.result)
-    (text-of_lines (g.P.EventPrinter.prints c.args.printer.now) (g.met.P.EventPrinter.blind c.args.printer.now) (is_registered context.tests) context.test_list (lent_tests (parts_in run))
-    c.args.load_output run.store.entries run.store.limit (is_listed run.tests) c.events-events.result _
-    (λ t. all-registered c.new-context.result.tests t _ _ c.new-context.ensures.tests (c.in_ok-register_tests.ensures.registered t)) c.events-events.ensures)
-    (subst (λ (n : ℕ). Adds (text_from (g.P.EventPrinter.prints c.args.printer.now) (converted (is_registered context.tests) context.test_list c.args.load_output run.store.entries n) [] (log_items c.events-events.result))
+    subst (λ (r : Result (List ℕ) ReadingError).
+    Adds r c.args.text.now.items c.print_events.new.text.items c.print_events.result)
+    (text-of_lines (g.P.EventPrinter.prints c.args.printer.now)
+    (g.met.P.EventPrinter.blind c.args.printer.now) (is_registered context.tests) context.test_list
+    (lent_tests (parts_in run))
+    c.args.load_output run.store.entries run.store.limit (is_listed run.tests)
+    c.events-events.result _
+    (λ t. all-registered c.new-context.result.tests t _ _ c.new-context.ensures.tests
+    (c.in_ok-register_tests.ensures.registered t)) c.events-events.ensures)
+    (subst (λ (n : ℕ). Adds
+    (text_from (g.P.EventPrinter.prints c.args.printer.now) (converted (is_registered context.tests)
+    context.test_list c.args.load_output run.store.entries n) [] (log_items c.events-events.result))
     c.args.text.now.items c.print_events.new.text.items c.print_events.result)
-    (limit-lent _ _ _ same _) (c.print_events.ensures run.store.entries (holds-lent _ _ _ same _ run.store.entries refl)))
+    (limit-lent _ _ _ same _)
+    (c.print_events.ensures run.store.entries (holds-lent _ _ _ same _ run.store.entries refl)))

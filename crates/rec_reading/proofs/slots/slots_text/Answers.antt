@@ -14,10 +14,15 @@ returns-in_err-log c = λ es is.
 
 pub returns-in_err-events : goal.returns-in_err-events
 returns-in_err-events c = λ es is.
-    let p = err_from_is_err_and c.from_residual-in_err-events.result c.from_residual-in_err-events.ensures.1 in
-    rw (p.1, p.2) (events-refused c.args.bundle.now.limit es c.in_ok-log.log (c.in_ok-log.ensures es is) c.events.result c.events.ensures _ c.in_err-events.ensures)
+    let p = err_from_is_err_and c.from_residual-in_err-events.result
+    c.from_residual-in_err-events.ensures.1 in
+    rw (p.1, p.2) (events-refused c.args.bundle.now.limit es c.in_ok-log.log
+    (c.in_ok-log.ensures es is) c.events.result c.events.ensures _ c.in_err-events.ensures)
 
 pub returns : goal.returns
 returns c = λ es is.
-    slots-made c.args.bundle.now.limit es c.in_ok-log.log (c.in_ok-log.ensures es is) c.events.result c.events.ensures c.in_ok-events.events.items c.in_ok-events.ensures c.usage_text-result.result
-    (subst (λ (events : List RecordedEvent). Makes (PrintsUsage (map plain events)) c.usage_text-result.result) c.deref.ensures.value c.usage_text-result.ensures)
+    slots-made c.args.bundle.now.limit es c.in_ok-log.log (c.in_ok-log.ensures es is)
+    c.events.result c.events.ensures c.in_ok-events.events.items c.in_ok-events.ensures
+    c.usage_text-result.result
+    (subst (λ (events : List RecordedEvent). Makes (PrintsUsage (map plain events))
+    c.usage_text-result.result) c.deref.ensures.value c.usage_text-result.ensures)

@@ -16,10 +16,13 @@ invariant-loop-status g l =
     let old = goal.StoreReader-dyn g before in
     let new = goal.StoreReader-dyn g now in
     record {
-      loads : Loads (old.limit before.1) (new.limit now.1) (old.failures before.1) (new.failures now.1) (old.holds before.1) (new.holds now.1)
-          (flat_map (of_status (description_names l.load)) prefix) (λ es. map (status_with (description_loaded l.load es)) prefix) (Ok l.loaded.items);
+      loads : Loads (old.limit before.1) (new.limit now.1) (old.failures before.1)
+          (new.failures now.1) (old.holds before.1) (new.holds now.1)
+          (flat_map (of_status (description_names l.load)) prefix)
+          (λ es. map (status_with (description_loaded l.load es)) prefix) (Ok l.loaded.items);
       same_reader : now.0 ≡ before.0;
       skipped : l.load ≡ Skip → now ≡ before;
-      apart : map (status_with {T = LiveSpec} unloaded) l.loaded.items ≡ map (status_with left_out) prefix;
+      apart : map (status_with {T = LiveSpec} unloaded) l.loaded.items
+          ≡ map (status_with left_out) prefix;
       as_many : length l.loaded.items ≡ l.status-index;
     }

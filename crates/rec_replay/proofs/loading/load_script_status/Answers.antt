@@ -11,7 +11,8 @@ pub returns-in-Err-clause-loads : goal.returns-in-Err-clause-loads
 returns-in-Err-clause-loads g c = loads_error _ _ _ _ _ _ _ _ _ _ c.in-Err.ensures.loads
 
 pub returns-clause-loads : goal.returns-clause-loads
-returns-clause-loads g c = loads_as _ _ _ _ _ _ _ _ _ _ _ (λ es is. rw (is, c.in_ok-copied.ensures)) c.in-Ok.ensures.loads
+returns-clause-loads g c =
+    loads_as _ _ _ _ _ _ _ _ _ _ _ (λ es is. rw (is, c.in_ok-copied.ensures)) c.in-Ok.ensures.loads
 
 pub returns-clause-apart : goal.returns-clause-apart
 returns-clause-apart g c = rw (c.in-Ok.ensures.apart, c.in_ok-copied.ensures)

@@ -14,8 +14,12 @@ loop-name-preserved c =
     let name = c.as_str-in-loop-name.result.now in
     let test = test_of c.args.suite.now.binary_id name in
     let step : texts c.loop-name.name-iterator ≡ name ∷ texts c.next.new.self = search rules in
-    let added = c.in_ok-add_unseen.ensures.ok ∙ ap (λ t. c.loop-name.gone.items ++ (if seen t then [] else t ∷ [])) (c.in_ok-test.ensures ∙ ap (λ id. test_of id name) c.as_str.ensures.value) in
+    let added = c.in_ok-add_unseen.ensures.ok
+    ∙ ap (λ t. c.loop-name.gone.items ++ (if seen t then [] else t ∷ []))
+    (c.in_ok-test.ensures ∙ ap (λ id. test_of id name) c.as_str.ensures.value) in
     ap (λ gone. gone ++ filter (λ t. not (seen t)) rest) added
     ∙ unseen_more seen c.loop-name.gone.items test rest
-    ∙ ap (λ ns. c.loop-name.gone.items ++ filter (λ t. not (seen t)) (map (test_of c.args.suite.now.binary_id) ns)) (sym step)
+    ∙ ap (λ ns. c.loop-name.gone.items
+    ++ filter (λ t. not (seen t)) (map (test_of c.args.suite.now.binary_id) ns))
+    (sym step)
     ∙ c.loop-name.invariant

@@ -7,5 +7,7 @@ use Rattle.rec_rerun.specs.Planned.{is_seen}
 
 -- what is left completes the tests that weren't seen
 abbrev pub invariant-loop-name : goal.invariant-loop-name
-invariant-loop-name l = l.gone.items ++ filter (λ t. not (is_seen l.seen t)) (map (test_of l.suite.binary_id) (texts l.name-iterator))
-    ≡ l.fn.gone.items ++ filter (λ t. not (is_seen l.seen t)) (map (test_of l.suite.binary_id) l.suite.outstanding)
+invariant-loop-name l = l.gone.items ++ filter (λ t. not (is_seen l.seen t))
+    (map (test_of l.suite.binary_id) (texts l.name-iterator))
+    ≡ l.fn.gone.items
+    ++ filter (λ t. not (is_seen l.seen t)) (map (test_of l.suite.binary_id) l.suite.outstanding)

@@ -13,6 +13,7 @@ loop-suite-preserved c =
     let suite = c.in-Some.suite.now in
     let step : c.loop-suite.suite-iterator ≡ suite ∷ c.next.new.self = search rules in
     ap (λ gone. gone ++ filter unseen (outstanding_in c.next.new.self)) c.in_ok-add_gone.ensures.ok
-    ∙ unseen_suite unseen c.loop-suite.gone.items (map (test_of suite.binary_id) suite.outstanding) (outstanding_in c.next.new.self)
+    ∙ unseen_suite unseen c.loop-suite.gone.items (map (test_of suite.binary_id) suite.outstanding)
+    (outstanding_in c.next.new.self)
     ∙ ap (λ ss. c.loop-suite.gone.items ++ filter unseen (outstanding_in ss)) (sym step)
     ∙ c.loop-suite.invariant

@@ -5,4 +5,5 @@ use Rattle.rec_rerun.specs.Plans.{outstanding_in}
 
 pub returns-clause-gone : goal.returns-clause-gone
 returns-clause-gone c =
-    c.new-3.ensures ∙ c.in-Ok.ensures ∙ gone_is c.args.list.now c.in_ok-planned.planned.seen (outstanding_in c.args.info.now.test_suites) c.in_ok-planned.ensures.seen
+    c.new-3.ensures ∙ c.in-Ok.ensures ∙ gone_is c.args.list.now c.in_ok-planned.planned.seen
+    (outstanding_in c.args.info.now.test_suites) c.in_ok-planned.ensures.seen

@@ -11,5 +11,6 @@ pub returns : goal.returns
 returns c = λ t.
     let suites = c.in-Some.info.now.test_suites in
     both_noted (has_passing suites t) (has_outstanding suites t) _ _ (c.in_ok-note-2.ensures.ok t)
-    (c.in_ok-note.ensures.ok t ∙ ap (λ o. if has_outstanding suites t then Some (Known false) else o) (c.new-standings.ensures t))
+    (c.in_ok-note.ensures.ok t ∙ ap
+    (λ o. if has_outstanding suites t then Some (Known false) else o) (c.new-standings.ensures t))
     ∙ ap (λ p. option_map Known (known_in (option_copied p) t)) (sym c.in-Some.is)

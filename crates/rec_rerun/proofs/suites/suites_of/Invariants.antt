@@ -12,5 +12,6 @@ abbrev pub invariant-loop-binary : goal.invariant-loop-binary
 invariant-loop-binary l = record {
   full : AllByRecursion IsFull l.suites;
   found : (passed : Bool) (name : List ℕ) →
-      IsGathered l.standings.tests (λ o. stands passed (in_binary o name)) (λ id. names_at passed (suite_of id l.suites) name) l.binary-iterator;
+      IsGathered l.standings.tests (λ o. stands passed (in_binary o name))
+      (λ id. names_at passed (suite_of id l.suites) name) l.binary-iterator;
 }

@@ -6,4 +6,6 @@ use Rattle.rec_salvage.specs.Gathering.{is_among}
 
 -- the set and what is left have what the set had, and the paths
 abbrev pub invariant-loop-path : goal.invariant-loop-path
-invariant-loop-path l = (path : List ℕ) → (contains_text l.set path || is_among (map string_bytes (into_iter_items l.path-iterator)) path) ≡ (contains_text l.fn.set path || is_among (map string_bytes l.fn.paths.items) path)
+invariant-loop-path l = (path : List ℕ) → (contains_text l.set path
+    || is_among (map string_bytes (into_iter_items l.path-iterator)) path)
+    ≡ (contains_text l.fn.set path || is_among (map string_bytes l.fn.paths.items) path)

@@ -11,7 +11,11 @@ pub returns-in-Some : goal.returns-in-Some
 returns-in-Some c =
     let text = text_of c.args.line.now in
     let item = c.in-Some.item in
-    IfOk-weaker c.line_of_item.result (IsReadItem item) (IsRead (line_event text)) (λ line read. item_line item 1 text line c.in-Some.ensures.0 c.in-Some.ensures.1 read) c.line_of_item.ensures
+    IfOk-weaker c.line_of_item.result (IsReadItem item) (IsRead (line_event text))
+    (λ line read. item_line item 1 text line c.in-Some.ensures.0 c.in-Some.ensures.1 read)
+    c.line_of_item.ensures
 
 pub returns-in-None : goal.returns-in-None
-returns-in-None c = subst (λ (o : Option (Option RecordedEvent)). IsRead o Blank) (sym (blank_line (text_of c.args.line.now) c.in-None.ensures)) tt
+returns-in-None c =
+    subst (λ (o : Option (Option RecordedEvent)). IsRead o Blank)
+    (sym (blank_line (text_of c.args.line.now) c.in-None.ensures)) tt

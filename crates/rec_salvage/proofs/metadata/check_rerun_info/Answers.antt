@@ -5,7 +5,11 @@ use Rattle.rec_salvage.proofs.metadata.check_rerun_info.Goals as goal
 use Rattle.rec_salvage.specs.Refusals.{Judges, maybe_refusal, stands_for}
 
 pub returns-in-Some : goal.returns-in-Some
-returns-in-Some c = subst (λ (o : Option (List ℕ)). Judges (maybe_refusal rerun_info_path (stands_for rerun_info_form) o) c.check_form.result) c.in-Some.ensures c.check_form.ensures
+returns-in-Some c =
+    subst (λ (o : Option (List ℕ)).
+    Judges (maybe_refusal rerun_info_path (stands_for rerun_info_form) o) c.check_form.result)
+    c.in-Some.ensures c.check_form.ensures
 
 pub returns-in-None : goal.returns-in-None
-returns-in-None c = ap (maybe_refusal rerun_info_path (stands_for rerun_info_form)) (sym c.in-None.ensures)
+returns-in-None c =
+    ap (maybe_refusal rerun_info_path (stands_for rerun_info_form)) (sym c.in-None.ensures)

@@ -11,5 +11,6 @@ returns c =
     let taken = c.in_ok-length.ensures in
     let gathered = c.in_ok-length.gathered in
     let kept = IfOk-at_ok _ c.in_ok-store.was c.keep_store-store.ensures in
-    made c.args.run.now log es c.in_ok-length.length gathered c.in_ok-store.store _ _ _ taken.0 taken.1 taken.2 (kept (salvaged_events es log) taken.2) c.log_sizes.ensures refl
+    made c.args.run.now log es c.in_ok-length.length gathered c.in_ok-store.store _ _ _ taken.0
+    taken.1 taken.2 (kept (salvaged_events es log) taken.2) c.log_sizes.ensures refl
     c.deref.ensures.value (IfOk-at_ok _ c.in_ok-bundle.was c.make_bundle-bundle.ensures)

@@ -15,8 +15,11 @@ returns c =
     let is = c.in_ok-manifest.ensures.is in
     let bundle = c.in_ok-bundle.field-0 in
     let text = IfOk-at_ok _ c.in_ok-bundle.was c.bundle_text-bundle.ensures in
-    subst (IsBundle (record c.args.run.now { sizes = c.args.sizes }) log store) (sym c.new.ensures) (record {
-      spelled = text ∙ ap (λ (m : PortableManifest). spell (bundle_entries (compact_text (manifest_value m)) log store)) is;
+    subst (IsBundle (record c.args.run.now { sizes = c.args.sizes }) log store) (sym c.new.ensures)
+    (record {
+      spelled = text ∙ ap (λ (m : PortableManifest).
+          spell (bundle_entries (compact_text (manifest_value m)) log store))
+          is;
       short = omega (arith, bundle.small);
       manifest = subst IsManifest is c.in_ok-manifest.ensures.well;
     })

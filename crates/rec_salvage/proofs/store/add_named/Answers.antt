@@ -17,7 +17,11 @@ loop-i-preserved c =
     elim c.if-contains.branch [
       | then-contains+in_ok-push w ↦
           rw w.contents-is
-          (entry_chosen paths es i before all name c.name-name.ensures c.loop-i.invariant old w.push.new.self.items (record { name = c.name-name.result; content = w.bytes-content.result }) refl refl
-          w.bytes-content.ensures w.in_ok-push.ensures.items (sym c.contains.ensures ∙ w.if-contains.true))
-      | else-contains w ↦ rw w.contents-is (entry_passed paths es i before all name c.name-name.ensures c.loop-i.invariant (sym c.contains.ensures ∙ w.if-contains.false))
+          (entry_chosen paths es i before all name c.name-name.ensures c.loop-i.invariant old
+          w.push.new.self.items
+          (record { name = c.name-name.result; content = w.bytes-content.result }) refl refl
+          w.bytes-content.ensures w.in_ok-push.ensures.items
+          (sym c.contains.ensures ∙ w.if-contains.true))
+      | else-contains w ↦ rw w.contents-is (entry_passed paths es i before all name
+          c.name-name.ensures c.loop-i.invariant (sym c.contains.ensures ∙ w.if-contains.false))
     ]

@@ -5,4 +5,6 @@ use Rattle.rec_salvage.specs.Keeping.{entries_in}
 
 -- what is left completes the entries
 abbrev pub invariant-loop-i : goal.invariant-loop-i
-invariant-loop-i l = map entry_of l.contents.items ++ entries_in l.paths (drop l.i l.prefix.entries) ≡ map entry_of l.fn.contents.items ++ entries_in l.paths l.prefix.entries
+invariant-loop-i l =
+    map entry_of l.contents.items ++ entries_in l.paths (drop l.i l.prefix.entries)
+    ≡ map entry_of l.fn.contents.items ++ entries_in l.paths l.prefix.entries

@@ -10,7 +10,8 @@ reads = refl
 
 pub unreachable-requires : goal.unreachable-requires
 unreachable-requires c =
-    let refused = c.parse.ensures.refused (c.in-Err-NotAVersion.is ∙ ap Err c.in-Err-NotAVersion.field-0-is) in
+    let refused =
+    c.parse.ensures.refused (c.in-Err-NotAVersion.is ∙ ap Err c.in-Err-NotAVersion.field-0-is) in
     let none = rw reads at refused in cc
 
 pub returns-in-Ok : goal.returns-in-Ok

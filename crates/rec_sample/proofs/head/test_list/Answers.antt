@@ -7,7 +7,9 @@ pub loop-binary-preserved : goal.loop-binary-preserved
 loop-binary-preserved c =
     let small : c.loop-binary.binary < 4 = omega arith in
     let id = c.new-id.ensures ∙ c.in_ok-binary_id.ensures in
-    suites_with c.args.tests c.loop-binary.binary c.loop-binary.suites c.insert.new.self c.new-id.result c.in_ok-names.names small c.loop-binary.invariant id c.in_ok-names.ensures c.in_ok-insert.ensures.put
+    suites_with c.args.tests c.loop-binary.binary c.loop-binary.suites c.insert.new.self
+    c.new-id.result c.in_ok-names.names small c.loop-binary.invariant id c.in_ok-names.ensures
+    c.in_ok-insert.ensures.put
 
 pub returns : goal.returns
 unfolding test_list

@@ -6,4 +6,5 @@ use Rattle.rec_sample.specs.Session.{event_lines}
 
 -- the lines of those tests that were gone through
 abbrev pub invariant-loop-slot : goal.invariant-loop-slot
-invariant-loop-slot l = l.session.items ≡ l.fn.session.items ++ event_lines (map (test_started_event l.tests) (range_with_len (8 * l.batch) l.slot))
+invariant-loop-slot l = l.session.items ≡ l.fn.session.items ++ event_lines
+    (map (test_started_event l.tests) (range_with_len (8 * l.batch) l.slot))

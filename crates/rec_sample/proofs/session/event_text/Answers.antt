@@ -9,4 +9,5 @@ pub returns : goal.returns
 unfolding event_text
 returns c =
     let value = event_value live_value c.args.event.now in
-    c.into_text.ensures.compact value (c.in_ok-write_loaded.ensures ∙ ap (λ ts. ts ++ value_tokens value) c.new-text.ensures)
+    c.into_text.ensures.compact value
+    (c.in_ok-write_loaded.ensures ∙ ap (λ ts. ts ++ value_tokens value) c.new-text.ensures)

@@ -7,5 +7,6 @@ use Rattle.rec_sample.specs.Session.{head_line}
 pub returns : goal.returns
 unfolding head_line
 returns c =
-    let text = c.in_ok-line.ensures.text ∙ ap (λ h. compact_text (head_value h)) c.in_ok-head.ensures in
+    let text =
+    c.in_ok-line.ensures.text ∙ ap (λ h. compact_text (head_value h)) c.in_ok-head.ensures in
     c.in_ok-push.ensures.items ∙ ap (λ t. t ++ 10 ∷ []) text

@@ -5,11 +5,14 @@ use Rattle.rec_sample.specs.Batches.{batch_count}
 
 pub loop-batch-init : goal.loop-batch-init
 loop-batch-init c =
-    so_far_first c.args.tests c.in_ok-session.session.items c.append_event.new.session.items c.in_ok-run_started.field-0 c.in_ok-session.ensures c.in_ok-run_started.ensures.value c.in_ok-append_event.ensures
+    so_far_first c.args.tests c.in_ok-session.session.items c.append_event.new.session.items
+    c.in_ok-run_started.field-0 c.in_ok-session.ensures c.in_ok-run_started.ensures.value
+    c.in_ok-append_event.ensures
 
 pub loop-batch-preserved : goal.loop-batch-preserved
 loop-batch-preserved c =
-    so_far_more c.args.tests c.loop-batch.batch c.loop-batch.session.items c.append_batch.new.session.items c.loop-batch.invariant c.in_ok-append_batch.ensures
+    so_far_more c.args.tests c.loop-batch.batch c.loop-batch.session.items
+    c.append_batch.new.session.items c.loop-batch.invariant c.in_ok-append_batch.ensures
 
 pub returns : goal.returns
 returns c =

@@ -5,4 +5,6 @@ use Rattle.rec_session.specs.declared.finalize.RecordFinalizeWarning.TheVariants
 
 -- the errors that are left complete the warnings
 abbrev pub invariant-loop-error : goal.invariant-loop-error
-invariant-loop-error l = l.warnings.items ++ map PruneError (into_iter_items l.error-iterator) ≡ l.initial.warnings.items ++ map PruneError l.fn.answer.errors
+invariant-loop-error l =
+    l.warnings.items ++ map PruneError (into_iter_items l.error-iterator)
+    ≡ l.initial.warnings.items ++ map PruneError l.fn.answer.errors

@@ -23,7 +23,8 @@ returns-in_err-judged c = λ events n is tracked.
     rw (p.1, p.2) (elim c.in_err-judged.ensures.judged [
       | inl memory ↦ inl memory
       | inr refused ↦ inr (refused-here events n e is tracked.accepted cause
-          (subst (λ (s : TraceState). next_refusal s (trace_input Slot s.binaries e) ≡ Some cause) tracked.state refused))
+          (subst (λ (s : TraceState). next_refusal s (trace_input Slot s.binaries e) ≡ Some cause)
+          tracked.state refused))
     ])
 
 pub returns : goal.returns
@@ -31,11 +32,15 @@ returns c = λ events n is tracked.
     let e = plain c.args.event.now in
     let past = past_at (history Slot events) n in
     let judged : IsJudged (state_after past) (input events n e is) c.in_ok-judged.judged =
-    subst (λ (s : TraceState). IsJudged s (trace_input Slot s.binaries e) c.in_ok-judged.judged) tracked.state c.in_ok-judged.ensures.known in
+    subst (λ (s : TraceState). IsJudged s (trace_input Slot s.binaries e) c.in_ok-judged.judged)
+    tracked.state c.in_ok-judged.ensures.known in
     let none = judged.accepted in
-    let whole : to_z w128 (of_z w128 c.nanoseconds.result) ≡ c.nanoseconds.result = grind (arith, to_z-of_z) in (
+    let whole : to_z w128 (of_z w128 c.nanoseconds.result) ≡ c.nanoseconds.result =
+    grind (arith, to_z-of_z) in (
       record {
-        state = c.in_ok-commit.ensures.ok ∙ ap (λ (s : TraceState). next_state (trace_input Slot s.binaries e) s) tracked.state
+        state =
+            c.in_ok-commit.ensures.ok
+            ∙ ap (λ (s : TraceState). next_state (trace_input Slot s.binaries e) s) tracked.state
             ∙ sym (ap state_after (past-more events n e is));
         accepted = accepted-here events n e is tracked.accepted none;
         single = single-more events n e is tracked.single tracked.alone none;
@@ -46,6 +51,7 @@ returns c = λ events n is tracked.
           (whole ∙ c.nanoseconds.ensures.value)
           (subst IsNear (sym whole) c.nanoseconds.ensures.near)
           (c.in_pause.ensures ∙ ap (λ (s : TraceState). s.in_pause) tracked.state)
-          (c.change_of.ensures ∙ ap (λ spans. change_in spans (seen c.act_of.result)) (c.open_spans.ensures ∙ ap (λ (s : TraceState). s.spans) tracked.state)
+          (c.change_of.ensures ∙ ap (λ spans. change_in spans (seen c.act_of.result))
+          (c.open_spans.ensures ∙ ap (λ (s : TraceState). s.spans) tracked.state)
           ∙ ap (change_in (state_after past).spans) c.act_of.ensures),
     )

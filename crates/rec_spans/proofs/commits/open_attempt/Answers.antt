@@ -10,4 +10,5 @@ returns-in-Err-clause-err_spans c =
     let spans = c.args.open_spans.now in
     c.close_test.ensures
     ∙ ap (without key) c.in_ok-open_test.ensures.ok
-    ∙ put-without key c.args.span spans c.requires.key (subst (λ k. of_key k spans ≡ []) c.requires.key c.requires.key_free)
+    ∙ put-without key c.args.span spans c.requires.key
+    (subst (λ k. of_key k spans ≡ []) c.requires.key c.requires.key_free)

@@ -1,4 +1,6 @@
-use Rattle.std.proofs.Common.{◌≡◌, refl, sym, ap, ◌∙◌, ℕ, ◌+◌, ◌-◌, ◌/◌, ◌<◌, Bool, true, false, if◌then◌else◌, nat_le, List, ◌++◌, length, take, drop, codes, arith, length-append}
+use Rattle.std.proofs.Common.{◌≡◌, refl, sym, ap, ◌∙◌, ℕ, ◌+◌, ◌-◌, ◌/◌, ◌<◌, Bool}
+use Rattle.std.proofs.Common.{true, false, if◌then◌else◌, nat_le, List, ◌++◌}
+use Rattle.std.proofs.Common.{length, take, drop, codes, arith, length-append}
 use Rattle.std.proofs.lemmas.Bool.{lt-leb}
 use Rattle.std.proofs.lemmas.List.{take_all, length-drop}
 use Rattle.std.specs.Fmt.{decimal}
@@ -28,12 +30,14 @@ otherwise x y false is = refl
 abbrev around : List ℕ → ℕ → ℕ → List ℕ
 around b n space = take (space / 2) b ++ (marker n ++ last (space - space / 2) b)
 
-cut_around : (b : List ℕ) (m space : ℕ) → m < length b → space ≡ m - (17 + length (decimal (length b - m)) + 13)
+cut_around : (b : List ℕ) (m space : ℕ) → m < length b
+    → space ≡ m - (17 + length (decimal (length b - m)) + 13)
     → around b (length b - m) space ≡ cut b m
 cut_around b m space over room =
     let n = length b - m in
     let same = room ∙ ap (λ k. m - k) (sym (marker_length n)) in
-    ap (around b n) same ∙ sym (otherwise b (around b n (m - length (marker n))) (nat_le (length b) m) (lt-leb (length b) m over))
+    ap (around b n) same ∙ sym (otherwise b (around b n (m - length (marker n)))
+    (nat_le (length b) m) (lt-leb (length b) m over))
 
 pub returns-clause-bytes : goal.returns-clause-bytes
 returns-clause-bytes c =
@@ -44,4 +48,5 @@ returns-clause-bytes c =
     let first = length b - (space - space / 2) in
     let written = c.as_bytes-digits.ensures.value ∙ c.format.ensures.text in
     let room = c.saturating_sub-space.ensures ∙ ap (λ d. m - (17 + length d + 13)) written in
-    c.in_ok-bytes.ensures n written ∙ ap (λ t. take (space / 2) b ++ (marker n ++ t)) (rest first b) ∙ cut_around b m space c.if-buf-max_size.false room
+    c.in_ok-bytes.ensures n written ∙ ap (λ t. take (space / 2) b ++ (marker n ++ t)) (rest first b)
+    ∙ cut_around b m space c.if-buf-max_size.false room

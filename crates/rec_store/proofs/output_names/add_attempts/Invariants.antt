@@ -8,4 +8,6 @@ use Rattle.rec_store.specs.OutputPaths.{output_path}
 -- what is left completes the names
 abbrev pub invariant-loop-attempt : goal.invariant-loop-attempt
 invariant-loop-attempt l =
-    map output_path l.names.items ++ flat_map (of_status description_paths) (drop l.attempt-index l.attempts) ≡ map output_path l.fn.names.items ++ flat_map (of_status description_paths) l.attempts
+    map output_path l.names.items
+    ++ flat_map (of_status description_paths) (drop l.attempt-index l.attempts)
+    ≡ map output_path l.fn.names.items ++ flat_map (of_status description_paths) l.attempts

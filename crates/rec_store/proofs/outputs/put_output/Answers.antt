@@ -7,11 +7,16 @@ use Rattle.rec_store.specs.OutputPaths.{output_path}
 use Rattle.rec_store.specs.Stopping.{StoresAs}
 
 pub add_entry-requires-clause-name : goal.add_entry-requires-clause-name
-add_entry-requires-clause-name g c = rw (c.as_str.ensures.value, c.in_ok-path.ensures) (path_fits c.args.file_name)
+add_entry-requires-clause-name g c =
+    rw (c.as_str.ensures.value, c.in_ok-path.ensures) (path_fits c.args.file_name)
 
 pub returns : goal.returns
 returns g c =
-    let path : c.as_str.result.now ≡ output_path c.args.file_name = c.as_str.ensures.value ∙ c.in_ok-path.ensures in
+    let path : c.as_str.result.now ≡ output_path c.args.file_name =
+    c.as_str.ensures.value ∙ c.in_ok-path.ensures in
     let stored = one_stored g.S.Sink.taken g.S.Sink.faults c.args.store.now c.add_entry.new.store
-    (entry_named c.as_str.result.now c.args.content.now) c.add_entry.result c.add_entry.ensures.ok c.add_entry.ensures.sound c.add_entry.ensures.err in
-    subst (λ (p : List ℕ). StoresAs g.S.Sink.taken g.S.Sink.faults c.args.store.now c.add_entry.new.store (entry_named p c.args.content.now ∷ []) tt c.add_entry.result) path stored
+    (entry_named c.as_str.result.now c.args.content.now)
+    c.add_entry.result c.add_entry.ensures.ok c.add_entry.ensures.sound c.add_entry.ensures.err in
+    subst (λ (p : List ℕ). StoresAs g.S.Sink.taken g.S.Sink.faults c.args.store.now
+    c.add_entry.new.store (entry_named p c.args.content.now ∷ []) tt c.add_entry.result)
+    path stored

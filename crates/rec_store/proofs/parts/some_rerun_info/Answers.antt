@@ -5,7 +5,9 @@ use Rattle.rec_store.proofs.parts.some_rerun_info.Goals as goal
 use Rattle.rec_store.specs.Parts.{rerun_item, some_info}
 
 pub returns-in-Err : goal.returns-in-Err
-returns-in-Err c = refuses_next (rerun_item c.args.limit c.args.content.now) some_info c.in-Err.error c.in-Err.ensures
+returns-in-Err c =
+    refuses_next (rerun_item c.args.limit c.args.content.now)
+    some_info c.in-Err.error c.in-Err.ensures
 
 pub returns-in-Ok : goal.returns-in-Ok
 returns-in-Ok c = ap (λ r. r >>= some_info) c.in-Ok.ensures

@@ -13,8 +13,11 @@ pub returns : goal.returns
 returns c =
     let d = event_value c.args.event.now in
     let read : c.in_ok-reader.reader ≡ tokens c.as_str.result.now = c.in_ok-reader.ensures.ok in
-    let is : c.in_ok-reader.reader ≡ json_tokens (outline d) = read ∙ ap tokens c.as_str.ensures.text ∙ tokens-compact d c.as_str.ensures.writable in
-    let printable = subst ArePrintable (sym (read ∙ ap tokens c.as_str.ensures.text)) (printable-compact d c.as_str.ensures.writable) in
+    let is : c.in_ok-reader.reader ≡ json_tokens (outline d) =
+    read ∙ ap tokens c.as_str.ensures.text ∙ tokens-compact d c.as_str.ensures.writable in
+    let printable = subst ArePrintable (sym (read ∙ ap tokens c.as_str.ensures.text))
+    (printable-compact d c.as_str.ensures.writable) in
     let first = c.in_ok-token.ensures.ok ∙ ap (λ ts. ts ++ begin_array ∷ []) c.new-lines.ensures in
     let second = c.in_ok-token-2.ensures.ok ∙ ap (λ ts. ts ++ begin_array ∷ []) first in
-    c.into_inner.ensures.layout ∙ ap pretty (c.in_ok-write_tokens.ensures printable ∙ ap (λ ts. ts ++ c.in_ok-reader.reader) second ∙ ap (λ ts. begin_array ∷ begin_array ∷ ts) is)
+    c.into_inner.ensures.layout ∙ ap pretty (c.in_ok-write_tokens.ensures printable
+    ∙ ap (λ ts. ts ++ c.in_ok-reader.reader) second ∙ ap (λ ts. begin_array ∷ begin_array ∷ ts) is)

@@ -11,4 +11,5 @@ returns-then-lines-lt5 c = λ d is.
 pub returns-else-lines-lt5 : goal.returns-else-lines-lt5
 returns-else-lines-lt5 c = λ d is.
     let lines = c.args.lines.now in
-    take_all (length lines - 5) (drop 5 lines) (omega (arith, length-drop 5 lines)) ∙ ap (drop 5) (is ∙ nested-text d)
+    take_all (length lines - 5) (drop 5 lines) (omega (arith, length-drop 5 lines))
+    ∙ ap (drop 5) (is ∙ nested-text d)

@@ -10,7 +10,8 @@ invariant-loop-event l =
     let rest = map event_value (drop l.event-index l.events) in
     record {
       some : (l.later || has_some rest) ≡ (l.fn.later || has_some (map event_value l.events));
-      written : l.text.items ++ event_texts l.fn.format l.later rest ≡ l.fn.text.items ++ event_texts l.fn.format l.fn.later (map event_value l.events);
+      written : l.text.items ++ event_texts l.fn.format l.later rest
+          ≡ l.fn.text.items ++ event_texts l.fn.format l.fn.later (map event_value l.events);
       known : AreWritable rest → AreWritable (map event_value l.events);
       before : StartsWith l.fn.text.items l.text.items;
     }

@@ -12,16 +12,21 @@ loop-token-preserved c =
     let written = c.loop-token.invariant.0 in
     let t = token_of c.in-Some.token in (
       written ++ t ∷ [],
-      c.in_ok-token.ensures.ok ∙ ap (λ ts. ts ++ t ∷ []) c.loop-token.invariant.1 ∙ append_assoc c.args.lines.now written (t ∷ []),
-      c.loop-token.invariant.2 ∙ ap (λ ts. written ++ ts) c.in-Some.ensures.value ∙ sym (append_assoc written (t ∷ []) c.next.new.self),
+      c.in_ok-token.ensures.ok ∙ ap (λ ts. ts ++ t ∷ []) c.loop-token.invariant.1
+          ∙ append_assoc c.args.lines.now written (t ∷ []),
+      c.loop-token.invariant.2 ∙ ap (λ ts. written ++ ts) c.in-Some.ensures.value
+          ∙ sym (append_assoc written (t ∷ []) c.next.new.self),
     )
 
 pub returns-in-Bad : goal.returns-in-Bad
 returns-in-Bad c = λ printable.
-    absurd (no-bad c.loop-token.invariant.0 c.next.new.self (subst ArePrintable (c.loop-token.invariant.2
-    ∙ ap (λ ts. c.loop-token.invariant.0 ++ ts) (c.in-Some.ensures.value ∙ ap (λ t. token_of t ∷ c.next.new.self) c.in-Bad.is)) printable))
+    absurd
+    (no-bad c.loop-token.invariant.0 c.next.new.self (subst ArePrintable (c.loop-token.invariant.2
+    ∙ ap (λ ts. c.loop-token.invariant.0 ++ ts)
+    (c.in-Some.ensures.value ∙ ap (λ t. token_of t ∷ c.next.new.self) c.in-Bad.is)) printable))
 
 pub returns : goal.returns
 returns c = λ printable.
     c.loop-token.invariant.1 ∙ ap (λ ts. c.args.lines.now ++ ts)
-    (sym (c.loop-token.invariant.2 ∙ ap (λ ts. c.loop-token.invariant.0 ++ ts) c.in_default.ensures.value.0 ∙ append-nil c.loop-token.invariant.0))
+    (sym (c.loop-token.invariant.2 ∙ ap (λ ts. c.loop-token.invariant.0 ++ ts)
+    c.in_default.ensures.value.0 ∙ append-nil c.loop-token.invariant.0))

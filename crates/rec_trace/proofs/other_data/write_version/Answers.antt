@@ -6,7 +6,10 @@ use Rattle.rec_trace.specs.Texts.{other_data}
 
 pub returns-clause-written : goal.returns-clause-written
 unfolding other_data
-returns-clause-written c = c.end.ensures.written _ _ (all_written c.begin-object.ensures c.field-object.ensures)
+returns-clause-written c =
+    c.end.ensures.written _ _ (all_written c.begin-object.ensures c.field-object.ensures)
 
 pub returns-clause-known : goal.returns-clause-known
-returns-clause-known c = on_ok_weaker c.end.result (λ ok. version_alone _ (c.field-object.ensures.known ok)) c.end.ensures.goes
+returns-clause-known c =
+    on_ok_weaker c.end.result (λ ok. version_alone _ (c.field-object.ensures.known ok))
+    c.end.ensures.goes

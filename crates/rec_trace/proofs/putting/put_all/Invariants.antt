@@ -12,6 +12,8 @@ invariant-loop-event g l =
     record {
       count : into_iter_len l.event-iterator ≡ length rest;
       later : g.T.TraceTarget.faults l.fn.target ≤ g.T.TraceTarget.faults l.target;
-      takes : (new : _) → Takes g.T.TraceTarget.holds l.target new (map event_value rest) → Takes g.T.TraceTarget.holds l.fn.target new (map event_value all);
-      part : (new : _) → TakesPart g.T.TraceTarget.holds l.target new (map event_value rest) → TakesPart g.T.TraceTarget.holds l.fn.target new (map event_value all);
+      takes : (new : _) → Takes g.T.TraceTarget.holds l.target new (map event_value rest)
+          → Takes g.T.TraceTarget.holds l.fn.target new (map event_value all);
+      part : (new : _) → TakesPart g.T.TraceTarget.holds l.target new (map event_value rest)
+          → TakesPart g.T.TraceTarget.holds l.fn.target new (map event_value all);
     }

@@ -7,4 +7,5 @@ unfolding compact_prefix
 returns c = λ other is.
     c.in_ok-push_str-2.ensures.bytes
     ∙ ap (λ s. s ++ codes ",\"traceEvents\":[")
-    (c.in_ok-push_str.ensures.bytes ∙ ap (λ s. s ++ c.args.other_data.now) c.in_ok-prefix.ensures.ok ∙ ap (λ s. codes "{\"displayTimeUnit\":\"ms\",\"otherData\":" ++ s) is)
+    (c.in_ok-push_str.ensures.bytes ∙ ap (λ s. s ++ c.args.other_data.now) c.in_ok-prefix.ensures.ok
+    ∙ ap (λ s. codes "{\"displayTimeUnit\":\"ms\",\"otherData\":" ++ s) is)

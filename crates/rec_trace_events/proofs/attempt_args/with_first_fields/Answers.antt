@@ -7,5 +7,6 @@ use Rattle.rec_trace_events.proofs.WritableAttempts.{cpu_time_written}
 pub returns : goal.returns
 returns g c =
     saying
-    (λ known. (u32_writable _ known.0, (string_writable _ known.1.0, (cpu_time_written _ known.1.1, tt))))
+    (λ known.
+    (u32_writable _ known.0, (string_writable _ known.1.0, (cpu_time_written _ known.1.1, tt))))
     (c.field.ensures ▸ c.field-2.ensures ▸ c.optional.ensures)

@@ -9,4 +9,6 @@ pub returns : goal.returns
 unfolding concurrency_event
 returns c =
     let whole : to_z w64 (of_z w64 c.args.at) ≡ c.args.at = grind (arith, to_z-of_z) in
-    subst (λ at. IfOk c.counter_event.result (λ e. event_value e ≡ counter_event (codes "concurrency") at (running_args c.args.running))) whole c.counter_event.ensures
+    subst (λ at. IfOk c.counter_event.result
+    (λ e. event_value e ≡ counter_event (codes "concurrency") at (running_args c.args.running)))
+    whole c.counter_event.ensures

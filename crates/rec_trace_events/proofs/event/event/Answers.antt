@@ -9,12 +9,14 @@ pub invariant_of-result : goal.invariant_of-result
 invariant_of-result g c =
     let args = option_map g.A.Args.value_of (option_copied c.args.args) in
     let tokens : c.write_event.new.text ≡ value_tokens (event_of c.args.parts.now args) =
-    c.in_ok-write_event.ensures.written ∙ ap (λ ts. ts ++ value_tokens (event_of c.args.parts.now args)) c.new-text.ensures in
+    c.in_ok-write_event.ensures.written
+    ∙ ap (λ ts. ts ++ value_tokens (event_of c.args.parts.now args)) c.new-text.ensures in
     IsEventText-written _ _ (c.into_text.ensures.compact _ tokens) c.in_ok-write_event.ensures.known
 
 pub returns : goal.returns
 returns g c =
     let args = option_map g.A.Args.value_of (option_copied c.args.args) in
     let tokens : c.write_event.new.text ≡ value_tokens (event_of c.args.parts.now args) =
-    c.in_ok-write_event.ensures.written ∙ ap (λ ts. ts ++ value_tokens (event_of c.args.parts.now args)) c.new-text.ensures in
+    c.in_ok-write_event.ensures.written
+    ∙ ap (λ ts. ts ++ value_tokens (event_of c.args.parts.now args)) c.new-text.ensures in
     event_value-written _ _ (c.into_text.ensures.compact _ tokens) c.in_ok-write_event.ensures.known

@@ -1,7 +1,8 @@
 use Rattle.serde_json.specs.Data.{string}
 use Rattle.rec_forms.proofs.Writing.{◌▸◌, saying}
 use Rattle.rec_forms.specs.Shape.{natural}
-use Rattle.rec_forms.specs.Writable.{integer_writable, natural_writable, optional_writable, string_writable}
+use Rattle.rec_forms.specs.Writable.{integer_writable, natural_writable}
+use Rattle.rec_forms.specs.Writable.{optional_writable, string_writable}
 use Rattle.rec_trace_events.proofs.event_parts.with_fields_after_args.Goals as goal
 
 pub returns : goal.returns
@@ -23,7 +24,8 @@ returns c =
               (
                 natural_writable _ ph.1.0,
                 (
-                  optional_writable (λ s. string s.now) (λ s is. string_writable s.now is) _ scope.0,
+                  optional_writable (λ s. string s.now) (λ s is. string_writable s.now is)
+                      _ scope.0,
                   (
                     natural_writable _ scope.1.0,
                     (integer_writable _ scope.1.1, tt),
@@ -35,5 +37,7 @@ returns c =
         ),
       ),
     ))
-    (c.with_optional_text-object.ensures ▸ c.text-object.ensures ▸ c.optional-object.ensures ▸ c.text-object-2.ensures ▸ c.text-object-3.ensures
-    ▸ c.field-object.ensures ▸ c.with_optional_text-object-2.ensures ▸ c.field-object-2.ensures ▸ c.field.ensures)
+    (c.with_optional_text-object.ensures ▸ c.text-object.ensures ▸ c.optional-object.ensures ▸
+    c.text-object-2.ensures ▸ c.text-object-3.ensures
+    ▸ c.field-object.ensures ▸ c.with_optional_text-object-2.ensures ▸ c.field-object-2.ensures ▸
+    c.field.ensures)

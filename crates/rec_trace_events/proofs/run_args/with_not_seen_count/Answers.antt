@@ -5,6 +5,7 @@ use Rattle.rec_trace_events.proofs.WritableArgs.{not_seen_written}
 
 pub returns : goal.returns
 returns c =
-    object_written _ c.open.ensures.goes c.open.ensures.opened c.close.ensures.goes c.close.ensures.closed refl
+    object_written _ c.open.ensures.goes c.open.ensures.opened c.close.ensures.goes
+    c.close.ensures.closed refl
     (not_seen_written c.args.not_seen.now)
     c.field.ensures

@@ -1,17 +1,20 @@
 use Rattle.std.proofs.Common.{◌≡◌, ◌<◌, ◌∷◌, length, sym, ap, ◌∙◌, arith}
 use Rattle.rec_codec.proofs.line_iter.LineIterIterator.next.Goals as goal
-use Rattle.rec_codec.proofs.LineItemLemmas.{length-left_after, same_past_blank, gives_item, gives_none}
+use Rattle.rec_codec.proofs.LineItemLemmas.{length-left_after, same_past_blank}
+use Rattle.rec_codec.proofs.LineItemLemmas.{gives_item, gives_none}
 use Rattle.rec_codec.specs.EventForms.{event_form}
 use Rattle.rec_codec.specs.LineView.{line_view}
 
 pub loop-line-smaller : goal.loop-line-smaller
 loop-line-smaller g c =
-    let split : c.loop-line.self ≡ line_view c.in-Some.line ∷ c.next.new.self = sym c.self.view_is ∙ c.in-Some.ensures.steps in
+    let split : c.loop-line.self ≡ line_view c.in-Some.line ∷ c.next.new.self =
+    sym c.self.view_is ∙ c.in-Some.ensures.steps in
     omega (arith, ap length split)
 
 pub loop-line-preserved : goal.loop-line-preserved
 loop-line-preserved g c =
-    let split : c.loop-line.self ≡ line_view c.in-Some.line ∷ c.next.new.self = sym c.self.view_is ∙ c.in-Some.ensures.steps in
+    let split : c.loop-line.self ≡ line_view c.in-Some.line ∷ c.next.new.self =
+    sym c.self.view_is ∙ c.in-Some.ensures.steps in
     record {
       same =
           same_past_blank
@@ -47,7 +50,8 @@ returns-in-Some-read_line-clause-steps g c =
 
 pub returns-in-Some-read_line-clause-goes : goal.returns-in-Some-read_line-clause-goes
 returns-in-Some-read_line-clause-goes g c =
-    let split : c.loop-line.self ≡ line_view c.in-Some.line ∷ c.next.new.self = sym c.self.view_is ∙ c.in-Some.ensures.steps in
+    let split : c.loop-line.self ≡ line_view c.in-Some.line ∷ c.next.new.self =
+    sym c.self.view_is ∙ c.in-Some.ensures.steps in
     let fewer : length c.end_where_out_of_memory.new.self < length c.args.self.now =
     omega (
       arith,

@@ -5,7 +5,9 @@ use Rattle.rec_codec.proofs.script_status.SetupScriptExecuteStatusLoadedForm.wri
 -- what the calls wrote, one after the other
 pub returns : goal.returns
 returns g c =
-    let all = c.optional-object.ensures ▸ c.optional-object-2.ensures ▸ c.field-object.ensures ▸ c.in_ok-object.ensures.written ▸ c.field-object-2.ensures ▸ c.field-object-3.ensures ▸ c.field-object-4.ensures in
+    let all = c.optional-object.ensures ▸ c.optional-object-2.ensures ▸ c.field-object.ensures ▸
+    c.in_ok-object.ensures.written ▸ c.field-object-2.ensures ▸ c.field-object-3.ensures ▸
+    c.field-object-4.ensures in
     record {
       written = c.ended.ensures.written _ _ (all_written c.begin-object.ensures all);
       loaded = loaded_at_end _ _ c.ended.result c.in_ok-object.ensures.loaded c.ended.ensures.goes;

@@ -14,6 +14,11 @@ returns g c =
         c.field-object.ensures.written before,
         c.begin-object.ensures (c.field-object.ensures.goes before),
       ) refl);
-      loaded = loaded_at_end _ _ c.ended.result (rw c.as_slice.ensures.value at c.in_ok-write_each.ensures.loaded) c.ended.ensures.goes;
-      known = at_end _ _ c.ended.result (λ _. record { statuses = rw c.as_slice.ensures.value at c.in_ok-write_each.ensures.known; some = search rules }) c.ended.ensures.goes;
+      loaded =
+          loaded_at_end _ _ c.ended.result
+          (rw c.as_slice.ensures.value at c.in_ok-write_each.ensures.loaded) c.ended.ensures.goes;
+      known = at_end _ _ c.ended.result (λ _. record {
+        statuses = rw c.as_slice.ensures.value at c.in_ok-write_each.ensures.known;
+        some = search rules;
+      }) c.ended.ensures.goes;
     }

@@ -11,6 +11,9 @@ use Rattle.rec_directory.proofs.reader.RecordReader.read_build_scope.Goals as go
 pub returns-clause-answer : goal.returns-clause-answer
 returns-clause-answer g c =
     let show : RecordedBuildScope → RecordedBuildScope = λ x. x in
-    let part : List Entry → ℕ → Result (RecordedBuildScope) RecordReadError = λ es limit. metadata_part recorded_scope_form build_scope_path es limit in
+    let part : List Entry → ℕ → Result (RecordedBuildScope) RecordReadError =
+    λ es limit. metadata_part recorded_scope_form build_scope_path es limit in
     let kept = c.kept.result in
-    answers_kept g.D.Disk.files show part c.args.self.now c.load.new.self kept.bytes.now kept.limit c.metadata.result c.load.ensures.same c.kept.ensures.store c.kept.ensures.limit c.metadata.ensures.answer
+    answers_kept g.D.Disk.files show part c.args.self.now c.load.new.self kept.bytes.now kept.limit
+    c.metadata.result c.load.ensures.same c.kept.ensures.store c.kept.ensures.limit
+    c.metadata.ensures.answer

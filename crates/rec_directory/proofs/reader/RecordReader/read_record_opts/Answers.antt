@@ -11,6 +11,9 @@ use Rattle.rec_directory.proofs.reader.RecordReader.read_record_opts.Goals as go
 pub returns-clause-answer : goal.returns-clause-answer
 returns-clause-answer g c =
     let show : RecordOpts → RecordOpts = λ x. x in
-    let part : List Entry → ℕ → Result (RecordOpts) RecordReadError = λ es limit. metadata_part record_opts_form record_opts_path es limit in
+    let part : List Entry → ℕ → Result (RecordOpts) RecordReadError =
+    λ es limit. metadata_part record_opts_form record_opts_path es limit in
     let kept = c.kept.result in
-    answers_kept g.D.Disk.files show part c.args.self.now c.load.new.self kept.bytes.now kept.limit c.metadata.result c.load.ensures.same c.kept.ensures.store c.kept.ensures.limit c.metadata.ensures.answer
+    answers_kept g.D.Disk.files show part c.args.self.now c.load.new.self kept.bytes.now kept.limit
+    c.metadata.result c.load.ensures.same c.kept.ensures.store c.kept.ensures.limit
+    c.metadata.ensures.answer

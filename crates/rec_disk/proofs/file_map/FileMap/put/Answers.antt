@@ -6,6 +6,9 @@ use Rattle.rec_disk.specs.MemoryDisks.{files_of, HasFile}
 pub returns-clause-ok : goal.returns-clause-ok
 returns-clause-ok c =
     let new = files_of c.insert.new.self.entries in
-    let put = file_updated c.self.inside.files c.insert.new.self c.args.self.now (string_bytes c.in_ok-path.path) (Some c.in_ok-bytes.bytes) c.in_ok-insert.ensures.updates c.self.view_is in
+    let put = file_updated c.self.inside.files c.insert.new.self c.args.self.now
+    (string_bytes c.in_ok-path.path) (Some c.in_ok-bytes.bytes)
+    c.in_ok-insert.ensures.updates c.self.view_is in
     subst (λ p. HasFile c.args.self.now new p (Some c.args.bytes.now)) c.in_ok-path.ensures.ok
-    (subst (λ b. HasFile c.args.self.now new (string_bytes c.in_ok-path.path) (Some b)) c.in_ok-bytes.ensures.items put)
+    (subst (λ b. HasFile c.args.self.now new (string_bytes c.in_ok-path.path) (Some b))
+    c.in_ok-bytes.ensures.items put)

@@ -12,6 +12,7 @@ loop-key-preserved g c =
     let step : pairs here.key-iterator ≡ (key, value) ∷ rest = search rules in
     let put : c.put_copy.new.map ≡ put_pair key value here.copy = c.in_ok-put_copy.ensures in (
       ap (λ l. l ++ rest) put
-          ∙ put_next here.copy key value rest c.args.self.now (ap (λ l. here.copy ++ l) (sym step) ∙ here.invariant.0) here.invariant.1,
+          ∙ put_next here.copy key value rest c.args.self.now
+          (ap (λ l. here.copy ++ l) (sym step) ∙ here.invariant.0) here.invariant.1,
       here.invariant.1,
     )

@@ -20,7 +20,8 @@ pub returns-in-SlotBusy : goal.returns-in-SlotBusy
 returns-in-SlotBusy g c = rw c.in-SlotBusy.is c.event_number.ensures
 
 pub returns-in-TimestampOutOfRange : goal.returns-in-TimestampOutOfRange
-returns-in-TimestampOutOfRange g c = rw c.in-TimestampOutOfRange.is c.number-in-TimestampOutOfRange.ensures
+returns-in-TimestampOutOfRange g c =
+    rw c.in-TimestampOutOfRange.is c.number-in-TimestampOutOfRange.ensures
 
 pub returns-in-RowOutOfRange : goal.returns-in-RowOutOfRange
 returns-in-RowOutOfRange g c = rw c.in-RowOutOfRange.is c.event_number-in-RowOutOfRange.ensures

@@ -22,7 +22,8 @@ pub returns-in-CountOutOfRange : goal.returns-in-CountOutOfRange
 returns-in-CountOutOfRange g c = rw c.in-CountOutOfRange.is c.count_out_of_range.ensures
 
 pub returns-in-FileTooLarge : goal.returns-in-FileTooLarge
-returns-in-FileTooLarge g c = rw (c.in-FileTooLarge.is, ← c.as_str-in-FileTooLarge.ensures.value) c.large_entry.ensures
+returns-in-FileTooLarge g c =
+    rw (c.in-FileTooLarge.is, ← c.as_str-in-FileTooLarge.ensures.value) c.large_entry.ensures
 
 pub returns-in-MissingTestStart : goal.returns-in-MissingTestStart
 returns-in-MissingTestStart g c = rw c.in-MissingTestStart.is c.missing_test.ensures
@@ -31,7 +32,8 @@ pub returns-in-MissingScriptStart : goal.returns-in-MissingScriptStart
 returns-in-MissingScriptStart g c = rw c.in-MissingScriptStart.is c.missing_script.ensures
 
 pub returns-in-MissingStressSubRunStart : goal.returns-in-MissingStressSubRunStart
-returns-in-MissingStressSubRunStart g c = rw c.in-MissingStressSubRunStart.is c.number-in-MissingStressSubRunStart.ensures
+returns-in-MissingStressSubRunStart g c =
+    rw c.in-MissingStressSubRunStart.is c.number-in-MissingStressSubRunStart.ensures
 
 pub returns-in-SpanAlreadyOpen : goal.returns-in-SpanAlreadyOpen
 returns-in-SpanAlreadyOpen g c = rw c.in-SpanAlreadyOpen.is c.open_span.ensures
@@ -40,7 +42,8 @@ pub returns-in-SlotBusy : goal.returns-in-SlotBusy
 returns-in-SlotBusy g c = rw c.in-SlotBusy.is c.event_number.ensures
 
 pub returns-in-TimestampOutOfRange : goal.returns-in-TimestampOutOfRange
-returns-in-TimestampOutOfRange g c = rw c.in-TimestampOutOfRange.is c.number-in-TimestampOutOfRange.ensures
+returns-in-TimestampOutOfRange g c =
+    rw c.in-TimestampOutOfRange.is c.number-in-TimestampOutOfRange.ensures
 
 pub returns-in-RowOutOfRange : goal.returns-in-RowOutOfRange
 returns-in-RowOutOfRange g c = rw c.in-RowOutOfRange.is c.event_number-in-RowOutOfRange.ensures

@@ -14,7 +14,8 @@ pub returns-in-CountOutOfRange : goal.returns-in-CountOutOfRange
 returns-in-CountOutOfRange g c = rw c.in-CountOutOfRange.is c.name-in-CountOutOfRange.ensures
 
 pub returns-in-FileTooLarge : goal.returns-in-FileTooLarge
-returns-in-FileTooLarge g c = rw (c.in-FileTooLarge.is, ← c.as_str-in-FileTooLarge.ensures.value) c.large_entry.ensures
+returns-in-FileTooLarge g c =
+    rw (c.in-FileTooLarge.is, ← c.as_str-in-FileTooLarge.ensures.value) c.large_entry.ensures
 
 pub returns-in-BundleFault : goal.returns-in-BundleFault
 returns-in-BundleFault g c = rw c.in-BundleFault.is c.name-in-BundleFault.ensures

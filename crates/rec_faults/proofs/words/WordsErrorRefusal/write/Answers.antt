@@ -7,7 +7,8 @@ pub returns-in-UnknownCommand : goal.returns-in-UnknownCommand
 returns-in-UnknownCommand g c = rw c.in-UnknownCommand.is c.number.ensures
 
 pub returns-in-MissingPositional : goal.returns-in-MissingPositional
-returns-in-MissingPositional g c = rw c.in-MissingPositional.is c.number-in-MissingPositional.ensures
+returns-in-MissingPositional g c =
+    rw c.in-MissingPositional.is c.number-in-MissingPositional.ensures
 
 pub returns-in-BadNumber : goal.returns-in-BadNumber
 returns-in-BadNumber g c = rw c.in-BadNumber.is c.number-in-BadNumber.ensures

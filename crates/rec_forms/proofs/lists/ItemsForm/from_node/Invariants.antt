@@ -7,4 +7,5 @@ use Rattle.rec_forms.specs.Lists.{each}
 abbrev pub invariant-loop-node : goal.invariant-loop-node
 invariant-loop-node g l =
     each g.T.Form.form_of (items_view l.nodes)
-    ≡ option_map (λ xs. l.items.items ++ xs) (each g.T.Form.form_of (items_view (drop l.node-index l.nodes)))
+    ≡ option_map (λ xs. l.items.items ++ xs)
+    (each g.T.Form.form_of (items_view (drop l.node-index l.nodes)))

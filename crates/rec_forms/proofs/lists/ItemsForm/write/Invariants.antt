@@ -10,5 +10,6 @@ invariant-loop-item g l = record {
   written :
       with_items l.text (map g.T.Form.value_of (drop l.item-index l.item-items))
       ≡ with_items (l.fn.text ++ begin_array ∷ []) (map g.T.Form.value_of l.item-items);
-  known : AllByRecursion g.T.Form.well_formed (drop l.item-index l.item-items) → AllByRecursion g.T.Form.well_formed l.item-items;
+  known : AllByRecursion g.T.Form.well_formed (drop l.item-index l.item-items)
+      → AllByRecursion g.T.Form.well_formed l.item-items;
 }

@@ -12,5 +12,6 @@ invariant-loop-key g l = record {
   written :
       with_fields l.text (map_fields g.V.Form.value_of (pairs l.key-iterator))
       ≡ with_fields (l.fn.text ++ begin_object ∷ []) (map_fields g.V.Form.value_of l.fn.self);
-  known : AllByRecursion g.V.Form.well_formed (each_value (pairs l.key-iterator)) → AllByRecursion g.V.Form.well_formed (each_value l.fn.self);
+  known : AllByRecursion g.V.Form.well_formed (each_value (pairs l.key-iterator))
+      → AllByRecursion g.V.Form.well_formed (each_value l.fn.self);
 }

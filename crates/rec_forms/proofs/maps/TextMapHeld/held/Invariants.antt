@@ -5,4 +5,6 @@ use Rattle.rec_forms.specs.Maps.{each_value}
 
 -- what is left decides
 abbrev pub invariant-loop-item : goal.invariant-loop-item
-invariant-loop-item g l = AllByRecursion g.V.Form.well_formed (each_value (pairs l.item-iterator)) → AllByRecursion g.V.Form.well_formed (each_value l.fn.self)
+invariant-loop-item g l =
+    AllByRecursion g.V.Form.well_formed (each_value (pairs l.item-iterator))
+    → AllByRecursion g.V.Form.well_formed (each_value l.fn.self)

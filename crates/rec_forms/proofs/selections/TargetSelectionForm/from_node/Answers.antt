@@ -11,4 +11,6 @@ returns c =
     let examples = rw c.none-2.ensures at second.0 in
     let tests = rw c.none-3.ensures at second.1 in
     let benches = rw c.none-4.ensures at second.2 in
-    record { read_node = rw (← c.in-Some.ensures, first.0, first.1, bins, examples, tests, benches) refl }
+    record {
+      read_node = rw (← c.in-Some.ensures, first.0, first.1, bins, examples, tests, benches) refl;
+    }

@@ -13,4 +13,11 @@ returns-in_err-exec_failed c =
 
 pub returns : goal.returns
 unfolding first_counts_form
-returns c = rw (c.in_ok-exec_failed.ensures.0, c.in_ok-exec_failed.ensures.1, c.in_ok-exec_failed.ensures.2, c.in_ok-failed_timed_out.ensures.0, c.in_ok-failed_timed_out.ensures.1, c.in_ok-failed_timed_out.ensures.2) refl
+returns c = rw (
+  c.in_ok-exec_failed.ensures.0,
+  c.in_ok-exec_failed.ensures.1,
+  c.in_ok-exec_failed.ensures.2,
+  c.in_ok-failed_timed_out.ensures.0,
+  c.in_ok-failed_timed_out.ensures.1,
+  c.in_ok-failed_timed_out.ensures.2,
+) refl

@@ -14,7 +14,8 @@ returns-in_err-setup_scripts_exec_failed c =
 pub returns-in_err-setup_scripts_passed : goal.returns-in_err-setup_scripts_passed
 unfolding last_counts_form
 returns-in_err-setup_scripts_passed c =
-    let p = err_from_is_err_and c.from_residual-in_err-setup_scripts_passed.result c.from_residual-in_err-setup_scripts_passed.ensures.1 in
+    let p = err_from_is_err_and c.from_residual-in_err-setup_scripts_passed.result
+    c.from_residual-in_err-setup_scripts_passed.ensures.1 in
     let first = c.in_ok-setup_scripts_exec_failed.ensures in
     rw (p.1, p.2, first.0, first.1, first.2, first.3) (search (rules, three_refused))
 

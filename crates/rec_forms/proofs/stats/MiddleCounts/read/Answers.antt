@@ -14,9 +14,23 @@ returns-in_err-initial_run_count c =
 pub returns-in_err-passed : goal.returns-in_err-passed
 unfolding middle_counts_form
 returns-in_err-passed c =
-    let p = err_from_is_err_and c.from_residual-in_err-passed.result c.from_residual-in_err-passed.ensures.1 in
-    rw (p.1, p.2, c.in_ok-initial_run_count.ensures.0, c.in_ok-initial_run_count.ensures.1, c.in_ok-initial_run_count.ensures.2) (search (rules, three_refused))
+    let p = err_from_is_err_and c.from_residual-in_err-passed.result
+    c.from_residual-in_err-passed.ensures.1 in
+    rw (
+      p.1,
+      p.2,
+      c.in_ok-initial_run_count.ensures.0,
+      c.in_ok-initial_run_count.ensures.1,
+      c.in_ok-initial_run_count.ensures.2,
+    ) (search (rules, three_refused))
 
 pub returns : goal.returns
 unfolding middle_counts_form
-returns c = rw (c.in_ok-initial_run_count.ensures.0, c.in_ok-initial_run_count.ensures.1, c.in_ok-initial_run_count.ensures.2, c.in_ok-passed.ensures.0, c.in_ok-passed.ensures.1, c.in_ok-passed.ensures.2) refl
+returns c = rw (
+  c.in_ok-initial_run_count.ensures.0,
+  c.in_ok-initial_run_count.ensures.1,
+  c.in_ok-initial_run_count.ensures.2,
+  c.in_ok-passed.ensures.0,
+  c.in_ok-passed.ensures.1,
+  c.in_ok-passed.ensures.2,
+) refl

@@ -5,4 +5,6 @@ use Rattle.rec_forms.specs.Names.{merged}
 
 -- what is left completes the set
 abbrev pub invariant-loop-name : goal.invariant-loop-name
-invariant-loop-name l = merged l.set (into_iter_items l.name-iterator) ≡ merged [] (into_iter_items l.initial.name-iterator)
+invariant-loop-name l =
+    merged l.set (into_iter_items l.name-iterator)
+    ≡ merged [] (into_iter_items l.initial.name-iterator)

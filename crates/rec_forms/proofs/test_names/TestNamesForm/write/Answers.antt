@@ -6,5 +6,7 @@ use Rattle.rec_forms.proofs.test_names.TestNamesForm.write.Goals as goal
 
 pub returns-clause-written : goal.returns-clause-written
 returns-clause-written c =
-    let all : c.loop-name.text ≡ with_items (c.args.text.now ++ begin_array ∷ []) (map string c.args.self.now) = search rules in
+    let all : c.loop-name.text
+    ≡ with_items (c.args.text.now ++ begin_array ∷ []) (map string c.args.self.now) =
+    search rules in
     c.in_ok-end_list.ensures c.args.text.now (map string c.args.self.now) all

@@ -7,4 +7,6 @@ use Rattle.rec_forms.proofs.test_names.TestNamesForm.write.Given as goal
 
 -- what is left completes the list
 abbrev pub invariant-loop-name : goal.invariant-loop-name
-invariant-loop-name l = with_items l.text (map string (texts l.name-iterator)) ≡ with_items (l.fn.text ++ begin_array ∷ []) (map string l.fn.self)
+invariant-loop-name l =
+    with_items l.text (map string (texts l.name-iterator))
+    ≡ with_items (l.fn.text ++ begin_array ∷ []) (map string l.fn.self)

@@ -7,4 +7,7 @@ use Rattle.rec_forms.specs.Times.{stamp_value}
 
 pub returns-clause-written : goal.returns-clause-written
 returns-clause-written c =
-    subst (λ s. OnOk c.end.result (c.end.new.text ≡ c.args.text.now ++ value_tokens (stamp_value s))) c.self.view_is (c.end.ensures.written _ _ (all_written c.begin-object.ensures (c.field-object.ensures ▸ c.field-object-2.ensures ▸ c.field-object-3.ensures)))
+    subst
+    (λ s. OnOk c.end.result (c.end.new.text ≡ c.args.text.now ++ value_tokens (stamp_value s)))
+    c.self.view_is (c.end.ensures.written _ _ (all_written c.begin-object.ensures
+    (c.field-object.ensures ▸ c.field-object-2.ensures ▸ c.field-object-3.ensures)))

@@ -6,5 +6,6 @@ use Rattle.rec_junit.specs.Values.{case_value}
 pub returns-clause-written : goal.returns-clause-written
 unfolding case_value
 returns-clause-written c =
-    let all = c.field-object.ensures ▸ c.field-object-2.ensures ▸ c.in_ok-object.ensures ▸ c.with_run-object.ensures in
+    let all = c.field-object.ensures ▸ c.field-object-2.ensures ▸ c.in_ok-object.ensures ▸
+    c.with_run-object.ensures in
     c.end.ensures.written _ _ (λ ok. all_written c.begin-object.ensures all ok)

@@ -8,7 +8,8 @@ use Rattle.rec_portable.specs.Judging.{is_file}
 abbrev pub invariant-loop-i : goal.invariant-loop-i
 invariant-loop-i l = record {
   files : l.files ≡ count_by (λ (e : Entry). is_file e.name) (take l.i l.entries.entries);
-  zips : l.zips ≡ count_by (λ (e : Entry). is_file e.name && is_zip_path e.name) (take l.i l.entries.entries);
+  zips : l.zips
+      ≡ count_by (λ (e : Entry). is_file e.name && is_zip_path e.name) (take l.i l.entries.entries);
   most_files : l.files ≤ l.i;
   most_zips : l.zips ≤ l.i;
 }

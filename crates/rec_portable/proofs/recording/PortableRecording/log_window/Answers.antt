@@ -10,6 +10,8 @@ use Rattle.rec_portable.specs.Windows.{bytes_in}
 pub returns : goal.returns
 returns c =
     let r = c.self.inside in
-    let P : Opening → Type 0 = λ v. (es : List Entry) → IsContainer v.bytes es → option_map (λ b. b.now) c.part_of.result ≡ content_of es log_name in
-    subst P c.self.view_is (λ es h. c.part_of.ensures ∙ ap (λ bytes. option_map (bytes_in bytes) r.parts.log) c.deref.ensures.value
+    let P : Opening → Type 0 = λ v. (es : List Entry) → IsContainer v.bytes es
+    → option_map (λ b. b.now) c.part_of.result ≡ content_of es log_name in
+    subst P c.self.view_is (λ es h. c.part_of.ensures
+    ∙ ap (λ bytes. option_map (bytes_in bytes) r.parts.log) c.deref.ensures.value
     ∙ log_shown r.bytes.items r.limit r.parts c.self.invariant es h)

@@ -6,7 +6,8 @@ use Rattle.rec_portable.specs.Opening.{IsOpen}
 pub returns-clause-ok : goal.returns-clause-ok
 returns-clause-ok g c =
     let parts = c.in_ok-parts.parts in
-    let o = subst (λ (b : List ℕ). IsOpen b c.args.read_limit parts) c.deref.ensures.value c.in_ok-parts.ensures.ok in
+    let o = subst (λ (b : List ℕ). IsOpen b c.args.read_limit parts)
+    c.deref.ensures.value c.in_ok-parts.ensures.ok in
     record {
       path_is = refl;
       limit_is = refl;

@@ -10,6 +10,9 @@ use Rattle.rec_portable.specs.Opening.{Opening}
 pub returns : goal.returns
 returns c =
     let r = c.self.inside in
-    let P : Opening → Type 0 = λ v. (manifest : PortableManifest) → IsJudged v.bytes v.limit (Ok manifest) → IfOk c.run_info.result (λ info. info ≡ info_of manifest.run) in
-    subst P c.self.view_is (λ manifest h. subst (λ (m : PortableManifest). IfOk c.run_info.result (λ info. info ≡ info_of m.run))
+    let P : Opening → Type 0 =
+    λ v. (manifest : PortableManifest) → IsJudged v.bytes v.limit (Ok manifest)
+    → IfOk c.run_info.result (λ info. info ≡ info_of manifest.run) in
+    subst P c.self.view_is (λ manifest h.
+    subst (λ (m : PortableManifest). IfOk c.run_info.result (λ info. info ≡ info_of m.run))
     (one_manifest r.bytes.items r.limit r.parts c.self.invariant manifest h) c.run_info.ensures)

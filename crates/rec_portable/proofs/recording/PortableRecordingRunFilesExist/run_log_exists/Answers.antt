@@ -9,5 +9,7 @@ use Rattle.rec_portable.specs.Opening.{Opening}
 pub returns : goal.returns
 returns c =
     let r = c.self.inside in
-    let P : Opening → Type 0 = λ v. (es : List Entry) → IsContainer v.bytes es → c.is_some.result ≡ is_some (content_of es log_name) in
-    subst P c.self.view_is (λ es h. c.is_some.ensures ∙ log_there r.bytes.items r.limit r.parts c.self.invariant es h)
+    let P : Opening → Type 0 = λ v. (es : List Entry) → IsContainer v.bytes es
+    → c.is_some.result ≡ is_some (content_of es log_name) in
+    subst P c.self.view_is
+    (λ es h. c.is_some.ensures ∙ log_there r.bytes.items r.limit r.parts c.self.invariant es h)

@@ -3,11 +3,14 @@ use Rattle.std.specs.Prelude.{is_some}
 use Rattle.rec_container.specs.Container.{Entry, IsContainer, content_of}
 use Rattle.rec_store.specs.Entries.{store_name}
 use Rattle.rec_portable.proofs.Opened.{store_there}
-use Rattle.rec_portable.proofs.recording.PortableRecordingRunFilesExist.store_zip_exists.Goals as goal
+use Rattle.rec_portable.proofs.recording.PortableRecordingRunFilesExist.store_zip_exists.Goals
+    as goal
 use Rattle.rec_portable.specs.Opening.{Opening}
 
 pub returns : goal.returns
 returns c =
     let r = c.self.inside in
-    let P : Opening → Type 0 = λ v. (es : List Entry) → IsContainer v.bytes es → c.is_some.result ≡ is_some (content_of es store_name) in
-    subst P c.self.view_is (λ es h. c.is_some.ensures ∙ store_there r.bytes.items r.limit r.parts c.self.invariant es h)
+    let P : Opening → Type 0 = λ v. (es : List Entry) → IsContainer v.bytes es
+    → c.is_some.result ≡ is_some (content_of es store_name) in
+    subst P c.self.view_is
+    (λ es h. c.is_some.ensures ∙ store_there r.bytes.items r.limit r.parts c.self.invariant es h)

@@ -9,5 +9,9 @@ use Rattle.rec_portable.specs.Stores.{StoreReading}
 
 pub returns-clause-answer : goal.returns-clause-answer
 returns-clause-answer c =
-    let read = subst (λ (v : StoreReading). Reads (λ x. x) (metadata_part test_list_form test_list_path v.entries v.limit) c.read_metadata.result) c.self.view_is c.read_metadata.ensures in
-    answers_entries (λ x. x) (λ es. metadata_part test_list_form test_list_path es c.args.self.now.limit) c.args.self.now.entries c.read_metadata.result read
+    let read = subst (λ (v : StoreReading). Reads (λ x. x)
+    (metadata_part test_list_form test_list_path v.entries v.limit) c.read_metadata.result)
+    c.self.view_is c.read_metadata.ensures in
+    answers_entries (λ x. x)
+    (λ es. metadata_part test_list_form test_list_path es c.args.self.now.limit)
+    c.args.self.now.entries c.read_metadata.result read

@@ -4,4 +4,5 @@ use Rattle.rec_portable.specs.Upgrading.{first_foreign}
 
 -- those before are in their places
 abbrev pub invariant-loop-i : goal.invariant-loop-i
-invariant-loop-i l = first_foreign 0 l.entries.entries ≡ first_foreign l.i (drop l.i l.entries.entries)
+invariant-loop-i l =
+    first_foreign 0 l.entries.entries ≡ first_foreign l.i (drop l.i l.entries.entries)

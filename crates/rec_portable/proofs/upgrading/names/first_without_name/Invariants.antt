@@ -5,4 +5,6 @@ use Rattle.rec_portable.specs.Rewriting.{ArePaths}
 
 -- each of those before has a place
 abbrev pub invariant-loop-i : goal.invariant-loop-i
-invariant-loop-i l = (named : List (List ℕ)) → ArePaths named l.paths → first_unnamed named l.entries.entries ≡ first_unnamed named (drop l.i l.entries.entries)
+invariant-loop-i l =
+    (named : List (List ℕ)) → ArePaths named l.paths
+    → first_unnamed named l.entries.entries ≡ first_unnamed named (drop l.i l.entries.entries)

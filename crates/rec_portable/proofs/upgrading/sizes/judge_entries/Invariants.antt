@@ -5,4 +5,6 @@ use Rattle.rec_portable.specs.Upgrading.{entries_refusal}
 
 -- the rest decides
 abbrev pub invariant-loop-content : goal.invariant-loop-content
-invariant-loop-content l = entries_refusal l.limit (map entry_of l.contents) ≡ entries_refusal l.limit (map entry_of (drop l.content-index l.contents))
+invariant-loop-content l =
+    entries_refusal l.limit (map entry_of l.contents)
+    ≡ entries_refusal l.limit (map entry_of (drop l.content-index l.contents))

@@ -7,5 +7,6 @@ use Rattle.rec_portable.proofs.upgrading.store.contents_length.Given as goal
 abbrev pub invariant-loop-content : goal.invariant-loop-content
 invariant-loop-content l = record {
   fits : l.length < 2 ^ 64;
-  whole : l.length + content_bytes (map entry_of (drop l.content-index l.contents)) ≡ content_bytes (map entry_of l.contents);
+  whole : l.length + content_bytes (map entry_of (drop l.content-index l.contents))
+      ≡ content_bytes (map entry_of l.contents);
 }

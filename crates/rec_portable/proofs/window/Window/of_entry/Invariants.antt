@@ -4,4 +4,5 @@ use Rattle.rec_portable.proofs.window.Window.of_entry.Given as goal
 
 -- the name is that of none of the entries before
 abbrev pub invariant-loop-i : goal.invariant-loop-i
-invariant-loop-i l = content_of l.entries.entries l.name ≡ content_of (drop l.i l.entries.entries) l.name
+invariant-loop-i l =
+    content_of l.entries.entries l.name ≡ content_of (drop l.i l.entries.entries) l.name

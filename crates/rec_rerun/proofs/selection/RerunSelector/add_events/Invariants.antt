@@ -5,4 +5,6 @@ use Rattle.rec_rerun.specs.Selection.{HasTaken}
 
 -- the events so far were taken
 abbrev pub invariant-loop-event : goal.invariant-loop-event
-invariant-loop-event l = (parent : Option RerunInfo) → HasTaken parent [] l.fn.self.standings.tests → HasTaken parent (take l.event-index l.events) l.self.standings.tests
+invariant-loop-event l =
+    (parent : Option RerunInfo) → HasTaken parent [] l.fn.self.standings.tests
+    → HasTaken parent (take l.event-index l.events) l.self.standings.tests

@@ -16,6 +16,7 @@ loop-suite-preserved c = λ t.
     let taken = c.in_ok-note_names.ensures.ok t
     ∙ ap (λ id. if is_named id c.names_of.result.now t then known else old) c.as_str.ensures.value
     ∙ ap (λ ns. if is_named suite.binary_id ns t then known else old) c.names_of.ensures in
-    noted (is_named suite.binary_id (names_of c.args.passed suite) t) (holds c.args.passed c.next.new.self t) known _ old taken
+    noted (is_named suite.binary_id (names_of c.args.passed suite) t)
+    (holds c.args.passed c.next.new.self t) known _ old taken
     ∙ ap (λ ss. if holds c.args.passed ss t then known else old) (sym step)
     ∙ c.loop-suite.invariant t

@@ -9,7 +9,11 @@ use Rattle.rec_rerun.specs.Standings.{at}
 
 pub loop-name-preserved : goal.loop-name-preserved
 loop-name-preserved c = λ t.
-    let step : texts c.loop-name.name-iterator ≡ c.as_str.result.now ∷ texts c.next.new.self = search rules in
-    noted _ (is_named c.args.binary.now (texts c.next.new.self) t) (Some (Known c.args.passed)) _ (at c.loop-name.self.tests t) (c.in_ok-put.ensures.ok t)
-    ∙ ap (λ ns. if is_named c.args.binary.now ns t then Some (Known c.args.passed) else at c.loop-name.self.tests t) (sym step)
+    let step : texts c.loop-name.name-iterator ≡ c.as_str.result.now ∷ texts c.next.new.self =
+    search rules in
+    noted _ (is_named c.args.binary.now (texts c.next.new.self) t) (Some (Known c.args.passed)) _
+    (at c.loop-name.self.tests t) (c.in_ok-put.ensures.ok t)
+    ∙ ap (λ ns. if is_named c.args.binary.now ns t then Some (Known c.args.passed)
+    else at c.loop-name.self.tests t)
+    (sym step)
     ∙ c.loop-name.invariant t

@@ -10,5 +10,6 @@ use Rattle.rec_rerun.specs.Standings.{at}
 -- what is left completes the tests
 abbrev pub invariant-loop-name : goal.invariant-loop-name
 invariant-loop-name l = (t : OwnedTestInstanceId) →
-    (if is_named l.binary (texts l.name-iterator) t then Some (Known l.passed) else at l.self.tests t)
+    (if is_named l.binary (texts l.name-iterator) t then Some (Known l.passed)
+    else at l.self.tests t)
     ≡ (if is_named l.binary l.names t then Some (Known l.passed) else at l.fn.self.tests t)

@@ -8,8 +8,10 @@ use Rattle.rec_salvage.proofs.gathering.Gathered.add_event.Goals as goal
 pub returns-then-not-has_all : goal.returns-then-not-has_all
 returns-then-not-has_all c =
     let es = c.args.prefix.now.entries in
-    let all : List (String Global) → Bool = list_all (λ k. is_some (content_of es (string_bytes k))) in (
-      sym c.if-not-has_all.true ∙ c.has_all.ensures ∙ ap all c.deref.ensures.value ∙ strings_there es c.args.paths.items,
+    let all : List (String Global)
+    → Bool = list_all (λ k. is_some (content_of es (string_bytes k))) in (
+      sym c.if-not-has_all.true ∙ c.has_all.ensures ∙ ap all c.deref.ensures.value
+          ∙ strings_there es c.args.paths.items,
       λ h. refl,
       λ h. absurd cc,
     )
@@ -17,8 +19,10 @@ returns-then-not-has_all c =
 pub returns : goal.returns
 returns c =
     let es = c.args.prefix.now.entries in
-    let all : List (String Global) → Bool = list_all (λ k. is_some (content_of es (string_bytes k))) in (
-      sym c.if-not-has_all.false ∙ c.has_all.ensures ∙ ap all c.deref.ensures.value ∙ strings_there es c.args.paths.items,
+    let all : List (String Global)
+    → Bool = list_all (λ k. is_some (content_of es (string_bytes k))) in (
+      sym c.if-not-has_all.false ∙ c.has_all.ensures ∙ ap all c.deref.ensures.value
+          ∙ strings_there es c.args.paths.items,
       λ h. absurd cc,
       λ h. record { count = refl; adds = c.in_ok-add_paths.ensures },
     )

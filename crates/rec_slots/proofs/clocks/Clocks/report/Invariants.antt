@@ -9,5 +9,6 @@ use Rattle.rec_slots.specs.declared.report.SlotUsage.{SlotUsage}
 abbrev pub invariant-loop-slot : goal.invariant-loop-slot
 invariant-loop-slot l = record {
   used : AllByRecursion (IsTimed l.self) l.usages.items;
-  slots : map (λ (u : SlotUsage). u.slot) l.usages.items ++ keys_of l.slot-iterator ≡ keys_of l.self.slots.entries;
+  slots : map (λ (u : SlotUsage). u.slot) l.usages.items ++ keys_of l.slot-iterator
+      ≡ keys_of l.self.slots.entries;
 }

@@ -19,7 +19,8 @@ returns c = λ events n is has.
     let goes_on = c.is_running-goes_on.ensures (marks_before events n) has.phase in
     record {
       tracked = tracks.0;
-      phase = c.after-self.ensures (marks_before events n) has.phase ∙ ap phase_of (sym tracks.1.marks);
+      phase =
+          c.after-self.ensures (marks_before events n) has.phase ∙ ap phase_of (sym tracks.1.marks);
       times = c.in_ok-take.ensures.ok events n tracks.1 goes_on has.times;
       attempts = c.in_ok-take-2.ensures.ok events n tracks.1 goes_on has.attempts;
     }

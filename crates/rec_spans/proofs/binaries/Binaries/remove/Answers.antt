@@ -5,5 +5,6 @@ use Rattle.rec_spans.specs.Opened.{without_binary}
 
 pub returns : goal.returns
 returns c =
-    binary-remove c.args.id.now c.self.inside.numbers.entries c.remove.new.self.entries c.remove.ensures.entries
+    binary-remove c.args.id.now c.self.inside.numbers.entries c.remove.new.self.entries
+    c.remove.ensures.entries
     ∙ ap (without_binary c.args.id.now) c.self.view_is

@@ -15,22 +15,29 @@ invariant_of-self c =
     let spans = c.self.inside.spans in
     let notes = c.self.inside.scripts.notes in
     let new = c.take.new.spans.entries in
-    let tied = closed c.self.inside.slots.entries spans.entries new (keys.Script index) (places.Script index) c.self.invariant.0 refl c.take.ensures in
-    let renotes = subst (λ name. Renotes false notes name index c.forget.new.self.notes) c.as_str.ensures.value c.forget.ensures.forgotten in (
+    let tied = closed c.self.inside.slots.entries spans.entries new (keys.Script index)
+    (places.Script index) c.self.invariant.0 refl c.take.ensures in
+    let renotes = subst (λ name. Renotes false notes name index c.forget.new.self.notes)
+    c.as_str.ensures.value c.forget.ensures.forgotten in (
       tied.0,
-      noted-closed notes c.forget.new.self.notes spans.entries new index c.in-Some.span.now c.self.invariant.1
-          (sym (span-get spans (places.Script index)) ∙ sym c.in-Some.ensures.value) renotes c.take.ensures,
+      noted-closed notes c.forget.new.self.notes spans.entries new index c.in-Some.span.now
+          c.self.invariant.1
+          (sym (span-get spans (places.Script index)) ∙ sym c.in-Some.ensures.value)
+          renotes c.take.ensures,
       c.forget.ensures.none_empty c.self.invariant.2,
     )
 
 pub returns-in-Some : goal.returns-in-Some
 returns-in-Some c =
-    (closed c.self.inside.slots.entries c.self.inside.spans.entries c.take.new.spans.entries (keys.Script c.args.index) (places.Script c.args.index) c.self.invariant.0 refl
+    (closed c.self.inside.slots.entries c.self.inside.spans.entries c.take.new.spans.entries
+    (keys.Script c.args.index) (places.Script c.args.index) c.self.invariant.0 refl
     c.take.ensures).1
     ∙ ap (without (keys.Script c.args.index)) c.self.view_is
 
 pub returns-in_default : goal.returns-in_default
 returns-in_default c =
     let key = keys.Script c.args.index in
-    let none = sym (span-get c.self.inside.spans (places.Script c.args.index)) ∙ sym c.in_default.ensures.value in
-    sym (without-none key c.args.self.now (subst (λ v. of_key key v ≡ []) c.self.view_is (c.self.invariant.0.at_key key ∙ ap option_to_list none)))
+    let none = sym (span-get c.self.inside.spans (places.Script c.args.index))
+    ∙ sym c.in_default.ensures.value in
+    sym (without-none key c.args.self.now (subst (λ v. of_key key v ≡ []) c.self.view_is
+    (c.self.invariant.0.at_key key ∙ ap option_to_list none)))

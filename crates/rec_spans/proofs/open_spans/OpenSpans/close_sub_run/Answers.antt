@@ -10,10 +10,16 @@ pub invariant_of-self : goal.invariant_of-self
 invariant_of-self c =
     let spans = c.self.inside.spans.entries in
     let new = c.take.new.spans.entries in
-    let tied = closed c.self.inside.slots.entries spans new keys.SubRun places.SubRun c.self.invariant.0 refl c.take.ensures in
-    (tied.0, noted-other c.self.inside.scripts.notes spans new places.SubRun None c.self.invariant.1 (λ i. refl) c.take.ensures.1, c.self.invariant.2)
+    let tied = closed c.self.inside.slots.entries spans new keys.SubRun places.SubRun
+    c.self.invariant.0 refl c.take.ensures in (
+      tied.0,
+      noted-other c.self.inside.scripts.notes spans new places.SubRun None c.self.invariant.1
+          (λ i. refl) c.take.ensures.1,
+      c.self.invariant.2,
+    )
 
 pub returns : goal.returns
 returns c =
-    (closed c.self.inside.slots.entries c.self.inside.spans.entries c.take.new.spans.entries keys.SubRun places.SubRun c.self.invariant.0 refl c.take.ensures).1
+    (closed c.self.inside.slots.entries c.self.inside.spans.entries c.take.new.spans.entries
+    keys.SubRun places.SubRun c.self.invariant.0 refl c.take.ensures).1
     ∙ ap (without keys.SubRun) c.self.view_is

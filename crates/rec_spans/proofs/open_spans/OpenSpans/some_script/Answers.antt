@@ -11,9 +11,11 @@ returns-in_err-first c =
     let spans = c.self.inside.spans in
     let notes = c.self.inside.scripts.notes in
     let id = c.args.id.now in
-    let least = subst (λ name. IsLeast (is_noted notes name) None) c.as_str.ensures.value c.in_err-first.ensures in
+    let least = subst (λ name. IsLeast (is_noted notes name) None)
+    c.as_str.ensures.value c.in_err-first.ensures in
     ap option_copied c.from_residual.ensures
-    ∙ script-found c.self.inside.slots.entries spans.entries c.self.invariant.0 (span-ordered spans c.len-ordered.ensures.ordered) id notes None c.self.invariant.1 least
+    ∙ script-found c.self.inside.slots.entries spans.entries c.self.invariant.0
+    (span-ordered spans c.len-ordered.ensures.ordered) id notes None c.self.invariant.1 least
     ∙ ap (λ v. slice_get (under id (scripts_in v)) 0) c.self.view_is
 
 pub returns : goal.returns
@@ -22,8 +24,11 @@ returns c =
     let notes = c.self.inside.scripts.notes in
     let id = c.args.id.now in
     let first = c.in_ok-first.first in
-    let least = subst (λ name. IsLeast (is_noted notes name) (Some first)) c.as_str.ensures.value c.in_ok-first.ensures in
+    let least = subst (λ name. IsLeast (is_noted notes name) (Some first))
+    c.as_str.ensures.value c.in_ok-first.ensures in
     c.get.ensures.value
     ∙ span-get spans (Script first)
-    ∙ script-found c.self.inside.slots.entries spans.entries c.self.invariant.0 (span-ordered spans c.len-ordered.ensures.ordered) id notes (Some first) c.self.invariant.1 least
+    ∙ script-found c.self.inside.slots.entries spans.entries c.self.invariant.0
+    (span-ordered spans c.len-ordered.ensures.ordered) id notes (Some first)
+    c.self.invariant.1 least
     ∙ ap (λ v. slice_get (under id (scripts_in v)) 0) c.self.view_is

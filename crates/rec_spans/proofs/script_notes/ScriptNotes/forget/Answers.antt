@@ -14,10 +14,13 @@ returns-then-is_empty-clause-forgotten c =
     let mid = c.get_mut.follows.lender indexes in
     let new = c.remove-then-is_empty.new.self in
     let id = c.args.id.now in
-    let first = btree_map_updates_text id old mid (Some indexes) ((c.get_mut.follows.holds indexes).3 (search rules)) in
+    let first = btree_map_updates_text id old mid (Some indexes)
+    ((c.get_mut.follows.holds indexes).3 (search rules)) in
     let second = btree_map_updates_text id mid new None c.remove-then-is_empty.ensures.updates in
-    renoted old new id None (put_twice old mid new id (Some indexes) None first second) c.args.index false
-    (λ i. sym (none_among_len indexes i (c.is_empty.ensures.0 c.if-is_empty.true)) ∙ c.remove.ensures.updates.0 i
+    renoted old new id None (put_twice old mid new id (Some indexes) None first second)
+    c.args.index false
+    (λ i. sym (none_among_len indexes i (c.is_empty.ensures.0 c.if-is_empty.true))
+    ∙ c.remove.ensures.updates.0 i
     ∙ ap (λ o. cond (is_at (nat_cmp c.args.index) i) false (is_among i o)) c.in-Some.ensures.value)
 
 pub returns-else-is_empty-clause-forgotten : goal.returns-else-is_empty-clause-forgotten
@@ -25,9 +28,11 @@ returns-else-is_empty-clause-forgotten c =
     let old = c.args.self.now.notes in
     let indexes = c.remove.new.self in
     let new = c.get_mut.follows.lender indexes in
-    let puts = btree_map_updates_text c.args.id.now old new (Some indexes) ((c.get_mut.follows.holds indexes).3 (search rules)) in
+    let puts = btree_map_updates_text c.args.id.now old new (Some indexes)
+    ((c.get_mut.follows.holds indexes).3 (search rules)) in
     renoted old new c.args.id.now (Some indexes) puts c.args.index false
-    (λ i. c.remove.ensures.updates.0 i ∙ ap (λ o. cond (is_at (nat_cmp c.args.index) i) false (is_among i o)) c.in-Some.ensures.value)
+    (λ i. c.remove.ensures.updates.0 i
+    ∙ ap (λ o. cond (is_at (nat_cmp c.args.index) i) false (is_among i o)) c.in-Some.ensures.value)
 
 pub returns-then-is_empty-clause-none_empty : goal.returns-then-is_empty-clause-none_empty
 returns-then-is_empty-clause-none_empty c =
@@ -36,15 +41,19 @@ returns-then-is_empty-clause-none_empty c =
     let mid = c.get_mut.follows.lender indexes in
     let new = c.remove-then-is_empty.new.self in
     let id = c.args.id.now in
-    let first = btree_map_updates_text id old mid (Some indexes) ((c.get_mut.follows.holds indexes).3 (search rules)) in
+    let first = btree_map_updates_text id old mid (Some indexes)
+    ((c.get_mut.follows.holds indexes).3 (search rules)) in
     let second = btree_map_updates_text id mid new None c.remove-then-is_empty.ensures.updates in
-    none_empty old new id None (put_twice old mid new id (Some indexes) None first second) (λ some. absurd (false≢true some))
+    none_empty old new id None (put_twice old mid new id (Some indexes) None first second)
+    (λ some. absurd (false≢true some))
 
 pub returns-else-is_empty-clause-none_empty : goal.returns-else-is_empty-clause-none_empty
 returns-else-is_empty-clause-none_empty c =
     let old = c.args.self.now.notes in
     let indexes = c.remove.new.self in
     let new = c.get_mut.follows.lender indexes in
-    let puts = btree_map_updates_text c.args.id.now old new (Some indexes) ((c.get_mut.follows.holds indexes).3 (search rules)) in
+    let puts = btree_map_updates_text c.args.id.now old new (Some indexes)
+    ((c.get_mut.follows.holds indexes).3 (search rules)) in
     none_empty old new c.args.id.now (Some indexes) puts
-    (λ some. some_among indexes (λ none. false≢true (sym c.if-is_empty.false ∙ c.is_empty.ensures.1 none)))
+    (λ some.
+    some_among indexes (λ none. false≢true (sym c.if-is_empty.false ∙ c.is_empty.ensures.1 none)))

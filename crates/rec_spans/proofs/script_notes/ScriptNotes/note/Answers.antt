@@ -12,14 +12,19 @@ use Rattle.rec_spans.specs.Noted.{AreSame, NoneIsEmpty, Renotes, is_among}
 -- where no index is noted under the id
 pub returns-in_default-clause-ok : goal.returns-in_default-clause-ok
 returns-in_default-clause-ok c =
-    subst (λ old. OnOk c.note_first.result (Renotes true old c.args.id.now c.args.index c.note_first.new.self.notes)) c.get_mut.follows.holds-at-none c.note_first.ensures.ok
+    subst (λ old. OnOk c.note_first.result
+    (Renotes true old c.args.id.now c.args.index c.note_first.new.self.notes))
+    c.get_mut.follows.holds-at-none c.note_first.ensures.ok
 
 pub returns-in_default-clause-err : goal.returns-in_default-clause-err
-returns-in_default-clause-err c = subst (λ old. OnErr c.note_first.result (AreSame old c.note_first.new.self.notes)) c.get_mut.follows.holds-at-none c.note_first.ensures.err
+returns-in_default-clause-err c =
+    subst (λ old. OnErr c.note_first.result (AreSame old c.note_first.new.self.notes))
+    c.get_mut.follows.holds-at-none c.note_first.ensures.err
 
 pub returns-in_default-clause-none_empty : goal.returns-in_default-clause-none_empty
 returns-in_default-clause-none_empty c =
-    subst (λ old. NoneIsEmpty old → NoneIsEmpty c.note_first.new.self.notes) c.get_mut.follows.holds-at-none c.note_first.ensures.none_empty
+    subst (λ old. NoneIsEmpty old → NoneIsEmpty c.note_first.new.self.notes)
+    c.get_mut.follows.holds-at-none c.note_first.ensures.none_empty
 
 pub returns-in_err-insert-clause-err : goal.returns-in_err-insert-clause-err
 returns-in_err-insert-clause-err c =
@@ -27,8 +32,11 @@ returns-in_err-insert-clause-err c =
     let old = c.args.self.now.notes in
     let indexes = c.insert.new.self in
     let new = c.get_mut.follows.lender indexes in
-    let puts = btree_map_updates_text c.args.id.now old new (Some indexes) ((c.get_mut.follows.holds indexes).3 (search rules)) in
-    let same = same_noted old new c.args.id.now (Some indexes) puts (λ i. ap (list_any (is_at (nat_cmp i))) c.in_err-insert.ensures.err ∙ ap (is_among i) c.in-Some.ensures.value) in
+    let puts = btree_map_updates_text c.args.id.now old new (Some indexes)
+    ((c.get_mut.follows.holds indexes).3 (search rules)) in
+    let same = same_noted old new c.args.id.now (Some indexes) puts
+    (λ i. ap (list_any (is_at (nat_cmp i))) c.in_err-insert.ensures.err
+    ∙ ap (is_among i) c.in-Some.ensures.value) in
     rw (p.1, p.2) same
 
 pub returns-clause-ok : goal.returns-clause-ok
@@ -36,9 +44,11 @@ returns-clause-ok c =
     let old = c.args.self.now.notes in
     let indexes = c.insert.new.self in
     let new = c.get_mut.follows.lender indexes in
-    let puts = btree_map_updates_text c.args.id.now old new (Some indexes) ((c.get_mut.follows.holds indexes).3 (search rules)) in
+    let puts = btree_map_updates_text c.args.id.now old new (Some indexes)
+    ((c.get_mut.follows.holds indexes).3 (search rules)) in
     renoted old new c.args.id.now (Some indexes) puts c.args.index true
-    (λ i. c.in_ok-insert.ensures.updates.0 i ∙ ap (λ o. cond (is_at (nat_cmp c.args.index) i) true (is_among i o)) c.in-Some.ensures.value)
+    (λ i. c.in_ok-insert.ensures.updates.0 i
+    ∙ ap (λ o. cond (is_at (nat_cmp c.args.index) i) true (is_among i o)) c.in-Some.ensures.value)
 
 pub returns-in_err-insert-clause-none_empty : goal.returns-in_err-insert-clause-none_empty
 returns-in_err-insert-clause-none_empty c = λ none.
@@ -46,15 +56,22 @@ returns-in_err-insert-clause-none_empty c = λ none.
     let indexes = c.insert.new.self in
     let new = c.get_mut.follows.lender indexes in
     let id = c.args.id.now in
-    let puts = btree_map_updates_text id old new (Some indexes) ((c.get_mut.follows.holds indexes).3 (search rules)) in
+    let puts = btree_map_updates_text id old new (Some indexes)
+    ((c.get_mut.follows.holds indexes).3 (search rules)) in
     let before = none id (subst IsSome c.in-Some.ensures.value refl) in
     none_empty old new id (Some indexes) puts
-    (λ some. (before.0, ap (list_any (is_at (nat_cmp before.0))) c.in_err-insert.ensures.err ∙ ap (is_among before.0) c.in-Some.ensures.value ∙ before.1)) none
+    (λ some. (
+      before.0,
+      ap (list_any (is_at (nat_cmp before.0))) c.in_err-insert.ensures.err
+          ∙ ap (is_among before.0) c.in-Some.ensures.value ∙ before.1,
+    )) none
 
 pub returns-clause-none_empty : goal.returns-clause-none_empty
 returns-clause-none_empty c =
     let old = c.args.self.now.notes in
     let indexes = c.insert.new.self in
     let new = c.get_mut.follows.lender indexes in
-    let puts = btree_map_updates_text c.args.id.now old new (Some indexes) ((c.get_mut.follows.holds indexes).3 (search rules)) in
-    none_empty old new c.args.id.now (Some indexes) puts (λ some. (c.args.index, c.in_ok-insert.ensures.updates.1))
+    let puts = btree_map_updates_text c.args.id.now old new (Some indexes)
+    ((c.get_mut.follows.holds indexes).3 (search rules)) in
+    none_empty old new c.args.id.now (Some indexes) puts
+    (λ some. (c.args.index, c.in_ok-insert.ensures.updates.1))

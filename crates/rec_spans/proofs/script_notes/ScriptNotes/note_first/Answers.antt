@@ -13,10 +13,12 @@ returns-clause-ok c =
     let indexes = c.insert.new.self in
     let id = c.args.id.now in
     let puts = subst (λ name. PutsIndexes old name (Some indexes) new) c.in_ok-from_str.ensures.ok
-    (btree_map_updates_text (string_bytes c.in_ok-from_str.field-0) old new (Some indexes) c.in_ok-insert-2.ensures.updates) in
+    (btree_map_updates_text (string_bytes c.in_ok-from_str.field-0) old new (Some indexes)
+    c.in_ok-insert-2.ensures.updates) in
     renoted old new id (Some indexes) puts c.args.index true
     (λ i. c.in_ok-insert.ensures.updates.0 i
-    ∙ ap (cond (is_at (nat_cmp c.args.index) i) true) (none_among c.new-indexes.result i c.new-indexes.ensures.empty ∙ sym (ap (is_among i) c.requires)))
+    ∙ ap (cond (is_at (nat_cmp c.args.index) i) true) (none_among c.new-indexes.result i
+    c.new-indexes.ensures.empty ∙ sym (ap (is_among i) c.requires)))
 
 pub returns-clause-none_empty : goal.returns-clause-none_empty
 returns-clause-none_empty c =
@@ -25,5 +27,7 @@ returns-clause-none_empty c =
     let indexes = c.insert.new.self in
     let id = c.args.id.now in
     let puts = subst (λ name. PutsIndexes old name (Some indexes) new) c.in_ok-from_str.ensures.ok
-    (btree_map_updates_text (string_bytes c.in_ok-from_str.field-0) old new (Some indexes) c.in_ok-insert-2.ensures.updates) in
-    none_empty old new id (Some indexes) puts (λ some. (c.args.index, c.in_ok-insert.ensures.updates.1))
+    (btree_map_updates_text (string_bytes c.in_ok-from_str.field-0) old new (Some indexes)
+    c.in_ok-insert-2.ensures.updates) in
+    none_empty old new id (Some indexes) puts
+    (λ some. (c.args.index, c.in_ok-insert.ensures.updates.1))

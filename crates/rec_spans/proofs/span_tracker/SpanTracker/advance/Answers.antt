@@ -13,6 +13,7 @@ returns g c = λ group state opened was.
     let scripts = c.args.opened.running_scripts in
     let input = trace_input group state.binaries (plain c.args.event.now) in
     c.pass.ensures group state.binaries
-    ∙ ap (λ (act : Act). state_passed act (change_of group state.binaries act) number scripts old) c.act_of.ensures
+    ∙ ap (λ (act : Act). state_passed act (change_of group state.binaries act) number scripts old)
+    c.act_of.ensures
     ∙ ap (state_passed input.act input.change number scripts) was
     ∙ passed input state number scripts opened.numbered opened.scripts

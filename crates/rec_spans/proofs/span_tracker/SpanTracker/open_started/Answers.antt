@@ -9,4 +9,6 @@ pub returns-clause-ok : goal.returns-clause-ok
 returns-clause-ok g c =
     let old = c.args.self.now in
     let at = micros c.args.event.now.timestamp in
-    c.in_ok-has_new_binary.ensures.ok at ∙ ap (λ (act : Act). state_opened (act_input c.args.group_by old.binaries at act) old) c.act_of-act.ensures
+    c.in_ok-has_new_binary.ensures.ok at
+    ∙ ap (λ (act : Act). state_opened (act_input c.args.group_by old.binaries at act) old)
+    c.act_of-act.ensures

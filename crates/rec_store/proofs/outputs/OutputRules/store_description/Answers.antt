@@ -12,11 +12,13 @@ split p q = rw (p, q)
 pub returns-in_err-stdout-in-Split : goal.returns-in_err-stdout-in-Split
 returns-in_err-stdout-in-Split g c =
     let p = err_from_is_err_and c.from_residual.result c.from_residual.ensures.1 in
-    rw (p.1, p.2, c.in-Split.is) (Stops-prefix g.S.Sink.taken g.S.Sink.faults c.args.store.now c.store_captured.new.store _ _ _ c.in_err-stdout-in-Split.ensures)
+    rw (p.1, p.2, c.in-Split.is) (Stops-prefix g.S.Sink.taken g.S.Sink.faults c.args.store.now
+    c.store_captured.new.store _ _ _ c.in_err-stdout-in-Split.ensures)
 
 pub returns-in_err-stderr-in-Split : goal.returns-in_err-stderr-in-Split
 returns-in_err-stderr-in-Split g c =
-    let p = err_from_is_err_and c.from_residual-in_err-stderr-in-Split.result c.from_residual-in_err-stderr-in-Split.ensures.1 in
+    let p = err_from_is_err_and c.from_residual-in_err-stderr-in-Split.result
+    c.from_residual-in_err-stderr-in-Split.ensures.1 in
     rw (p.1, p.2, c.in-Split.is) (Stops-after
     g.S.Sink.taken
     g.S.Sink.faults
@@ -35,14 +37,17 @@ returns-in_ok-stderr-in-Split g c =
     let err = c.in_ok-stderr-in-Split.ensures in
     rw (c.in-Split.is) (
       split out.0 err.0,
-      AddsEach-append g.S.Sink.taken g.S.Sink.faults c.args.store.now c.store_captured.new.store c.store_captured-in-Split.new.store _ _ out.1 err.1,
+      AddsEach-append g.S.Sink.taken g.S.Sink.faults c.args.store.now c.store_captured.new.store
+          c.store_captured-in-Split.new.store _ _ out.1 err.1,
       err.2,
     )
 
 pub returns-in_err-output-in-Combined : goal.returns-in_err-output-in-Combined
 returns-in_err-output-in-Combined g c =
-    let p = err_from_is_err_and c.from_residual-in_err-output-in-Combined.result c.from_residual-in_err-output-in-Combined.ensures.1 in
-    rw (p.1, p.2, c.in-Combined.is, sym c.as_bytes.ensures.value) c.in_err-output-in-Combined.ensures
+    let p = err_from_is_err_and c.from_residual-in_err-output-in-Combined.result
+    c.from_residual-in_err-output-in-Combined.ensures.1 in
+    rw (p.1, p.2, c.in-Combined.is, sym c.as_bytes.ensures.value)
+    c.in_err-output-in-Combined.ensures
 
 pub returns-in_ok-output-in-Combined : goal.returns-in_ok-output-in-Combined
 returns-in_ok-output-in-Combined g c =

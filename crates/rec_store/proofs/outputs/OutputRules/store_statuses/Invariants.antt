@@ -19,7 +19,11 @@ invariant-loop-status g l =
     record {
       count : into_iter_len l.status-iterator ≡ length rest;
       sound : l.store.failed ≡ false;
-      recorded : l.recorded.items ++ map (status_recorded number m) rest ≡ map (status_recorded number m) all;
-      added : (new : Writing _) → AddsEach g.S.Sink.taken g.S.Sink.faults l.store new (entries rest) → AddsEach g.S.Sink.taken g.S.Sink.faults l.fn.store new (entries all);
-      stops : (new : Writing _) (e : RunStoreError) → Stops g.S.Sink.taken g.S.Sink.faults l.store new (entries rest) e → Stops g.S.Sink.taken g.S.Sink.faults l.fn.store new (entries all) e;
+      recorded : l.recorded.items ++ map (status_recorded number m) rest
+          ≡ map (status_recorded number m) all;
+      added : (new : Writing _) → AddsEach g.S.Sink.taken g.S.Sink.faults l.store new (entries rest)
+          → AddsEach g.S.Sink.taken g.S.Sink.faults l.fn.store new (entries all);
+      stops : (new : Writing _) (e : RunStoreError)
+          → Stops g.S.Sink.taken g.S.Sink.faults l.store new (entries rest) e
+          → Stops g.S.Sink.taken g.S.Sink.faults l.fn.store new (entries all) e;
     }

@@ -9,9 +9,16 @@ pub returns-clause-ok : goal.returns-clause-ok
 returns-clause-ok g c =
     let old = c.args.self.now in
     let new = c.store_entry.new.self in
-    let text : c.deref.result.now ≡ compact_text (g.T.Form.value_of c.args.item.now) = c.deref.ensures.value ∙ c.in_ok-text.ensures.text in
+    let text : c.deref.result.now ≡ compact_text (g.T.Form.value_of c.args.item.now) =
+    c.deref.ensures.value ∙ c.in_ok-text.ensures.text in
     on_ok_weaker c.store_entry.result (λ added. record {
       sound = sym c.is_failed.ensures.value ∙ c.if-is_failed.false;
-      added = (new.store, subst (λ (t : List ℕ). AddsEntry g.S.Sink.taken g.S.Sink.faults old.store new.store (entry_named c.args.path.now t)) text added, refl);
+      added = (
+        new.store,
+        subst (λ (t : List ℕ). AddsEntry g.S.Sink.taken g.S.Sink.faults old.store new.store
+            (entry_named c.args.path.now t))
+            text added,
+        refl,
+      );
       kept = c.store_entry.ensures.kept;
     }) c.store_entry.ensures.ok

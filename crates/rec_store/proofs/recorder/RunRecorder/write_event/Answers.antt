@@ -77,7 +77,12 @@ pub returns-then-not-has_all_outputs : goal.returns-then-not-has_all_outputs
 returns-then-not-has_all_outputs g c = record {
   ok = tt;
   logged = tt;
-  err = inr (inl (refl, sym c.is_failed.ensures.value ∙ c.if-is_failed.false, sym c.has_all_outputs.ensures ∙ c.if-not-has_all_outputs.true, refl));
+  err = inr (inl (
+    refl,
+    sym c.is_failed.ensures.value ∙ c.if-is_failed.false,
+    sym c.has_all_outputs.ensures ∙ c.if-not-has_all_outputs.true,
+    refl,
+  ));
   entries = keeps_same c.args.self.now.store c.args.self.now.store refl;
   later = counts_same g.S.Sink.faults g.L.Sink.faults c.args.self.now c.args.self.now refl;
   outputs = tt;

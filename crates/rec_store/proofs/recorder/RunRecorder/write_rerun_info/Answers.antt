@@ -9,13 +9,20 @@ use Rattle.rec_store.specs.Store.{rerun_entry}
 
 pub returns-clause-accepted : goal.returns-clause-accepted
 returns-clause-accepted g c =
-    entry_accepted g.S.Sink.taken g.S.Sink.faults g.L.Sink.taken g.N.OutputNamer.number c.args.self.now c.store_item.new.self (rerun_entry c.args.rerun_info.now) c.store_item.result rerun_info_is
-    (on_ok_weaker c.store_item.result (λ read. ap is_some read) c.store_item.ensures.read) c.store_item.ensures.ok c.store_item.ensures.err
+    entry_accepted g.S.Sink.taken g.S.Sink.faults g.L.Sink.taken g.N.OutputNamer.number
+    c.args.self.now c.store_item.new.self (rerun_entry c.args.rerun_info.now)
+    c.store_item.result rerun_info_is
+    (on_ok_weaker c.store_item.result (λ read. ap is_some read) c.store_item.ensures.read)
+    c.store_item.ensures.ok c.store_item.ensures.err
 
 pub returns-clause-entries : goal.returns-clause-entries
 returns-clause-entries g c =
-    keeps_stored g.S.Sink.taken g.S.Sink.faults c.args.self.now c.store_item.new.self (rerun_entry c.args.rerun_info.now ∷ []) c.store_item.result c.store_item.ensures.ok c.store_item.ensures.err
+    keeps_stored g.S.Sink.taken g.S.Sink.faults c.args.self.now c.store_item.new.self
+    (rerun_entry c.args.rerun_info.now ∷ [])
+    c.store_item.result c.store_item.ensures.ok c.store_item.ensures.err
 
 pub returns-clause-later : goal.returns-clause-later
 returns-clause-later g c =
-    counts_stored g.S.Sink.taken g.S.Sink.faults g.L.Sink.faults c.args.self.now c.store_item.new.self (rerun_entry c.args.rerun_info.now ∷ []) c.store_item.result c.store_item.ensures.ok c.store_item.ensures.err
+    counts_stored g.S.Sink.taken g.S.Sink.faults g.L.Sink.faults c.args.self.now
+    c.store_item.new.self (rerun_entry c.args.rerun_info.now ∷ [])
+    c.store_item.result c.store_item.ensures.ok c.store_item.ensures.err

@@ -6,4 +6,5 @@ use Rattle.rec_trace.specs.Standing.{StandsFor}
 pub returns : goal.returns
 returns g c = λ k version events has.
     subst (λ x. IsHeld x events c.held.result) has.group_kept
-    (c.held.ensures version events (subst (λ x. StandsFor x version events c.args.self.now.handing.tracer) (sym has.group_kept) has))
+    (c.held.ensures version events (subst
+    (λ x. StandsFor x version events c.args.self.now.handing.tracer) (sym has.group_kept) has))

@@ -11,5 +11,6 @@ returns c =
     let counted = in_sight c.args.sight.now counter k.running k.setup_scripts_running in
     on_ok_weaker
     c.draw_resume.result
-    (λ drawn. rw k.is (draws_then (counted ∷ []) _ _ _ _ c.in_ok-draw_counter.ensures (draws_then _ _ _ _ _ c.in_ok-draw_run_mark.ensures drawn)))
+    (λ drawn. rw k.is (draws_then (counted ∷ []) _ _ _ _ c.in_ok-draw_counter.ensures
+    (draws_then _ _ _ _ _ c.in_ok-draw_run_mark.ensures drawn)))
     c.draw_resume.ensures

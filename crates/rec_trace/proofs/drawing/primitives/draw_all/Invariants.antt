@@ -7,5 +7,7 @@ use Rattle.rec_trace.specs.Table.{bare}
 -- what is left completes the trace events
 abbrev pub invariant-loop-span : goal.invariant-loop-span
 invariant-loop-span l =
-    map event_value l.events.items ++ all_events (bare l.fn.phase l.fn.sight.judged.now.at l.span-iterator)
-    ≡ map event_value l.fn.events.items ++ all_events (bare l.fn.phase l.fn.sight.judged.now.at l.fn.sight.tracker.now.spans)
+    map event_value l.events.items
+    ++ all_events (bare l.fn.phase l.fn.sight.judged.now.at l.span-iterator)
+    ≡ map event_value l.fn.events.items
+    ++ all_events (bare l.fn.phase l.fn.sight.judged.now.at l.fn.sight.tracker.now.spans)

@@ -4,4 +4,5 @@ use Rattle.rec_trace.proofs.DrawingSteps.{draws_then}
 
 pub returns : goal.returns
 returns c =
-    on_ok_weaker c.name_row.result (λ drawn. draws_then _ _ _ _ _ c.in_ok-name_process.ensures drawn) c.name_row.ensures
+    on_ok_weaker c.name_row.result
+    (λ drawn. draws_then _ _ _ _ _ c.in_ok-name_process.ensures drawn) c.name_row.ensures

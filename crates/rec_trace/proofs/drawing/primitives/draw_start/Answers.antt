@@ -8,5 +8,8 @@ use Rattle.rec_trace.specs.Drawn.Drawn.{Slice}
 
 pub returns : goal.returns
 returns g c =
-    let slice = Slice (mark Begin c.args.sight.now.judged.now.at c.args.span.now) (option_map g.A.Args.value_of (option_copied c.args.args)) in
-    on_ok_weaker c.draw_in_pause.result (λ drawn. draws_then (slice ∷ []) _ _ _ _ c.in_ok-draw_slice.ensures drawn) c.draw_in_pause.ensures
+    let slice = Slice (mark Begin c.args.sight.now.judged.now.at c.args.span.now)
+    (option_map g.A.Args.value_of (option_copied c.args.args)) in
+    on_ok_weaker c.draw_in_pause.result
+    (λ drawn. draws_then (slice ∷ []) _ _ _ _ c.in_ok-draw_slice.ensures drawn)
+    c.draw_in_pause.ensures

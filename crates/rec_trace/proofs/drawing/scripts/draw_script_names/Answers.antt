@@ -6,5 +6,6 @@ use Rattle.rec_trace.specs.KnownNews.{known_in}
 pub returns : goal.returns
 returns c =
     let s = c.args.sight.now in
-    names_of s.version.now s.group_by s.tracker.now (known_in s.known.now) s.judged.now.at c.args.row _ _ _ _ _ _ _
+    names_of s.version.now s.group_by s.tracker.now (known_in s.known.now)
+    s.judged.now.at c.args.row _ _ _ _ _ _ _
     refl (c.as_str.ensures.value ∙ c.in_ok-name.ensures) c.draw_names.ensures

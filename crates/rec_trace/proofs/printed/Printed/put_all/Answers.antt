@@ -11,9 +11,12 @@ returns-in-Ok-clause-all c = λ format kept are.
     let events = map event_value c.args.events.now in
     record {
       format_kept = are.format_kept;
-      some = c.in-Ok.ensures.some ∙ ap (λ b. b || has_some events) are.some ∙ sym (some-append kept events);
+      some =
+          c.in-Ok.ensures.some ∙ ap (λ b. b || has_some events) are.some
+          ∙ sym (some-append kept events);
       text =
-          c.in-Ok.ensures.written ∙ ap (λ f. old.text.items ++ event_texts f old.has_events events) are.format_kept
+          c.in-Ok.ensures.written
+          ∙ ap (λ f. old.text.items ++ event_texts f old.has_events events) are.format_kept
           ∙ ap (λ b. old.text.items ++ event_texts format b events) are.some
           ∙ ap (λ s. s ++ event_texts format (has_some kept) events) are.text
           ∙ sym (texts-append format false kept events);
@@ -28,7 +31,8 @@ returns-in-Err-clause-same c = λ format kept are.
       format_kept = are.format_kept;
       some = are.some;
       text =
-          c.truncate.ensures.items ∙ ap (λ n. take n c.write_events.new.text.items) (ap length c.as_slice-before.ensures.value)
+          c.truncate.ensures.items ∙ ap (λ n. take n c.write_events.new.text.items)
+          (ap length c.as_slice-before.ensures.value)
           ∙ ap (take (length old)) before.1 ∙ take-prefix old before.0 ∙ are.text;
       writable = are.writable;
     }

@@ -16,11 +16,16 @@ returns-in-Ok-open_started-clause-ok g c =
       opened = c.in-Ok-open_started.ensures.opened;
       stands = c.in-Ok-open_started.ensures.ok;
       knows = c.prepare.ensures.same;
-      told = subst (λ flow. Tells flow c.args.judged.started (plain_kind c.args.event.now.kind) c.in-Ok.news) c.next_flow-flow.ensures c.in-Ok.ensures.tells
+      told =
+          subst
+          (λ flow. Tells flow c.args.judged.started (plain_kind c.args.event.now.kind) c.in-Ok.news)
+          c.next_flow-flow.ensures c.in-Ok.ensures.tells
           (seen_by old event) c.requires.starts refl (known_in old.known);
       has_room = c.in-Ok.ensures.room;
       each_says = c.in-Ok.ensures.says;
-      numbered = c.in-Ok-open_started.ensures.opened.numbered ∙ ap suc (sym (ap (λ (t : TraceState). t.number) c.in-Ok-open_started.ensures.ok));
+      numbered =
+          c.in-Ok-open_started.ensures.opened.numbered
+          ∙ ap suc (sym (ap (λ (t : TraceState). t.number) c.in-Ok-open_started.ensures.ok));
     }
 
 pub returns-in-Err-clause-err : goal.returns-in-Err-clause-err

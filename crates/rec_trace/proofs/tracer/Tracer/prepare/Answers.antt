@@ -7,7 +7,13 @@ use Rattle.rec_trace.specs.KnownNews.{known_in}
 use Rattle.rec_trace.specs.Steps.{StaysSame}
 
 same : (t : Tracer) → StaysSame t t
-same t = record { group = refl; version = refl; stands = refl; knows = same-self (known_in t.known); each_says = λ says. says }
+same t = record {
+  group = refl;
+  version = refl;
+  stands = refl;
+  knows = same-self (known_in t.known);
+  each_says = λ says. says;
+}
 
 pub returns-in_err-judged-clause-judged : goal.returns-in_err-judged-clause-judged
 returns-in_err-judged-clause-judged g c =

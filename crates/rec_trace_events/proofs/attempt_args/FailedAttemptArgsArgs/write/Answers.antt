@@ -7,8 +7,14 @@ use Rattle.rec_trace_events.specs.Args.{failed_attempt_args}
 -- what each call wrote
 pub returns-clause-written : goal.returns-clause-written
 unfolding failed_attempt_args
-returns-clause-written g c = c.end.ensures.written _ _ (all_written c.begin-object.ensures (c.with_first_fields-object.ensures ▸ c.with_delay-object.ensures ▸ c.in_ok-object.ensures ▸ c.with_last_fields-object.ensures))
+returns-clause-written g c =
+    c.end.ensures.written _ _
+    (all_written c.begin-object.ensures (c.with_first_fields-object.ensures ▸
+    c.with_delay-object.ensures ▸ c.in_ok-object.ensures ▸ c.with_last_fields-object.ensures))
 
 pub returns-clause-known : goal.returns-clause-known
 returns-clause-known g c =
-    on_ok_weaker c.end.result (λ all. let known = (c.with_first_fields-object.ensures ▸ c.with_delay-object.ensures ▸ c.in_ok-object.ensures ▸ c.with_last_fields-object.ensures).known all in failed_attempt_written _ _ _ _ _ known.0 known.1.0 known.1.1.0 known.1.1.1) c.end.ensures.goes
+    on_ok_weaker c.end.result (λ all. let known = (c.with_first_fields-object.ensures ▸
+    c.with_delay-object.ensures ▸ c.in_ok-object.ensures ▸ c.with_last_fields-object.ensures).known
+    all in failed_attempt_written _ _ _ _ _ known.0 known.1.0 known.1.1.0 known.1.1.1)
+    c.end.ensures.goes

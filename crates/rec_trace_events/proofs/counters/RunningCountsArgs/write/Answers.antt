@@ -5,8 +5,11 @@ use Rattle.rec_trace_events.proofs.WritableArgs.{running_written}
 
 -- what each call wrote
 pub returns-clause-written : goal.returns-clause-written
-returns-clause-written c = c.end.ensures.written _ _ (all_written c.begin.ensures (c.field.ensures ▸ c.field-2.ensures))
+returns-clause-written c =
+    c.end.ensures.written _ _ (all_written c.begin.ensures (c.field.ensures ▸ c.field-2.ensures))
 
 pub returns-clause-known : goal.returns-clause-known
 returns-clause-known c =
-    on_ok_weaker c.end.result (λ all. let known = (c.field.ensures ▸ c.field-2.ensures).known all in running_written _ known.1 known.0) c.end.ensures.goes
+    on_ok_weaker c.end.result (λ all. let known = (c.field.ensures ▸ c.field-2.ensures).known all in
+    running_written _ known.1 known.0)
+    c.end.ensures.goes

@@ -11,4 +11,5 @@ returns-clause-written c = c.end.ensures.written _ _ (all_written c.begin.ensure
 
 pub returns-clause-known : goal.returns-clause-known
 returns-clause-known c =
-    on_ok_weaker c.end.result (λ all. sub_run_begin_written _ (c.field.ensures.known all)) c.end.ensures.goes
+    on_ok_weaker c.end.result (λ all. sub_run_begin_written _ (c.field.ensures.known all))
+    c.end.ensures.goes

@@ -2,4 +2,6 @@ use Rattle.rec_forms.proofs.Writing.{◌▸◌, all_written}
 use Rattle.rec_format.proofs.forms.sizes.ComponentSizesFormatForm.write.Goals as goal
 
 pub returns-clause-written : goal.returns-clause-written
-returns-clause-written c = c.end.ensures.written _ _ (all_written c.begin-object.ensures (c.field-object.ensures ▸ c.field-object-2.ensures ▸ c.field-object-3.ensures))
+returns-clause-written c =
+    c.end.ensures.written _ _ (all_written c.begin-object.ensures
+    (c.field-object.ensures ▸ c.field-object-2.ensures ▸ c.field-object-3.ensures))

@@ -8,6 +8,7 @@ use Rattle.rec_format.specs.SuiteForms.{suite_value, IsSuite}
 -- what is left completes the list
 abbrev pub invariant-loop-suite : goal.invariant-loop-suite
 invariant-loop-suite l = record {
-  written : with_items l.text (map suite_value l.suite-iterator) ≡ with_items (l.fn.text ++ begin_array ∷ []) (map suite_value l.fn.self);
+  written : with_items l.text (map suite_value l.suite-iterator)
+      ≡ with_items (l.fn.text ++ begin_array ∷ []) (map suite_value l.fn.self);
   known : AllByRecursion IsSuite l.suite-iterator → AllByRecursion IsSuite l.fn.self;
 }

@@ -13,23 +13,41 @@ returns-in_err-build_scope c =
 
 pub returns-in_err-rerun_info : goal.returns-in_err-rerun_info
 returns-in_err-rerun_info c =
-    let p = err_from_is_err_and c.from_residual-in_err-rerun_info.result c.from_residual-in_err-rerun_info.ensures.1 in
+    let p = err_from_is_err_and c.from_residual-in_err-rerun_info.result
+    c.from_residual-in_err-rerun_info.ensures.1 in
     rw (p.1, p.2, c.in_ok-build_scope.ensures.1) (refuses_next _ _ _ c.in_err-rerun_info.ensures)
 
 pub returns-in_err-test_list : goal.returns-in_err-test_list
 returns-in_err-test_list c =
-    let p = err_from_is_err_and c.from_residual-in_err-test_list.result c.from_residual-in_err-test_list.ensures.1 in
-    rw (p.1, p.2, c.in_ok-build_scope.ensures.1, c.in_ok-rerun_info.ensures.1) (refuses_next _ _ _ c.in_err-test_list.ensures)
+    let p = err_from_is_err_and c.from_residual-in_err-test_list.result
+    c.from_residual-in_err-test_list.ensures.1 in
+    rw (p.1, p.2, c.in_ok-build_scope.ensures.1, c.in_ok-rerun_info.ensures.1)
+    (refuses_next _ _ _ c.in_err-test_list.ensures)
 
 pub returns-in_err-cargo_metadata : goal.returns-in_err-cargo_metadata
 returns-in_err-cargo_metadata c =
-    let p = err_from_is_err_and c.from_residual-in_err-cargo_metadata.result c.from_residual-in_err-cargo_metadata.ensures.1 in
-    rw (p.1, p.2, c.in_ok-build_scope.ensures.1, c.in_ok-rerun_info.ensures.1, c.in_ok-test_list.ensures.1) (refuses_next _ _ _ c.in_err-cargo_metadata.ensures)
+    let p = err_from_is_err_and c.from_residual-in_err-cargo_metadata.result
+    c.from_residual-in_err-cargo_metadata.ensures.1 in
+    rw (
+      p.1,
+      p.2,
+      c.in_ok-build_scope.ensures.1,
+      c.in_ok-rerun_info.ensures.1,
+      c.in_ok-test_list.ensures.1,
+    ) (refuses_next _ _ _ c.in_err-cargo_metadata.ensures)
 
 pub returns-in_err-record_opts : goal.returns-in_err-record_opts
 returns-in_err-record_opts c =
-    let p = err_from_is_err_and c.from_residual-in_err-record_opts.result c.from_residual-in_err-record_opts.ensures.1 in
-    rw (p.1, p.2, c.in_ok-build_scope.ensures.1, c.in_ok-rerun_info.ensures.1, c.in_ok-test_list.ensures.1, c.in_ok-cargo_metadata.ensures) (refuses_next _ _ _ c.in_err-record_opts.ensures)
+    let p = err_from_is_err_and c.from_residual-in_err-record_opts.result
+    c.from_residual-in_err-record_opts.ensures.1 in
+    rw (
+      p.1,
+      p.2,
+      c.in_ok-build_scope.ensures.1,
+      c.in_ok-rerun_info.ensures.1,
+      c.in_ok-test_list.ensures.1,
+      c.in_ok-cargo_metadata.ensures,
+    ) (refuses_next _ _ _ c.in_err-record_opts.ensures)
 
 pub returns : goal.returns
 returns c =
@@ -45,7 +63,13 @@ returns c =
       record_opts = c.in_ok-record_opts.record_opts;
     } in
     let parts : MetadataParts =
-    record { build_scope = scope.0; rerun_info = rerun.0; test_list = list.0; cargo_metadata = string_bytes c.in_ok-cargo_metadata.cargo_metadata; record_opts = opts.0 } in (
+    record {
+      build_scope = scope.0;
+      rerun_info = rerun.0;
+      test_list = list.0;
+      cargo_metadata = string_bytes c.in_ok-cargo_metadata.cargo_metadata;
+      record_opts = opts.0;
+    } in (
       parts,
       rw (scope.1, rerun.1, list.1, c.in_ok-cargo_metadata.ensures, opts.1) refl,
       texts_same texts parts scope.2 rerun.2 list.2 refl opts.2,

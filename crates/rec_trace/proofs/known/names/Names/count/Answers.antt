@@ -9,4 +9,6 @@ use Rattle.rec_trace.specs.KnownMaps.{row_named}
 pub returns : goal.returns
 returns c = λ says.
     let map = c.args.self.now.rows in
-    counted-all row_eq map.entries (row_named c.args.self.now) c.len.result (rows-once map c.len.ensures.ordered) (λ k. entry-named (lookup (row_eq k) map.entries) (says k)) c.len.ensures.len
+    counted-all row_eq map.entries (row_named c.args.self.now) c.len.result
+    (rows-once map c.len.ensures.ordered)
+    (λ k. entry-named (lookup (row_eq k) map.entries) (says k)) c.len.ensures.len

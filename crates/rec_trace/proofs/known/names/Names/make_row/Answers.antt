@@ -10,7 +10,9 @@ returns-clause-same c =
     (row-absent rows c.args.row _ c.contains_key.ensures c.if-contains_key.false) refl
 
 pub returns-clause-kept : goal.returns-clause-kept
-returns-clause-kept c = rows-kept c.args.row c.args.self.now.rows c.insert.new.self _ c.in_ok-insert.ensures.updates
+returns-clause-kept c =
+    rows-kept c.args.row c.args.self.now.rows c.insert.new.self _ c.in_ok-insert.ensures.updates
 
 pub returns-clause-says : goal.returns-clause-says
-returns-clause-says c = row-other c.args.row c.args.self.now.rows c.insert.new.self _ c.in_ok-insert.ensures.updates
+returns-clause-says c =
+    row-other c.args.row c.args.self.now.rows c.insert.new.self _ c.in_ok-insert.ensures.updates

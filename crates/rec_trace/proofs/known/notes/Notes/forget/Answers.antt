@@ -5,10 +5,16 @@ use Rattle.rec_trace.proofs.KnownMaps.{test-noted}
 use Rattle.rec_trace.specs.declared.known.notes.TestNotes.{TestNotes}
 
 pub returns-clause-groups : goal.returns-clause-groups
-returns-clause-groups c = test-noted c.args.test.now c.args.self.now.tests c.remove.new.self None c.remove.ensures.updates (λ (n : TestNotes). n.group) None refl
+returns-clause-groups c =
+    test-noted c.args.test.now c.args.self.now.tests c.remove.new.self None c.remove.ensures.updates
+    (λ (n : TestNotes). n.group) None refl
 
 pub returns-clause-arrows : goal.returns-clause-arrows
-returns-clause-arrows c = test-noted c.args.test.now c.args.self.now.tests c.remove.new.self None c.remove.ensures.updates (λ (n : TestNotes). n.arrow) None refl
+returns-clause-arrows c =
+    test-noted c.args.test.now c.args.self.now.tests c.remove.new.self None c.remove.ensures.updates
+    (λ (n : TestNotes). n.arrow) None refl
 
 pub returns-clause-says : goal.returns-clause-says
-returns-clause-says c = test-said c.args.test.now c.args.self.now.tests c.remove.new.self None c.remove.ensures.updates tt
+returns-clause-says c =
+    test-said c.args.test.now c.args.self.now.tests c.remove.new.self None c.remove.ensures.updates
+    tt

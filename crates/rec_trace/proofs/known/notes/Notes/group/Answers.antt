@@ -7,9 +7,11 @@ pub returns-in-Some : goal.returns-in-Some
 returns-in-Some c =
     c.as_ref.ensures.value
     ∙ ap (λ o. option_and_then (λ (n : TestNotes). n.group) (option_copied o)) (sym c.in-Some.is)
-    ∙ ap (option_and_then (λ (n : TestNotes). n.group)) (c.get.ensures.value ∙ test-get c.args.self.now.tests c.args.test.now)
+    ∙ ap (option_and_then (λ (n : TestNotes). n.group))
+    (c.get.ensures.value ∙ test-get c.args.self.now.tests c.args.test.now)
 
 pub returns-in-None : goal.returns-in-None
 returns-in-None c =
     ap (λ o. option_and_then (λ (n : TestNotes). n.group) (option_copied o)) (sym c.in-None.is)
-    ∙ ap (option_and_then (λ (n : TestNotes). n.group)) (c.get.ensures.value ∙ test-get c.args.self.now.tests c.args.test.now)
+    ∙ ap (option_and_then (λ (n : TestNotes). n.group))
+    (c.get.ensures.value ∙ test-get c.args.self.now.tests c.args.test.now)

@@ -6,14 +6,22 @@ use Rattle.rec_trace.specs.declared.known.notes.TestNotes.{TestNotes}
 
 pub returns-then-says_nothing-clause-groups : goal.returns-then-says_nothing-clause-groups
 returns-then-says_nothing-clause-groups c =
-    test-forgotten c.args.test.now c.args.self.now.tests c.remove.new.self None c.remove.ensures.updates (λ (n : TestNotes). n.group) refl (c.says_nothing.ensures.group c.if-says_nothing.true)
+    test-forgotten c.args.test.now c.args.self.now.tests c.remove.new.self None
+    c.remove.ensures.updates (λ (n : TestNotes). n.group) refl
+    (c.says_nothing.ensures.group c.if-says_nothing.true)
 
 pub returns-then-says_nothing-clause-arrows : goal.returns-then-says_nothing-clause-arrows
 returns-then-says_nothing-clause-arrows c =
-    test-forgotten c.args.test.now c.args.self.now.tests c.remove.new.self None c.remove.ensures.updates (λ (n : TestNotes). n.arrow) refl (c.says_nothing.ensures.arrow c.if-says_nothing.true)
+    test-forgotten c.args.test.now c.args.self.now.tests c.remove.new.self None
+    c.remove.ensures.updates (λ (n : TestNotes). n.arrow) refl
+    (c.says_nothing.ensures.arrow c.if-says_nothing.true)
 
 pub returns-then-says_nothing-clause-says : goal.returns-then-says_nothing-clause-says
-returns-then-says_nothing-clause-says c = test-said c.args.test.now c.args.self.now.tests c.remove.new.self None c.remove.ensures.updates tt
+returns-then-says_nothing-clause-says c =
+    test-said c.args.test.now c.args.self.now.tests c.remove.new.self None c.remove.ensures.updates
+    tt
 
 pub returns-else-says_nothing-clause-says : goal.returns-else-says_nothing-clause-says
-returns-else-says_nothing-clause-says c = test-says c.args.test.now c.args.self.now.tests (c.says_nothing.ensures.says c.if-says_nothing.false)
+returns-else-says_nothing-clause-says c =
+    test-says c.args.test.now c.args.self.now.tests
+    (c.says_nothing.ensures.says c.if-says_nothing.false)

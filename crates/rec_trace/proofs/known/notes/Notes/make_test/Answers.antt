@@ -8,12 +8,14 @@ use Rattle.rec_trace.specs.declared.known.notes.TestNotes.{TestNotes}
 
 pub returns-then-contains_key-clause-room : goal.returns-then-contains_key-clause-room
 returns-then-contains_key-clause-room c =
-    ap is_some (sym (test-get c.args.self.now.tests c.args.test.now)) ∙ (sym c.contains_key.ensures ∙ c.if-contains_key.true)
+    ap is_some (sym (test-get c.args.self.now.tests c.args.test.now))
+    ∙ (sym c.contains_key.ensures ∙ c.if-contains_key.true)
 
 pub returns-clause-groups : goal.returns-clause-groups
 returns-clause-groups c =
     let tests = c.args.self.now.tests in
-    test-unnoted c.in_ok-key.key tests c.insert.new.self _ c.in_ok-insert.ensures.updates (λ (n : TestNotes). n.group)
+    test-unnoted c.in_ok-key.key tests c.insert.new.self _ c.in_ok-insert.ensures.updates
+    (λ (n : TestNotes). n.group)
     (subst (λ t. lookup (test_eq t) tests.entries ≡ None) (sym c.in_ok-key.ensures.copy)
     (test-absent tests c.args.test.now _ c.contains_key.ensures c.if-contains_key.false))
     refl
@@ -21,7 +23,8 @@ returns-clause-groups c =
 pub returns-clause-arrows : goal.returns-clause-arrows
 returns-clause-arrows c =
     let tests = c.args.self.now.tests in
-    test-unnoted c.in_ok-key.key tests c.insert.new.self _ c.in_ok-insert.ensures.updates (λ (n : TestNotes). n.arrow)
+    test-unnoted c.in_ok-key.key tests c.insert.new.self _ c.in_ok-insert.ensures.updates
+    (λ (n : TestNotes). n.arrow)
     (subst (λ t. lookup (test_eq t) tests.entries ≡ None) (sym c.in_ok-key.ensures.copy)
     (test-absent tests c.args.test.now _ c.contains_key.ensures c.if-contains_key.false))
     refl
@@ -34,4 +37,6 @@ returns-clause-room c =
 
 pub returns-clause-says : goal.returns-clause-says
 returns-clause-says c = λ other no says.
-    test-other c.in_ok-key.key c.args.self.now.tests c.insert.new.self _ c.in_ok-insert.ensures.updates other (ap (λ t. test_eq t other) c.in_ok-key.ensures.copy ∙ no) says
+    test-other c.in_ok-key.key c.args.self.now.tests c.insert.new.self _
+    c.in_ok-insert.ensures.updates other (ap (λ t. test_eq t other) c.in_ok-key.ensures.copy ∙ no)
+    says

@@ -14,6 +14,10 @@ returns c =
     let map = c.args.self.now.tests in
     let count = c.loop-notes.count in
     let all : count + 0 ≡ count_by (λ (n : TestNotes). is_some n.arrow) (values_of map.entries) =
-    subst (λ xs. count + count_by (λ (n : TestNotes). is_some n.arrow) xs ≡ count_by (λ (n : TestNotes). is_some n.arrow) (values_of map.entries)) c.in-None.ensures.steps.0 c.loop-notes.invariant in
-    counted test_eq (λ (n : TestNotes). is_some n.arrow) map.entries (λ test. is_some (arrow_noted c.args.self.now test)) count (equivalence test_eq test_eq-self test_eq-true) (tests-once map c.len-tests.ensures.ordered)
+    subst (λ xs. count + count_by (λ (n : TestNotes). is_some n.arrow) xs
+    ≡ count_by (λ (n : TestNotes). is_some n.arrow) (values_of map.entries))
+    c.in-None.ensures.steps.0 c.loop-notes.invariant in
+    counted test_eq (λ (n : TestNotes). is_some n.arrow) map.entries
+    (λ test. is_some (arrow_noted c.args.self.now test)) count
+    (equivalence test_eq test_eq-self test_eq-true) (tests-once map c.len-tests.ensures.ordered)
     (λ k. test-passes (lookup (test_eq k) map.entries)) (omega arith)
