@@ -1,139 +1,123 @@
-"""The front end on a real run of cargo, of a crate that is made for it; left out where cargo or the program isn't there."""
+"""The front end on real runs of cargo, of a crate that is made for it."""
+
+from __future__ import annotations
 
 import json
 import os
 import pathlib
-import shutil
-import signal
-import subprocess
-import sys
-import tempfile
-import time
-import unittest
+import re
 
-from tests.test_again import has_rerun
-from tests import FRONT
-from tests.test_commands import has_program
+import pytest
+
+from tests.front_end import FrontEnd
+
+pytestmark = [pytest.mark.cargo, pytest.mark.program]
 
 SOURCE = """
 #[test] fn passes() { println!("fine"); }
 #[test] fn fails() { assert_eq!(1, 2, "one is not two"); }
-#[test] #[ignore] fn hangs() { std::fs::write(std::env::var("STARTED").unwrap(), "").unwrap(); loop { std::thread::park(); } }
+#[test] #[ignore] fn hangs() {
+    std::fs::write(std::env::var("STARTED").unwrap(), "").unwrap();
+    loop { std::thread::park(); }
+}
 """
-MANIFEST = '[package]\nname = "tiny"\nversion = "0.1.0"\nedition = "2021"\n[lib]\ndoctest = false\n[workspace]\n'
-LONGEST_WAIT = 300
+MANIFEST = """[package]
+name = "tiny"
+version = "0.1.0"
+edition = "2021"
+[lib]
+doctest = false
+[workspace]
+"""
+FILES = {
+    "src/lib.rs": SOURCE,
+    "Cargo.toml": MANIFEST,
+    ".cargo/config.toml": "[term]\nquiet = true\n",
+}
+LEFT_OUT = ("RUSTC_BOOTSTRAP", "REZOVAMY_RUNS")
+PLAIN_LOCALE = {"LC_ALL": "C", "PYTHONUTF8": "0", "PYTHONCOERCECLOCALE": "0"}
 
 
-@unittest.skipUnless(
-    shutil.which("cargo") and has_program(),
-    "cargo or the built program isn't there: no real run is tried",
-)
-class RealRuns(unittest.TestCase):
-    @classmethod
-    def setUpClass(cls):
-        cls.folder = pathlib.Path(cls.enterClassContext(tempfile.TemporaryDirectory()))
-        (cls.folder / "src").mkdir()
-        (cls.folder / "src/lib.rs").write_text(SOURCE)
-        (cls.folder / "Cargo.toml").write_text(MANIFEST)
-        (cls.folder / ".cargo").mkdir()
-        (cls.folder / ".cargo/config.toml").write_text("[term]\nquiet = true\n")
-        left = {
-            name: value
-            for name, value in os.environ.items()
-            if name not in ("RUSTC_BOOTSTRAP", "REZOVAMY_RUNS")
-        }
-        cls.environment = {
-            **left,
-            "CARGO_NET_OFFLINE": "true",
-            "CARGO_INCREMENTAL": "0",
-            "RUST_BACKTRACE": "0",
-            "STARTED": str(cls.folder / "started"),
-        }
-
-    def words(self, *words):
-        return [sys.executable, FRONT / "rezovamy-runs", *words]
-
-    def run_it(self, *words):
-        return subprocess.run(
-            self.words(*words),
-            cwd=self.folder / "src",
-            env=self.environment,
-            capture_output=True,
-            text=True,
-        )
-
-    def test_a_run_with_a_failure(self):
-        done = self.run_it("test")
-        self.assertEqual(done.returncode, 101, done.stderr)
-        self.assertIn("2 tests in ", done.stdout)
-        self.assertIn("] tiny fails (exit code 101)", done.stdout)
-        self.assertIn("assertion `left == right` failed: one is not two", done.stdout)
-        self.assertIn(f"in {self.folder}/target/rezovamy-runs/", done.stdout)
-        self.assertIn("    fine\n", self.run_it("show", "passes").stdout)
-        self.assertEqual(self.run_it("test", "--", "--lib", "--", "passes").returncode, 0)
-        compared = json.loads(
-            self.run_it(
-                "compare", json.loads(self.run_it("list", "--json").stdout)[1]["id"], "--json"
-            ).stdout
-        )
-        self.assertEqual([test["test"] for test in compared["gone"]], ["fails", "hangs"])
-
-    def test_a_locale_without_utf_8(self):
-        plain = {"LC_ALL": "C", "PYTHONUTF8": "0", "PYTHONCOERCECLOCALE": "0"}
-        done = subprocess.run(
-            self.words("test", "--profile", "größe", "--", "--lib", "--", "passes", "größe"),
-            cwd=self.folder,
-            env={**self.environment, **plain, "REZOVAMY_RUNS": str(self.folder / "größe")},
-            capture_output=True,
-            text=True,
-        )
-        self.assertEqual(done.returncode, 0, done.stderr)
-        self.assertIn(f"in {self.folder}/größe/", done.stdout)
-        path = done.stdout.rpartition(" in ")[2].strip()
-        self.assertIn(
-            "profile größe: cargo test --lib -- passes größe\n", self.run_it("show", path).stdout
-        )
-
-    @unittest.skipUnless(has_rerun(), "the built program has no `rerun`: what needs it is left out")
-    def test_what_failed_runs_again(self):
-        self.assertEqual(self.run_it("test").returncode, 101)
-        done = self.run_it("again")
-        self.assertEqual(done.returncode, 101, done.stderr)
-        self.assertRegex(done.stdout, "1 test in .*: 0 passed, 1 failed, 1 skipped\n")
-
-    def test_a_run_that_is_broken_off_leaves_no_process(self):
-        one = subprocess.Popen(
-            self.words("test", "--", "--", "--ignored"),
-            cwd=self.folder,
-            env=self.environment,
-            stdout=subprocess.DEVNULL,
-            stderr=subprocess.DEVNULL,
-            preexec_fn=lambda: signal.signal(signal.SIGINT, signal.default_int_handler),
-        )
-        until = time.monotonic() + LONGEST_WAIT
-        while (
-            not (self.folder / "started").exists()
-            and one.poll() is None
-            and time.monotonic() < until
-        ):
-            time.sleep(0.05)
-        time.sleep(0.3)
-        one.send_signal(signal.SIGINT)
-        self.assertEqual(one.wait(LONGEST_WAIT), 130)
-        last = json.loads(self.run_it("list", "--json").stdout)[0]
-        self.assertEqual((last["status"], last["unended"]), ("cancelled", 1))
-        binaries = str(self.folder / "target/debug/deps/tiny-").encode()
-        left = [
-            path
-            for path in pathlib.Path("/proc").glob("[0-9]*/cmdline")
-            if reads(path).startswith(binaries)
-        ]
-        self.assertEqual(left, [])
+@pytest.fixture(scope="module")
+def crate(tmp_path_factory: pytest.TempPathFactory) -> pathlib.Path:
+    """The folder of the crate."""
+    folder = tmp_path_factory.mktemp("tiny")
+    for name, text in FILES.items():
+        path = folder / name
+        path.parent.mkdir(exist_ok=True)
+        path.write_text(text)
+    return folder
 
 
-def reads(path):
-    """What a file says, nothing where it has gone."""
-    try:
-        return path.read_bytes()
-    except OSError:
-        return b""
+@pytest.fixture
+def front_end(crate: pathlib.Path, program: pathlib.Path) -> FrontEnd:
+    """A front end in the crate."""
+    own = {
+        "REZOVAMY": str(program),
+        "CARGO_NET_OFFLINE": "true",
+        "CARGO_INCREMENTAL": "0",
+        "RUST_BACKTRACE": "0",
+        "STARTED": str(crate / "started"),
+    }
+    left = {name: value for name, value in os.environ.items() if name not in LEFT_OUT}
+    return FrontEnd(crate, {**left, **own})
+
+
+def test_a_run_with_a_failure(front_end: FrontEnd) -> None:
+    """It is recorded with its outputs, also from a folder below, and compared with another one."""
+    done = front_end.run("test", folder="src")
+    assert done.returncode == 101, done.stderr
+    for part in (
+        "2 tests in ",
+        "] tiny fails (exit code 101)",
+        "assertion `left == right` failed: one is not two",
+        f"in {front_end.folder}/target/rezovamy-runs/",
+    ):
+        assert part in done.stdout
+    assert "    fine\n" in front_end.run("show", "passes", folder="src").stdout
+    assert front_end.run("test", "--", "--lib", "--", "passes", folder="src").returncode == 0
+    before = json.loads(front_end.output("list", "--json"))[1]["id"]
+    compared = json.loads(front_end.run("compare", before, "--json").stdout)
+    assert [test["test"] for test in compared["gone"]] == ["fails", "hangs"]
+
+
+def test_a_locale_without_utf_8(front_end: FrontEnd) -> None:
+    """Words and paths are UTF-8 all the same."""
+    runs = {"REZOVAMY_RUNS": str(front_end.folder / "größe")}
+    plain = FrontEnd(front_end.folder, {**front_end.environment, **PLAIN_LOCALE, **runs})
+    done = plain.run("test", "--profile", "größe", "--", "--lib", "--", "passes", "größe")
+    assert done.returncode == 0, done.stderr
+    assert f"in {front_end.folder}/größe/" in done.stdout
+    shown = front_end.run("show", done.stdout.rpartition(" in ")[2].strip()).stdout
+    assert "profile größe: cargo test --lib -- passes größe\n" in shown
+
+
+def test_what_failed_runs_again(front_end: FrontEnd) -> None:
+    """It fails again."""
+    assert front_end.run("test").returncode == 101
+    done = front_end.run("again")
+    assert done.returncode == 101, done.stderr
+    assert re.search("1 test in .*: 0 passed, 1 failed, 1 skipped\n", done.stdout)
+
+
+def test_a_run_that_is_broken_off_leaves_no_process(front_end: FrontEnd) -> None:
+    """It is recorded as what it is."""
+    started = front_end.folder / "started"
+    done = front_end.interrupt("test", "--", "--", "--ignored", once=started.exists)
+    assert done.returncode == 130
+    last = json.loads(front_end.output("list", "--json"))[0]
+    assert (last["status"], last["unended"]) == ("cancelled", 1)
+    binaries = str(front_end.folder / "target/debug/deps/tiny-").encode()
+    assert [words for words in command_lines() if words.startswith(binaries)] == []
+
+
+def command_lines() -> list[bytes]:
+    """Return the words of all processes."""
+    found = []
+    for path in pathlib.Path("/proc").glob("[0-9]*/cmdline"):
+        try:
+            found.append(path.read_bytes())
+        except OSError:
+            # It has ended meanwhile.
+            continue
+    return found

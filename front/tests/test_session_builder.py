@@ -1,181 +1,140 @@
 """Sessions of lines, and what is said meanwhile."""
 
+from __future__ import annotations
+
 import json
-import unittest
+
+import pytest
 
 from rezovamy_runs.faults.fault import Fault
-from rezovamy_runs.runner.session_builder import Following
-from rezovamy_runs.runner.progress import Progress
+from rezovamy_runs.runner.session_builder import Session, SessionBuilder
+from rezovamy_runs.streams.clock import measured_clock
+from rezovamy_runs.streams.run_state import CancelReason, Messages
+from rezovamy_runs.streams.session_json import JsonObject
 
-SUITE = {"type": "suite", "event": "started", "test_count": 3}
-
-
-def lines_of(*values):
-    return [json.dumps(value).encode() + b"\n" for value in values]
-
-
-def test_line(name, what, **more):
-    return {"type": "test", "event": what, "name": name, **more}
+SUITE: JsonObject = {"type": "suite", "event": "started", "test_count": 3}
+ONE: JsonObject = {**SUITE, "test_count": 1}
+END: JsonObject = {"type": "suite", "event": "ok"}
 
 
-class Refused(unittest.TestCase):
-    def test_words_that_cargo_does_not_take_are_no_run(self):
-        following = Following(lambda line: None, 1000)
-        following.read(b"error: unexpected argument '--bogus' found\n")
-        progress = Progress(Stream())
-        progress.reader = following.reader
-        with self.assertRaisesRegex(Fault, "didn't take its words") as caught:
-            following.session(1, None, "default", [])
-        progress.finish()
-        self.assertEqual((caught.exception.status, progress.stream.text), (1, ""))
-
-    def test_a_build_that_fails_is_one(self):
-        following = Following(lambda line: None, 1000)
-        following.read(b"error: could not compile `x` (lib test) due to 1 previous error\n")
-        self.assertEqual(following.session(101, None, "default", []).status, 101)
+def event(name: str, kind: str, **more: object) -> JsonObject:
+    """Return an event of a test."""
+    return {"type": "test", "event": kind, "name": name, **more}
 
 
-class Stream:
-    """A stream that keeps what is written."""
-
-    def __init__(self, is_terminal=False):
-        self.text, self.is_terminal = "", is_terminal
-
-    def isatty(self):
-        return self.is_terminal
-
-    def write(self, text):
-        self.text += text
-
-    def flush(self):
-        pass
+PASSED = [ONE, event("t", "started"), event("t", "ok"), END]
+FAILED = [ONE, event("t", "started"), event("t", "failed"), END]
 
 
-class Sessions(unittest.TestCase):
-    def setUp(self):
-        self.said = []
-
-    def session(self, *values, status=None, broken=None):
-        following = Following(self.said.append, 1000)
-        for line in lines_of(*values):
-            following.read(line)
-        return following.session(status, broken, "ci", ["cargo", "test"])
-
-    def test_the_head_and_the_run_have_the_words_of_cargo(self):
-        made = self.session(
-            SUITE, test_line("t", "started"), test_line("t", "ok", exec_time=1.5), status=0
-        )
-        head, started, *_ = [json.loads(line) for line in made.data.splitlines()]
-        self.assertEqual(
-            (head["cli-args"], started["cli-args"]), (["cargo", "test"], ["cargo", "test"])
-        )
-        self.assertEqual(started["profile-name"], "ci")
-        self.assertEqual((head["run-id"], head["started-at"]["secs"]), (made.run_id, 1000))
-
-    def test_the_status_is_that_of_the_tests(self):
-        begin, end = {**SUITE, "test_count": 1}, {"type": "suite", "event": "ok"}
-        passed = begin, test_line("t", "started"), test_line("t", "ok"), end
-        failed = begin, test_line("t", "started"), test_line("t", "failed"), end
-        for values, status, expected in [
-            (passed, 0, 0),
-            (passed, None, 0),
-            (failed, 101, 101),
-            (failed, None, 101),
-            (failed, 0, 101),
-            (passed, 3, 3),
-        ]:
-            self.assertEqual(self.session(*values, status=status).status, expected)
-        self.assertEqual(self.session(*passed, broken="interrupt").status, 130)
-
-    def test_a_kept_run_has_the_same_id_each_time(self):
-        values = SUITE, test_line("t", "started"), test_line("t", "ok")
-        self.assertEqual(self.session(*values).run_id, self.session(*values).run_id)
-        self.assertNotEqual(self.session(*values).run_id, self.session(*values[:2]).run_id)
-
-    def test_without_tests_nothing_is_recorded(self):
-        with self.assertRaisesRegex(Fault, "no test ran") as caught:
-            self.session({"odd": 1}, status=0)
-        self.assertEqual(caught.exception.status, 1)
-        self.assertEqual(self.said, ['{"odd": 1}'])
-        for reason, status in (("interrupt", 130), ("signal", 143)):
-            with self.assertRaisesRegex(Fault, "broken off before a test ran") as caught:
-                self.session({"odd": 1}, broken=reason)
-            self.assertEqual(caught.exception.status, status)
+def builder_of(said: list[str]) -> SessionBuilder:
+    """Return what makes a session of a file that is there, and keeps what is said."""
+    return SessionBuilder(measured_clock(1000), Messages(said.append, "rezovamy-runs"))
 
 
-class Shown(unittest.TestCase):
-    def setUp(self):
-        self.now = 0.0
+def session_of(
+    events: list[JsonObject],
+    status: int | None = None,
+    cancel_reason: CancelReason | None = None,
+    said: list[str] | None = None,
+) -> Session:
+    """Return the session of events."""
+    builder = builder_of([] if said is None else said)
+    for value in events:
+        builder.read(json.dumps(value).encode() + b"\n")
+    return builder.session(status, cancel_reason, "ci", ["cargo", "test"])
 
-    def progress(self, stream, *values):
-        progress = Progress(stream, lambda: self.now)
-        following = Following(progress.say, 1000)
-        progress.reader = following.reader
-        for line in lines_of(*values):
-            following.read(line)
-        return progress
 
-    def test_elsewhere_a_line_comes_each_ten_seconds(self):
-        stream = Stream()
-        progress = self.progress(
-            stream,
-            SUITE,
-            test_line("a", "started"),
-            test_line("b", "started"),
-            test_line("c", "started"),
-            test_line("a", "failed", exec_time=2.0),
-        )
-        for self.now in (9.9, 10.0, 19.9):
-            progress.refresh()
-        self.assertEqual(
-            stream.text,
-            "FAIL [2.0s] binary-1 a\n1 of 3 tests ended, 1 failed; running: b 2.0s, and 1 more\n",
-        )
+def test_words_that_cargo_does_not_take_are_no_run() -> None:
+    """Nothing is recorded of them."""
+    builder = builder_of([])
+    builder.read(b"error: unexpected argument '--bogus' found\n")
+    with pytest.raises(Fault, match="didn't take its words") as caught:
+        builder.session(1, None, "default", [])
+    assert caught.value.status == 1
+    assert builder.reader.run.timeline.tests == []
 
-    def test_on_a_terminal_the_line_is_drawn_over(self):
-        stream = Stream(is_terminal=True)
-        progress = self.progress(stream, SUITE, test_line("a", "started"))
-        progress.paint.is_on = False
-        for self.now in (0.1, 0.2, 0.3):
-            progress.refresh()
-        line = "0 of 3 tests ended, 0 failed; running: a 0.000s"
-        self.assertEqual(stream.text, line)
-        progress.say("Compiling")
-        progress.finish()
-        self.assertEqual(stream.text, line + "\r\x1b[KCompiling\n")
 
-    def test_what_ran_before_another_binary_does_not_seem_to_run(self):
-        stream, following = Stream(), Following(lambda line: None, 1000)
-        progress = Progress(stream, lambda: self.now)
-        progress.reader = following.reader
-        announced = b"     Running tests/%s.rs (target/debug/deps/%s-0123456789abcdef)\n"
-        for line in (
-            announced % (b"x", b"x"),
-            *lines_of(SUITE, test_line("a", "started")),
-            announced % (b"y", b"y"),
-            *lines_of(SUITE, test_line("b", "started")),
-        ):
-            following.read(line)
-        self.now = 10.0
-        progress.refresh()
-        self.assertEqual(stream.text, "1 of 6 tests ended, 0 failed; running: b 0.000s\n")
+def test_a_build_that_fails_is_a_run() -> None:
+    """It is recorded with cargo's status."""
+    builder = builder_of([])
+    builder.read(b"error: could not compile `x` (lib test) due to 1 previous error\n")
+    assert builder.session(101, None, "default", []).status == 101
 
-    def test_before_the_first_test_nothing_is_drawn(self):
-        stream = Stream()
-        progress = self.progress(stream)
-        self.now = 60.0
-        progress.refresh()
-        self.assertEqual(stream.text, "")
 
-    def test_what_cargo_says_is_harmless(self):
-        stream = Stream()
-        Progress(stream).say("a\x1b]0;b\x07\x1b[31mred")
-        self.assertEqual(stream.text, "a\\x1b]0;b\\x07red\n")
+def test_the_head_and_the_run_have_the_words_of_cargo() -> None:
+    """They have its profile and its id too."""
+    made = session_of([SUITE, event("t", "started"), event("t", "ok", exec_time=1.5)], 0)
+    head, started, *_ = [json.loads(line) for line in made.data.splitlines()]
+    assert head["cli-args"] == started["cli-args"] == ["cargo", "test"]
+    assert started["profile-name"] == "ci"
+    assert (head["run-id"], head["started-at"]["secs"]) == (made.run_id, 1000)
 
-    def test_a_stream_that_is_full_takes_nothing(self):
-        stream = Stream()
-        stream.write = lambda text: (_ for _ in ()).throw(OSError("full"))
-        progress = Progress(stream)
-        progress.say("a")
-        progress.say("b")
-        Progress(None)
+
+@pytest.mark.parametrize(
+    ("events", "status", "expected"),
+    [
+        pytest.param(PASSED, 0, 0, id="passed and 0"),
+        pytest.param(PASSED, None, 0, id="passed"),
+        pytest.param(FAILED, 101, 101, id="failed and 101"),
+        pytest.param(FAILED, None, 101, id="failed"),
+        pytest.param(FAILED, 0, 101, id="failed and 0"),
+        pytest.param(PASSED, 3, 3, id="passed and 3"),
+    ],
+)
+def test_the_status_is_that_of_the_tests(
+    events: list[JsonObject], status: int | None, expected: int
+) -> None:
+    """Cargo's answer counts where nothing failed."""
+    assert session_of(events, status).status == expected
+
+
+def test_the_status_of_a_run_that_is_broken_off() -> None:
+    """It is that of a shell."""
+    assert session_of(PASSED, cancel_reason="interrupt").status == 130
+
+
+def test_a_kept_run_has_the_same_id_each_time() -> None:
+    """Other lines have another id."""
+    events = [SUITE, event("t", "started"), event("t", "ok")]
+    assert session_of(events).run_id == session_of(events).run_id
+    assert session_of(events).run_id != session_of(events[:2]).run_id
+
+
+def test_without_tests_nothing_is_recorded() -> None:
+    """What was read is said, and that no test ran."""
+    said: list[str] = []
+    with pytest.raises(Fault, match="no test ran") as caught:
+        session_of([{"odd": 1}], 0, said=said)
+    assert caught.value.status == 1
+    assert said == ['{"odd": 1}']
+
+
+@pytest.mark.parametrize(("reason", "status"), [("interrupt", 130), ("signal", 143)])
+def test_what_is_broken_off_before_a_test_is_not_recorded(
+    reason: CancelReason, status: int
+) -> None:
+    """The status is that of a shell."""
+    with pytest.raises(Fault, match="broken off before a test ran") as caught:
+        session_of([{"odd": 1}], cancel_reason=reason)
+    assert caught.value.status == status
+
+
+def test_a_text_that_looks_like_a_warning_is_said_as_it_is() -> None:
+    """A test may print what a program here says."""
+    said: list[str] = []
+    builder = builder_of(said)
+    for text in (b"session_from_libtest: 3 lines are no event of a run\n", b"rezovamy-runs: a\n"):
+        builder.read(text)
+    assert said == ["session_from_libtest: 3 lines are no event of a run", "rezovamy-runs: a"]
+
+
+def test_a_test_of_a_run_that_has_ended_may_end_once_more() -> None:
+    """One that its suite didn't announce was taken back then."""
+    said: list[str] = []
+    builder = builder_of(said)
+    events = [ONE, event("b", "started"), event("a", "started"), event("b", "ok")]
+    for value in events:
+        builder.read(json.dumps(value).encode() + b"\n")
+    builder.reader.end_cargo_run(101)
+    builder.read(json.dumps(event("a", "ok")).encode() + b"\n")
+    assert builder.session(101, None, "ci", []).status == 101

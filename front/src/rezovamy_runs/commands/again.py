@@ -1,15 +1,24 @@
 """Runs the tests of a recorded run again which haven't passed, and records that run too."""
 
-from rezovamy_runs.command_line import say
-from rezovamy_runs.runner import rerun_plan
-from rezovamy_runs.bundles import bundle
-from rezovamy_runs.runner import cargo_test
-from rezovamy_runs.commands import test as test_command
-from rezovamy_runs.runner import missing_tests
-from rezovamy_runs import recorder
+from __future__ import annotations
+
+import argparse
+import dataclasses
+import pathlib
+from collections.abc import Iterable
+
 from rezovamy_runs import formatting
-from rezovamy_runs.store import run_folder
+from rezovamy_runs import recorder
+from rezovamy_runs.bundles import bundle
+from rezovamy_runs.command_line import say
+from rezovamy_runs.commands import test as test_command
 from rezovamy_runs.faults.fault import Fault
+from rezovamy_runs.model import Summary
+from rezovamy_runs.runner import cargo_test
+from rezovamy_runs.runner import missing_tests
+from rezovamy_runs.runner import rerun_plan
+from rezovamy_runs.runner.rerun_plan import Plan
+from rezovamy_runs.store import run_folder
 
 SUMMARY = "run again what hasn't passed in a run, with the words after --, and record that"
 TAKES_REST = True
@@ -17,66 +26,84 @@ TAKES_REST = True
 NOT_ALL = 1
 
 
-def add_options(parser):
-    """Takes a run, and what else is written."""
+@dataclasses.dataclass(frozen=True)
+class Options:
+    """What the words of the command ask for; `rest` are those of cargo."""
+
+    run: str
+    page: bool
+    junit: bool
+    rest: list[str]
+
+
+def add_options(parser: argparse.ArgumentParser) -> None:
+    """Take a run, and what else is written."""
     parser.usage = "rezovamy-runs again [--page] [--junit] [RUN] [-- WORDS OF CARGO TEST]"
     run_folder.add_run(parser)
-    test_command.add_more(parser)
+    test_command.add_outputs(parser)
 
 
-def run(words):
-    """Runs the tests again, records them, and answers their status; 0 where all have passed."""
-    manifest = cargo_test.manifest_of(words.rest)
+def run(words: argparse.Namespace) -> int:
+    """Run the tests again, record them, and return their status; 0 where all have passed."""
+    options = Options(words.run, words.page, words.junit, words.rest)
+    manifest = cargo_test.manifest_of(options.rest)
     runs = run_folder.here(manifest)
-    path = runs.find(words.run)
+    path = runs.find(options.run)
     plan, before = plan_of(path), bundle.read_summary(path)
     first = root_bundle(plan, before)
     say_each([*rerun_plan.remarks(plan), *missing_tests.forget_targets(plan, manifest)])
     commands = [
-        cargo_test.cargo_words(chosen.words(words.rest)) for chosen in rerun_plan.selections(plan)
+        cargo_test.cargo_words(chosen.words(options.rest)) for chosen in rerun_plan.selections(plan)
     ]
     nameless = never_started(first)
     if not commands:
         say_each(nameless)
         return nothing_to_run(plan, before, bool(nameless))
-    test_command.prepare(runs, words)
-    plan.is_same_build = missing_tests.is_same_build(first, words.rest)
-    cli_args = ["rezovamy-runs", "again", before.id, *(["--", *words.rest] if words.rest else [])]
+    outputs = test_command.Outputs(runs, options.page, options.junit)
+    outputs.prepare()
+    plan.is_same_build = missing_tests.is_same_build(first, options.rest)
+    given = ["--", *options.rest] if options.rest else []
+    cli_args = ["rezovamy-runs", "again", before.id, *given]
     session = test_command.run_cargo(commands, before.profile, cli_args, plan)
-    status = test_command.keep(runs, session, words)
+    status = outputs.keep(session)
     lacking = nameless if status else [*nameless, *rerun_plan.not_found(plan, session.suites)]
     say_each([*missing_tests.lines(plan, session.suites), *lacking])
     return status or (NOT_ALL if lacking else 0)
 
 
-def say_each(lines):
+def say_each(lines: Iterable[str]) -> None:
+    """Print lines on standard error."""
     for line in lines:
         say(f"rezovamy-runs: {formatting.name(line)}")
 
 
-def plan_of(path):
-    """What is to be run again of the run in a bundle, as the program says it."""
+def plan_of(path: pathlib.Path) -> Plan:
+    """Return what is to be run again of the run in a bundle, as the program says it."""
     with bundle.opened(path) as opened:
         text = recorder.run(["rerun", *recorder.limits(path.stat().st_size)], stdin=opened)
     try:
         return rerun_plan.read(text.decode())
     except (rerun_plan.NoPlan, UnicodeDecodeError) as fault:
-        raise Fault(
-            f"a test of {path} has a name that can't be told: {fault}; run all again with `rezovamy-runs test`"
-        ) from fault
+        nameless = f"a test of {path} has a name that can't be told: {fault}"
+        raise Fault(f"{nameless}; run all again with `rezovamy-runs test`") from fault
 
 
-def root_bundle(plan, before):
-    """The bundle of the run with which a row of reruns began. What never started in one of these was named there."""
-    return (
-        before.bundle.with_name(f"{plan.info['root-info']['run-id']}{run_folder.ENDING}")
-        if before.parent
-        else before.bundle
-    )
+def root_bundle(plan: Plan, before: Summary) -> pathlib.Path:
+    """Return the bundle of the run with which a row of reruns began.
+
+    What never started in one of these was named there.
+    """
+    root = plan.info.get("root-info")
+    if not before.parent or not isinstance(root, dict):
+        return before.bundle
+    return before.bundle.with_name(f"{root['run-id']}{run_folder.ENDING}")
 
 
-def never_started(path):
-    """What is said of tests that were announced and never started: the run has no name of them. It may be gone by now."""
+def never_started(path: pathlib.Path) -> list[str]:
+    """Return what is said of tests that were announced and never started: the run can't name them.
+
+    The bundle may be gone by now.
+    """
     try:
         end = bundle.read_end(path)
     except (FileNotFoundError, Fault):
@@ -84,13 +111,15 @@ def never_started(path):
     count = end.unseen - len(end.unseen_names) if end else 0
     if count <= 0:
         return []
-    return [
-        f"{formatting.count(count, 'test')} of the run never started, and nothing names them: `rezovamy-runs test` runs all"
-    ]
+    nameless = f"{formatting.count(count, 'test')} of the run never started, and nothing names them"
+    return [f"{nameless}: `rezovamy-runs test` runs all"]
 
 
-def nothing_to_run(plan, before, is_doubtful):
-    """Says that all tests have passed that are still there, and answers the status; a fault where that isn't so."""
+def nothing_to_run(plan: Plan, before: Summary, is_doubtful: bool) -> int:
+    """Say that all tests have passed that are still there, and return the status.
+
+    It is a fault where that isn't so.
+    """
     if plan.run or is_doubtful:
         raise Fault(
             "nothing of this can be run again alone: run all again with `rezovamy-runs test`"

@@ -1,31 +1,52 @@
-"""Runs tests, or reads the lines of a run, shows how far they are, records the run and sums it up."""
+"""Runs tests, or reads the lines of a run, shows how far they are, and records the run."""
 
+from __future__ import annotations
+
+import argparse
+import dataclasses
 import os
+import pathlib
 import stat
 import sys
+from typing import BinaryIO
 
-from rezovamy_runs.command_line import input_stream, print_out, whole
-from rezovamy_runs.streams.lines import Lines
-from rezovamy_runs.streams.state import clean
-from rezovamy_runs.bundles import bundle
-from rezovamy_runs.runner import cargo_test
-from rezovamy_runs.commands import junit as junit_command
-from rezovamy_runs.page import document
 from rezovamy_runs import recorder
 from rezovamy_runs import terminal
-from rezovamy_runs.store import run_folder
+from rezovamy_runs.bundles import bundle
+from rezovamy_runs.command_line import input_stream, print_out, whole
+from rezovamy_runs.commands import junit as junit_command
 from rezovamy_runs.faults.fault import Fault
-from rezovamy_runs.runner.session_builder import Following
+from rezovamy_runs.page import document
 from rezovamy_runs.report.run_text import Printer
+from rezovamy_runs.runner import cargo_test
 from rezovamy_runs.runner.progress import Progress
+from rezovamy_runs.runner.rerun_plan import Plan
+from rezovamy_runs.runner.session_builder import Session, SessionBuilder
+from rezovamy_runs.store import run_folder
+from rezovamy_runs.streams.clock import Clock, arrival_clock, measured_clock
+from rezovamy_runs.streams.lines import LineStream
+from rezovamy_runs.streams.run_state import Messages
+from rezovamy_runs.streams.texts import without_surrogates
 
 SUMMARY = "run `cargo test` with the words after --, and record the run"
 TAKES_REST = True
 MOST_LINES = 200
 
 
-def add_options(parser):
-    """Takes where lines come from that are there."""
+@dataclasses.dataclass(frozen=True)
+class Options:
+    """What the words of the command ask for; `rest` are those of cargo."""
+
+    source: str | None
+    status: int | None
+    profile: str
+    page: bool
+    junit: bool
+    rest: list[str]
+
+
+def add_options(parser: argparse.ArgumentParser) -> None:
+    """Take where lines come from that are there."""
     parser.usage = (
         "rezovamy-runs test [--profile NAME] [--page] [--junit] [-- WORDS OF CARGO TEST]\n"
         "       rezovamy-runs test --from FILE|- [--status N] [--profile NAME] [--page] [--junit]"
@@ -44,16 +65,16 @@ def add_options(parser):
     )
     parser.add_argument(
         "--profile",
-        type=clean,
+        type=without_surrogates,
         default="default",
         metavar="NAME",
         help="the run's profile (default)",
     )
-    add_more(parser)
+    add_outputs(parser)
 
 
-def add_more(parser):
-    """Takes what else is written of a run that was recorded."""
+def add_outputs(parser: argparse.ArgumentParser) -> None:
+    """Take what else is written of a run that was recorded."""
     parser.add_argument(
         "--page", action="store_true", help="write the run's page too, as `page` does"
     )
@@ -62,107 +83,138 @@ def add_more(parser):
     )
 
 
-def run(words):
-    """Runs or reads the tests, records them, and answers their status."""
-    if words.source is None and words.status is not None:
-        raise Fault("--status is for --from, which can't know what cargo answered: leave it out", 2)
-    if words.source is not None and words.rest:
+def run(words: argparse.Namespace) -> int:
+    """Run or read the tests, record them, and return their status."""
+    options = Options(
+        words.source, words.status, words.profile, words.page, words.junit, words.rest
+    )
+    if options.source is None and options.status is not None:
         raise Fault(
-            "--from takes lines that are there, and no words of cargo: leave one of them out", 2
+            "--status is for --from, which can't know what cargo answered: leave it out",
+            2,
+        )
+    if options.source is not None and options.rest:
+        raise Fault(
+            "--from takes lines that are there, and no words of cargo: leave one of them out",
+            2,
         )
     recorder.find()
-    runs = run_folder.here(cargo_test.manifest_of(words.rest))
-    prepare(runs, words)
-    if words.source is None:
-        session = run_cargo(
-            [cargo_test.cargo_words(words.rest)], words.profile, ["cargo", "test", *words.rest]
-        )
+    runs = run_folder.here(cargo_test.manifest_of(options.rest))
+    outputs = Outputs(runs, options.page, options.junit)
+    outputs.prepare()
+    if options.source is None:
+        commands = [cargo_test.cargo_words(options.rest)]
+        session = run_cargo(commands, options.profile, ["cargo", "test", *options.rest])
     else:
-        session = read_lines(words)
-    return keep(runs, session, words)
+        session = read_lines(options, options.source)
+    return outputs.keep(session)
 
 
-def prepare(runs, words):
-    """Makes the folder ready for a run that begins."""
-    runs.prepare()
-    if words.junit:
-        junit_command.remove_older(runs)
+@dataclasses.dataclass(frozen=True)
+class Outputs:
+    """Where a run is recorded, and what else is written of it."""
+
+    runs: run_folder.Store
+    page: bool
+    junit: bool
+
+    def prepare(self) -> None:
+        """Make the folder ready for a run that begins."""
+        self.runs.prepare()
+        if self.junit:
+            junit_command.remove_older(self.runs)
+
+    def keep(self, session: Session) -> int:
+        """Record a session, print what came of it, and return the status of its tests."""
+        recorder.hear_signals()
+        try:
+            path = recorder.record(self.runs, session)
+            print_out(summary_of(self.runs, path))
+            self._write_more(path)
+        except (Fault, OSError) as error:
+            if session.status == 0:
+                raise
+            said = error if isinstance(error, Fault) else error.strerror or error
+            raise Fault(f"the tests failed, and besides: {said}", session.status) from error
+        return session.status
+
+    def _write_more(self, path: pathlib.Path) -> None:
+        """Write what else is asked for of a run that was recorded, and print where it is."""
+        if self.page:
+            page = document.written(document.page_of(path), document.beside(path))
+            print_out(f"{page}\n")
+        if self.junit:
+            junit_command.write(path, junit_command.beside(self.runs))
 
 
-def keep(runs, session, words):
-    """Records a session, prints what came of it, and answers the status of its tests."""
-    recorder.hear_signals()
+class Following:
+    """Reads lines as they come, and shows how far they are."""
+
+    def __init__(self, clock: Clock) -> None:
+        self.progress = Progress()
+        self.builder = SessionBuilder(clock, Messages(self.progress.print_line, "rezovamy-runs"))
+        self.progress.reader = self.builder.reader
+
+    def read(self, lines: LineStream) -> None:
+        """Read the lines to their end."""
+        for line in lines:
+            self.builder.read(line)
+            self.progress.refresh()
+
+
+def run_cargo(
+    commands: list[list[str]],
+    profile: str,
+    cli_args: list[str],
+    plan: Plan | None = None,
+) -> Session:
+    """Return the session of runs of cargo, one after the other; of a rerun with its plan."""
+    following = Following(arrival_clock())
+    progress, builder = following.progress, following.builder
+    lines = cargo_test.CargoRuns(commands, progress.refresh, builder.reader.end_cargo_run)
+    following.read(lines)
     try:
-        path = recorder.record(runs, session)
-        print_out(summed_up(runs, path))
-        write_more(words, runs, path)
-    except (Fault, OSError) as error:
-        if session.status == 0:
-            raise
-        said = error if isinstance(error, Fault) else error.strerror or error
-        raise Fault(f"the tests failed, and besides: {said}", session.status) from error
-    return session.status
-
-
-def run_cargo(commands, profile, cli_args, plan=None):
-    """The session of runs of cargo, one after the other; of a rerun with its plan."""
-    progress = Progress()
-    following = Following(progress.say)
-    progress.reader = following.reader
-    lines = cargo_test.CargoTest(commands, progress.refresh, following.reader.leave)
-    follow(following, lines, progress)
-    try:
-        return following.session(lines.end(), lines.broken, profile, cli_args, plan)
+        return builder.session(lines.status(), lines.cancel_reason, profile, cli_args, plan)
     finally:
         progress.finish()
 
 
-def read_lines(words):
-    """The session of lines that are there: those of a file have no instants, those of a pipe have that at which they come."""
-    progress = Progress()
+def opened(source: str) -> BinaryIO:
+    """Open the lines of a run that are there."""
     try:
-        source = input_stream() if words.source == "-" else open(words.source, "rb")
+        return input_stream() if source == "-" else open(source, "rb")
     except OSError as error:
-        raise Fault(
-            f"{words.source} can't be read: {error.strerror or error}; name a file with the lines of a run"
-        ) from error
-    with source:
-        about = os.fstat(source.fileno())
-        following = Following(
-            progress.say, int(about.st_mtime) if stat.S_ISREG(about.st_mode) else None
-        )
-        progress.reader = following.reader
-        lines = Lines(source.fileno(), cargo_test.PAUSE)
-        lines.idle = progress.refresh
+        do = "name a file with the lines of a run"
+        raise Fault(f"{source} can't be read: {error.strerror or error}; {do}") from error
+
+
+def clock_of(source: BinaryIO) -> Clock:
+    """Return the clock of lines that are there.
+
+    Those of a file have no instants, those of a pipe have that at which they come.
+    """
+    about = os.fstat(source.fileno())
+    return measured_clock(int(about.st_mtime)) if stat.S_ISREG(about.st_mode) else arrival_clock()
+
+
+def read_lines(options: Options, source: str) -> Session:
+    """Return the session of lines that are there."""
+    with opened(source) as stream:
+        following = Following(clock_of(stream))
+        progress, builder = following.progress, following.builder
+        lines = LineStream(stream.fileno(), cargo_test.PAUSE, progress.refresh)
         try:
-            follow(following, lines, progress)
+            following.read(lines)
         except IsADirectoryError as error:
-            raise Fault(
-                f"{words.source} is a folder: name a file with the lines of a run"
-            ) from error
+            raise Fault(f"{source} is a folder: name a file with the lines of a run") from error
         try:
-            return following.session(words.status, lines.broken, words.profile, [])
+            return builder.session(options.status, lines.cancel_reason, options.profile, [])
         finally:
             progress.finish()
 
 
-def follow(following, lines, progress):
-    """Reads the lines to their end, and shows how far they are."""
-    for line in lines:
-        following.read(line)
-        progress.refresh()
-
-
-def write_more(words, runs, path):
-    """Writes what else is asked for of a run that was recorded, and prints where it is."""
-    if words.page:
-        print_out(f"{document.written(document.page_of(path), document.beside(path))}\n")
-    if words.junit:
-        junit_command.write(path, junit_command.beside(runs))
-
-
-def summed_up(runs, path):
-    """What is printed of a run that was recorded."""
+def summary_of(runs: run_folder.Store, path: pathlib.Path) -> str:
+    """Return what is printed of a run that was recorded."""
     run = bundle.read_run(path)
     printer = Printer(terminal.Paint(terminal.colours(sys.stdout)), MOST_LINES)
     prefix = runs.prefixes().get(run.id, run.id)

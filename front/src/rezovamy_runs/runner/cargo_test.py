@@ -1,36 +1,53 @@
 """Runs `cargo test` so that its test binaries print lines of JSON, which docs/CLI.md describes."""
 
+from __future__ import annotations
+
 import contextlib
 import os
 import re
 import signal
 import subprocess
 import time
+from collections.abc import Callable, Iterator, Sequence
+from types import FrameType
 
-from rezovamy_runs.streams.lines import LONGEST_WAIT, Lines
 from rezovamy_runs.faults.fault import Fault
+from rezovamy_runs.streams.lines import LONGEST_WAIT, LineStream
 
-EVENTS = ["-Z", "unstable-options", "--format", "json", "--report-time", "--show-output"]
-# Of the words for the binaries those with which they run no test, and of cargo's one for `--quiet`, perhaps with others.
+EVENTS = [
+    "-Z",
+    "unstable-options",
+    "--format",
+    "json",
+    "--report-time",
+    "--show-output",
+]
+# Of the words for the binaries those with which they run no test, and of cargo's one for `--quiet`,
+# perhaps with others.
 WITHOUT_TESTS = ("--list", "--help", "-h")
 QUIET = re.compile(r"--quiet|-[rv]*q.*")
 PAUSE = 0.2
-# How long the processes of a run that was broken off have to end by themselves, and how long what cargo left running is heard.
+# How long the processes of a run that was broken off have to end by themselves, and how long what
+# cargo left running is heard.
 GRACE, LONGEST_HEARD = 2, 3
 
 
-def split(words):
-    """What stands before the first `--`, and what stands after it."""
+def split(words: list[str]) -> tuple[list[str], list[str]]:
+    """Split words into what stands before the first `--`, and what stands after it."""
     place = words.index("--") if "--" in words else len(words)
     return words[:place], words[place + 1 :]
 
 
-def has(words, option):
+def has(words: Sequence[str], option: str) -> bool:
+    """Return whether an option is among words, alone or with its value."""
     return any(word == option or word.startswith(option + "=") for word in words)
 
 
-def cargo_words(words):
-    """The command that runs `cargo test` with these words and prints events; what is after another `--` is for the binaries."""
+def cargo_words(words: list[str]) -> list[str]:
+    """Return the command that runs `cargo test` with these words and prints events.
+
+    What is after another `--` is for the binaries.
+    """
     own, of_tests = split(words)
     toolchain = own[:1] if own and own[0].startswith("+") else []
     own = own[len(toolchain) :]
@@ -39,30 +56,23 @@ def cargo_words(words):
     added += ["--message-format", "json-render-diagnostics"]
     # What a word of the configuration says stands above the environment, and the last one counts.
     loud = ["--config", "term.quiet=false"] if has(own, "--config") else []
-    return [
-        "cargo",
-        *toolchain,
-        "test",
-        *added,
-        *own,
-        *loud,
-        "--",
-        *events_beside(of_tests),
-        *of_tests,
-    ]
+    events = events_beside(of_tests)
+    return ["cargo", *toolchain, "test", *added, *own, *loud, "--", *events, *of_tests]
 
 
-def events_beside(of_tests):
-    """The words for events that aren't among those for the binaries, which take each only once."""
-    allows = "-Zunstable-options" in of_tests or ("-Z", "unstable-options") in zip(
-        of_tests, of_tests[1:]
-    )
+def events_beside(of_tests: list[str]) -> list[str]:
+    """Return the words for events that aren't among those for the binaries.
+
+    These take each only once.
+    """
+    pairs = zip(of_tests, of_tests[1:])
+    allows = "-Zunstable-options" in of_tests or ("-Z", "unstable-options") in pairs
     events = EVENTS[2:] if allows else EVENTS
     return [word for word in events if word not in of_tests or not word.startswith("--")]
 
 
-def refuse(own, of_tests):
-    """Refuses words with which nothing tells which binary runs, why a build fails or how a test ends."""
+def refuse(own: list[str], of_tests: list[str]) -> None:
+    """Refuse words with which nothing tells which binary runs, why a build fails or a test ends."""
     if has(of_tests, "--format"):
         raise Fault("--format of the test binaries is what the front end sets: leave it out", 2)
     if has(own, "--message-format"):
@@ -71,14 +81,12 @@ def refuse(own, of_tests):
         raise Fault("with --quiet cargo doesn't say which test binary runs: leave it out", 2)
     found = next((word for word in of_tests if word in WITHOUT_TESTS), None)
     if found:
-        raise Fault(
-            f"with {found} no test runs, so there is nothing to record: hand it to `cargo test` itself",
-            2,
-        )
+        nothing = f"with {found} no test runs, so there is nothing to record"
+        raise Fault(f"{nothing}: hand it to `cargo test` itself", 2)
 
 
-def manifest_of(words):
-    """The value of `--manifest-path` among the words, None where it isn't there."""
+def manifest_of(words: list[str]) -> str | None:
+    """Return the value of `--manifest-path` among the words, None where it isn't there."""
     own, _ = split(words)
     for place, word in enumerate(own):
         if word.startswith("--manifest-path="):
@@ -88,44 +96,54 @@ def manifest_of(words):
     return None
 
 
-class CargoTest(Lines):
-    """Runs of cargo one after the other, and the lines that they print. A signal that asks the front end to end is handed to all of
-    the processes of the one that runs, and is the last one's.
+def forget(_status: int) -> None:
+    """Do nothing with what a run of cargo answered."""
 
-    Each runs in a group of its own, so that no process stays. `watch` is called while no line comes, and `leave` with what a run
-    answered before the next one.
+
+class CargoRuns(LineStream):
+    """Runs of cargo one after the other, and the lines that they print.
+
+    A signal that asks the front end to end is handed to all of the processes of the one that runs,
+    and is the last one's. Each runs in a group of its own, so that no process stays. `between` is
+    called with what a run answered before the next one.
     """
 
-    def __init__(self, commands, watch, leave=lambda status: None):
-        self.commands, self.watch, self.leave, self.process, self.status = (
-            commands,
-            watch,
-            leave,
-            None,
-            0,
-        )
-        super().__init__(None, PAUSE)
+    def __init__(
+        self,
+        commands: list[list[str]],
+        idle: Callable[[], None],
+        between: Callable[[int], None] = forget,
+    ) -> None:
+        self._commands, self._idle, self._between = commands, idle, between
+        self._process: subprocess.Popen[bytes] | None = None
+        self._status = 0
+        super().__init__(-1, PAUSE, self._watch)
 
-    def __iter__(self):
-        code = None
-        for command in self.commands:
+    def __iter__(self) -> Iterator[bytes]:
+        """Return the lines."""
+        code: int | None = None
+        for command in self._commands:
             if code is not None:
-                self.leave(code)
-            self.start(command)
+                self._between(code)
+            process = self._start(command)
             yield from super().__iter__()
-            code = self.end_process()
-            self.status = self.status or (128 - code if code < 0 else code)
-            if self.broken or code < 0:
+            code = self._end(process)
+            self._status = self._status or (128 - code if code < 0 else code)
+            if self.cancel_reason or code < 0:
                 return
 
-    def start(self, command):
-        """Starts a run of cargo, whose lines come next."""
-        self.until = None
+    def _start(self, command: list[str]) -> subprocess.Popen[bytes]:
+        """Start a run of cargo, whose lines come next."""
+        self.deadline = None
         self.descriptor, writing = os.pipe()
         # A configuration may let cargo be quiet.
-        environment = {"RUSTC_BOOTSTRAP": "1", **os.environ, "CARGO_TERM_QUIET": "false"}
+        environment = {
+            "RUSTC_BOOTSTRAP": "1",
+            **os.environ,
+            "CARGO_TERM_QUIET": "false",
+        }
         try:
-            self.process = subprocess.Popen(
+            self._process = subprocess.Popen(
                 command,
                 stdin=subprocess.DEVNULL,
                 stdout=writing,
@@ -134,52 +152,66 @@ class CargoTest(Lines):
                 process_group=0,
             )
         except OSError as error:
-            raise Fault(
-                f"cargo can't be run: {error.strerror}; install Rust, or put cargo on the path"
-            ) from error
+            do = "install Rust, or put cargo on the path"
+            raise Fault(f"cargo can't be run: {error.strerror}; {do}") from error
         finally:
             os.close(writing)
-        if self.broken:
-            self.until = time.monotonic() + LONGEST_WAIT
-            self.send(signal.SIGTERM)
+        if self.cancel_reason:
+            self.deadline = time.monotonic() + LONGEST_WAIT
+            self._send(signal.SIGTERM)
+        return self._process
 
-    def stop(self, number, frame):
+    def stop(self, number: int, frame: FrameType | None) -> None:
+        """Take a signal, and hand it on."""
         super().stop(number, frame)
         # Cargo and its tests needn't know a hang-up.
-        self.send(signal.SIGTERM if number == signal.SIGHUP else number)
+        self._send(signal.SIGTERM if number == signal.SIGHUP else number)
 
-    def send(self, number):
-        """Sends a signal to all processes of the run that are left."""
+    def _send(self, number: int) -> None:
+        """Send a signal to all processes of the run that are left."""
         with contextlib.suppress(ProcessLookupError, PermissionError):
-            if self.process:
-                os.killpg(self.process.pid, number)
+            if self._process:
+                os.killpg(self._process.pid, number)
 
-    def is_readable(self):
-        """Waits for what comes. What cargo left running may print without end, and is heard no longer than some seconds."""
-        if self.until is None and self.process.poll() is not None:
-            self.until = time.monotonic() + LONGEST_HEARD
+    def _has_ended(self) -> bool:
+        """Return whether cargo has ended, although what it started may run still."""
+        return self._process is not None and self._process.poll() is not None
+
+    def is_readable(self) -> bool:
+        """Wait for what comes.
+
+        What cargo left running may print without end, and is heard no longer than some seconds.
+        """
+        if self.deadline is None and self._has_ended():
+            self.deadline = time.monotonic() + LONGEST_HEARD
         return super().is_readable()
 
-    def idle(self):
-        """Shows how far the run is. Once cargo has ended, what it left running is waited for no longer than a moment."""
-        self.watch()
-        if self.process.poll() is not None:
-            self.until = time.monotonic() + LONGEST_WAIT
+    def _watch(self) -> None:
+        """Show how far the run is, while no line comes.
 
-    def end_process(self):
-        """Waits for the run of cargo to end, and answers how it did."""
-        if self.broken:
+        Once cargo has ended, what it left running is waited for no longer than a moment.
+        """
+        self._idle()
+        if self._has_ended():
+            self.deadline = time.monotonic() + LONGEST_WAIT
+
+    def _end(self, process: subprocess.Popen[bytes]) -> int:
+        """Wait for the run of cargo to end, and return how it did."""
+        if self.cancel_reason:
             with contextlib.suppress(subprocess.TimeoutExpired):
-                self.process.wait(GRACE)
-            self.send(signal.SIGKILL)
-        code = self.process.wait()
+                process.wait(GRACE)
+            self._send(signal.SIGKILL)
+        code = process.wait()
         if code < 0:
             # Nobody is left who would end the test that ran.
-            self.send(signal.SIGKILL)
-        self.process = None
+            self._send(signal.SIGKILL)
+        self._process = None
         os.close(self.descriptor)
         return code
 
-    def end(self):
-        """What the first run of cargo answered that didn't end well, as a shell says it; None where one was broken off."""
-        return None if self.broken else self.status
+    def status(self) -> int | None:
+        """Return what the first run of cargo answered that didn't end well, as a shell says it.
+
+        It is None where a run was broken off.
+        """
+        return None if self.cancel_reason else self._status

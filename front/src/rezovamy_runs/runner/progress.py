@@ -1,33 +1,47 @@
 """Shows a run while it goes on: how many tests ended, which failed, and what runs longest."""
 
+from __future__ import annotations
+
 import shutil
 import sys
 import time
+from collections.abc import Callable
+from typing import TextIO
 
 from rezovamy_runs import formatting, terminal
+from rezovamy_runs.streams.reader import Reader
+from rezovamy_runs.streams.test_runs import TestRun
 
 # How often the line of a terminal is drawn anew, and how often a line comes where there is none.
 ON_TERMINAL, ELSEWHERE = 0.2, 10
 
 
 class Progress:
-    """What is said of a run on standard error while it goes on; the reader comes once it is there."""
+    """Prints on standard error how far a run is; the reader comes once it is there."""
 
-    def __init__(self, stream=None, clock=time.monotonic):
-        self.stream = sys.stderr if stream is None else stream
+    def __init__(
+        self, stream: TextIO | None = None, clock: Callable[[], float] = time.monotonic
+    ) -> None:
+        self.stream: TextIO | None = sys.stderr if stream is None else stream
         self.is_terminal = terminal.is_terminal(self.stream)
         self.paint = terminal.Paint(terminal.colours(self.stream))
-        self.clock, self.reader, self.told, self.is_drawn = clock, None, set(), False
-        self.drawn_at = clock()
+        self.reader: Reader | None = None
+        self._clock = clock
+        self._reported: set[TestRun] = set()
+        self._is_drawn = False
+        self._drawn_at = clock()
 
-    def say(self, line):
-        """Prints a line, after which the line of progress comes again."""
-        self.write(formatting.harmless(line) + "\n")
+    def print_line(self, line: str) -> None:
+        """Print a line, after which the line of progress comes again."""
+        self._write(formatting.harmless(line) + "\n")
 
-    def write(self, text):
-        """Prints a text in place of the line of progress. A stream that is closed or full takes nothing."""
-        erase = "\r\x1b[K" if self.is_drawn else ""
-        self.is_drawn = False
+    def _write(self, text: str) -> None:
+        """Print a text in place of the line of progress.
+
+        A stream that is closed or full takes nothing.
+        """
+        erase = "\r\x1b[K" if self._is_drawn else ""
+        self._is_drawn = False
         try:
             if self.stream is not None:
                 self.stream.write(erase + text)
@@ -35,52 +49,50 @@ class Progress:
         except (OSError, ValueError):
             self.stream = None
 
-    def refresh(self):
-        """Says what is new, if the last time was long enough ago."""
-        if self.clock() - self.drawn_at < (ON_TERMINAL if self.is_terminal else ELSEWHERE):
+    def refresh(self) -> None:
+        """Print what is new, if the last time was long enough ago."""
+        if self._clock() - self._drawn_at < (ON_TERMINAL if self.is_terminal else ELSEWHERE):
             return
-        self.drawn_at = self.clock()
-        self.tell_failures()
-        if self.reader.first is None:
+        self._drawn_at = self._clock()
+        self._report_failures()
+        if self.reader is None or self.reader.run.first_event is None:
             return
         line = progress_line(self.reader)
         if self.is_terminal:
-            self.write(terminal.cut(line, shutil.get_terminal_size().columns))
-            self.is_drawn = True
+            self._write(terminal.cut(line, shutil.get_terminal_size().columns))
+            self._is_drawn = True
         else:
-            self.write(line + "\n")
+            self._write(line + "\n")
 
-    def tell_failures(self):
-        """Names the tests that have failed since the last time."""
-        for run in self.reader.runs:
-            if run not in self.told and run.has_failed():
-                self.told.add(run)
-                taken = formatting.duration(run.attempts[-1].taken / 1e9)
-                binary, name = run.test_id["binary-id"], run.test_id["test-name"]
-                self.write(
-                    f"{self.paint('red', 'FAIL')} [{taken}] {formatting.name(binary or '?')} {formatting.name(name)}\n"
-                )
+    def _report_failures(self) -> None:
+        """Name the tests that have failed since the last time."""
+        for test in self.reader.run.timeline.tests if self.reader else []:
+            if test not in self._reported and test.has_failed():
+                self._reported.add(test)
+                taken = formatting.duration(test.last.taken / 1e9)
+                name = f"{formatting.name(test.binary_id)} {formatting.name(test.name)}"
+                self._write(f"{self.paint('red', 'FAIL')} [{taken}] {name}\n")
 
-    def finish(self):
-        """Says what is left to say, and takes the line of progress away."""
-        self.tell_failures()
-        self.write("")
+    def finish(self) -> None:
+        """Print what is left to say, and take the line of progress away."""
+        self._report_failures()
+        self._write("")
 
 
-def progress_line(reader):
-    """A line of how far the run is."""
+def progress_line(reader: Reader) -> str:
+    """Return a line of how far the run is."""
+    run, tests = reader.run, reader.run.timeline.tests
     # Of a binary after which another one was announced no test seems to run any more.
-    left = set(reader.doubts.tests())
-    running = [run for run in reader.runs if run.is_open() and run not in left]
-    failed = sum(run.has_failed() for run in reader.runs)
-    known = len(reader.runs) + sum(binary.unseen() for binary in reader.binaries)
-    parts = [
-        f"{len(reader.runs) - len(running)} of {formatting.count(known, 'test')} ended, {failed} failed"
-    ]
-    if running:
-        longest = min(running, key=lambda run: run.attempts[-1].start)
-        now = reader.clock.source() if reader.clock.source else reader.clock.now
-        ran = formatting.duration(max(0, now - longest.attempts[-1].start.time) / 1e9)
-        others = f", and {len(running) - 1} more" if len(running) > 1 else ""
-        parts.append(f"running: {formatting.name(longest.name)} {ran}{others}")
-    return "; ".join(parts)
+    ended = set(reader.sequence.unconfirmed_tests())
+    running = [test for test in tests if test.is_running() and test not in ended]
+    failed = sum(test.has_failed() for test in tests)
+    known = len(tests) + sum(binary.unseen() for binary in run.binaries)
+    counted = f"{len(tests) - len(running)} of {formatting.count(known, 'test')} ended"
+    line = f"{counted}, {failed} failed"
+    if not running:
+        return line
+    longest = min(running, key=lambda test: test.last.start)
+    ran = max(0, run.timeline.clock.current() - longest.last.start.time)
+    others = f", and {len(running) - 1} more" if len(running) > 1 else ""
+    shown = f"{formatting.name(longest.name)} {formatting.duration(ran / 1e9)}"
+    return f"{line}; running: {shown}{others}"

@@ -1,17 +1,26 @@
-"""What the program's command `rerun` prints, and the words of cargo that run exactly the named tests again."""
+"""What the program's command `rerun` prints, and the words of cargo that run the tests again."""
+
+from __future__ import annotations
 
 import dataclasses
 import json
 import os
 import re
+from collections.abc import Collection, Mapping, Sequence
+
+from rezovamy_runs.streams.session_json import JsonObject
+from rezovamy_runs.streams.targets import own_names
 
 LINE = re.compile(r"(run|skip|gone) ([^ ]*) (.*)")
-# A binary by the names that cargo.target_of gives; no word of it can be taken for an option.
+# A binary by the names that `targets.target_of` gives; no word of it can be taken for an option.
 BINARY = re.compile(
     r"(?P<package>\w[\w-]*)(?:::(?:(?P<kind>bin|example|bench|doc)/)?(?P<name>\w[\w.-]*))?"
 )
-# A command line above some megabytes isn't started; the names of more tests than this go into another one.
+# A command line above some megabytes isn't started; the names of more tests than this go into
+# another one.
 MOST_BYTES = 500_000
+
+TestNames = dict[str, list[str]]
 
 
 class NoPlan(Exception):
@@ -20,37 +29,39 @@ class NoPlan(Exception):
 
 @dataclasses.dataclass
 class Plan:
-    """What is to be run again after a run: the information for the head of the next run, and the names of tests by binary.
+    """What is to be run again after a run, by binary; the information is for the next run's head.
 
-    The tests of the run's list are those of `run` and of `skip`; those of `gone` have not passed, and the list lacks them. Those
-    of `forgotten` were taken out of `run`. Of a rerun that is the same build as the run before, `is_same_build` says so.
+    The tests of the run's list are those of `run` and of `skip`; those of `gone` have not passed,
+    and the list lacks them. Those of `forgotten` were taken out of `run`. Of a rerun that is the
+    same build as the run before, `is_same_build` says so.
     """
 
-    info: dict
-    run: dict = dataclasses.field(default_factory=dict)
-    skip: dict = dataclasses.field(default_factory=dict)
-    gone: dict = dataclasses.field(default_factory=dict)
-    forgotten: dict = dataclasses.field(default_factory=dict)
+    info: JsonObject
+    run: TestNames = dataclasses.field(default_factory=dict)
+    skip: TestNames = dataclasses.field(default_factory=dict)
+    gone: TestNames = dataclasses.field(default_factory=dict)
+    forgotten: TestNames = dataclasses.field(default_factory=dict)
     is_same_build: bool = False
 
-    def forget(self, binary, names):
-        """Lets tests of a binary be run no more."""
+    def forget(self, binary_id: str, names: Collection[str]) -> None:
+        """Let tests of a binary be run no more."""
         if names:
-            self.forgotten.setdefault(binary, []).extend(names)
-            left = [name for name in self.run.pop(binary) if name not in set(names)]
-            self.run.update({binary: left} if left else {})
+            forgotten = set(names)
+            self.forgotten.setdefault(binary_id, []).extend(names)
+            left = [name for name in self.run.pop(binary_id) if name not in forgotten]
+            self.run.update({binary_id: left} if left else {})
 
-    def listed(self, suites):
-        """The test list of the run together with these tests, by binary."""
-        names = {}
+    def listed(self, suites: Mapping[str, Sequence[str]]) -> TestNames:
+        """Return the test list of the run together with these tests, by binary."""
+        names: dict[str, dict[str, None]] = {}
         for part in (self.run, self.skip, suites):
-            for binary, tests in part.items():
-                names.setdefault(binary, {}).update(dict.fromkeys(tests))
-        return {binary: list(tests) for binary, tests in names.items()}
+            for binary_id, tests in part.items():
+                names.setdefault(binary_id, {}).update(dict.fromkeys(tests))
+        return {binary_id: list(tests) for binary_id, tests in names.items()}
 
 
-def read(text):
-    """The plan that a text of `rerun` is."""
+def read(text: str) -> Plan:
+    """Return the plan that a text of `rerun` is."""
     first, *lines = text.removesuffix("\n").split("\n")
     try:
         info = json.loads(first)
@@ -59,54 +70,59 @@ def read(text):
     if not isinstance(info, dict) or "parent-run-id" not in info:
         raise NoPlan("line 1 has no rerun information")
     plan = Plan(info)
+    tests = {"run": plan.run, "skip": plan.skip, "gone": plan.gone}
     for number, line in enumerate(lines, 2):
         found = LINE.fullmatch(line)
         if found is None:
             raise NoPlan(f"line {number} names no test")
-        getattr(plan, found[1]).setdefault(found[2], []).append(found[3])
+        tests[found[1]].setdefault(found[2], []).append(found[3])
     return plan
 
 
-@dataclasses.dataclass
+@dataclasses.dataclass(frozen=True)
 class Selection:
-    """One run of cargo: the words that name a test binary, and those that name its tests; without the second all of it runs."""
+    """One run of cargo: the words that name a test binary, and those that name its tests.
 
-    target: list
-    tests: list
+    Without the second all of it runs.
+    """
 
-    def words(self, given):
-        """The words of `cargo test`, where others are given; after a word `--` are those for the binaries."""
+    target: list[str]
+    tests: list[str]
+
+    def words(self, given: list[str]) -> list[str]:
+        """Return the words of `cargo test`, where others are given.
+
+        After a word `--` are those for the binaries.
+        """
         place = given.index("--") if "--" in given else len(given)
         after = [*given[place + 1 :], *self.tests]
         return [*given[:place], *self.target, *(["--", *after] if after else [])]
 
 
-def target_of(binary):
-    """The words by which cargo runs a binary alone; None where it has none, as for a build."""
-    found = BINARY.fullmatch(binary)
+def target_words(binary_id: str) -> list[str] | None:
+    """Return the words by which cargo runs a binary alone; None where it has none."""
+    found = BINARY.fullmatch(binary_id)
     if found is None:
         return None
     kind, name = found["kind"], found["name"]
+    package = ["-p", found["package"]]
     if kind == "doc":
-        words = ["--doc"]
-    else:
-        words = [f"--{kind or 'test'}", name] if name else ["--lib"]
-    return ["-p", found["package"], *words]
+        return [*package, "--doc"]
+    return [*package, f"--{kind or 'test'}", name] if name else [*package, "--lib"]
 
 
-def own_names(binary):
-    """The names that a test has by which a binary itself failed, the likeliest first."""
-    return [binary.rpartition("::")[2].rpartition("/")[2], binary, f"({binary})"]
+def runs_whole(binary_id: str, names: Collection[str]) -> bool:
+    """Return whether all of a binary runs.
+
+    Cargo takes no names of doctests, and a binary that failed by itself runs as it did.
+    """
+    return "::doc/" in binary_id or not set(names).isdisjoint(own_names(binary_id))
 
 
-def runs_whole(binary, names):
-    """Whether all of a binary runs: cargo takes no names of doctests, and a binary that failed by itself runs as it did."""
-    return "::doc/" in binary or not set(names).isdisjoint(own_names(binary))
-
-
-def parts_of(names):
-    """The names in parts, of which each fits a command line."""
-    parts, size = [[]], 0
+def parts_of(names: list[str]) -> list[list[str]]:
+    """Split the names into parts, of which each fits a command line."""
+    parts: list[list[str]] = [[]]
+    size = 0
     for name in names:
         size += len(os.fsencode(name)) + 1
         if size > MOST_BYTES and parts[-1]:
@@ -116,75 +132,78 @@ def parts_of(names):
     return parts
 
 
-def exact(names):
-    """The words that have libtest run the tests of these names alone."""
+def exact(names: list[str]) -> list[str]:
+    """Return the words that have libtest run the tests of these names alone."""
     ends_options = ["--"] if any(name.startswith("-") for name in names) else []
     return ["--exact", *ends_options, *names]
 
 
-def selections(plan):
-    """The runs of cargo that run the tests of a plan again, in the order of the binaries."""
+def selections(plan: Plan) -> list[Selection]:
+    """Return the runs of cargo that run the tests of a plan again, in the order of the binaries."""
     found = []
-    for binary, names in plan.run.items():
-        target = target_of(binary)
-        if target and runs_whole(binary, names):
+    for binary_id, names in plan.run.items():
+        target = target_words(binary_id)
+        if target and runs_whole(binary_id, names):
             found.append(Selection(target, []))
         elif target:
             found += [Selection(target, exact(part)) for part in parts_of(names)]
     return found
 
 
-def is_nameless(plan):
-    """Whether there is a test to run again of what cargo can't be asked for."""
-    return any(target_of(binary) is None for binary in plan.run)
+def is_nameless(plan: Plan) -> bool:
+    """Return whether there is a test to run again of what cargo can't be asked for."""
+    return any(target_words(binary_id) is None for binary_id in plan.run)
 
 
-def not_found(plan, suites):
-    """A line for each binary with tests of a plan that a run of them lacks, of which cargo says nothing; `suites` are its tests."""
+def not_found(plan: Plan, suites: Mapping[str, Sequence[str]]) -> list[str]:
+    """Return a line for each binary with tests of a plan that a run lacks; `suites` are its tests.
+
+    Cargo says nothing of these.
+    """
     found = []
-    for binary, names in plan.run.items():
-        is_asked = target_of(binary) and not runs_whole(binary, names)
-        there = set(suites.get(binary, ()))
+    for binary_id, names in plan.run.items():
+        is_asked = target_words(binary_id) and not runs_whole(binary_id, names)
+        there = set(suites.get(binary_id, ()))
         lacking = [name for name in names if name not in there] if is_asked else []
         if lacking:
-            found.append(
-                f"{binary} {first_of(lacking)}: no test of this name is there, as it is built now, so that it didn't run"
-            )
+            didnt_run = "no test of this name is there, as it is built now, so that it didn't run"
+            found.append(f"{binary_id} {first_of(lacking)}: {didnt_run}")
     return found
 
 
-def first_of(names):
-    """The first of the names, and how many more there are."""
+def first_of(names: Sequence[str]) -> str:
+    """Return the first of the names, and how many more there are."""
     return f"{names[0]}, and {len(names) - 1} more of it" if len(names) > 1 else names[0]
 
 
-def remarks(plan):
-    """What the runs of cargo don't do as they should, a line each."""
+def remarks(plan: Plan) -> list[str]:
+    """Return what the runs of cargo don't do as they should, a line each."""
     found = []
-    for binary, names in plan.run.items():
-        if target_of(binary) is None:
-            found.append(
-                f"{binary} {names[0]}: cargo has no word for it alone; run all tests again"
-            )
-        elif "::doc/" in binary and plan.skip.get(binary):
-            found.append(
-                f"{binary}: cargo can't be given the names of doctests, so that all of them run"
-            )
-        elif runs_whole(binary, names) and plan.skip.get(binary):
-            found.append(
-                f"{binary}: it may have failed by its own name, so that all of its tests run"
-            )
-    for binary, names in gone_tests(plan).items():
-        found.append(
-            f"{binary} {first_of(names)}: the run's test list lacks it, so that it isn't run"
-        )
+    for binary_id, names in plan.run.items():
+        if target_words(binary_id) is None:
+            nameless = "cargo has no word for it alone; run all tests again"
+            found.append(f"{binary_id} {names[0]}: {nameless}")
+        elif "::doc/" in binary_id and plan.skip.get(binary_id):
+            whole = "cargo can't be given the names of doctests, so that all of them run"
+            found.append(f"{binary_id}: {whole}")
+        elif runs_whole(binary_id, names) and plan.skip.get(binary_id):
+            whole = "it may have failed by its own name, so that all of its tests run"
+            found.append(f"{binary_id}: {whole}")
+    for binary_id, names in gone_tests(plan).items():
+        lacks = "the run's test list lacks it, so that it isn't run"
+        found.append(f"{binary_id} {first_of(names)}: {lacks}")
     return found
 
 
-def gone_tests(plan):
-    """The tests that are gone, without the failures of binaries themselves that have run well since: these list their tests."""
+def gone_tests(plan: Plan) -> TestNames:
+    """Return the tests that are gone.
+
+    Failures of binaries themselves that have run well since aren't among them: these list their
+    tests.
+    """
     found = {}
-    for binary, names in plan.gone.items():
-        own = own_names(binary) if binary in plan.run or binary in plan.skip else []
-        found[binary] = [name for name in names if name not in own]
-    return {binary: names for binary, names in found.items() if names}
+    for binary_id, names in plan.gone.items():
+        is_known = binary_id in plan.run or binary_id in plan.skip
+        own = own_names(binary_id) if is_known else []
+        found[binary_id] = [name for name in names if name not in own]
+    return {binary_id: names for binary_id, names in found.items() if names}

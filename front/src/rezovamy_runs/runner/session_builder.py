@@ -1,111 +1,139 @@
-"""Makes a session of the lines of a test run while they come, by what front/session_from_libtest is made of."""
+"""Makes a session of the lines of a test run while they come."""
 
-import argparse
+from __future__ import annotations
+
 import dataclasses
 import hashlib
-import re
 import uuid
 
-from rezovamy_runs.streams import verdicts
-from rezovamy_runs.streams import session_writer
-from rezovamy_runs.streams.cargo import Targets
-from rezovamy_runs.streams.reader import Reader
-from rezovamy_runs.streams.state import SECOND, Clock, arrivals
-from rezovamy_runs.streams.session_json import text
-from rezovamy_runs.runner import missing_tests
 from rezovamy_runs.faults.fault import Fault
+from rezovamy_runs.runner import missing_tests
+from rezovamy_runs.runner.rerun_plan import Plan
+from rezovamy_runs.streams import verdicts
+from rezovamy_runs.streams.clock import Clock
+from rezovamy_runs.streams.reader import Reader
+from rezovamy_runs.streams.run_state import CancelReason, Messages
+from rezovamy_runs.streams.session_json import JsonObject, text
+from rezovamy_runs.streams.session_writer import (
+    CANCELLED_STATUS,
+    NEXTEST_FAILED,
+    NEXTEST_VERSION,
+    SessionLines,
+    SessionOptions,
+    Suites,
+    session_lines,
+)
+from rezovamy_runs.streams.targets import Targets
 
-NEXTEST_VERSION = "0.9.111"
-OWN_WORDS = re.compile(r"session_from_libtest: (.*)", re.S)
 # What cargo answers of words that it doesn't take; of a build that fails it is another status.
 REFUSED = 1
-UNKNOWN = re.compile(r"\d+ lines are no event of a run")
 
 
-@dataclasses.dataclass
+@dataclasses.dataclass(frozen=True)
 class Session:
-    """The session of a run, the status with which its tests ended, and the tests that ran or were skipped, by binary."""
+    """The session of a run, and the status with which its tests ended.
+
+    `suites` are the tests that ran or were skipped, by binary.
+    """
 
     run_id: str
     data: bytes
     status: int
-    suites: dict
+    suites: Suites
 
 
-def spoken(say):
-    """Says what the reader says, but for its count of lines that aren't events, of which cargo prints many."""
+class SessionBuilder:
+    """Reads the lines of a run, and makes a session of them.
 
-    def hand_on(line):
-        own = OWN_WORDS.fullmatch(line)
-        if own is None:
-            say(line)
-        elif not UNKNOWN.fullmatch(own[1]):
-            say(f"rezovamy-runs: {own[1]}")
+    Where the instants aren't those at which lines come, the same lines give the same run id.
+    """
 
-    return hand_on
+    def __init__(self, clock: Clock, output: Messages, targets: Targets | None = None) -> None:
+        self.reader = Reader(clock, output, targets or Targets())
+        self._digest = hashlib.sha256()
+        self._is_repeatable = clock.source is None
 
-
-class Following:
-    """Reads the lines of a run. Without a start its instants are those at which the lines come."""
-
-    def __init__(self, say, start=None):
-        clock = Clock(arrivals(), 0) if start is None else Clock(None, start * SECOND)
-        self.reader = Reader(clock, spoken(say), Targets())
-        self.digest = hashlib.sha256()
-        self.is_kept = start is not None
-
-    def read(self, line):
-        """Takes the next line, as bytes."""
-        self.digest.update(line)
+    def read(self, line: bytes) -> None:
+        """Take the next line."""
+        self._digest.update(line)
         self.reader.read(line)
 
-    def session(self, status, broken, profile, cli_args, plan=None):
-        """The session of the lines that came, of a rerun with its plan. The status is cargo's, None where it isn't known."""
-        self.reader.broken = broken
-        self.reader.finish(status)
-        if self.reader.first is None and broken:
+    def finish(self, status: int | None, cancel_reason: CancelReason | None) -> None:
+        """Take the end of the lines. The status is cargo's, None where it isn't known."""
+        self.reader.finish(status, cancel_reason)
+
+    def has_events(self) -> bool:
+        """Return whether a line was an event of a run."""
+        return self.reader.run.first_event is not None
+
+    def has_failed_build(self) -> bool:
+        """Return whether a build failed."""
+        return any(test.name == verdicts.BUILD for test in self.reader.run.timeline.tests)
+
+    def run_id(self) -> str:
+        """Return an id for the run."""
+        if self._is_repeatable:
+            return str(uuid.uuid5(uuid.NAMESPACE_OID, self._digest.hexdigest()))
+        return str(uuid.uuid4())
+
+    def lines(self, options: SessionOptions) -> SessionLines:
+        """Return the lines of the session, once they are finished."""
+        return session_lines(self.reader.run, options)
+
+    def session(
+        self,
+        status: int | None,
+        cancel_reason: CancelReason | None,
+        profile: str,
+        cli_args: list[str],
+        plan: Plan | None = None,
+    ) -> Session:
+        """Return the session of the lines that came, of a rerun with its plan.
+
+        It is a fault where there is nothing to record. The status is cargo's, None where it isn't
+        known.
+        """
+        self.finish(status, cancel_reason)
+        self._refuse_nothing(status)
+        if plan:
+            missing_tests.forget_tests(plan, self.reader.run)
+        run_id = self.run_id()
+        # Cargo answers 0 where a test ended its process with 0, and that test has failed.
+        exit_code = status or None
+        made = self.lines(SessionOptions(run_id, profile, NEXTEST_VERSION, exit_code, cli_args))
+        head = {**made.head, **(members_of_rerun(plan, made.suites) if plan else {})}
+        data = "".join(f"{text(value)}\n" for value in (head, *made.events)).encode()
+        # Where the end of a run of `nextest` wasn't told, the status is that of what was seen.
+        seen = status or (NEXTEST_FAILED if self.reader.run.has_failures() else 1)
+        ended = seen if made.exit_code is None else made.exit_code
+        return Session(run_id, data, ended, made.suites)
+
+    def _refuse_nothing(self, status: int | None) -> None:
+        """Raise the fault of a run in which no test ran and no build was tried."""
+        run = self.reader.run
+        if not self.has_events() and run.cancel_reason:
             raise Fault(
                 "the run was broken off before a test ran, so nothing is recorded",
-                session_writer.BROKEN[broken],
+                CANCELLED_STATUS[run.cancel_reason],
             )
-        if self.reader.first is None:
-            raise Fault(
-                "no test ran, so nothing is recorded: see what stands above, and what was asked for",
-                status or 1,
-            )
-        if status == REFUSED and all(run.name == verdicts.BUILD for run in self.reader.runs):
+        if not self.has_events():
+            nothing = "no test ran, so nothing is recorded"
+            raise Fault(f"{nothing}: see what stands above, and what was asked for", status or 1)
+        if status == REFUSED and all(test.name == verdicts.BUILD for test in run.timeline.tests):
             # Nothing was built, so no build is said to have failed.
-            self.reader.runs.clear()
+            run.timeline.tests.clear()
             raise Fault(
-                "cargo didn't take its words, so nothing is recorded: see what stands above, and correct them",
+                "cargo didn't take its words, so nothing is recorded: "
+                "see what stands above, and correct them",
                 status,
             )
-        # Cargo answers 0 where a test ended its process with 0, and that test has failed.
-        words = argparse.Namespace(
-            status=status or None, profile=profile, nextest_version=NEXTEST_VERSION
-        )
-        run_id = str(
-            uuid.uuid5(uuid.NAMESPACE_OID, self.digest.hexdigest())
-            if self.is_kept
-            else uuid.uuid4()
-        )
-        if plan:
-            missing_tests.forget_tests(plan, self.reader)
-        head, started, *events = session_writer.session(self.reader, words, run_id)
-        suites = head["test-list"]["suites"]
-        head = {**head, "cli-args": cli_args, **(members_of_rerun(plan, suites) if plan else {})}
-        started = {**started, "cli-args": cli_args}
-        data = "".join(text(value) + "\n" for value in (head, started, *events)).encode()
-        return Session(run_id, data, self.status_of(head["status"], status), suites)
-
-    def status_of(self, ended, status):
-        """The status of the tests; where the end of a run of `nextest` wasn't told, that of what was seen."""
-        seen = 100 if any(run.has_failed() for run in self.reader.runs) else 1
-        return ended.get("exit-code", status or seen)
 
 
-def members_of_rerun(plan, suites):
-    """What the head of a rerun has besides: which run it reruns with what came of it, and that run's tests in the test list."""
+def members_of_rerun(plan: Plan, suites: Suites) -> JsonObject:
+    """Return what the head of a rerun has besides.
+
+    It is which run it reruns with what came of it, and that run's tests in the test list.
+    """
     return {
         "parent-run-id": plan.info["parent-run-id"],
         "rerun-info": plan.info,

@@ -1,5 +1,7 @@
 """What went wrong in a test, in the words of its output."""
 
+from __future__ import annotations
+
 import re
 
 from rezovamy_runs.escapes import without_escapes
@@ -10,37 +12,45 @@ ERROR = re.compile(r"^(?:Error: |error(?:\[\w+\])?: |Test executable failed )", 
 LONGEST = 2000
 
 
-def errors_of(output, message):
-    """The errors of a failed test, the first of them in one line: what libtest says of it, and what its output shows."""
+def errors_of(output: str, message: str | None) -> list[str]:
+    """Return the errors of a failed test, the first of them in one line.
+
+    They are what libtest says of it, and what its output shows.
+    """
     errors = [] if message is None else in_lines(message)
     found = panic(output) or error(output)
     return errors + [line for line in found if line not in errors]
 
 
-def in_lines(text):
-    """The first line of a text, and the rest of it, where there is one."""
+def in_lines(text: str) -> list[str]:
+    """Split a text into its first line, and the rest of it, where there is one."""
     first, _, rest = cut(without_escapes(text).strip()).partition("\n")
     return [part.rstrip() for part in (first, rest) if part.strip()]
 
 
-def panic(output):
-    """The last panic in an output: where it was, with the first line of its message, and the rest of that."""
-    found = None
-    for found in PANIC.finditer(without_escapes(output)):
+def panic(output: str) -> list[str]:
+    """Return the last panic in an output.
+
+    First comes where it was, with the first line of its message, and then the rest of that.
+    """
+    text, found = without_escapes(output), None
+    for found in PANIC.finditer(text):
         pass
     if found is None:
         return []
-    message = PANIC_END.split(found.string[found.end() :], maxsplit=1)[0].strip("\n")
+    message = PANIC_END.split(text[found.end() :], maxsplit=1)[0].strip("\n")
     first, _, rest = cut(message).partition("\n")
     place = found[1].strip()
     return [f"panicked at {place} {first}".rstrip()] + ([rest.rstrip()] if rest.strip() else [])
 
 
-def error(output):
-    """What a test that answers an error prints, and a doctest that can't be built or ends without a panic."""
-    found = ERROR.search(without_escapes(output))
-    return in_lines(found.string[found.start() :]) if found else []
+def error(output: str) -> list[str]:
+    """Return what a test that answers an error prints, or a doctest that ends without a panic."""
+    text = without_escapes(output)
+    found = ERROR.search(text)
+    return in_lines(text[found.start() :]) if found else []
 
 
-def cut(text):
+def cut(text: str) -> str:
+    """Return the text, or its begin where it is long."""
     return text if len(text) <= LONGEST else text[:LONGEST] + " .."

@@ -1,5 +1,7 @@
 """The JSON of a session: its head, its events, and what they have in common."""
 
+from __future__ import annotations
+
 import json
 
 RUN_ID = "550e8400-e29b-41d4-a716-446655440000"
@@ -25,26 +27,32 @@ COUNTS = [
     "skipped",
 ]
 
+JsonObject = dict[str, object]
 
-def text(value):
-    """The compact text of a value, its keys in order."""
+
+def text(value: object) -> str:
+    """Return the compact text of a value, its keys in order."""
     return json.dumps(value, separators=(",", ":"), sort_keys=True)
 
 
-def instant(seconds, nanoseconds=0):
+def instant(seconds: int, nanoseconds: int = 0) -> dict[str, int]:
+    """Return an instant of UTC."""
     return {"secs": seconds, "nanos": nanoseconds, "offset": 0}
 
 
-def span(seconds):
-    return {"secs": seconds, "nanos": 0}
+def span(seconds: int, nanoseconds: int = 0) -> dict[str, int]:
+    """Return a length of time."""
+    return {"secs": seconds, "nanos": nanoseconds}
 
 
-def stats(count):
+def stats(count: int) -> dict[str, int]:
+    """Return the numbers of a run of so many tests, none of which has ended."""
     return {**dict.fromkeys(COUNTS, 0), "initial-run-count": count}
 
 
-def head(count, binaries=4):
-    suites = {}
+def head(count: int, binaries: int = 4) -> JsonObject:
+    """Return the head of a session of so many tests, which stand in so many binaries by turns."""
+    suites: dict[str, list[str]] = {}
     for i in range(count):
         suites.setdefault(f"bin-{i % binaries}", []).append(f"t{i}")
     return {
@@ -60,6 +68,7 @@ def head(count, binaries=4):
     }
 
 
-def event(kind, at, **fields):
+def event(kind: str, at: dict[str, int], **fields: object) -> JsonObject:
+    """Return an event. Its members are named with `_` for `-`."""
     members = {name.replace("_", "-"): value for name, value in fields.items()}
     return {"timestamp": at, "elapsed": span(0), "kind": kind, **members}

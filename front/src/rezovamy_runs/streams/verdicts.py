@@ -1,16 +1,31 @@
-"""What is made of a binary that has ended, and of the end of a run: nothing that failed may look as if it hadn't."""
+"""What is made of a binary that has ended, and of the end of a run.
 
-import bisect
+Nothing that failed may look as if it hadn't.
+"""
+
+from __future__ import annotations
+
 import re
 
 from rezovamy_runs.escapes import without_escapes
-from rezovamy_runs.runner import rerun_plan
-from rezovamy_runs.streams.cargo import NOT_COMPILED, Target
-from rezovamy_runs.streams.state import FAILED, Ending, Mark, TestRun, bytes_of, spelled
+from rezovamy_runs.streams import suite_checks
+from rezovamy_runs.streams.cargo_output import NOT_COMPILED
+from rezovamy_runs.streams.run_state import RunState
+from rezovamy_runs.streams.targets import Target, own_names
+from rezovamy_runs.streams.test_runs import (
+    FAILED,
+    PASSED,
+    BinaryRun,
+    Ending,
+    Mark,
+    Result,
+    TestRun,
+)
+from rezovamy_runs.streams.texts import printable, to_bytes
+from rezovamy_runs.streams.timeline import end_attempt
 
-PASSED = Ending(0, None, None, "exit status: 0")
 BUILD, RUN = "(build)", "(run)"
-CARGO = Target("(cargo)", None, None)
+CARGO = Target("(cargo)")
 LONGEST = 4000
 SIGNALS = 64
 # What parsers of words say of one that they don't know, among those that ask libtest for events.
@@ -22,293 +37,204 @@ REFUSES = re.compile(
 FOR_PEOPLE = re.compile(r"running \d+ tests?\s*")
 
 
-def is_suites_end(suite):
-    """Whether a line ends this suite. While a test runs it is that of a suite which the test prints, unless all have ended
-    that were announced: the others are made up then."""
-    lost = suite.lost()
-    if lost and suite.depth:
-        suite.depth -= 1
-        return False
-    return not lost or len(suite.runs) - len(lost) >= suite.count
+def judge(run: RunState, binary: BinaryRun, silent: Ending) -> None:
+    """Judge a binary that has ended.
 
-
-def out_of_order(suite, runs):
-    """Those of the tests that stand outside of the longest row whose names ascend, as libtest starts tests."""
-    tops, names, links = [], [], []
-    for place, run in enumerate(runs if suite.is_sorted else []):
-        level = bisect.bisect_left(names, run.name)
-        links.append(tops[level - 1] if level else None)
-        tops[level : level + 1], names[level : level + 1] = [place], [run.name]
-    row, place = set(), tops[-1] if tops else None
-    while place is not None:
-        row.add(place)
-        place = links[place]
-    return [run for place, run in enumerate(runs) if suite.is_sorted and place not in row]
-
-
-def made_up(suite):
-    """The tests that a suite has beyond the number that it announced, where something tells which they are."""
-    finds = (
-        lambda runs: suite.inner,
-        lambda runs: [run for run in runs if suite.has_ended and run.is_open()],
-        lambda runs: out_of_order(suite, runs),
-    )
-    runs, doubtful = suite.runs, []
-    for find in finds:
-        found = set(find(runs) if len(runs) > suite.count else [])
-        if len(runs) - len(found) >= suite.count:
-            doubtful += [run for run in runs if run in found]
-            runs = [run for run in runs if run not in found]
-    return doubtful
-
-
-def drop_made_up(reader, binary, suite):
-    """Takes back the tests that only a test's output has begun."""
-    for run in made_up(suite):
-        suite.runs.remove(run)
-        reader.take_back(run)
-        reader.note(
-            f"{binary.id} {run.name} is no test of its suite; another one printed its lines"
-        )
-    surplus = len(suite.runs) - suite.count
-    if surplus > 0:
-        reader.note(
-            f"{binary.id} has {surplus} tests more than its suite announced; which are made up can't be told"
-        )
-
-
-def settle_ends(reader, binary, suite):
-    """Gives the end that came before to tests that ended twice, where the number of failures at the suite's end says so."""
-    failed = [run for run in suite.runs if run.has_failed()]
-    surplus = len(failed) - suite.counted.get("failed", len(failed))
-    runs = (
-        failed
-        if surplus > 0
-        else [run for run in suite.runs if not (run.skipped or run.is_open() or run.has_failed())]
-    )
-    others = {run: other_end(run.attempts[-1]) for run in runs} if surplus else {}
-    doubtful = [run for run, other in others.items() if other]
-    if surplus and len(doubtful) == abs(surplus):
-        for run in doubtful:
-            run.attempts[-1].take_end_of(others[run])
-            reader.note(
-                f"{binary.id} {run.name}: its first end counts, by the number of failures at the end of the suite"
-            )
-
-
-def other_end(attempt):
-    """The last end of an attempt that says otherwise than its end does, None where there is none."""
-    passed = attempt.result == "passed"
-    return next(
-        (other for other in reversed(attempt.ends) if (other.result == "passed") != passed), None
-    )
-
-
-def end_by_numbers(reader, binary):
-    """Ends a suite whose end came while tests of it seemed to run, where its numbers leave nothing for these but to have passed.
-
-    A test that lets its standard output go elsewhere for a while takes the lines of others with it.
+    Where cargo says nothing of it, `silent` is how its process ended.
     """
-    suite = binary.suite
-    counted, lost = suite.last_counted or {}, suite.lost()
-    failed, skipped = (
-        sum(map(is_so, suite.runs)) for is_so in (TestRun.has_failed, TestRun.is_skipped)
-    )
-    passed = len(suite.runs) - len(lost) - failed - skipped
-    left = counted.get("passed", 0) + counted.get("measured", 0) - passed
-    if (counted.get("failed"), counted.get("ignored"), left) != (
-        failed,
-        skipped,
-        len(lost) + suite.unseen(),
-    ):
+    if binary.is_judged or binary.prefix:
         return
-    for run in lost:
-        time, line = suite.counted_at
-        reader.close(
-            run.attempts[-1], Mark(max(time, run.attempts[-1].start.time), line), "passed", None
-        )
-    suite.has_ended, suite.counted, suite.count = True, counted, len(suite.runs)
-    reader.note(
-        f"{binary.id}: no line says that {left} of its tests ended; they passed, by the numbers at the end of its suite"
-    )
-
-
-def leave(reader, binary, silent):
-    """Judges a binary that has ended. Where cargo said nothing of it, `silent` is how its process ended."""
-    if binary.has_left or binary.prefix:
-        return
-    binary.has_left = True
-    reader.resolve(binary)
-    if binary.suite and not binary.failed_at and (reader.announces or silent == PASSED):
-        end_by_numbers(reader, binary)
+    binary.is_judged = True
+    binary.keep_id()
+    if binary.suite and not binary.failed_at and (run.has_announcements or silent == PASSED):
+        suite_checks.end_by_numbers(run, binary)
     for suite in binary.suites:
-        drop_made_up(reader, binary, suite)
-        settle_ends(reader, binary, suite)
-    if reader.broken:
+        suite_checks.drop_made_up(run, binary, suite)
+        suite_checks.choose_ends(run, binary, suite)
+    if run.cancel_reason:
         if not binary.suites and not binary.failed_at:
-            own_test(reader, binary)
+            start_own_test(run, binary)
         return
-    ending = binary.ending or (FAILED if binary.failed_at else silent)
-    lost = binary.lost()
-    faults = [] if lost else faults_of(binary)
-    for run in lost:
-        end(reader, binary, run, "failed", ending, lost_errors(binary, lost, run, ending))
-    if not binary.suites and any(FOR_PEOPLE.fullmatch(words) for words in binary.text):
-        reader.note(
-            f"{binary.id} says for people which tests run; -- -Z unstable-options --format json says it for programs"
+    if not binary.suites and any(FOR_PEOPLE.fullmatch(text) for text in binary.text):
+        run.warn(
+            f"{binary.id} says for people which tests run; "
+            "-- -Z unstable-options --format json says it for programs"
         )
+    end_binary(run, binary, binary.ending or (FAILED if binary.failed_at else silent))
+
+
+def end_binary(run: RunState, binary: BinaryRun, ending: Ending) -> None:
+    """End the tests that ran when a binary ended, or else a test by its own name, if it has one."""
+    running = binary.running()
+    for test in running:
+        errors = errors_of_crash(binary, running, test, ending)
+        end_test(run, binary, test, "failed", ending, errors)
+    faults = [] if running else faults_of(binary)
     if faults or not binary.suites:
-        run = own_test(reader, binary)
-        end(reader, binary, run, "failed" if faults else "passed", ending, faults)
-        run.attempts[-1].output = output_of(binary.text)
+        test = start_own_test(run, binary)
+        end_test(run, binary, test, "failed" if faults else "passed", ending, faults)
+        test.last.output = output_of(binary.text)
 
 
-def lost_errors(binary, lost, run, ending):
-    """What is said of a test that ran when its binary ended."""
-    others = [other.name for other in lost if other is not run]
-    beside = (
-        f"Beside it ran {', '.join(others[:9])}{' ..' * (len(others) > 9)}."
-        if others
-        else "No other test ran beside it."
-    )
-    printed = both_ends(without_escapes(spelled("".join(binary.text))).strip())
+def errors_of_crash(
+    binary: BinaryRun, running: list[TestRun], test: TestRun, ending: Ending
+) -> list[str]:
+    """Return what is said of a test that ran when its binary ended."""
+    others = [other.name for other in running if other is not test]
+    beside = "No other test ran beside it."
+    if others:
+        beside = f"Beside it ran {', '.join(others[:9])}{' ..' * (len(others) > 9)}."
+    printed = both_ends(without_escapes(printable("".join(binary.text))).strip())
     how = ending.words or "no line says how"
-    return [f"the test binary ended while this test ran: {how}", beside] + (
-        [f"What the binary printed outside of tests:\n{printed}"] if printed else []
-    )
+    errors = [f"the test binary ended while this test ran: {how}", beside]
+    if printed:
+        errors.append(f"What the binary printed outside of tests:\n{printed}")
+    return errors
 
 
-def both_ends(text):
-    """The text, or its begin and its end where it is long: a crash says at its begin why it came, and at its end how."""
+def both_ends(text: str) -> str:
+    """Return the text, or its begin and its end where it is long.
+
+    A crash says at its begin why it came, and at its end how.
+    """
     half = LONGEST // 2
     left_out = len(text) - 2 * half
-    return (
-        text
-        if left_out <= 0
-        else f"{text[:half]}\n.. {left_out} characters are left out ..\n{text[-half:]}"
-    )
+    if left_out <= 0:
+        return text
+    return f"{text[:half]}\n.. {left_out} characters are left out ..\n{text[-half:]}"
 
 
-def faults_of(binary):
-    """Why a binary counts as failed by itself, although none of its tests ran when it ended."""
-    failed = [run for run in binary.runs() if run.has_failed()]
+def faults_of(binary: BinaryRun) -> list[str]:
+    """Return why a binary failed by itself, although none of its tests ran when it ended."""
+    failed = sum(test.has_failed() for test in binary.tests())
     faults = []
     if binary.suite:
-        announced, unseen = binary.suite.count, binary.suite.unseen()
-        faults.append(
-            f"the test binary ended before its suite did; {unseen} of its {announced} tests never started"
-        )
-    counted = sum(suite.counted.get("failed", 0) for suite in binary.suites)
-    if counted > len(failed):
-        faults.append(
-            f"{counted} tests failed by the number at the end of the suite, {len(failed)} by their lines"
-        )
+        unseen = f"{binary.suite.unseen()} of its {binary.suite.count} tests never started"
+        faults.append(f"the test binary ended before its suite did; {unseen}")
+    counted = sum(suite.counts.failed or 0 for suite in binary.suites)
+    if counted > failed:
+        by_lines = f"{failed} by their lines"
+        faults.append(f"{counted} tests failed by the number at the end of the suite, {by_lines}")
     if binary.ending:
         faults.append(f"the process ended with {binary.ending.words}")
     if binary.failed_at and not (failed or faults):
         faults.append("cargo says that the target failed")
     if faults and not binary.suites and REFUSES.search(without_escapes("".join(binary.text))):
         faults.append(
-            "it has no libtest, and refuses the words that ask libtest for events: run it apart, by `cargo test` alone"
+            "it has no libtest, and refuses the words that ask libtest for events: "
+            "run it apart, by `cargo test` alone"
         )
     return faults
 
 
-def own_test(reader, binary, name=None):
-    """Starts a test by the binary's own name, or by its whole id or that in brackets where a test of this name ran."""
-    names = rerun_plan.own_names(binary.id)
+def start_own_test(run: RunState, binary: BinaryRun, name: str | None = None) -> TestRun:
+    """Start a test by a name, or by the binary's own.
+
+    Where a test of this name ran, it is the binary's whole id, or that in brackets.
+    """
+    names = own_names(binary.id)
     names = [name or names[0], *names[1:]]
-    taken = {run.name for run in binary.runs()}
+    taken = {test.name for test in binary.tests()}
     name = next((name for name in names if name not in taken), names[-1])
-    last = reader.latest.get((binary.id, name))
-    binary.add_suite(1)
-    if last is not None and last.has_failed():
-        binary.suites[-1].add(last)
-        reader.reach(last, len(last.attempts) + 1, binary.start.time)
-    run = (
-        last
-        if last is not None and last.is_open()
-        else reader.new_run(binary, name, binary.start.time)
-    )
-    run.attempts[-1].start = run.attempts[-1].start._replace(line=binary.start.line)
-    return run
+    timeline, begin = run.timeline, binary.start.time
+    test = timeline.latest.get((binary.id, name))
+    suite = binary.add_suite(1)
+    if test is not None and test.has_failed():
+        suite.add(test)
+        timeline.open_attempt(test, len(test.attempts) + 1, begin)
+    if test is None or not test.is_running():
+        test = timeline.add_test(binary, name, begin)
+    test.last.start = Mark(test.last.start.time, binary.start.line)
+    return test
 
 
-def end(reader, binary, run, result, ending, errors):
-    """Ends the last attempt of a test where cargo said that its binary failed, where another one was announced, or else now."""
-    attempt = run.attempts[-1]
-    time, line = binary.failed_at or binary.left_at or reader.now()
-    reader.close(attempt, Mark(max(time, attempt.start.time), line), result, None)
+def end_test(
+    run: RunState,
+    binary: BinaryRun,
+    test: TestRun,
+    result: Result,
+    ending: Ending,
+    errors: list[str],
+) -> None:
+    """End the last attempt of a test where its binary is known to have failed or ended, or now."""
+    attempt = test.last
+    time, line = binary.failed_at or binary.replaced_at or run.timeline.now()
+    end_attempt(attempt, Mark(max(time, attempt.start.time), line), result)
     attempt.ending, attempt.errors = ending, errors
 
 
-def output_of(text):
-    """What a binary printed, as a session has it; None where that is nothing."""
-    return bytes_of("".join(text)).hex() or None
+def output_of(text: list[str]) -> str | None:
+    """Return what a binary printed, as a session has it; None where that is nothing."""
+    return to_bytes("".join(text)).hex() or None
 
 
-def is_of_signal(status):
-    """Whether this is what a shell, or the parent of a process, says of one that a signal has ended."""
+def is_of_signal(status: int) -> bool:
+    """Return whether a status is that of a process which a signal has ended.
+
+    A shell says so by a number above 128, and the parent of a process by one below 0.
+    """
     return 128 < status <= 128 + SIGNALS or -SIGNALS <= status < 0
 
 
-def finish(reader, status):
-    """Judges what ran when the input ended, and the run itself, by what cargo answered, where that is known."""
-    last = reader.binaries[-1] if reader.binaries else None
-    if (
-        last
-        and is_of_signal(status or 0)
-        and not last.failed_at
-        and (last.suite or not last.suites)
-    ):
-        reader.broken = reader.broken or ("interrupt" if status in (130, -2) else "signal")
-    reader.doubts.settle()
-    if last:
-        leave(reader, last, PASSED if status == 0 else FAILED)
-    reader.never_ran += reader.targets.missed()
-    if reader.build_errors and not reader.broken and status != 0:
-        fail_build(reader)
-    fault = fault_of_run(reader, status)
-    if fault and not reader.broken and not any(run.has_failed() for run in reader.runs):
-        fail_run(reader, RUN, reader.now(), [fault], reader.other_text, status or FAILED.code)
+def note_signal(run: RunState, status: int | None) -> None:
+    """Let the run be broken off where a signal has ended cargo while a binary ran."""
+    last = run.last_binary
+    if last is None or last.failed_at or last.suites and not last.suite:
+        return
+    if is_of_signal(status or 0) and run.cancel_reason is None:
+        run.cancel_reason = "interrupt" if status in (130, -2) else "signal"
 
 
-def fault_of_run(reader, status):
-    """Why a run counts as failed in which no test did; None where it doesn't."""
-    if not status and reader.never_ran:
-        target = reader.never_ran[0]
-        return f"a line announced {target.id} within another binary, and it never ran after that"
+def finish(run: RunState, status: int | None) -> None:
+    """Judge what ran when the input ended, and the run by what cargo answered, if that is known."""
+    if run.last_binary:
+        judge(run, run.last_binary, PASSED if status == 0 else FAILED)
+    run.never_ran += run.targets.never_ran()
+    if run.build.errors and not run.cancel_reason and status != 0:
+        fail_build(run)
+    fault = fault_of_run(run, status)
+    if fault and not run.cancel_reason and not run.has_failures():
+        code = status or FAILED.code
+        fail_run(run, RUN, run.timeline.now(), [fault], run.build.other_text, code)
+
+
+def fault_of_run(run: RunState, status: int | None) -> str | None:
+    """Return why a run counts as failed in which no test did; None where it doesn't."""
+    if not status and run.never_ran:
+        target = run.never_ran[0].id
+        return f"a line announced {target} within another binary, and it never ran after that"
     if status is not None:
-        return f"cargo ended with status {status}, and no line says what failed" if status else None
-    waiting = list(reader.targets.waiting.values()) if reader.announces else []
+        told = f"cargo ended with status {status}, and no line says what failed"
+        return told if status else None
+    waiting = list(run.targets.waiting.values()) if run.has_announcements else []
     if waiting:
-        never = (
-            f"{len(waiting)} test binaries that cargo built never ran, the first is {waiting[0].id}"
-        )
-        return f"the lines end before the run: {never}"
-    return "the last line is the begin of an event" if reader.binaries and reader.is_cut else None
+        never = f"{len(waiting)} test binaries that cargo built never ran"
+        return f"the lines end before the run: {never}, the first is {waiting[0].id}"
+    return "the last line is the begin of an event" if run.binaries and run.is_cut else None
 
 
-def fail_build(reader):
-    """Makes a failed test of a build that failed. An error before the first binary is one if none came at all."""
-    lines = [line for _, line in reader.build_errors]
+def fail_build(run: RunState) -> None:
+    """Make a failed test of a build that failed, or of an error where no binary came at all."""
+    lines = [line for _, line in run.build.errors]
     broken = [line for line in lines if NOT_COMPILED.fullmatch(line)]
-    if broken or not reader.binaries:
-        text = without_escapes(spelled("".join(reader.build_text))).strip()
-        fail_run(
-            reader,
-            BUILD,
-            reader.build_errors[0][0],
-            [(broken or lines)[0], text[:LONGEST]],
-            reader.build_text,
-            101,
-        )
+    if broken or not run.binaries:
+        text = without_escapes(printable("".join(run.build.text))).strip()
+        mark, _ = run.build.errors[0]
+        errors = [(broken or lines)[0], text[:LONGEST]]
+        fail_run(run, BUILD, mark, errors, run.build.text, FAILED.code)
 
 
-def fail_run(reader, name, mark, errors, text, code):
-    """Makes a test of cargo's own that failed."""
-    binary = reader.begin_binary(CARGO)
-    binary.start, binary.has_left = mark, True
-    run = own_test(reader, binary, name)
-    end(reader, binary, run, "failed", Ending(code, None, None, None), errors)
-    run.attempts[-1].output = output_of(text)
+def fail_run(
+    run: RunState,
+    name: str,
+    mark: Mark,
+    errors: list[str],
+    text: list[str],
+    code: int | None,
+) -> None:
+    """Make a test of cargo's own that failed."""
+    binary = run.add_binary(CARGO)
+    binary.start, binary.is_judged = mark, True
+    test = start_own_test(run, binary, name)
+    end_test(run, binary, test, "failed", Ending(code), errors)
+    test.last.output = output_of(text)
