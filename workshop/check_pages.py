@@ -208,8 +208,7 @@ def check_crates():
     named = {page: set(re.findall(r"`(rec_\w+|rezovamy)`", page.read_text())) for page in pages}
     for crate in sorted(listed - set().union(*named.values())):
         fault(
-            TOP / "crates.txt",
-            f"{crate} is named neither in README.md nor in docs/ARCHITECTURE.md",
+            TOP / "crates.txt", f"{crate} is named neither in README.md nor in docs/ARCHITECTURE.md"
         )
     for page in pages:
         for crate in sorted(named[page] - listed):

@@ -127,12 +127,7 @@ def setup_script(run, base):
         will_terminate=False,
     )
     yield at(
-        "setup-script-finished",
-        base + 25,
-        **place,
-        **script,
-        no_capture=False,
-        run_status=status,
+        "setup-script-finished", base + 25, **place, **script, no_capture=False, run_status=status
     )
 
 
@@ -185,12 +180,7 @@ def flaky_test(run, base):
     """The failure of the flaky test, and how it passes."""
     first = failed_attempt(base)
     second = attempt(
-        base + 41,
-        4,
-        (2, 2),
-        output(split("passed\n", "")),
-        "pass",
-        delay_before_start=span(1),
+        base + 41, 4, (2, 2), output(split("passed\n", "")), "pass", delay_before_start=span(1)
     )
     yield at(
         "test-attempt-failed-will-retry",
@@ -244,19 +234,10 @@ def slow_test(run, base, cancelled):
     )
     if cancelled:
         yield at(
-            "run-begin-cancel",
-            base + 51,
-            setup_scripts_running=0,
-            running=1,
-            reason="interrupt",
+            "run-begin-cancel", base + 51, setup_scripts_running=0, running=1, reason="interrupt"
         )
     tried = attempt(
-        base + 26,
-        16,
-        (1, 1),
-        output(split("slow\n", "")),
-        {"timeout": "pass"},
-        is_slow=True,
+        base + 26, 16, (1, 1), output(split("slow\n", "")), {"timeout": "pass"}, is_slow=True
     )
     yield finished(run, base + 52, "slow", [tried], at_end(cancelled), 0)
 

@@ -122,12 +122,7 @@ class Program:
 
 def main():
     parser = command_line(__doc__)
-    parser.add_argument(
-        "program",
-        nargs="?",
-        default=PROGRAM,
-        help="the built program",
-    )
+    parser.add_argument("program", nargs="?", default=PROGRAM, help="the built program")
     parser.add_argument(
         "--only", default="", metavar="WORD", help="the cases that have this word in their names"
     )

@@ -264,12 +264,7 @@ def try_sample(program):
 
 def main():
     parser = command_line(__doc__)
-    parser.add_argument(
-        "program",
-        nargs="?",
-        default=PROGRAM,
-        help="the built program",
-    )
+    parser.add_argument("program", nargs="?", default=PROGRAM, help="the built program")
     path = parser.parse_args().program
     demand_program(parser, path)
     with tempfile.TemporaryDirectory() as folder:

@@ -343,12 +343,7 @@ def try_all(shell):
 def main():
     heed_signals()
     parser = command_line(__doc__)
-    parser.add_argument(
-        "program",
-        nargs="?",
-        default=PROGRAM,
-        help="the built program",
-    )
+    parser.add_argument("program", nargs="?", default=PROGRAM, help="the built program")
     path = parser.parse_args().program
     demand_program(parser, path)
     with tempfile.TemporaryDirectory() as commands:

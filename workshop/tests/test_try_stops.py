@@ -82,9 +82,7 @@ class Parts(unittest.TestCase):
         self.assertEqual(SESSION.outputs, [[(ABC, b"abc")], [(ABC, b"abc")]])
         self.assertEqual(
             list(try_stops.outputs_of({"output": [{"combined": "616263"}, {"stdout": None}]})),
-            [
-                (b"out/ba7816bf8f01cfea-combined", b"abc"),
-            ],
+            [(b"out/ba7816bf8f01cfea-combined", b"abc")],
         )
 
     def test_what_a_recorder_says(self):
