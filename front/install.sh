@@ -1,16 +1,17 @@
 #!/bin/sh
-# Installs the built program and its tools below a folder:
+# Installs the built program and the front end below a folder:
 #
 #     front/install.sh ~/.local
 #
-# PREFIX/bin gets rezovamy, rezovamy-runs, session_from_libtest and junit_xml, PREFIX/lib/rezovamy their modules, and
-# PREFIX/share man pages, completions for bash, zsh and fish, the licences, and the pages on the command line and the formats.
-# The program is the one that REZOVAMY names, or else the one that was built in this clone. An older installation at the same
-# place is replaced. All links are relative, so PREFIX may be moved.
+# PREFIX/bin gets rezovamy, rezovamy-runs, session_from_libtest and junit_xml, PREFIX/lib/rezovamy
+# their package, and PREFIX/share man pages, completions for bash, zsh and fish, the licences, and
+# the pages on the command line and the formats. The program is the one that REZOVAMY names, or else
+# the one that was built in this clone. An older installation at the same place is replaced. All
+# links are relative, so PREFIX may be moved.
 set -eu
 
-MODULES="ansi.py command_line.py container.py junit_xml.py make_session.py rezovamy-runs session_from_libtest.py"
-FOLDERS="junit libtest runs"
+STARTERS="rezovamy-runs session_from_libtest junit_xml"
+BUILD="build it with (cd crates/rezovamy && rt run), or name it in REZOVAMY"
 
 fault() {
     echo "install.sh: $1" >&2
@@ -22,36 +23,47 @@ case $1 in "" | -*) fault "'$1' is no folder: front/install.sh ~/.local" 2 ;; es
 top=$(cd "$(dirname "$0")/.." && pwd -P)
 program=${REZOVAMY:-$top/crates/rezovamy/out/rezovamy}
 case $program in /*) ;; *) program=$PWD/$program ;; esac
-if [ ! -f "$program" ] || [ ! -x "$program" ]; then
-    fault "no program is at $program: build it with (cd crates/rezovamy && rt run), or name it in REZOVAMY"
-fi
+if [ ! -f "$program" ] || [ ! -x "$program" ]; then fault "no program is at $program: $BUILD"; fi
 if ! python3 -c 'import sys; sys.exit(sys.version_info < (3, 11))' 2>/dev/null; then
     fault "Python 3.11 or newer is wanted: put it on the path as python3"
 fi
 
+# Puts the starters and their package beside the place where they come to stand.
+stage_package() {
+    for starter in $STARTERS; do
+        cp "$top/front/$starter" "$staged/" || return
+    done
+    mkdir "$staged/src" &&
+        cp -R "$top/front/src/rezovamy_runs" "$staged/src/" &&
+        find "$staged" -depth -name __pycache__ -exec rm -rf {} + &&
+        ln -s ../../bin/rezovamy "$staged/rezovamy" &&
+        chmod -R u+rwX,go+rX "$staged"
+}
+
+# Writes man pages and completions. What is in the current folder is no package of ours.
+write_manuals() {
+    PYTHONPATH=$top/front/src PYTHONDONTWRITEBYTECODE=1 \
+        python3 -P -m rezovamy_runs.manuals "$prefix"
+}
+
 # Puts all that is installed beside the places where it comes to stand.
 stage() {
-    for module in $MODULES $FOLDERS; do
-        cp -R "$top/tools/$module" "$staged/" || return
-    done
-    find "$staged" -depth \( -name __pycache__ -o -name tests \) -exec rm -rf {} + &&
-        ln -s ../../bin/rezovamy "$staged/rezovamy" &&
-        chmod -R u+rwX,go+rX "$staged" &&
+    stage_package &&
         cp "$program" "$aside" &&
         chmod 755 "$aside" &&
         cp "$top/LICENSE-MIT" "$top/LICENSE-APACHE" "$prefix/share/licenses/rezovamy/" &&
         cp "$top/docs/CLI.md" "$top/docs/FORMATS.md" "$prefix/share/doc/rezovamy/" &&
-        PYTHONDONTWRITEBYTECODE=1 "$top/python3 -m rezovamy_runs.manuals" "$prefix"
+        write_manuals
 }
 
 # Lets the new installation take the place of an older one.
 put() {
     mv -f "$aside" "$prefix/bin/rezovamy" &&
         rm -rf "$prefix/lib/rezovamy" &&
-        mv "$staged" "$prefix/lib/rezovamy" &&
-        ln -sf ../lib/rezovamy/rezovamy-runs "$prefix/bin/rezovamy-runs" &&
-        ln -sf ../lib/rezovamy/session_from_libtest.py "$prefix/bin/session_from_libtest" &&
-        ln -sf ../lib/rezovamy/junit_xml.py "$prefix/bin/junit_xml"
+        mv "$staged" "$prefix/lib/rezovamy" || return
+    for starter in $STARTERS; do
+        ln -sf "../lib/rezovamy/$starter" "$prefix/bin/$starter" || return
+    done
 }
 
 # Says why a step failed, by the last line that it printed.
@@ -59,7 +71,8 @@ failed() {
     fault "$(printf '%s' "$said" | tail -n 1); make room, or name another folder"
 }
 
-said=$(mkdir -p "$1/bin" "$1/lib" "$1/share/licenses/rezovamy" "$1/share/doc/rezovamy" 2>&1) || failed
+said=$(mkdir -p "$1/bin" "$1/lib" "$1/share/licenses/rezovamy" "$1/share/doc/rezovamy" 2>&1) ||
+    failed
 prefix=$(cd "$1" && pwd -P)
 staged=$prefix/lib/.rezovamy.$$
 aside=$prefix/bin/.rezovamy.$$

@@ -1,12 +1,18 @@
 #!/bin/sh
-# Makes an archive of the built program and its tools, which runs on a machine without the kit and without this clone:
+# Makes an archive of the built program and the front end, which runs on a machine without the kit
+# and without this clone:
 #
 #     front/package.sh FOLDER
 #
-# FOLDER gets rezovamy-VERSION-SYSTEM-MACHINE.tar.gz, which holds what front/install.sh installs, the licences, a README and the
-# checksums of all files, and beside it its own checksum. The path of the archive is printed. The program is the one that REZOVAMY
-# names, or else the one that was built in this clone. The same files give the same archive.
+# FOLDER gets rezovamy-VERSION-SYSTEM-MACHINE.tar.gz, which holds what front/install.sh installs,
+# the licences, a README and the checksums of all files, and beside it its own checksum. The path of
+# the archive is printed. The program is the one that REZOVAMY names, or else the one that was built
+# in this clone. The same files give the same archive.
 set -eu
+
+BUILD="build it with (cd crates/rezovamy && rt run), or name it in REZOVAMY"
+LIBRARY='s/^[[:space:]]*\([^ /]*\.so[^ ]*\) =>.*/\1/p'
+ADVICE="make room, or name another folder"
 
 fault() {
     echo "package.sh: $1" >&2
@@ -18,14 +24,13 @@ case $1 in "" | -*) fault "'$1' is no folder: front/package.sh /tmp" 2 ;; esac
 top=$(cd "$(dirname "$0")/.." && pwd -P)
 program=${REZOVAMY:-$top/crates/rezovamy/out/rezovamy}
 case $program in /*) ;; *) program=$PWD/$program ;; esac
-if [ ! -f "$program" ] || [ ! -x "$program" ]; then
-    fault "no program is at $program: build it with (cd crates/rezovamy && rt run), or name it in REZOVAMY"
-fi
-version=$("$program" --version) || fault "$program doesn't run here: build it anew, or name another in REZOVAMY"
+if [ ! -f "$program" ] || [ ! -x "$program" ]; then fault "no program is at $program: $BUILD"; fi
+version=$("$program" --version) ||
+    fault "$program doesn't run here: build it anew, or name another in REZOVAMY"
 version=$(printf '%s\n' "$version" | sed -n 's/^rezovamy //p')
 system=$(uname -s | tr '[:upper:]' '[:lower:]')
 name=rezovamy-$version-$system-$(uname -m)
-libraries=$(ldd "$program" 2>/dev/null | sed -n 's/^[[:space:]]*\([^ /]*\.so[^ ]*\) =>.*/\1/p' | sort | tr '\n' ' ')
+libraries=$(ldd "$program" 2>/dev/null | sed -n "$LIBRARY" | sort | tr '\n' ' ')
 glibc=$(grep -ao 'GLIBC_[0-9.]*' "$program" | sort -uV | tail -n 1) || true
 
 # Writes what the package says of itself.
@@ -40,8 +45,10 @@ Put the folder bin on the path, wherever this folder lies:
 
 bin/rezovamy runs on $system ($(uname -m)) with these libraries:
 ${libraries:-none }${glibc:+(the C library with $glibc or newer)}.
-The other programs need Python 3.11 or newer. share has man pages (man -l share/man/man1/rezovamy-runs.1) and completions for
-bash, zsh and fish. To install all of it, copy bin, lib and share into a folder that has such folders, as ~/.local, with cp -RP.
+The other programs need Python 3.11 or newer. share has man pages \
+(man -l share/man/man1/rezovamy-runs.1) and completions for
+bash, zsh and fish. To install all of it, copy bin, lib and share into a folder that has such \
+folders, as ~/.local, with cp -RP.
 
 sha256sum -c SHA256SUMS tells whether each file is as it was packed.
 END
@@ -61,8 +68,8 @@ pack() {
         cp "$top/LICENSE-MIT" "$top/LICENSE-APACHE" "$staged/$name/" &&
         describe &&
         (sums) &&
-        tar --sort=name --mode=u=rwX,go=rX --owner=0 --group=0 --numeric-owner --mtime=@"${SOURCE_DATE_EPOCH:-0}" \
-            -C "$staged" -cf "$staged/tar" "$name" &&
+        tar --sort=name --mode=u=rwX,go=rX --owner=0 --group=0 --numeric-owner \
+            --mtime=@"${SOURCE_DATE_EPOCH:-0}" -C "$staged" -cf "$staged/tar" "$name" &&
         gzip -n "$staged/tar" &&
         mv "$staged/tar.gz" "$staged/$name.tar.gz" &&
         (cd "$staged" && sha256sum "$name.tar.gz" >"$name.tar.gz.sha256") &&
@@ -72,7 +79,7 @@ pack() {
 # Says why a step failed, by the last line that it printed.
 failed() {
     line=$(printf '%s' "${said#install.sh: }" | tail -n 1)
-    fault "${line%; make room, or name another folder}; make room, or name another folder"
+    fault "${line%; "$ADVICE"}; $ADVICE"
 }
 
 said=$(mkdir -p "$1" 2>&1) || failed

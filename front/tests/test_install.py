@@ -1,71 +1,76 @@
-"""What is installed and packed runs by itself: in an empty folder, with a path of its own, and with no word of this clone."""
+"""What is installed and packed runs by itself: in an empty folder, with nothing of this clone."""
 
+from __future__ import annotations
+
+import dataclasses
 import os
 import pathlib
 import re
 import shutil
 import subprocess
 import sys
-import tarfile
-import tempfile
-import unittest
+from collections.abc import Mapping, Sequence
 
-from rezovamy_runs import recorder
-from rezovamy_runs.faults.fault import Fault
+import pytest
 
 from tests import EXAMPLES, FRONT
 
 LINES = EXAMPLES / "sums.libtest.json"
+SCRIPTS = ("install.sh", "package.sh")
+PROGRAMS = ["junit_xml", "rezovamy", "rezovamy-runs", "session_from_libtest"]
+SHARED = ["bash-completion", "doc", "fish", "licenses", "man", "zsh"]
+PACKED = ["LICENSE-APACHE", "LICENSE-MIT", "README", "SHA256SUMS", "bin", "lib", "share"]
 
 
-def called(words, **more):
-    return subprocess.run(words, capture_output=True, check=False, timeout=100, **more)
+def called(
+    words: Sequence[str | pathlib.Path],
+    env: Mapping[str, str] | None = None,
+    cwd: pathlib.Path | None = None,
+    data: bytes = b"",
+) -> subprocess.CompletedProcess[bytes]:
+    """Return what came of a program."""
+    return subprocess.run(
+        words, input=data, env=env, cwd=cwd, capture_output=True, check=False, timeout=100
+    )
 
 
-class Refusals(unittest.TestCase):
-    """Each fault is one line, and no file is left."""
-
-    def test_words(self):
-        for script in ("install.sh", "package.sh"):
-            for words in ((), ("",), ("--help",), ("a", "b")):
-                done = called([FRONT / script, *words])
-                self.assertEqual((done.returncode, done.stdout), (2, b""))
-                self.assertRegex(
-                    done.stderr.decode(),
-                    rf"\A{script}: (?:a folder is wanted, as in|'.*' is no folder:) tools/.*\n\Z",
-                )
-
-    def test_no_program(self):
-        with tempfile.TemporaryDirectory() as folder:
-            for script in ("install.sh", "package.sh"):
-                done = called(
-                    [FRONT / script, f"{folder}/to"],
-                    env={**os.environ, "REZOVAMY": f"{folder}/none"},
-                )
-                build = "build it with (cd crates/rezovamy && rt run), or name it in REZOVAMY"
-                said = f"{script}: no program is at {folder}/none: {build}\n"
-                self.assertEqual((done.returncode, done.stderr.decode()), (1, said))
-            self.assertEqual(os.listdir(folder), [])
+# Each fault is one line, and no file is left.
 
 
-class Installed(unittest.TestCase):
-    def setUp(self):
-        try:
-            self.program = str(recorder.find())
-        except Fault as fault:
-            self.skipTest(str(fault))
-        self.folder = pathlib.Path(self.enterContext(tempfile.TemporaryDirectory()))
-        (self.folder / "own").mkdir()
-        (self.folder / "own/python3").symlink_to(os.path.realpath(sys.executable))
-        (self.folder / "work").mkdir()
+@pytest.mark.parametrize("script", SCRIPTS)
+@pytest.mark.parametrize("words", [(), ("",), ("--help",), ("a", "b")], ids=" ".join)
+def test_wrong_words_are_refused(script: str, words: tuple[str, ...]) -> None:
+    done = called([FRONT / script, *words])
+    assert (done.returncode, done.stdout) == (2, b"")
+    fault = rf"{script}: (?:a folder is wanted, as in|'.*' is no folder:) front/.*\n"
+    assert re.fullmatch(fault, done.stderr.decode())
 
-    def make(self, script, to):
-        done = called([FRONT / script, to], env={**os.environ, "REZOVAMY": self.program})
-        self.assertEqual((done.returncode, done.stderr), (0, b""))
+
+@pytest.mark.parametrize("script", SCRIPTS)
+def test_a_missing_program_is_told(script: str, tmp_path: pathlib.Path) -> None:
+    missing = f"{tmp_path}/none"
+    done = called([FRONT / script, tmp_path / "to"], {**os.environ, "REZOVAMY": missing})
+    build = "build it with (cd crates/rezovamy && rt run), or name it in REZOVAMY"
+    said = f"{script}: no program is at {missing}: {build}\n"
+    assert (done.returncode, done.stderr.decode()) == (1, said)
+    assert os.listdir(tmp_path) == []
+
+
+@dataclasses.dataclass(frozen=True)
+class Machine:
+    """A folder with nothing but Python, in which programs are installed and run."""
+
+    folder: pathlib.Path
+    program: pathlib.Path
+
+    def make(self, script: str, to: pathlib.Path) -> str:
+        """Return what a script prints that installs or packs the program."""
+        done = called([FRONT / script, to], {**os.environ, "REZOVAMY": str(self.program)})
+        assert (done.returncode, done.stderr) == (0, b"")
         return done.stdout.decode()
 
-    def run_there(self, prefix, *words, data=b""):
-        """What an installed program prints; its path has nothing but it and Python."""
+    def run(self, prefix: pathlib.Path, *words: str, data: bytes = b"") -> bytes:
+        """Return what an installed program prints; its path has nothing but it and Python."""
         path = f"{prefix}/bin:{self.folder}/own"
         env = {
             "PATH": path,
@@ -73,93 +78,106 @@ class Installed(unittest.TestCase):
             "REZOVAMY_RUNS": str(self.folder / "runs"),
             "PYTHONDONTWRITEBYTECODE": "1",
         }
-        done = called(
-            [shutil.which(words[0], path=path), *words[1:]],
-            cwd=self.folder / "work",
-            env=env,
-            input=data,
-        )
-        self.assertEqual(
-            (done.returncode, b"Traceback" in done.stderr), (0, False), (words, done.stderr)
-        )
+        program = shutil.which(words[0], path=path)
+        assert program is not None
+        done = called([program, *words[1:]], env, self.folder / "work", data)
+        assert (done.returncode, b"Traceback" in done.stderr) == (0, False), (words, done.stderr)
         return done.stdout
 
-    def try_programs(self, prefix):
-        """Each program, from the lines of a run to its XML."""
-        self.assertTrue(self.run_there(prefix, "rezovamy", "--version").startswith(b"rezovamy "))
-        session = self.run_there(
-            prefix, "session_from_libtest", "--no-clock", "--status", "101", data=LINES.read_bytes()
-        )
-        self.assertEqual(session, LINES.with_name("sums.session").read_bytes())
-        self.run_there(prefix, "rezovamy", "record", "sums.bundle", data=session)
-        bundle = (self.folder / "work/sums.bundle").read_bytes()
-        reports = self.run_there(prefix, "rezovamy", "report", data=bundle)
-        written = self.run_there(
-            prefix, "junit_xml", "--events", "sums.bundle", "-", "junit", data=reports
-        )
-        self.assertEqual(written, b"junit/junit.xml\n")
-        self.assertIn(b"usage: rezovamy-runs ", self.run_there(prefix, "rezovamy-runs", "--help"))
-        self.assertIn(
-            b"expects_a_product", self.run_there(prefix, "rezovamy-runs", "show", "sums.bundle")
-        )
-        self.assertIn(
-            b'"traceEvents"', self.run_there(prefix, "rezovamy-runs", "trace", "sums.bundle")
-        )
-        said = self.run_there(
-            prefix, "rezovamy-runs", "explain", "UnknownOption", "at=1", "--", "info", "sums.bundle"
-        )
-        self.assertEqual(said, b"`info` reads standard input: rezovamy info < sums.bundle\n")
 
-    def test_an_installation_runs_wherever_it_is_moved(self):
-        said = self.make("install.sh", self.folder / "a prefix")
-        self.assertEqual(
-            said,
-            f"{self.folder}/a prefix/bin has rezovamy, rezovamy-runs, session_from_libtest and junit_xml\n",
-        )
-        self.make("install.sh", self.folder / "a prefix")
-        (self.folder / "a prefix").rename(self.folder / "moved")
-        prefix = self.folder / "moved"
-        self.assertEqual(
-            sorted(os.listdir(prefix / "bin")),
-            ["junit_xml", "rezovamy", "rezovamy-runs", "session_from_libtest"],
-        )
-        self.assertEqual(os.listdir(prefix / "lib"), ["rezovamy"])
-        self.assertEqual(
-            sorted(os.listdir(prefix / "share")),
-            ["bash-completion", "doc", "fish", "licenses", "man", "zsh"],
-        )
-        self.try_programs(prefix)
-
-    def test_a_package_runs_where_it_is_unpacked(self):
-        path = pathlib.Path(self.make("package.sh", self.folder / "out").rstrip("\n"))
-        self.assertRegex(path.name, r"\Arezovamy-\d+\.\d+\.\d+-\w+-\w+\.tar\.gz\Z")
-        self.assertEqual(sorted(os.listdir(path.parent)), [path.name, f"{path.name}.sha256"])
-        self.assertEqual(
-            called(
-                ["sha256sum", "--quiet", "-c", f"{path.name}.sha256"], cwd=path.parent
-            ).returncode,
-            0,
-        )
-        with tarfile.open(path) as archive:
-            archive.extractall(self.folder / "there", filter="data")
-        (unpacked,) = (self.folder / "there").iterdir()
-        packed = ["LICENSE-APACHE", "LICENSE-MIT", "README", "SHA256SUMS", "bin", "lib", "share"]
-        self.assertEqual(sorted(os.listdir(unpacked)), packed)
-        self.try_programs(unpacked)
-        self.assertEqual(
-            called(["sha256sum", "--quiet", "-c", "SHA256SUMS"], cwd=unpacked).returncode, 0
-        )
-        listed = {
-            line.split("  ", 1)[1] for line in (unpacked / "SHA256SUMS").read_text().splitlines()
-        }
-        there = {
-            f"./{file.relative_to(unpacked)}"
-            for file in unpacked.rglob("*")
-            if file.is_file() and not file.is_symlink()
-        }
-        self.assertEqual(listed, there - {"./SHA256SUMS"})
-        self.assertTrue(re.search(r"^Rezovamy \d", (unpacked / "README").read_text()))
+@pytest.fixture
+def machine(tmp_path: pathlib.Path, program: pathlib.Path) -> Machine:
+    """Return a machine on which nothing is installed."""
+    (tmp_path / "own").mkdir()
+    (tmp_path / "own/python3").symlink_to(os.path.realpath(sys.executable))
+    (tmp_path / "work").mkdir()
+    return Machine(tmp_path, program)
 
 
-if __name__ == "__main__":
-    unittest.main()
+def try_programs(machine: Machine, prefix: pathlib.Path) -> None:
+    """Try each program, from the lines of a run to its XML."""
+    assert machine.run(prefix, "rezovamy", "--version").startswith(b"rezovamy ")
+    words = ["session_from_libtest", "--no-clock", "--status", "101"]
+    session = machine.run(prefix, *words, data=LINES.read_bytes())
+    assert session == LINES.with_name("sums.session").read_bytes()
+    machine.run(prefix, "rezovamy", "record", "sums.bundle", data=session)
+    bundle = (machine.folder / "work/sums.bundle").read_bytes()
+    reports = machine.run(prefix, "rezovamy", "report", data=bundle)
+    words = ["junit_xml", "--events", "sums.bundle", "-", "junit"]
+    assert machine.run(prefix, *words, data=reports) == b"junit/junit.xml\n"
+    try_front_end(machine, prefix)
+
+
+def try_front_end(machine: Machine, prefix: pathlib.Path) -> None:
+    """Try some commands of `rezovamy-runs` on the bundle that is there."""
+    assert b"usage: rezovamy-runs " in machine.run(prefix, "rezovamy-runs", "--help")
+    shown = machine.run(prefix, "rezovamy-runs", "show", "sums.bundle")
+    assert b"expects_a_product" in shown
+    assert b'"traceEvents"' in machine.run(prefix, "rezovamy-runs", "trace", "sums.bundle")
+    page = machine.run(prefix, "rezovamy-runs", "page", "sums.bundle", "--to", "-")
+    assert page.startswith(b"<!DOCTYPE html>")
+    written = machine.run(prefix, "rezovamy-runs", "junit", "sums.bundle", "--to", "xml")
+    assert written == b"xml/junit.xml\n"
+    words = ("explain", "UnknownOption", "at=1", "--", "info", "sums.bundle")
+    said = machine.run(prefix, "rezovamy-runs", *words)
+    assert said == b"`info` reads standard input: rezovamy info < sums.bundle\n"
+
+
+@pytest.mark.program
+def test_an_installation_runs_wherever_it_is_moved(machine: Machine) -> None:
+    prefix, moved = machine.folder / "a prefix", machine.folder / "moved"
+    said = machine.make("install.sh", prefix)
+    programs = "rezovamy, rezovamy-runs, session_from_libtest and junit_xml"
+    assert said == f"{prefix}/bin has {programs}\n"
+    machine.make("install.sh", prefix)
+    prefix.rename(moved)
+    assert sorted(os.listdir(moved / "bin")) == PROGRAMS
+    assert os.listdir(moved / "lib") == ["rezovamy"]
+    assert sorted(os.listdir(moved / "share")) == SHARED
+    try_programs(machine, moved)
+
+
+@pytest.mark.program
+def test_an_installation_takes_the_place_of_an_older_one(machine: Machine) -> None:
+    older = machine.folder / "prefix/lib/rezovamy"
+    older.mkdir(parents=True)
+    (older / "junit_xml.py").touch()
+    machine.make("install.sh", machine.folder / "prefix")
+    starters = ["junit_xml", "rezovamy", "rezovamy-runs", "session_from_libtest", "src"]
+    assert sorted(os.listdir(older)) == starters
+    assert os.listdir(older / "src") == ["rezovamy_runs"]
+    assert list(older.rglob("__pycache__")) == []
+    assert list(older.parent.parent.rglob(".rezovamy.*")) == []
+
+
+@pytest.mark.program
+def test_a_package_runs_where_it_is_unpacked(machine: Machine) -> None:
+    path = pathlib.Path(machine.make("package.sh", machine.folder / "out").rstrip("\n"))
+    assert re.fullmatch(r"rezovamy-\d+\.\d+\.\d+-\w+-\w+\.tar\.gz", path.name)
+    assert sorted(os.listdir(path.parent)) == [path.name, f"{path.name}.sha256"]
+    assert called(check_sums(f"{path.name}.sha256"), cwd=path.parent).returncode == 0
+    (machine.folder / "there").mkdir()
+    assert called(["tar", "-xf", path], cwd=machine.folder / "there").returncode == 0
+    (unpacked,) = (machine.folder / "there").iterdir()
+    assert sorted(os.listdir(unpacked)) == PACKED
+    try_programs(machine, unpacked)
+    assert called(check_sums("SHA256SUMS"), cwd=unpacked).returncode == 0
+    assert set(summed_files(unpacked)) == files_of(unpacked) - {"./SHA256SUMS"}
+    assert re.search(r"^Rezovamy \d", (unpacked / "README").read_text())
+
+
+def check_sums(file: str) -> list[str]:
+    """Return the words that check the files of which a file has the sums."""
+    return ["sha256sum", "--quiet", "-c", file]
+
+
+def summed_files(folder: pathlib.Path) -> list[str]:
+    """Return the files whose sums a package has."""
+    lines = (folder / "SHA256SUMS").read_text().splitlines()
+    return [line.split("  ", 1)[1] for line in lines]
+
+
+def files_of(folder: pathlib.Path) -> set[str]:
+    """Return the files of a folder, without links."""
+    files = (path for path in folder.rglob("*") if path.is_file() and not path.is_symlink())
+    return {f"./{path.relative_to(folder)}" for path in files}

@@ -1,4 +1,4 @@
-//! Sums, with tests of every outcome: the example run of `tools/session_from_libtest.py`.
+//! Sums, with tests of every outcome: the example run of `front/session_from_libtest`.
 
 /// Returns the sum of the numbers, or none where it is above the range.
 pub fn sum(numbers: &[u32]) -> Option<u32> {

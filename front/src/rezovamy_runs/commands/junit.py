@@ -1,20 +1,28 @@
-"""Writes the JUnit XML of a recorded run, as front/junit_xml makes it of the program's report."""
+"""The command `junit`: writes the JUnit XML of a recorded run."""
 
+from __future__ import annotations
+
+import argparse
+import contextlib
 import pathlib
-import tempfile
 
-from rezovamy_runs.commands import junit_xml
-from rezovamy_runs.bundles import bundle
 from rezovamy_runs import recorder
-from rezovamy_runs.store import run_folder
+from rezovamy_runs.bundles import bundle
+from rezovamy_runs.command_line import print_out
+from rezovamy_runs.commands import junit_xml
 from rezovamy_runs.faults.fault import Fault
+from rezovamy_runs.report.junit import Document, documents_of
+from rezovamy_runs.report.junit_elements import JunitWriter
+from rezovamy_runs.report.run_events import NoEvents, runs_of
+from rezovamy_runs.report.run_report import NoReport
+from rezovamy_runs.store import run_folder
 
 SUMMARY = "write JUnit XML of a run, for a CI"
 FOLDER = "rezovamy-junit"
 
 
-def add_options(parser):
-    """Takes a run, and where the XML goes."""
+def add_options(parser: argparse.ArgumentParser) -> None:
+    """Take a run, and where the XML goes."""
     run_folder.add_run(parser)
     parser.add_argument(
         "--to",
@@ -25,36 +33,54 @@ def add_options(parser):
     parser.add_argument("--fail", action="store_true", help="end with status 4 where a test failed")
 
 
-def run(words):
-    """Writes the files, and prints their paths."""
+def run(words: argparse.Namespace) -> int:
+    """Write the files, and print their paths."""
     runs = run_folder.here()
     path = runs.find(words.run)
     return write(path, words.to or beside(runs), words.fail)
 
 
-def write(path, folder, fails=False):
-    """Writes the files of a bundle's run, prints their paths, and answers the status."""
+def write(path: pathlib.Path, folder: pathlib.Path, fails: bool = False) -> int:
+    """Write the files of a bundle's run, print their paths, and return the status."""
+    documents = bundle_documents(path)
+    try:
+        junit_xml.remove_older(folder)
+        if not documents:
+            raise Fault(f"no run has ended in {path}, so there is no report", junit_xml.NOTHING)
+        paths = junit_xml.write_documents(documents, folder)
+    except OSError as error:
+        with contextlib.suppress(OSError):
+            junit_xml.remove_older(folder)
+        raise Fault(
+            f"JUnit XML can't be written to {folder}: {error.strerror or error}; "
+            "name another folder with --to"
+        ) from error
+    print_out("".join(f"{path}\n" for path in paths))
+    has_failed = any(document.has_failed for document in documents)
+    return junit_xml.BAD if fails and has_failed else 0
+
+
+def bundle_documents(path: pathlib.Path) -> list[Document]:
+    """Return the documents of the runs of a bundle, as the program reports them."""
     with bundle.opened(path) as opened:
         report = recorder.run(["report", *recorder.limits(path.stat().st_size)], stdin=opened)
-    with tempfile.NamedTemporaryFile(suffix=".reports") as reports:
-        reports.write(report)
-        reports.flush()
-        more = ["--fail"] if fails else []
-        return junit_xml.run(
-            junit_xml.options([*more, "--events", str(path), reports.name, str(folder)])
-        )
+    try:
+        return documents_of(report.decode(), runs_of(path.read_bytes()), JunitWriter())
+    except (NoReport, NoEvents, UnicodeError) as error:
+        raise Fault(f"the report of {path} can't be read: {error}; record the run again") from error
 
 
-def remove_older(runs):
-    """Removes the files of an older run, so that nobody takes them for those of a run of which nothing is recorded."""
+def remove_older(runs: run_folder.Store) -> None:
+    """Remove the files of an older run, so that nobody takes them for those of this one."""
     junit_xml.remove_older(beside(runs))
 
 
-def beside(runs):
-    """The folder for the XML where none is named."""
+def beside(runs: run_folder.Store) -> pathlib.Path:
+    """Return the folder for the XML where none is named."""
     if not runs.is_somewhere():
         raise Fault(
-            "no Cargo.toml is here or above, whose folder of runs could have the XML beside it: name a folder with --to"
+            "no Cargo.toml is here or above, whose folder of runs could have the XML beside it: "
+            "name a folder with --to"
         )
     # In `.` and `..` no word names the folder, so that nothing stands before it.
     folder = runs.folder.resolve() if runs.folder.name in ("", "..") else runs.folder

@@ -1,12 +1,42 @@
-"""The elements of XML that a report becomes: with what a schema of Jenkins has, or with all that quick-junit writes."""
+"""The elements of JUnit XML that a report becomes.
+
+A dialect has what a schema of Jenkins has, or all that quick-junit writes.
+"""
+
+from __future__ import annotations
 
 import collections
+import dataclasses
 import datetime
+from collections.abc import Iterable
+from typing import Literal, TypeAlias
+from xml.etree.ElementTree import Element
 
-from rezovamy_runs.report.junit_texts import attribute_of, text_of
+from rezovamy_runs.report.junit_texts import ATTRIBUTE_PART, MOST, clean, cut
+from rezovamy_runs.report.run_report import (
+    Attempt,
+    Case,
+    Duration,
+    Fault,
+    FaultKind,
+    Instant,
+    NonSuccess,
+    NoReport,
+    Outputs,
+    Report,
+    RerunKind,
+    Skipped,
+    Status,
+    Success,
+    Suite,
+)
+
+Dialect: TypeAlias = Literal["jenkins", "nextest"]
+Attributes: TypeAlias = dict[str, str | None]
 
 EPOCH = datetime.datetime(1970, 1, 1, tzinfo=datetime.timezone.utc)
-RERUN_TAGS = {
+DAY = 24 * 3600
+RERUN_TAGS: dict[tuple[RerunKind, FaultKind], str] = {
     ("rerun", "failure"): "rerunFailure",
     ("rerun", "error"): "rerunError",
     ("flaky", "failure"): "flakyFailure",
@@ -14,7 +44,7 @@ RERUN_TAGS = {
 }
 
 # The attributes of each element that a dialect doesn't have.
-LEFT_OUT = {
+LEFT_OUT: dict[Dialect, dict[str, set[str]]] = {
     "jenkins": {
         "testsuites": {"uuid", "timestamp"},
         "testsuite": {"disabled"},
@@ -24,187 +54,182 @@ LEFT_OUT = {
     "nextest": {"testsuite": {"skipped", "timestamp", "time"}},
 }
 
-# An element: its name, its attributes as pairs, its text, and the elements in it.
-Element = collections.namedtuple("Element", "tag attributes text children")
+
+@dataclasses.dataclass(frozen=True)
+class Counts:
+    """How many cases there are, and how many did not run, went wrong and failed."""
+
+    tests: int
+    skipped: int
+    errors: int
+    failures: int
+
+    @property
+    def attributes(self) -> Attributes:
+        """The counts as attributes of a suite."""
+        return {
+            "tests": str(self.tests),
+            "disabled": str(self.skipped),
+            "skipped": str(self.skipped),
+            "errors": str(self.errors),
+            "failures": str(self.failures),
+        }
 
 
-class NoReport(Exception):
-    """A line of the input is no report."""
+def count(suites: Iterable[Suite]) -> Counts:
+    """Count the cases of suites by how they ended."""
+    kinds: collections.Counter[str] = collections.Counter()
+    for suite in suites:
+        for case in suite.cases:
+            status = case.status
+            kinds["tests"] += 1
+            kinds["skipped"] += isinstance(status, Skipped)
+            kinds[status.fault.kind if isinstance(status, NonSuccess) else "passed"] += 1
+    return Counts(kinds["tests"], kinds["skipped"], kinds["error"], kinds["failure"])
 
 
-def element(tag, attributes=(), text=None, children=()):
-    """An element, without the attributes that have no value."""
-    return Element(tag, [(k, v) for k, v in attributes if v is not None], text, list(children))
+def has_failed(report: Report) -> bool:
+    """Return whether a case of a report failed, or is an error."""
+    counts = count(report.suites)
+    return bool(counts.errors or counts.failures)
 
 
-def number(value):
-    """A whole number of a report."""
-    if type(value) is not int:
-        raise NoReport(f"{value!r} is no whole number")
-    return value
-
-
-def instant(stamp):
-    """An instant to the millisecond, with the offset of its zone; None where no date has it."""
-    if stamp is None:
+def instant_text(instant: Instant | None) -> str | None:
+    """Return an instant to the millisecond in its zone, None where no date has it."""
+    if instant is None:
         return None
+    zone = datetime.timezone.utc
+    if abs(instant.offset) < DAY and instant.offset % 60 == 0:
+        zone = datetime.timezone(datetime.timedelta(seconds=instant.offset))
     try:
-        offset = number(stamp["offset"])
-        zone = datetime.timezone.utc
-        if abs(offset) < 86400 and offset % 60 == 0:
-            zone = datetime.timezone(datetime.timedelta(seconds=offset))
-        moment = (EPOCH + datetime.timedelta(seconds=number(stamp["secs"]))).astimezone(zone)
+        moment = (EPOCH + datetime.timedelta(seconds=instant.seconds)).astimezone(zone)
     except OverflowError:
         return None
-    moment = moment.replace(microsecond=number(stamp["nanos"]) // 1000)
+    try:
+        moment = moment.replace(microsecond=instant.nanoseconds // 1000)
+    except ValueError as error:
+        raise NoReport(f"{instant.nanoseconds} nanoseconds are no part of a second") from error
     return moment.isoformat(timespec="milliseconds")
 
 
-def seconds(time):
-    """A span of time in seconds, rounded to the millisecond."""
+def seconds_text(time: Duration | None) -> str | None:
+    """Return a length of time in seconds, rounded to the millisecond."""
     if time is None:
         return None
-    milliseconds = (number(time["secs"]) * 10**9 + number(time["nanos"]) + 500_000) // 10**6
+    milliseconds = (time.seconds * 10**9 + time.nanoseconds + 500_000) // 10**6
     if milliseconds < 0:
-        raise NoReport(f"{time} is no span of time")
+        raise NoReport(f"{time} is no length of time")
     return f"{milliseconds // 1000}.{milliseconds % 1000:03}"
 
 
-def outputs(owner):
-    """What a case or a rerun wrote, where it is stored."""
-    return [
-        element(tag, text=owner[tag])
-        for tag in ("system-out", "system-err")
-        if owner.get(tag) is not None
-    ]
+def first_start(suite: Suite) -> Instant | None:
+    """Return when the first case of a suite started."""
+    starts = [case.timestamp for case in suite.cases if case.timestamp is not None]
+    return min(starts, key=lambda start: (start.seconds, start.nanoseconds), default=None)
 
 
-def fault_element(tag, fault, attributes, children=()):
-    """A failure or an error. What nothing describes is described by its type, since readers show message and text."""
-    message = fault.get("message") or fault["type-text"]
-    attributes = [*attributes, ("message", message), ("type", fault["type-text"])]
-    return element(tag, attributes, fault.get("description") or message, children)
+def whole_time(suite: Suite) -> Duration | None:
+    """Return how long all cases of a suite ran."""
+    times = [case.time for case in suite.cases if case.time is not None]
+    if not times:
+        return None
+    return Duration(sum(time.seconds for time in times), sum(time.nanoseconds for time in times))
 
 
-def rerun_element(kind, rerun):
-    """An attempt beside the main one."""
-    attributes = [
-        ("timestamp", instant(rerun.get("timestamp"))),
-        ("time", seconds(rerun.get("time"))),
-    ]
-    return fault_element(RERUN_TAGS[kind, rerun["kind"]], rerun, attributes, outputs(rerun))
+@dataclasses.dataclass(frozen=True)
+class JunitWriter:
+    """Makes elements in a dialect, with at most so many bytes in a text."""
 
+    dialect: Dialect = "jenkins"
+    most_text: int = MOST
 
-def status_elements(status):
-    """How a case ended."""
-    ((name, content),) = status.items()
-    if name == "success":
-        return [rerun_element("flaky", rerun) for rerun in content]
-    if name == "skipped":
-        return [element("skipped", [("message", content)])]
-    if name != "non-success" or content["kind"] not in ("failure", "error"):
-        raise KeyError(name)
-    main = fault_element(content["kind"], content, [])
-    return [main] + [rerun_element(content["rerun-kind"], rerun) for rerun in content["reruns"]]
+    def element(self, tag: str, attributes: Attributes, text: str | None = None) -> Element:
+        """Return an element, without attributes that have no value or aren't of the dialect."""
+        left_out = LEFT_OUT[self.dialect].get(tag, set())
+        made = Element(tag)
+        for name, value in attributes.items():
+            if value is not None and name not in left_out:
+                made.set(name, cut(clean(value), self.most_text // ATTRIBUTE_PART))
+        made.text = None if text is None else cut(clean(text), self.most_text)
+        return made
 
+    def report(self, report: Report) -> Element:
+        """Return the root of a report's XML."""
+        counts = count(report.suites).attributes
+        attributes = {
+            "name": report.name,
+            **{name: counts[name] for name in ("tests", "failures", "errors")},
+            "uuid": report.run_id,
+            "timestamp": instant_text(report.timestamp),
+            "time": seconds_text(report.time),
+        }
+        root = self.element("testsuites", attributes)
+        root.extend([self.suite(suite) for suite in report.suites])
+        return root
 
-def case_element(case):
-    attributes = [
-        ("name", case["name"]),
-        ("classname", case["classname"]),
-        ("timestamp", instant(case.get("timestamp"))),
-        ("time", seconds(case.get("time"))),
-    ]
-    return element("testcase", attributes, None, status_elements(case["status"]) + outputs(case))
+    def suite(self, suite: Suite) -> Element:
+        """Return the element of a suite, with its properties first."""
+        span = {
+            "timestamp": instant_text(first_start(suite)),
+            "time": seconds_text(whole_time(suite)),
+        }
+        made = self.element("testsuite", {"name": suite.name, **count([suite]).attributes, **span})
+        if suite.properties:
+            properties = self.element("properties", {})
+            for each in suite.properties:
+                attributes: Attributes = {"name": each.name, "value": each.value}
+                properties.append(self.element("property", attributes))
+            made.append(properties)
+        made.extend([self.case(case) for case in suite.cases])
+        return made
 
+    def case(self, case: Case) -> Element:
+        """Return the element of a case."""
+        attributes = {
+            "name": case.name,
+            "classname": case.classname,
+            "timestamp": instant_text(case.timestamp),
+            "time": seconds_text(case.time),
+        }
+        made = self.element("testcase", attributes)
+        made.extend(self.status(case.status))
+        made.extend(self.outputs(case.outputs))
+        return made
 
-def counts(suites):
-    """How many cases of these suites there are, and how many did not run, went wrong and failed."""
-    kinds = collections.Counter()
-    for suite in suites:
-        for case in suite["cases"]:
-            status = case["status"]
-            kinds["tests"] += 1
-            kinds["disabled"] += "skipped" in status
-            kinds[status["non-success"]["kind"] if "non-success" in status else "passed"] += 1
-    return {
-        "tests": str(kinds["tests"]),
-        "disabled": str(kinds["disabled"]),
-        "skipped": str(kinds["disabled"]),
-        "errors": str(kinds["error"]),
-        "failures": str(kinds["failure"]),
-    }
+    def status(self, status: Status) -> list[Element]:
+        """Return the elements that say how a case ended."""
+        match status:
+            case Skipped(message):
+                return [self.element("skipped", {"message": message})]
+            case Success(attempts):
+                return [self.attempt("flaky", attempt) for attempt in attempts]
+            case NonSuccess(fault, rerun_kind, attempts):
+                main = self.fault(fault.kind, fault, {})
+                return [
+                    main,
+                    *(self.attempt(rerun_kind, attempt) for attempt in attempts),
+                ]
 
+    def attempt(self, rerun_kind: RerunKind, attempt: Attempt) -> Element:
+        """Return the element of an attempt beside the main one."""
+        attributes = {
+            "timestamp": instant_text(attempt.timestamp),
+            "time": seconds_text(attempt.time),
+        }
+        made = self.fault(RERUN_TAGS[rerun_kind, attempt.fault.kind], attempt.fault, attributes)
+        made.extend(self.outputs(attempt.outputs))
+        return made
 
-def span_of(suite):
-    """When the first case of a suite started, and how long all of them ran."""
-    starts = [case["timestamp"] for case in suite["cases"] if case.get("timestamp") is not None]
-    times = [case["time"] for case in suite["cases"] if case.get("time") is not None]
-    whole = {part: sum(number(time[part]) for time in times) for part in ("secs", "nanos")}
-    start = min(
-        starts, key=lambda stamp: (number(stamp["secs"]), number(stamp["nanos"])), default=None
-    )
-    return [("timestamp", instant(start)), ("time", seconds(whole if times else None))]
+    def fault(self, tag: str, fault: Fault, attributes: Attributes) -> Element:
+        """Return the element of a failure or an error.
 
+        Readers show message and text, so what nothing describes is described by its type.
+        """
+        message = fault.message or fault.type
+        attributes = {**attributes, "message": message, "type": fault.type}
+        return self.element(tag, attributes, fault.description or message)
 
-def suite_element(suite):
-    count = counts([suite])
-    attributes = [("name", suite["name"])] + [
-        (key, count[key]) for key in ("tests", "disabled", "skipped", "errors", "failures")
-    ]
-    attributes += span_of(suite)
-    properties = [
-        element("property", [("name", p["name"]), ("value", p["value"])])
-        for p in suite["properties"]
-    ]
-    children = [element("properties", children=properties)] if properties else []
-    return element(
-        "testsuite", attributes, None, children + [case_element(case) for case in suite["cases"]]
-    )
-
-
-def report_element(report):
-    """The root of a report's XML."""
-    count = counts(report["suites"])
-    attributes = [("name", report["name"])] + [
-        (key, count[key]) for key in ("tests", "failures", "errors")
-    ]
-    attributes += [
-        ("uuid", report["run-id"]),
-        ("timestamp", instant(report["timestamp"])),
-        ("time", seconds(report["time"])),
-    ]
-    return element(
-        "testsuites", attributes, None, [suite_element(suite) for suite in report["suites"]]
-    )
-
-
-def xml_text(root, most, left_out, indent="\n"):
-    """The text of an element. Elements in it stand on lines of their own, unless it has a text too."""
-    attributes = [pair for pair in root.attributes if pair[0] not in left_out.get(root.tag, ())]
-    tag = root.tag + "".join(f' {key}="{attribute_of(value, most)}"' for key, value in attributes)
-    if root.text is None and not root.children:
-        return f"{indent}<{tag}/>"
-    text = "" if root.text is None else text_of(root.text, most)
-    inner = indent and indent + "    " if root.text is None else ""
-    end = indent if root.text is None else ""
-    children = "".join(xml_text(child, most, left_out, inner) for child in root.children)
-    return f"{indent}<{tag}>{text}{children}{end}</{root.tag}>"
-
-
-def report_xml(report, most, dialect):
-    """The XML of a report in a dialect, with at most so many bytes in a text."""
-    try:
-        return (
-            '<?xml version="1.0" encoding="UTF-8"?>'
-            + xml_text(report_element(report), most, LEFT_OUT[dialect])
-            + "\n"
-        )
-    except (AttributeError, KeyError, TypeError, ValueError) as error:
-        raise NoReport(repr(error)) from error
-
-
-def is_bad(report):
-    """Whether something failed in a report whose XML was made."""
-    count = counts(report["suites"])
-    return count["failures"] != "0" or count["errors"] != "0"
+    def outputs(self, outputs: Outputs) -> list[Element]:
+        """Return the elements of what a case or an attempt wrote, where it is stored."""
+        texts = (("system-out", outputs.out), ("system-err", outputs.err))
+        return [self.element(tag, {}, text) for tag, text in texts if text is not None]

@@ -1,131 +1,85 @@
-"""What the events of a run say beside its report: what never ended, whether it was broken off, and why tests are ignored."""
+"""Adds to a report what the events of its run say besides."""
 
-import json
+from __future__ import annotations
 
-from rezovamy_runs.bundles.container import MAGIC, entry
+import dataclasses
+from collections.abc import Iterator
 
-LOG = b"run.log.zst"
+from rezovamy_runs.report.run_events import NoEvents, RunEvents, TestKey
+from rezovamy_runs.report.run_report import (
+    Case,
+    Fault,
+    Instant,
+    NonSuccess,
+    Report,
+    Skipped,
+    Suite,
+)
+
 RUN = "(run)"
 
 
-class NoEvents(Exception):
-    """A file is neither a session nor a bundle."""
-
-
-class Run:
-    """The events of one run, from its start or the end of the last one to its end."""
-
-    def __init__(self):
-        self.started, self.attempts, self.missing, self.unnamed = {}, {}, {}, 0
-        self.id, self.cancelled, self.reasons = None, None, {}
-
-    def take(self, event):
-        """Takes an event of the run; whether it is the run's end."""
-        kind, key = event.get("kind"), key_of(event)
-        if kind in ("test-started", "test-retry-started"):
-            self.started[key] = event["timestamp"]
-        elif kind == "test-attempt-failed-will-retry":
-            summary = event["run-status"].get("error-summary") or {}
-            self.attempts.setdefault(key, []).append(summary.get("short-message", "it failed"))
-        elif kind == "test-finished":
-            self.started.pop(key, None)
-        elif kind == "test-skipped" and isinstance(event.get("message"), str):
-            self.reasons[key] = event["message"]
-        elif kind == "run-begin-cancel":
-            self.cancelled = event["reason"]
-        elif kind == "run-finished":
-            self.id = event["run-id"]
-            self.end(event.get("outstanding-not-seen") or {"not-seen": [], "total-not-seen": 0})
-            return True
-        return False
-
-    def end(self, unseen):
-        """Takes what the run's end names as not seen."""
-        started = {(suite.partition("@stress-")[0], name) for suite, name in self.started}
-        named = [(test["binary-id"], test["test-name"]) for test in unseen["not-seen"]]
-        self.missing = dict(self.started) | {key: None for key in named if key not in started}
-        self.unnamed = max(0, unseen["total-not-seen"] - len(named))
-
-
-def key_of(event):
-    """The suite of a report and the name there that an event's test has."""
-    test, index = event.get("test-instance"), event.get("stress-index")
-    if test is None:
-        return None
-    return test["binary-id"] + (f"@stress-{index['current']}" if index else ""), test["test-name"]
-
-
-def runs_of(data):
-    """The runs that ended in a session or a bundle, in order, as the reports of its bundle stand."""
-    try:
-        lines = entry(data, LOG).split(b"\n") if data.startswith(MAGIC) else data.split(b"\n")[1:]
-        runs, run = [], Run()
-        for line in lines:
-            if line.strip() and run.take(json.loads(line)):
-                runs.append(run)
-                run = Run()
-        return runs
-    except (AttributeError, KeyError, RecursionError, TypeError, ValueError) as error:
-        raise NoEvents(f"no session and no bundle: {error!r}") from error
-
-
-def fault(suite, name, kind, message, lines=(), start=None):
-    """A case that is an error."""
-    status = {
-        "kind": "error",
-        "type-text": kind,
-        "message": message,
-        "description": "\n".join([message, *lines]),
-    }
-    return {
-        "name": name,
-        "classname": suite,
-        "status": {"non-success": {**status, "rerun-kind": "rerun", "reruns": []}},
-        **({"timestamp": start} if start else {}),
-    }
-
-
-def add_case(report, case):
-    """Adds a case to the last suite of its name, which is made where there is none."""
-    suites = [suite for suite in report["suites"] if suite["name"] == case["classname"]]
-    if not suites:
-        suites = [{"name": case["classname"], "cases": [], "properties": []}]
-        report["suites"] += suites
-    suites[-1]["cases"].append(case)
-
-
-def amend(report, run):
-    """Adds to a report what the events of its run say besides."""
-    if report["run-id"] != run.id:
-        raise NoEvents(f"the events are of the run {run.id}, the report of another one")
-    for suite in report["suites"]:
-        for case in suite["cases"]:
-            reason = run.reasons.get((suite["name"], case["name"]))
-            if reason is not None and "skipped" in case["status"]:
-                case["status"] = {"skipped": f"{case['status']['skipped']}: {reason}"}
-    for (suite, name), start in run.missing.items():
-        how = (
-            "started, and no event says how it ended"
-            if start
-            else "was announced, and never started"
+def with_events(report: Report, run: RunEvents) -> Report:
+    """Return the report with its tests' reasons, and with an error for all that never ended."""
+    if report.run_id != run.run_id:
+        raise NoEvents(f"the events are of the run {run.run_id}, the report of another one")
+    suites = [
+        dataclasses.replace(
+            suite, cases=tuple(with_reason(suite, case, run) for case in suite.cases)
         )
-        lines = [
-            f"attempt {number}: {short}"
-            for number, short in enumerate(run.attempts.get((suite, name), []), 1)
-        ]
-        add_case(
-            report,
-            fault(suite, name, "unfinished test", f"the test {how}{broken_off(run)}", lines, start),
-        )
-    whole = [f"the run was broken off ({run.cancelled})"] if run.cancelled else []
-    whole += (
-        [f"{run.unnamed} announced tests never started, and no event names them"]
-        if run.unnamed
-        else []
+        for suite in report.suites
+    ]
+    unfinished = [unfinished_test(key, start, run) for key, start in run.missing.items()]
+    return dataclasses.replace(
+        report, suites=with_cases(suites, [*unfinished, *unfinished_run(run)])
     )
-    if whole:
-        add_case(report, fault(RUN, RUN, "unfinished run", whole[0], whole[1:]))
 
 
-def broken_off(run):
-    return f"; the run was broken off ({run.cancelled})" if run.cancelled else ""
+def with_reason(suite: Suite, case: Case, run: RunEvents) -> Case:
+    """Return the case, which says why it was skipped where an event does."""
+    reason = run.reasons.get(TestKey(suite.name, case.name))
+    if reason is None or not isinstance(case.status, Skipped):
+        return case
+    return dataclasses.replace(case, status=Skipped(f"{case.status.message}: {reason}"))
+
+
+def with_cases(suites: list[Suite], cases: list[Case]) -> tuple[Suite, ...]:
+    """Return the suites, each case in the last one of its name, or in a new one."""
+    added: dict[str, list[Case]] = {}
+    for case in cases:
+        added.setdefault(case.classname, []).append(case)
+    places = {suite.name: place for place, suite in enumerate(suites)}
+    made = list(suites)
+    for name, more in added.items():
+        if name in places:
+            suite = made[places[name]]
+            made[places[name]] = dataclasses.replace(suite, cases=(*suite.cases, *more))
+        else:
+            made.append(Suite(name, tuple(more)))
+    return tuple(made)
+
+
+def unfinished_test(key: TestKey, start: Instant | None, run: RunEvents) -> Case:
+    """Return the case of a test that never ended."""
+    how = "started, and no event says how it ended" if start else "was announced, and never started"
+    broken_off = f"; the run was broken off ({run.cancelled})" if run.cancelled else ""
+    lines = [
+        f"attempt {number}: {message}"
+        for number, message in enumerate(run.attempts.get(key, ()), 1)
+    ]
+    return error_case(key, "unfinished test", [f"the test {how}{broken_off}", *lines], start)
+
+
+def unfinished_run(run: RunEvents) -> Iterator[Case]:
+    """Yield the case of a run that was broken off, or of which no event names all tests."""
+    lines = [f"the run was broken off ({run.cancelled})"] if run.cancelled else []
+    if run.unnamed:
+        lines.append(f"{run.unnamed} announced tests never started, and no event names them")
+    if lines:
+        yield error_case(TestKey(RUN, RUN), "unfinished run", lines)
+
+
+def error_case(key: TestKey, kind: str, lines: list[str], start: Instant | None = None) -> Case:
+    """Return a case that is an error, of which the first line is the message."""
+    fault = Fault("error", kind, lines[0], "\n".join(lines))
+    return Case(key.name, key.suite, NonSuccess(fault), start)
