@@ -1,4 +1,3 @@
-#!/usr/bin/env python3
 """Lists, of each crate, the functions that cost the checker most, and says which are too large.
 
     (cd crates/NAME && rt check)
@@ -10,17 +9,19 @@ what makes one large, what helps, and which stay above it and why. A crate that 
 is left out. The status is 1 where a function is above the limit that docs/PROVING.md does not name.
 """
 
+from __future__ import annotations
+
 import re
 import sys
 
 from rezovamy_runs.command_line import command_line, whole
+from workshop import TOP
 
 LIMIT = 4_000_000
 SUFFIX = ".Lts.oantt"
-from workshop import TOP
 
 
-def crates():
+def crates() -> list[str]:
     """The names in crates.txt, in its order."""
     lines = (TOP / "crates.txt").read_text().splitlines()
     return [
@@ -28,13 +29,13 @@ def crates():
     ]
 
 
-def function_of(crate, file_name):
+def function_of(crate: str, file_name: str) -> str:
     """`span_tracker::SpanTracker::observe` for the file of that function's states."""
     stem = file_name.removesuffix(SUFFIX)
     return re.sub(rf"^Rattle-{crate}-(proofs|tests)\.", "", stem).replace(".", "::")
 
 
-def sizes_of(crate):
+def sizes_of(crate: str) -> list[tuple[str, int]]:
     """The size of each function's states in bytes, the largest first."""
     files = sorted(
         (TOP / "crates" / crate / "out" / "incremental").glob(f"**/*{SUFFIX}"),
@@ -45,13 +46,13 @@ def sizes_of(crate):
     return sorted(newest.items(), key=lambda item: (-item[1], item[0]))
 
 
-def excused():
+def excused() -> set[tuple[str, str]]:
     """The functions that docs/PROVING.md names as above the limit, each with its crate."""
     text = (TOP / "docs" / "PROVING.md").read_text()
     return set(re.findall(r"^\| `(\w+)` \| `([\w:]+)` \|", text, re.M))
 
 
-def main():
+def main() -> None:
     parser = command_line(__doc__)
     parser.add_argument(
         "--most", type=whole(0, 10**6), default=5, help="how many functions of a crate (5)"

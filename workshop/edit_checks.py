@@ -4,10 +4,12 @@ A function's proof rests on the contracts of what it calls, and never on their b
 function that it changes, and edits of several functions at once; only one whose function calls another edited one waits for it.
 """
 
+from __future__ import annotations
+
 import dataclasses
 import enum
 import os
-import pathlib
+from pathlib import Path
 import re
 import shutil
 import signal
@@ -16,7 +18,9 @@ import tempfile
 import threading
 
 from workshop.edit_files import Misfit, applied
-from workshop.gate_cost import stands_on
+from workshop.gate_cost import Uses, stands_on
+from collections.abc import Iterable, Iterator, Mapping, Sequence
+from typing import TypeAlias
 
 PARTS = ("src", "specs", "proofs")
 LAST_LINE = re.compile(r"only=\d+ proved=\d+")
@@ -48,6 +52,10 @@ class Verdict(enum.Enum):
     NONE = enum.auto()
 
 
+# A verdict, and the words on which it rests.
+Judgement: TypeAlias = tuple[Verdict, str]
+
+
 # ---- the kit and the libraries
 
 
@@ -55,20 +63,20 @@ class Verdict(enum.Enum):
 class Clone:
     """The crates of a clone, what each uses, and the kit that checks them."""
 
-    crates: pathlib.Path
-    uses: dict
-    kit: pathlib.Path
+    crates: Path
+    uses: Uses
+    kit: Path
 
-    def rlib(self, name):
+    def rlib(self, name: str) -> Path:
         """The built library of a crate, or of the kit."""
         if name in self.uses:
             return self.crates / name / "out/rlib" / f"{name}.rlib"
         return self.kit / "rlibs" / f"{name}.rlib"
 
-    def below(self, crate):
+    def below(self, crate: str) -> list[str]:
         return sorted(stands_on(self.uses, crate) - {crate})
 
-    def words(self, crate, functions):
+    def words(self, crate: str, functions: Iterable[str]) -> list[str]:
         """The words by which the kit's checker checks functions of a crate, from a folder with its files."""
         root = "main" if (self.crates / crate / "src/main.rt").is_file() else "lib"
         words = [str(self.kit / "bin/rattle"), "check", "--crate-name", crate, f"src/{root}.rt"]
@@ -87,7 +95,7 @@ class Clone:
         ]
         return words + [word for name in functions for word in ("--only", name)]
 
-    def unbuilt(self, crates):
+    def unbuilt(self, crates: Iterable[str]) -> Iterator[str]:
         """A line for each library below some crates that is missing, or older than a file that it is made of."""
         for name in sorted({name for crate in crates for name in self.below(crate)}):
             built = self.rlib(name)
@@ -97,11 +105,11 @@ class Clone:
                 yield f"the library {name} is older than its sources, or those of a crate below it"
 
     @staticmethod
-    def put_there(built):
+    def put_there(built: Path) -> float:
         """When a library was built, or put there by `rt ci`, which gives the files of one that it has kept their older times."""
         return max(path.stat().st_mtime for path in (built, built / "format"))
 
-    def changed(self, crate):
+    def changed(self, crate: str) -> float:
         """When a file of a crate was last changed."""
         files = [
             path
@@ -112,12 +120,12 @@ class Clone:
         return max((path.stat().st_mtime for path in files), default=0)
 
 
-def kit():
+def kit() -> Path:
     """The folder of the kit whose `rt` is on the path."""
     found = shutil.which("rt")
     if found is None:
         raise Unready("no rt of a Rattle kit is on the path")
-    return pathlib.Path(found).resolve().parent.parent
+    return Path(found).resolve().parent.parent
 
 
 # ---- rounds
@@ -127,11 +135,11 @@ def kit():
 class Round:
     """Edits of a crate that are tried in one check: the functions of each, by its name, and the files with all of them."""
 
-    functions: dict = dataclasses.field(default_factory=dict)
-    texts: dict = dataclasses.field(default_factory=dict)
+    functions: dict[str, list[str]] = dataclasses.field(default_factory=dict)
+    texts: dict[str, str] = dataclasses.field(default_factory=dict)
     is_open: bool = True
 
-    def takes(self, name, text, folder):
+    def takes(self, name: str, text: str, folder: Path) -> bool:
         """Takes an edit, unless it and the others get in each other's way."""
         try:
             made = applied(text, folder, self.texts)
@@ -146,9 +154,9 @@ class Round:
         return True
 
 
-def rounds(edits, folder):
+def rounds(edits: Mapping[str, str], folder: Path) -> list[Round]:
     """The fewest checks that are easily found for a crate's edits. No two edits of a round change one function."""
-    found = []
+    found: list[Round] = []
     for name, text in edits.items():
         if not any(each.takes(name, text, folder) for each in found):
             found.append(Round())
@@ -169,7 +177,7 @@ class Said:
     seconds: float = 0
     memory: int = 0
 
-    def fault(self):
+    def fault(self) -> str:
         """The first line that says why it came to no proof, or couldn't read a text; empty where all was read."""
         lines = self.text.rstrip("\n").split("\n")
         bad = next(filter(is_unread, lines), "")
@@ -180,7 +188,7 @@ class Said:
             f"the checker ended with status {self.status}",
         )
 
-    def is_by_names(self, name):
+    def is_by_names(self, name: str) -> bool:
         """Whether a function's proof seems to fail only as it names what an edit took away, which says little of the contract."""
         *places, _ = name.split("::")
         told = re.findall(
@@ -195,7 +203,7 @@ class Said:
         return bool(told) and not is_open and all(map(GONE.search, told))
 
 
-def is_unread(line):
+def is_unread(line: str) -> bool:
     """Whether a line says that a text of `src` or `specs` can't be read."""
     found = ERROR.match(line)
     if found is None or not found[1].startswith(("src/", "specs/")):
@@ -203,7 +211,9 @@ def is_unread(line):
     return not found[2] or NOT_READ.search(re.sub(r"`[^`]*`", "", found[3])) is not None
 
 
-def verdicts(said, crate, functions):
+def verdicts(
+    said: Said, crate: str, functions: Mapping[str, Sequence[str]]
+) -> dict[str, Judgement]:
     """The verdict on each edit of a round, with the words on which it rests."""
     if UNFIT.search(said.text):
         raise Unready(f"the libraries below it weren't built over each other; {BUILD}")
@@ -217,7 +227,7 @@ def verdicts(said, crate, functions):
     }
 
 
-def judged(words):
+def judged(words: str) -> Judgement:
     """The verdict of what is said of one function. What else it says of one that calls an unproved function may be for that alone."""
     if words == "proved":
         return Verdict.PROVED, words
@@ -228,7 +238,7 @@ def judged(words):
     return Verdict.NONE, words or "the checker says nothing of the function that it changes"
 
 
-def together(found):
+def together(found: Sequence[Judgement]) -> Judgement:
     """The verdict on an edit, of those of its functions: it is refused where one of them is."""
     for kind in (Verdict.REFUSED, Verdict.NONE, Verdict.WAITS):
         for verdict in found:
@@ -240,51 +250,58 @@ def together(found):
 # ---- a check
 
 
+def all_of(process: subprocess.Popen[str]) -> str:
+    """Read what a process prints to its end."""
+    assert process.stdout is not None
+    with process.stdout as stream:
+        return stream.read()
+
+
 class Checker:
     """Checks crates with edits. Once it is stopped, no check goes on and none begins."""
 
-    def __init__(self, clone):
+    def __init__(self, clone: Clone) -> None:
         self.clone = clone
-        self.running = set()
+        self.running: set[subprocess.Popen[str]] = set()
         self.is_stopped = False
         self.lock = threading.Lock()
 
-    def stop(self):
+    def stop(self) -> None:
         with self.lock:
             self.is_stopped = True
             for process in self.running:
                 os.killpg(process.pid, signal.SIGKILL)
 
-    def check(self, crate, each, kept):
+    def check(self, crate: str, each: Round, kept: str) -> Said:
         """What the checker says of a crate's functions with the edits of a round. What it proves it keeps in a folder."""
         with tempfile.TemporaryDirectory(prefix="edit-") as room:
             for part in PARTS:
                 if (self.clone.crates / crate / part).is_dir():
-                    shutil.copytree(self.clone.crates / crate / part, pathlib.Path(room, part))
+                    shutil.copytree(self.clone.crates / crate / part, Path(room, part))
             for path, text in each.texts.items():
-                pathlib.Path(room, path).write_text(text)
+                Path(room, path).write_text(text)
             functions = dict.fromkeys(
                 name for changed in each.functions.values() for name in changed
             )
             return self.run([*self.clone.words(crate, functions), "--incremental", kept], room)
 
-    def run(self, words, folder):
+    def run(self, words: Sequence[str], folder: str) -> Said:
         """What a command prints and takes, in a group of its own, so that all that it starts can be ended."""
-        how = {
-            "cwd": folder,
-            "stdin": subprocess.DEVNULL,
-            "stdout": subprocess.PIPE,
-            "stderr": subprocess.STDOUT,
-        }
         with self.lock:
             if self.is_stopped:
                 raise Unready("it was stopped")
             process = subprocess.Popen(
-                words, text=True, errors="replace", start_new_session=True, **how
+                words,
+                cwd=folder,
+                stdin=subprocess.DEVNULL,
+                stdout=subprocess.PIPE,
+                stderr=subprocess.STDOUT,
+                text=True,
+                errors="replace",
+                start_new_session=True,
             )
             self.running.add(process)
-        with process.stdout as stream:
-            text = stream.read()
+        text = all_of(process)
         with self.lock:
             self.running.discard(process)
         _, status, used = os.wait4(process.pid, 0)

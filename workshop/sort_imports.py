@@ -1,4 +1,3 @@
-#!/usr/bin/env python3
 """Puts the imports of proof files and the `ghost use` lines of source files into one order.
 
     python3 -m workshop.sort_imports            prints each file whose imports are not in order, and ends with status 1 if there is one
@@ -9,33 +8,37 @@ then those of other libraries, then those of the crates of this repository from 
 in the order of their paths.
 """
 
+from __future__ import annotations
+
 import re
 import sys
 
 from rezovamy_runs.command_line import command_line
 
 from workshop import TOP
+from collections.abc import Sequence
 
 IMPORT = re.compile(r"^\s*(?:ghost )?use Rattle\.(\S+)")
 
 
-def layers():
+def layers() -> list[str]:
     """Returns the crates of the repository, in the order of crates.txt, which lists the lowest first."""
     lines = (TOP / "crates.txt").read_text().splitlines()
     return [line.split(":")[0] for line in lines if line and not line.startswith("#")]
 
 
-def key(line, crates):
+def key(line: str, crates: Sequence[str]) -> tuple[int, str, str, str]:
     """Returns what an import is sorted by."""
-    path = IMPORT.match(line).group(1)
+    path = re.sub(r"^\s*(?:ghost )?use Rattle\.", "", line).split()[0]
     crate = path.split(".")[0]
     rank = 0 if crate == "std" else 2 + crates.index(crate) if crate in crates else 1
     return rank, path.lower(), path, line
 
 
-def in_order(text, crates):
+def in_order(text: str, crates: Sequence[str]) -> str:
     """Returns the text with each block of imports in order."""
-    lines, done = text.split("\n"), []
+    lines = text.split("\n")
+    done: list[str] = []
     while lines:
         block = 0
         while block < len(lines) and IMPORT.match(lines[block]):
@@ -45,7 +48,7 @@ def in_order(text, crates):
     return "\n".join(done)
 
 
-def main():
+def main() -> int:
     parser = command_line(__doc__)
     parser.add_argument("--write", action="store_true", help="put the imports in order")
     write, crates, found = parser.parse_args().write, layers(), False
@@ -55,11 +58,13 @@ def main():
         text = path.read_text()
         sorted_text = in_order(text, crates)
         if sorted_text != text:
-            path.write_text(sorted_text) if write else print(
-                f"{path.relative_to(TOP)}: imports are not in order"
-            )
-            found = not write
+            if write:
+                path.write_text(sorted_text)
+            else:
+                print(f"{path.relative_to(TOP)}: imports are not in order")
+                found = True
     return int(found)
 
 
-sys.exit(main())
+if __name__ == "__main__":
+    sys.exit(main())

@@ -1,4 +1,3 @@
-#!/usr/bin/env python3
 """Shows that the checker refuses wrong bodies: each edit in `workshop/edits/CRATE`, by the proof of the function that it changes.
 
     python3 -m workshop.try_edits [--only WORD]     tries the edits with this word in `CRATE/NAME.edit`
@@ -18,9 +17,12 @@ Crates are tried side by side, one a processor where each has 3 GB of free memor
 time, and more where its function calls many others of its crate.
 """
 
+from __future__ import annotations
+
 import concurrent.futures
+import dataclasses
 import os
-import pathlib
+from pathlib import Path
 import re
 import signal
 import subprocess
@@ -31,10 +33,11 @@ from workshop import edit_checks
 from workshop import gate_cost
 from workshop import refusals
 from rezovamy_runs.command_line import command_line, say, whole
-from workshop.edit_checks import Checker, Clone, Unready, Verdict
+from workshop.edit_checks import Judgement, Round, Said, Checker, Clone, Unready, Verdict
 from workshop.edit_files import Misfit, misfit
 
 from workshop import TOP
+from collections.abc import Callable, Iterable, Mapping
 
 CRATES = TOP / "crates"
 EDITS = TOP / "workshop/edits"
@@ -44,7 +47,16 @@ INTERRUPTED = 130
 SETTLED = {Verdict.REFUSED, Verdict.PROVED}
 
 
-def edits_there(with_refusals=False):
+@dataclasses.dataclass(frozen=True)
+class Options:
+    """What is asked for beside the edits."""
+
+    build: bool = False
+    jobs: int | None = None
+    summary: bool = False
+
+
+def edits_there(with_refusals: bool = False) -> dict[str, str]:
     """The texts of the edits that are tried here, by their crates and names."""
     paths = [*EDITS.glob("*/*.edit"), *(EDITS.glob("*/refusals/*.edit") if with_refusals else [])]
     found = {
@@ -59,17 +71,17 @@ def edits_there(with_refusals=False):
     return found | {f"{refusals.CRATE}/{name}": text for name, text in made.items()}
 
 
-def crate_of(name):
+def crate_of(name: str) -> str:
     return name.partition("/")[0]
 
 
-def misfits(edits):
+def misfits(edits: Mapping[str, str]) -> str:
     """A line for each edit that can't be applied, or whose function isn't found."""
     found = {name: misfit(text, CRATES / crate_of(name)) for name, text in edits.items()}
     return "".join(f"{name}: {why}\n" for name, why in found.items() if why)
 
 
-def fault(verdict, words):
+def fault(verdict: Verdict, words: str) -> str:
     """What is said of an edit that isn't refused."""
     if verdict is Verdict.PROVED:
         return "NOT REFUSED: the function is still proved with it"
@@ -78,11 +90,15 @@ def fault(verdict, words):
     return f"BAD EDIT, which doesn't come to the proof of its function: {words}"
 
 
-def faults(edits, folder, check):
+def faults(
+    edits: Mapping[str, str], folder: Path, check: Callable[[Round], Mapping[str, Judgement]]
+) -> str:
     """A line for each edit of a crate that isn't refused, by checks of rounds of them."""
-    found, todo = {}, edit_checks.rounds(edits, folder)
+    found: dict[str, str] = {}
+    todo = edit_checks.rounds(edits, folder)
     while todo:
-        later, alone = {}, {}
+        later: dict[str, str] = {}
+        alone: dict[str, str] = {}
         for each in todo:
             said = check(each)
             kinds = {verdict for verdict, _ in said.values()}
@@ -99,10 +115,10 @@ def faults(edits, folder, check):
     return "".join(found[name] for name in edits if name in found)
 
 
-def try_crate(crate, edits, checker, summary):
+def try_crate(crate: str, edits: Mapping[str, str], checker: Checker, summary: bool) -> str:
     """What is wrong of a crate's edits. What one check has proved of other functions the next one takes from a folder."""
 
-    def check(each):
+    def check(each: Round) -> Mapping[str, Judgement]:
         said = checker.check(crate, each, kept)
         found = edit_checks.verdicts(said, crate, each.functions)
         if summary:
@@ -116,7 +132,7 @@ def try_crate(crate, edits, checker, summary):
             return f"{crate}: {why}\n"
 
 
-def summary_of(crate, said, each, found):
+def summary_of(crate: str, said: Said, each: Round, found: Mapping[str, Judgement]) -> str:
     """A line of what a check took, and of the edits that it has settled. What is refused only by names may be a poor edit."""
     shown = []
     for name, functions in each.functions.items():
@@ -127,13 +143,13 @@ def summary_of(crate, said, each, found):
     return f"{crate}: {said.seconds:.0f} s, {said.memory / 1e6:.1f} GB: {', '.join(shown)}"
 
 
-def most_at_once():
+def most_at_once() -> int:
     """How many checks run at a time: as many as there are processors, and as free memory holds."""
-    free = re.search(r"^MemAvailable: +(\d+)", pathlib.Path("/proc/meminfo").read_text(), re.M)
+    free = re.search(r"^MemAvailable: +(\d+)", Path("/proc/meminfo").read_text(), re.M)
     return max(1, min(len(os.sched_getaffinity(0)), int(free[1]) // MEMORY if free else 1))
 
 
-def build(clone, crates):
+def build(clone: Clone, crates: Iterable[str]) -> None:
     """Builds the libraries that some crates use; `rt` builds first those below each."""
     for name in sorted(
         {used for crate in crates for used in clone.uses[crate] if used in clone.uses}
@@ -146,24 +162,24 @@ def build(clone, crates):
             raise Unready(f"the library {name} can't be built")
 
 
-def try_all(edits, clone, words):
+def try_all(edits: Mapping[str, str], clone: Clone, options: Options) -> str:
     """What is wrong of edits, the crates with most of them first."""
-    parted = {crate: {} for crate in clone.uses}
+    parted: dict[str, dict[str, str]] = {crate: {} for crate in clone.uses}
     for name, text in edits.items():
         parted[crate_of(name)][name] = text
     crates = sorted(
         (crate for crate in parted if parted[crate]), key=lambda crate: -len(parted[crate])
     )
-    if words.build and list(clone.unbuilt(crates)):
+    if options.build and list(clone.unbuilt(crates)):
         build(clone, crates)
     unbuilt = list(clone.unbuilt(crates))
     if unbuilt:
         raise Unready("\n".join([*unbuilt, edit_checks.BUILD]))
     checker = Checker(clone)
-    with concurrent.futures.ThreadPoolExecutor(words.jobs or most_at_once()) as pool:
+    with concurrent.futures.ThreadPoolExecutor(options.jobs or most_at_once()) as pool:
         try:
             tasks = [
-                pool.submit(try_crate, crate, parted[crate], checker, words.summary)
+                pool.submit(try_crate, crate, parted[crate], checker, options.summary)
                 for crate in crates
             ]
             return "".join(task.result() for task in tasks)
@@ -173,7 +189,7 @@ def try_all(edits, clone, words):
             raise
 
 
-def main():
+def main() -> int:
     for number in (signal.SIGINT, signal.SIGTERM, signal.SIGHUP):
         # Each comes as an interrupt, by which the checks are ended too.
         signal.signal(number, signal.default_int_handler)
@@ -204,7 +220,8 @@ def main():
         if not edits:
             parser.error(f"no edit has {words.only!r} in its name")
         clone = Clone(CRATES, gate_cost.crates((TOP / "crates.txt").read_text()), edit_checks.kit())
-        found = misfits(edits) or try_all(edits, clone, words)
+        options = Options(words.build, words.jobs, words.summary)
+        found = misfits(edits) or try_all(edits, clone, options)
     except (OSError, Misfit, Unready, refusals.Unknown) as error:
         say(f"try_edits: {error}")
         return 1

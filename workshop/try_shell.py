@@ -1,4 +1,3 @@
-#!/usr/bin/env python3
 """Runs the built program as a shell may run it, and prints only what is wrong.
 
     python3 -m workshop.try_shell [crates/rezovamy/out/rezovamy]
@@ -8,9 +7,11 @@ line for `sh`, with what must come of it. docs/RELIABILITY.md has the same as a 
 rights; where there are none, their lines are named on standard error, and left out. It needs Linux.
 """
 
+from __future__ import annotations
+
 import dataclasses
 import os
-import pathlib
+from pathlib import Path
 import signal
 import subprocess
 import sys
@@ -22,6 +23,7 @@ from workshop.cases.texts import PAUSE_ALONE
 from rezovamy_runs.command_line import command_line, demand_program, heed_signals, say
 
 from workshop import PROGRAM
+from typing import TypeAlias
 
 LONGEST_RUN = 60
 OLD = b"an older file"
@@ -47,11 +49,11 @@ class Try:
     status: int = 0
     said: bytes = b""
     printed: bytes = b""
-    file: object = None
+    file: bytes | None = None
     old: bytes = OLD
 
 
-def left(line):
+def left(line: str) -> str:
     """A line whose standard output is a pipe that its reader has left."""
     return f"exec 3<>pipe 4>pipe 3<&-; {line} >&4"
 
@@ -232,7 +234,7 @@ OTHER_USER = (
 )
 
 
-def small_file_system(large):
+def small_file_system(large: bytes) -> tuple[str, list[Try]]:
     """What is tried on a file system with room for a page: a bundle of another size, and one that is there."""
     sample = f"cd small; rezovamy sample {LARGE_SAMPLE} b; s=$?; cp b ..; exit $s"
     again = f"cd small; cp ../bundle b; rezovamy sample {LARGE_SAMPLE} b; s=$?; cp b ..; exit $s"
@@ -248,17 +250,26 @@ def small_file_system(large):
     ]
 
 
+# Status, standard error, standard output, and the files `b` and `old` after a line.
+Done: TypeAlias = tuple[int, bytes, bytes, bytes | None, bytes | None]
+
+
+def content(path: Path) -> bytes | None:
+    """Return what a file holds, None where it isn't there."""
+    return path.read_bytes() if path.exists() else None
+
+
 class Shell:
     """Runs lines, each in a folder of its own."""
 
-    def __init__(self, commands):
+    def __init__(self, commands: str) -> None:
         self.paths = {**os.environ, "PATH": f"{commands}:{os.environ['PATH']}"}
         self.large = b""
 
-    def run(self, line):
+    def run(self, line: str) -> Done:
         """Status, standard error, standard output, and the files `b` and `old` after a line."""
         with tempfile.TemporaryDirectory() as name:
-            folder = pathlib.Path(name)
+            folder = Path(name)
             self.fill(folder)
             done = subprocess.run(
                 ["sh", "-c", line],
@@ -268,13 +279,10 @@ class Shell:
                 capture_output=True,
                 timeout=LONGEST_RUN,
             )
-            files = [
-                path.read_bytes() if path.exists() else None
-                for path in (folder / "b", folder / "old")
-            ]
-            return done.returncode, done.stderr, done.stdout, *files
+            written, old = (content(folder / name) for name in ("b", "old"))
+            return done.returncode, done.stderr, done.stdout, written, old
 
-    def fill(self, folder):
+    def fill(self, folder: Path) -> None:
         """Puts into the folder what lines need."""
         for name, data in (
             ("session", SESSION),
@@ -290,22 +298,17 @@ class Shell:
         (folder / "locked").chmod(0o444)
         folder.chmod(0o755)
 
-    def faults(self, tried):
+    def faults(self, tried: Try) -> list[str]:
         """What is wrong about a try."""
-        status, said, printed, file, old = self.run(tried.line)
-        wanted = [
-            ("status", tried.status, status),
-            ("standard error", tried.said, said),
-            ("standard output", tried.printed, printed),
-        ]
-        wanted += [("the file", tried.file, file), ("the older file", tried.old, old)]
+        names = ("status", "standard error", "standard output", "the file", "the older file")
+        must = (tried.status, tried.said, tried.printed, tried.file, tried.old)
         return [
             f"{what} is {found!r} in place of {want!r}"
-            for what, want, found in wanted
+            for what, want, found in zip(names, must, self.run(tried.line))
             if want != found
         ]
 
-    def allowed(self, needed, tries):
+    def allowed(self, needed: str, tries: list[Try]) -> list[Try]:
         """The tries, or none where a line that needs the same rights is refused."""
         if self.run(needed)[0] == 0:
             return tries
@@ -315,7 +318,7 @@ class Shell:
         return []
 
 
-def all_tries(shell):
+def all_tries(shell: Shell) -> list[Try]:
     return [
         *STANDARD_OUTPUT,
         *STANDARD_ERROR,
@@ -327,7 +330,7 @@ def all_tries(shell):
     ]
 
 
-def try_all(shell):
+def try_all(shell: Shell) -> bool:
     """Prints what is wrong, and returns whether anything is."""
     wrong = False
     status, _, _, shell.large, _ = shell.run(f"rezovamy sample {LARGE_SAMPLE} b")
@@ -340,15 +343,15 @@ def try_all(shell):
     return wrong
 
 
-def main():
+def main() -> None:
     heed_signals()
     parser = command_line(__doc__)
     parser.add_argument("program", nargs="?", default=PROGRAM, help="the built program")
     path = parser.parse_args().program
     demand_program(parser, path)
     with tempfile.TemporaryDirectory() as commands:
-        pathlib.Path(commands).chmod(0o755)
-        pathlib.Path(commands, "rezovamy").symlink_to(pathlib.Path(path).resolve())
+        Path(commands).chmod(0o755)
+        Path(commands, "rezovamy").symlink_to(Path(path).resolve())
         sys.exit(1 if try_all(Shell(commands)) else 0)
 
 
