@@ -3,8 +3,8 @@
 Each module with a `main` runs from the top of a clone as `python3 -m workshop.NAME`.
 """
 
-from pathlib import Path
 import sys
+from pathlib import Path
 
 TOP = Path(__file__).resolve().parent.parent
 PROGRAM = TOP / "crates/rezovamy/out/rezovamy"

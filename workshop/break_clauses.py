@@ -3,20 +3,20 @@
     python3 -m workshop.break_clauses            prints each line of a clause that is longer, and ends with status 1 if there is one
     python3 -m workshop.break_clauses --write    breaks them
 
-A clause is what stands in braces after `ensures`, `requires` or a `ghost` member. Where it has premises, each of them begins
-a line. A line that is still too long is broken outside as many brackets as may be, before an operator rather than before an
-argument. Lines that are short enough stay as they are. `rt fmt` lays out afterwards what was broken inside of records and tuples.
+A clause is what stands in braces after `ensures`, `requires` or a `ghost` member. Where it has
+premises, each of them begins a line. A line that is still too long is broken outside as many
+brackets as may be, before an operator rather than before an argument. Lines that are short enough
+stay as they are. `rt fmt` lays out afterwards what was broken inside of records and tuples.
 """
 
 from __future__ import annotations
 
 import re
 import sys
+from collections.abc import Iterator, Sequence
 
 from rezovamy_runs.command_line import command_line
-
 from workshop import TOP
-from collections.abc import Iterator, Sequence
 
 COLUMNS = 100
 STEP = "    "
@@ -34,7 +34,10 @@ HALVES = (":", "=", "λ", "¬", "record", "if", "then", "else", "let", "in", "{"
 
 
 def depths(line: str, depth: int = 0) -> list[int]:
-    """The number of open brackets before each character, and at the end. Brackets in texts don't count."""
+    """The number of open brackets before each character, and at the end.
+
+    Brackets in texts don't count.
+    """
     found, is_text = [], False
     for place, character in enumerate(line):
         found.append(depth)
@@ -55,13 +58,15 @@ def rank(word: str) -> int:
 
 
 def places(line: str, depth: int) -> Iterator[tuple[int, int, int]]:
-    """Where a line may be broken inside the braces of its clause: the column, the open brackets there, and how loosely what
-    follows binds."""
+    """Where a line may be broken inside the braces of its clause: the column, the open brackets
+    there, and how loosely what follows binds.
+    """
     found = depths(line, depth)
     begin = len(line) - len(line.lstrip())
     for place in (match.start() for match in re.finditer(" ", line)):
         before, after = line[:place].split(" ")[-1], line[place + 1 :].split(" ")[0]
-        # A line ends neither with an operator nor with a word that needs the next one, nor does it begin with a closing bracket.
+        # A line ends neither with an operator nor with a word that needs the next one, nor does it
+        # begin with a closing bracket.
         is_whole = (
             rank(before) == len(OPERATORS) and before not in HALVES and after not in (":", "=", "")
         )
@@ -78,7 +83,9 @@ def places(line: str, depth: int) -> Iterator[tuple[int, int, int]]:
 
 
 def premises(line: str, depth: int) -> list[str]:
-    """A line with a break before each premise and what follows from them, where the clause itself says it."""
+    """A line with a break before each premise and what follows from them, where the clause itself
+    says it.
+    """
     breaks = [
         place
         for place, open_brackets, binds in places(line, depth)
@@ -114,7 +121,10 @@ def clause_lines(lines: Sequence[str]) -> list[str]:
 
 
 def clause_end(lines: Sequence[str], begin: int) -> int:
-    """The number of the line after what begins in a line, where that is a clause; else the line's own."""
+    """The number of the line after what begins in a line, where that is a clause.
+
+    Else the line's own.
+    """
     depth = 0
     for number, line in enumerate(lines[begin:] if CLAUSE.match(lines[begin]) else [], begin):
         depth = depths(line, depth)[-1]

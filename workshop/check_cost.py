@@ -3,10 +3,11 @@
     (cd crates/NAME && rt check)
     python3 -m workshop.check_cost [--most N] [NAME..]
 
-The checker keeps the states that it walks through a function, a file a function, and the time of a check goes
-with the size of these files. A function above the limit of 4 MB is marked with `above`; docs/PROVING.md says
-what makes one large, what helps, and which stay above it and why. A crate that was not checked in this clone
-is left out. The status is 1 where a function is above the limit that docs/PROVING.md does not name.
+The checker keeps the states that it walks through a function, a file a function, and the time of a
+check goes with the size of these files. A function above the limit of 4 MB is marked with `above`;
+docs/PROVING.md says what makes one large, what helps, and which stay above it and why. A crate that
+was not checked in this clone is left out. The status is 1 where a function is above the limit that
+docs/PROVING.md does not name.
 """
 
 from __future__ import annotations
@@ -41,7 +42,8 @@ def sizes_of(crate: str) -> list[tuple[str, int]]:
         (TOP / "crates" / crate / "out" / "incremental").glob(f"**/*{SUFFIX}"),
         key=lambda path: path.stat().st_mtime,
     )
-    # An older check may have kept the states of a function that changed since: the newest file counts.
+    # An older check may have kept the states of a function that changed since: the newest file
+    # counts.
     newest = {function_of(crate, path.name): path.stat().st_size for path in files}
     return sorted(newest.items(), key=lambda item: (-item[1], item[0]))
 

@@ -1,14 +1,16 @@
-"""Measures two built programs in turns, and prints what each command took before and after as a table.
+"""Measures two built programs in turns, and prints what each command took before and after as a
+table.
 
     python3 -m workshop.compare_speed OLD NEW [--turns N] [--only WORD]
 
-Both run the same commands on the same sessions, one after the other and each first in every other turn: of 1,000, 10,000 and
-100,000 tests, of 10,000 tests with outputs of their own, with a binary each, and all open at once, and of 100 tests with two
-outputs of 1 MiB each. Each program reads the bundles that it recorded itself. A command that only one of them knows, by its
-`--help`, is left out; so is one that fails, which is said on standard error. A time is the least processor time of eight turns,
-or of those of `--turns`. Memory is the most that was held in any of them; less than Python itself holds, some 11 MB, isn't told
-apart. `--only` takes the rows with this word in their session or command. The sessions lie in a temporary folder, which takes up
-to 3 GB.
+Both run the same commands on the same sessions, one after the other and each first in every other
+turn: of 1,000, 10,000 and 100,000 tests, of 10,000 tests with outputs of their own, with a binary
+each, and all open at once, and of 100 tests with two outputs of 1 MiB each. Each program reads the
+bundles that it recorded itself. A command that only one of them knows, by its `--help`, is left
+out; so is one that fails, which is said on standard error. A time is the least processor time of
+eight turns, or of those of `--turns`. Memory is the most that was held in any of them; less than
+Python itself holds, some 11 MB, isn't told apart. `--only` takes the rows with this word in their
+session or command. The sessions lie in a temporary folder, which takes up to 3 GB.
 """
 
 from __future__ import annotations
@@ -16,15 +18,15 @@ from __future__ import annotations
 import collections
 import dataclasses
 import os
-from pathlib import Path
 import re
 import subprocess
 import sys
 import tempfile
-
-from workshop import TOP
-from rezovamy_runs.command_line import command_line, demand_program, print_out, say, whole
 from collections.abc import Collection, Iterator, Sequence
+from pathlib import Path
+
+from rezovamy_runs.command_line import command_line, demand_program, print_out, say, whole
+from workshop import TOP
 
 MAKER = [sys.executable, "-m", "workshop.make_session"]
 LIMITS = ["--session-limit", "1000000000", "--read-limit", "1000000000"]
@@ -37,7 +39,10 @@ HEADING = """\
 
 @dataclasses.dataclass(frozen=True)
 class Shape:
-    """A session: its name, and the words of the tool that makes it. It ends its run, so that all commands take it."""
+    """A session: its name, and the words of the tool that makes it.
+
+    It ends its run, so that all commands take it.
+    """
 
     name: str
     words: tuple[str, ...]
@@ -73,7 +78,9 @@ class Command:
         return [self.name, *count, *([target] if self.writes else []), *LIMITS, *self.options]
 
     def takes(self, shape: Shape) -> bool:
-        """Whether it is measured on a shape: what makes its own session only on plain ones that it can make."""
+        """Whether it is measured on a shape: what makes its own session only on plain ones that it
+        can make.
+        """
         return self.source != "nothing" or (len(shape.words) == 1 and shape.tests <= MOST_OF_SAMPLE)
 
     @property
@@ -181,7 +188,9 @@ def row(shape: Shape, command: Command, before: Cost, after: Cost) -> str:
 
 
 def rows_asked(known: Collection[str], word: str) -> dict[Shape, list[Command]]:
-    """The commands of each shape that are measured: those that are known and have the word in their row."""
+    """The commands of each shape that are measured: those that are known and have the word in their
+    row.
+    """
     rows = collections.defaultdict(list)
     for shape in SHAPES:
         for command in COMMANDS:

@@ -61,7 +61,8 @@ class Crates:
     def _names_of(self, crate: str) -> set[str]:
         """Return what a crate declares.
 
-        These are functions, types, traits, and what begins a line within a block, as a variant does.
+        These are functions, types, traits, and what begins a line within a block, as a variant
+        does.
         """
         code = "\n".join(self.sources(crate, "src", "rt"))
         declared = re.findall(r"\b(?:fn|struct|enum|trait) (\w+)", code)

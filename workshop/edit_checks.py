@@ -1,7 +1,9 @@
-"""Checks of a crate's functions with edits: over which libraries, in which rounds, and what the checker says of each edit.
+"""Checks of a crate's functions with edits: over which libraries, in which rounds, and what the
+checker says of each edit.
 
-A function's proof rests on the contracts of what it calls, and never on their bodies. So an edit is tried by the proof of the
-function that it changes, and edits of several functions at once; only one whose function calls another edited one waits for it.
+A function's proof rests on the contracts of what it calls, and never on their bodies. So an edit is
+tried by the proof of the function that it changes, and edits of several functions at once; only one
+whose function calls another edited one waits for it.
 """
 
 from __future__ import annotations
@@ -9,24 +11,25 @@ from __future__ import annotations
 import dataclasses
 import enum
 import os
-from pathlib import Path
 import re
 import shutil
 import signal
 import subprocess
 import tempfile
 import threading
+from collections.abc import Iterable, Iterator, Mapping, Sequence
+from pathlib import Path
+from typing import TypeAlias
 
 from workshop.edit_files import Misfit, applied
 from workshop.gate_cost import Uses, stands_on
-from collections.abc import Iterable, Iterator, Mapping, Sequence
-from typing import TypeAlias
 
 PARTS = ("src", "specs", "proofs")
 LAST_LINE = re.compile(r"only=\d+ proved=\d+")
 # Said of a built library that was built over other libraries than are there now.
 UNFIT = re.compile(r"unusable-built-library|Run the lower steps again")
-# An error by which a text isn't read; one that only makes a statement false names the statement, and is read well.
+# An error by which a text isn't read; one that only makes a statement false names the statement,
+# and is read well.
 ERROR = re.compile(r"(?:\./)?(\S+?):\d+:\d+: error(?:\[[\w-]+\])?: (`[^`]*`: )?(.*)")
 NOT_READ = re.compile(
     r"is not in scope|has no field|is no name|operand is missing|expected the end|cannot continue"
@@ -36,7 +39,10 @@ GONE = re.compile(r"has no field|is not in scope|has no `|was not admitted")
 
 
 # `rt ci` puts libraries back that were there before it.
-BUILD = "remove crates/*/out/rlib and run `rt ci`, or run `rt lib` in the folder of each crate, the lowest first"
+BUILD = (
+    "remove crates/*/out/rlib and run `rt ci`, or run `rt lib` in the folder of each crate, the "
+    "lowest first"
+)
 
 
 class Unready(Exception):
@@ -77,7 +83,9 @@ class Clone:
         return sorted(stands_on(self.uses, crate) - {crate})
 
     def words(self, crate: str, functions: Iterable[str]) -> list[str]:
-        """The words by which the kit's checker checks functions of a crate, from a folder with its files."""
+        """The words by which the kit's checker checks functions of a crate, from a folder with its
+        files.
+        """
         root = "main" if (self.crates / crate / "src/main.rt").is_file() else "lib"
         words = [str(self.kit / "bin/rattle"), "check", "--crate-name", crate, f"src/{root}.rt"]
         for name in ("std", *self.uses[crate]):
@@ -96,7 +104,9 @@ class Clone:
         return words + [word for name in functions for word in ("--only", name)]
 
     def unbuilt(self, crates: Iterable[str]) -> Iterator[str]:
-        """A line for each library below some crates that is missing, or older than a file that it is made of."""
+        """A line for each library below some crates that is missing, or older than a file that it
+        is made of.
+        """
         for name in sorted({name for crate in crates for name in self.below(crate)}):
             built = self.rlib(name)
             if not (built / "format").is_file():
@@ -106,7 +116,9 @@ class Clone:
 
     @staticmethod
     def put_there(built: Path) -> float:
-        """When a library was built, or put there by `rt ci`, which gives the files of one that it has kept their older times."""
+        """When a library was built, or put there by `rt ci`, which gives the files of one that it
+        has kept their older times.
+        """
         return max(path.stat().st_mtime for path in (built, built / "format"))
 
     def changed(self, crate: str) -> float:
@@ -133,7 +145,9 @@ def kit() -> Path:
 
 @dataclasses.dataclass
 class Round:
-    """Edits of a crate that are tried in one check: the functions of each, by its name, and the files with all of them."""
+    """Edits of a crate that are tried in one check: the functions of each, by its name, and the
+    files with all of them.
+    """
 
     functions: dict[str, list[str]] = dataclasses.field(default_factory=dict)
     texts: dict[str, str] = dataclasses.field(default_factory=dict)
@@ -155,7 +169,10 @@ class Round:
 
 
 def rounds(edits: Mapping[str, str], folder: Path) -> list[Round]:
-    """The fewest checks that are easily found for a crate's edits. No two edits of a round change one function."""
+    """The fewest checks that are easily found for a crate's edits.
+
+    No two edits of a round change one function.
+    """
     found: list[Round] = []
     for name, text in edits.items():
         if not any(each.takes(name, text, folder) for each in found):
@@ -170,7 +187,9 @@ def rounds(edits: Mapping[str, str], folder: Path) -> list[Round]:
 
 @dataclasses.dataclass
 class Said:
-    """What the checker printed in a round, its status, and the processor time and the memory that it took, in seconds and kB."""
+    """What the checker printed in a round, its status, and the processor time and the memory that
+    it took, in seconds and kB.
+    """
 
     text: str
     status: int
@@ -178,7 +197,10 @@ class Said:
     memory: int = 0
 
     def fault(self) -> str:
-        """The first line that says why it came to no proof, or couldn't read a text; empty where all was read."""
+        """The first line that says why it came to no proof, or couldn't read a text.
+
+        Empty where all was read.
+        """
         lines = self.text.rstrip("\n").split("\n")
         bad = next(filter(is_unread, lines), "")
         if bad or LAST_LINE.fullmatch(lines[-1]):
@@ -189,7 +211,9 @@ class Said:
         )
 
     def is_by_names(self, name: str) -> bool:
-        """Whether a function's proof seems to fail only as it names what an edit took away, which says little of the contract."""
+        """Whether a function's proof seems to fail only as it names what an edit took away, which
+        says little of the contract.
+        """
         *places, _ = name.split("::")
         told = re.findall(
             rf"^(?:\./)?proofs/{re.escape(name.replace('::', '/'))}/\S+ error: (.*)$",
@@ -228,7 +252,10 @@ def verdicts(
 
 
 def judged(words: str) -> Judgement:
-    """The verdict of what is said of one function. What else it says of one that calls an unproved function may be for that alone."""
+    """The verdict of what is said of one function.
+
+    What else it says of one that calls an unproved function may be for that alone.
+    """
     if words == "proved":
         return Verdict.PROVED, words
     if re.search(r"\bit calls `.*`, which (?:is|are) not proved", words):
@@ -273,7 +300,10 @@ class Checker:
                 os.killpg(process.pid, signal.SIGKILL)
 
     def check(self, crate: str, each: Round, kept: str) -> Said:
-        """What the checker says of a crate's functions with the edits of a round. What it proves it keeps in a folder."""
+        """What the checker says of a crate's functions with the edits of a round.
+
+        What it proves it keeps in a folder.
+        """
         with tempfile.TemporaryDirectory(prefix="edit-") as room:
             for part in PARTS:
                 if (self.clone.crates / crate / part).is_dir():
@@ -286,7 +316,9 @@ class Checker:
             return self.run([*self.clone.words(crate, functions), "--incremental", kept], room)
 
     def run(self, words: Sequence[str], folder: str) -> Said:
-        """What a command prints and takes, in a group of its own, so that all that it starts can be ended."""
+        """What a command prints and takes, in a group of its own, so that all that it starts can be
+        ended.
+        """
         with self.lock:
             if self.is_stopped:
                 raise Unready("it was stopped")

@@ -1,16 +1,17 @@
 """Edits: what they make of a crate's files, and which functions they change.
 
-An edit has a line `file: src/x.rt` and then pairs of lines `old: TEXT` and `new: TEXT`, each applied over those before it; more
-files may follow. The functions that it changes are those whose bodies have these places, named as the checker prints them. Only an
-edit of something else, as of a constant, says in lines `function: NAME` whose proof has to refuse it.
+An edit has a line `file: src/x.rt` and then pairs of lines `old: TEXT` and `new: TEXT`, each
+applied over those before it; more files may follow. The functions that it changes are those whose
+bodies have these places, named as the checker prints them. Only an edit of something else, as of a
+constant, says in lines `function: NAME` whose proof has to refuse it.
 """
 
 from __future__ import annotations
 
 import dataclasses
-from pathlib import Path, PurePosixPath
 import re
 from collections.abc import Collection, Mapping, Sequence
+from pathlib import Path, PurePosixPath
 
 FUNCTION = re.compile(
     r'( *)(?:pub(?:\([^)]*\))? )?(?:(?:const|unsafe|async|final) |extern "\w+" )*fn (\w+)'
@@ -24,9 +25,11 @@ class Misfit(Exception):
 
 @dataclasses.dataclass
 class Applied:
-    """Files as they are with some edits, by their paths in the crate, and the functions that the last of these edits changes.
+    """Files as they are with some edits, by their paths in the crate, and the functions that the
+    last of these edits changes.
 
-    `is_inside` says that it changes nothing but their bodies, on which no other function's proof rests.
+    `is_inside` says that it changes nothing but their bodies, on which no other function's proof
+    rests.
     """
 
     texts: dict[str, str]
@@ -80,7 +83,10 @@ def place_of(old: str, text: str, path: str) -> int:
 
 
 def misfit(text: str, folder: Path) -> str | None:
-    """Why an edit can't be applied to the crate in a folder, or its function isn't found; None where all is well."""
+    """Why an edit can't be applied to the crate in a folder, or its function isn't found.
+
+    None where all is well.
+    """
     try:
         for name in applied(text, folder).functions:
             if not is_there(name, folder):
@@ -106,12 +112,16 @@ def function_at(path: str, text: str, place: int, folder: Path) -> str:
                 [*modules_of(home_of(owner, path, folder)), *([owner] if owner else []), found[2]]
             )
     raise Misfit(
-        f"no function's body has line {row + 1} of {path}: say in a line `function: NAME` whose proof refuses the edit"
+        f"no function's body has line {row + 1} of {path}: say in a line `function: NAME` whose "
+        f"proof refuses the edit"
     )
 
 
 def body_of(rows: Sequence[str], top: int, indent: str) -> range:
-    """The rows of a function's body, by the row in which the function begins; none where it has no body."""
+    """The rows of a function's body, by the row in which the function begins.
+
+    None where it has no body.
+    """
     if rows[top].endswith("}"):
         return range(top, top + 1)
     start = None
@@ -132,11 +142,14 @@ def body_of(rows: Sequence[str], top: int, indent: str) -> range:
 def ends_before(text: str, indent: str) -> bool:
     """Whether a function with this indentation has ended before a row."""
     found = FUNCTION.match(text)
-    return bool(text) and not text.startswith(indent) or bool(found) and found[1] == indent
+    is_further_out = text != "" and not text.startswith(indent)
+    return is_further_out or (found is not None and found[1] == indent)
 
 
 def home_of(owner: str, path: str, folder: Path) -> str:
-    """The file by which a function is named: that of its type where this stands in another one than its methods, else its own."""
+    """The file by which a function is named: that of its type where this stands in another one than
+    its methods, else its own.
+    """
     declared = re.compile(
         rf"^(?:pub(?:\([^)]*\))? )?(?:struct|enum) {owner.partition('+')[0]}\b", re.M
     )
@@ -155,7 +168,10 @@ def modules_of(path: str) -> tuple[str, ...]:
 
 
 def owner_of(rows: Sequence[str], top: int, indent: str) -> str:
-    """The name of the impl or the trait in which a function stands; empty where it stands in neither."""
+    """The name of the impl or the trait in which a function stands.
+
+    Empty where it stands in neither.
+    """
     if not indent:
         return ""
     start = next(
@@ -165,14 +181,17 @@ def owner_of(rows: Sequence[str], top: int, indent: str) -> str:
     head = BLOCK.match("\n".join(rows[start:top]).partition("{")[0])
     if head is None:
         raise Misfit(
-            f"the function in line {top + 1} stands in no impl and no trait: name it in a line `function: NAME`"
+            f"the function in line {top + 1} stands in no impl and no trait: name it in a line "
+            f"`function: NAME`"
         )
     kind, name = head.groups()
     return impl_name(name) if kind == "impl" else str(re.findall(r"\w+", name)[0])
 
 
 def impl_name(head: str) -> str:
-    """The name of an impl by what follows this word: `FileSinkSink` is the impl of `Sink` for `FileSink`."""
+    """The name of an impl by what follows this word: `FileSinkSink` is the impl of `Sink` for
+    `FileSink`.
+    """
     given, rest = parted(head.strip())
     parameters = re.findall(r"(?:^|,)\s*(?:const )?(\w+)", re.sub(r"<.*?>|\(.*?\)", "", given))
     left, between, right = re.split(r"\swhere\s", rest)[0].partition(" for ")
@@ -192,13 +211,18 @@ def parted(head: str) -> tuple[str, str]:
 
 
 def type_words(text: str, parameters: Collection[str]) -> list[str]:
-    """The words of a type, each with a capital, without paths before them, lifetimes and an impl's own parameters."""
+    """The words of a type, each with a capital, without paths before them, lifetimes and an impl's
+    own parameters.
+    """
     words = re.findall(r"(?<!['\w])\w+", re.sub(r"\w+::", "", text))
     return [word[0].upper() + word[1:] for word in words if word not in parameters]
 
 
 def is_there(name: str, folder: Path) -> bool:
-    """Whether the file of a function's module has one of this name; of a method any file may have it."""
+    """Whether the file of a function's module has one of this name.
+
+    Of a method any file may have it.
+    """
     *places, function = name.split("::")
     path = folder / "src"
     while places and ((path / places[0]).is_dir() or (path / f"{places[0]}.rt").is_file()):

@@ -1,4 +1,5 @@
-"""Runs `rt ci` from nothing and measures what each crate costs there, in processor time, wall clock and memory.
+"""Runs `rt ci` from nothing and measures what each crate costs there, in processor time, wall clock
+and memory.
 
     python3 -m workshop.gate_cost                   prints the table
     python3 -m workshop.gate_cost --processors 2    the same on so many of the machine's processors
@@ -6,11 +7,12 @@
     python3 -m workshop.gate_cost --watch 30        runs nothing: measures each `rt ci` on the machine, until no check was seen for 30 minutes
     python3 -m workshop.gate_cost --first-run 4     measures README's first lines in place of `rt ci`, four crates at a time; 0: `rt run` alone
 
-A crate has a proof; its tests, which are two checks of a crate of tests; a seed, which is a second proof where two edits or more
-begin with it, and the check at the end that it still holds; and the edits themselves. The checker's processes are looked at every
-two seconds, so what takes less isn't seen in a check. It is counted in the whole, which the system knows of a gate that has ended.
-Memory is the most that one check had at a time, with all that it started: where it has several jobs, what they share counts for
-each. Nothing else should run on the machine meanwhile.
+A crate has a proof; its tests, which are two checks of a crate of tests; a seed, which is a second
+proof where two edits or more begin with it, and the check at the end that it still holds; and the
+edits themselves. The checker's processes are looked at every two seconds, so what takes less isn't
+seen in a check. It is counted in the whole, which the system knows of a gate that has ended. Memory
+is the most that one check had at a time, with all that it started: where it has several jobs, what
+they share counts for each. Nothing else should run on the machine meanwhile.
 """
 
 from __future__ import annotations
@@ -19,33 +21,34 @@ import contextlib
 import dataclasses
 import math
 import os
-from pathlib import Path
 import resource
 import shlex
 import subprocess
 import sys
 import tempfile
 import time
-
-from rezovamy_runs.command_line import command_line, whole
-
-from workshop import TOP
 from collections import defaultdict
 from collections.abc import Callable, Iterable, Iterator, Mapping, Sequence
+from pathlib import Path
 from typing import TypeAlias
+
+from rezovamy_runs.command_line import command_line, whole
+from workshop import TOP
 
 PAGE = TOP / "docs/PROVING.md"
 BEGIN, END = "<!-- gate_cost begins -->\n", "<!-- gate_cost ends -->\n"
 PROGRAM = "rezovamy"
 KINDS = ("proof", "tests", "seed", "edits")
-# `rt run` begins with it where no library is built: it reads the sources of all crates, and proves nothing.
+# `rt run` begins with it where no library is built: it reads the sources of all crates, and proves
+# nothing.
 QUICK_PASS = "quick pass"
 TICKS = os.sysconf("SC_CLK_TCK")
 PAGE_SIZE = os.sysconf("SC_PAGE_SIZE")
 PAUSE = 2
 
 
-# A check by its crate and its kind, the costs of checks, what each crate uses, and a chain of crates.
+# A check by its crate and its kind, the costs of checks, what each crate uses, and a chain of
+# crates.
 Check: TypeAlias = tuple[str, str]
 Costs: TypeAlias = defaultdict[Check, "Cost"]
 Uses: TypeAlias = dict[str, list[str]]
@@ -57,7 +60,9 @@ Chain: TypeAlias = tuple[float, tuple[str, ...]]
 
 @dataclasses.dataclass
 class Process:
-    """A process as /proc shows it, with the processor time of those of its children that have ended, and its start since boot."""
+    """A process as /proc shows it, with the processor time of those of its children that have
+    ended, and its start since boot.
+    """
 
     parent: int
     seconds: float
@@ -67,8 +72,9 @@ class Process:
 
 @dataclasses.dataclass
 class Cost:
-    """What checks took: seconds of processor time, the most bytes of one of them, when the first began and the last was seen, and
-    the most bytes of one process."""
+    """What checks took: seconds of processor time, the most bytes of one of them, when the first
+    began and the last was seen, and the most bytes of one process.
+    """
 
     seconds: float = 0
     memory: int = 0
@@ -137,11 +143,15 @@ def word_after(words: Sequence[str], flag: str) -> str:
 
 
 def check_of(words: Sequence[str], folder: str) -> Check | None:
-    """The crate and the kind of a check, by its words and the folder that it runs in; None of any other process."""
+    """The crate and the kind of a check, by its words and the folder that it runs in.
+
+    None of any other process.
+    """
     crate = word_after(words, "--crate-name")
     if not crate or os.path.basename(words[0]) != "rattle":
         return None
-    # Seeds and edits run in folders of one kind. What an edit begins with is a copy of the seed, under the edit's number.
+    # Seeds and edits run in folders of one kind. What an edit begins with is a copy of the seed,
+    # under the edit's number.
     kept = Path(word_after(words, "--incremental"))
     if kept.name == "seed" and kept.parent.name.startswith("rt-edits-"):
         return crate, "seed"
@@ -175,7 +185,9 @@ class Sampler:
                 cost.see(parts, now)
 
     def look_below(self, roots_in: Callable[[Mapping[int, Process]], Iterable[int]]) -> bool:
-        """Looks at the machine, and returns whether a check runs below one of the processes that are chosen."""
+        """Looks at the machine, and returns whether a check runs below one of the processes that
+        are chosen.
+        """
         found = processes()
         numbers = {each for root in roots_in(found) for each in below(found, root)} & found.keys()
         seen = {number: check_of(words_of(number), folder_of(number)) for number in numbers}
@@ -196,7 +208,9 @@ class Sampler:
 
 @dataclasses.dataclass
 class Measure:
-    """What one gate took, or several that were watched: these have no status, and of them only the checks are known."""
+    """What one gate took, or several that were watched: these have no status, and of them only the
+    checks are known.
+    """
 
     costs: Costs
     minutes: float
@@ -212,7 +226,9 @@ def children_seconds() -> float:
 
 
 def gate_words() -> list[str]:
-    """The words that run a gate from nothing: a kit that keeps what passed has a flag for it, and others never keep anything."""
+    """The words that run a gate from nothing: a kit that keeps what passed has a flag for it, and
+    others never keep anything.
+    """
     told = subprocess.run(
         ["rt", "help"],
         stdin=subprocess.DEVNULL,
@@ -240,13 +256,18 @@ def run_gate(processors: int) -> Measure:
 
 
 def run_words(at_a_time: int, bundle: str) -> list[str]:
-    """The words of the README that prove the crates, so many at a time, and run the program; with 0 `rt run` alone proves one by one."""
+    """The words of the README that prove the crates, so many at a time, and run the program.
+
+    With 0 `rt run` alone proves one by one.
+    """
     run = f"rt run -- record {shlex.quote(bundle)}"
     return ["sh", "-c", f"rt all check --jobs {at_a_time} && {run}" if at_a_time else run]
 
 
 def first_run(at_a_time: int) -> Measure:
-    """Runs the program for the first time in a fresh clone, whose crates are proved so many at a time; with 0 by `rt run` alone."""
+    """Runs the program for the first time in a fresh clone, whose crates are proved so many at a
+    time; with 0 by `rt run` alone.
+    """
     with tempfile.TemporaryDirectory(prefix="first-run-") as room:
         subprocess.run(["git", "clone", "--quiet", str(TOP), f"{room}/clone"], check=True)
         folder = Path(room, "clone/crates", PROGRAM)
@@ -272,7 +293,9 @@ def first_run(at_a_time: int) -> Measure:
 
 
 def first_lines(measure: Measure) -> Iterator[str]:
-    """What a first run took, a line for each crate that was proved, in the order in which they began."""
+    """What a first run took, a line for each crate that was proved, in the order in which they
+    began.
+    """
     for (crate, kind), cost in sorted(measure.costs.items(), key=lambda item: item[1].begun):
         name = f"`{crate}`" if kind == "proof" else f"the {kind}"
         minutes = f"{cost.seconds / 60:.1f} processor minutes, {cost.clock / 60:.1f} of wall clock"
@@ -290,7 +313,9 @@ def is_gate(words: Sequence[str]) -> bool:
 
 
 def watch(minutes: int) -> Measure:
-    """Measures the gates on the machine, until none had a check for so many minutes, or until it is interrupted."""
+    """Measures the gates on the machine, until none had a check for so many minutes, or until it is
+    interrupted.
+    """
     sampler, seen = Sampler(), time.monotonic()
     with contextlib.suppress(KeyboardInterrupt):
         while time.monotonic() - seen < 60 * minutes:
@@ -310,13 +335,17 @@ def watch(minutes: int) -> Measure:
 
 
 def crates(text: str) -> Uses:
-    """The crates of a crates.txt and those that they stand on, in its order, which has the lowest first."""
+    """The crates of a crates.txt and those that they stand on, in its order, which has the lowest
+    first.
+    """
     parted = [line.split(":") for line in text.splitlines() if line and not line.startswith("#")]
     return {name.split()[0]: used.split() for name, used in parted}
 
 
 def longest_chain(uses: Uses, length: Callable[[str, str], float]) -> Chain:
-    """The length and the crates of the longest chain of proofs, each after those below it, that ends with a proof or with tests."""
+    """The length and the crates of the longest chain of proofs, each after those below it, that
+    ends with a proof or with tests.
+    """
     proofs: dict[str, Chain] = {}
     ends: list[Chain] = []
     for crate, used in uses.items():
@@ -356,7 +385,10 @@ def table(measure: Measure, uses: Uses) -> str:
     """The measure as a page has it."""
     rows = {name: row_costs(measure.costs, name) for name in uses if not name.endswith("_tests")}
     lines = [
-        "| Crate | Proof | Its tests | Seed | Its edits | GB of the proof | of tests | of the seed | of edits |",
+        (
+            "| Crate | Proof | Its tests | Seed | Its edits | GB of the proof | of tests | of the "
+            "seed | of edits |"
+        ),
         "|---|---|---|---|---|---|---|---|---|",
         *(f"| `{crate}` | {cells(costs)} |" for crate, costs in rows.items()),
     ]
@@ -428,7 +460,8 @@ def main() -> None:
     asked = parser.parse_args()
     if asked.watch and asked.write:
         parser.error(
-            "of gates that are watched it isn't known whether they pass, so --write doesn't go with --watch"
+            "of gates that are watched it isn't known whether they pass, so --write doesn't go "
+            "with --watch"
         )
     if asked.first_run is not None:
         if asked.watch or asked.write or asked.processors != most:

@@ -11,10 +11,11 @@ out.
 
 from __future__ import annotations
 
-from rezovamy_runs.command_line import command_line
-from rezovamy_runs.streams.session_json import RUN_ID, event, head, instant, span, stats, text
 from collections.abc import Iterator, Sequence
 from typing import TypeAlias
+
+from rezovamy_runs.command_line import command_line
+from rezovamy_runs.streams.session_json import RUN_ID, event, head, instant, span, stats, text
 
 # An object of JSON.
 Json: TypeAlias = dict[str, object]

@@ -6,18 +6,20 @@
     python3 -m workshop.make_session 10000 --binaries 10000 > binaries.session
     python3 -m workshop.make_session 100000 --slots 100000 --ends > at_once.session
 
-Test i is `t{i}` of the binary `bin-{i mod 4}`, or `bin-{i mod N}` with `--binaries N`, on slot i mod 8. Eight tests run at a
-time, or N with `--slots N`, in batches four seconds apart, and every hundredth one fails. Each test writes one of sixteen lines
-on standard output; with `--distinct N` it writes N bytes of its own, on standard output and again on standard error. The
-session stops before the end of the run, but for `--ends`.
+Test i is `t{i}` of the binary `bin-{i mod 4}`, or `bin-{i mod N}` with `--binaries N`, on slot i
+mod 8. Eight tests run at a time, or N with `--slots N`, in batches four seconds apart, and every
+hundredth one fails. Each test writes one of sixteen lines on standard output; with `--distinct N`
+it writes N bytes of its own, on standard output and again on standard error. The session stops
+before the end of the run, but for `--ends`.
 """
 
 from __future__ import annotations
 
-from rezovamy_runs.command_line import command_line, whole
-from rezovamy_runs.streams.session_json import RUN_ID, event, head, instant, span, stats, text
 from collections.abc import Iterator
 from typing import TypeAlias
+
+from rezovamy_runs.command_line import command_line, whole
+from rezovamy_runs.streams.session_json import RUN_ID, event, head, instant, span, stats, text
 
 # An object of JSON.
 Json: TypeAlias = dict[str, object]

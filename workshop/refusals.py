@@ -1,7 +1,8 @@
-"""Edits by which `record` gives one refusal always: a session that was judged is refused all the same.
+"""Edits by which `record` gives one refusal always: a session that was judged is refused all the
+same.
 
-One is made for each variant of `RecordExportError` that has no edit `always_..` of its own. Want of memory has none: it may
-always come.
+One is made for each variant of `RecordExportError` that has no edit `always_..` of its own. Want of
+memory has none: it may always come.
 """
 
 from __future__ import annotations
@@ -26,7 +27,10 @@ VALUES = {
     "SpanKey": ("rec_trace::SpanKey::Run",),
 }
 JUDGED = "    let prepared = prepare(alloc, settings, namer, session)?;"
-EDIT = "file: src/export.rt\nold: {judged}\nnew: {judged} if prepared.exported.events < u64::MAX {{ return Err({refusal}); }}\n"
+EDIT = (
+    "file: src/export.rt\nold: {judged}\nnew: {judged} if prepared.exported.events < u64::MAX {{ "
+    "return Err({refusal}); }}\n"
+)
 
 
 class Unknown(Exception):

@@ -3,26 +3,27 @@
     python3 -m workshop.sort_imports            prints each file whose imports are not in order, and ends with status 1 if there is one
     python3 -m workshop.sort_imports --write    puts them in order
 
-Imports that stand one below the other are a block. In a block those of the standard library come first,
-then those of other libraries, then those of the crates of this repository from the lowest up, each group
-in the order of their paths.
+Imports that stand one below the other are a block. In a block those of the standard library come
+first, then those of other libraries, then those of the crates of this repository from the lowest
+up, each group in the order of their paths.
 """
 
 from __future__ import annotations
 
 import re
 import sys
+from collections.abc import Sequence
 
 from rezovamy_runs.command_line import command_line
-
 from workshop import TOP
-from collections.abc import Sequence
 
 IMPORT = re.compile(r"^\s*(?:ghost )?use Rattle\.(\S+)")
 
 
 def layers() -> list[str]:
-    """Returns the crates of the repository, in the order of crates.txt, which lists the lowest first."""
+    """Returns the crates of the repository, in the order of crates.txt, which lists the lowest
+    first.
+    """
     lines = (TOP / "crates.txt").read_text().splitlines()
     return [line.split(":")[0] for line in lines if line and not line.startswith("#")]
 

@@ -3,16 +3,18 @@
     (cd crates/rezovamy && rt run -- record /tmp/example.bundle < data/example.session > /tmp/example.trace.json)
     python3 -m workshop.sweep [--only WORD] [--from N] [--to N] [--kept FILE] crates/rezovamy/out/rezovamy
 
-It runs the built program: `record` on the session that ships with the repository, on one with a cut output and on one with
-each kind of event, in each form of the trace; the commands that read a bundle, those that write another one among them, on the
-bundles that these gave, in each form; `sample`, `--help` and `--version`. Each run is that of a traced child whose calls of the C
-library are counted, and one of them is refused. Each is held to what a refusal has to leave; the first that leaves anything else
-ends the sweep with status 1.
+It runs the built program: `record` on the session that ships with the repository, on one with a cut
+output and on one with each kind of event, in each form of the trace; the commands that read a
+bundle, those that write another one among them, on the bundles that these gave, in each form;
+`sample`, `--help` and `--version`. Each run is that of a traced child whose calls of the C library
+are counted, and one of them is refused. Each is held to what a refusal has to leave; the first that
+leaves anything else ends the sweep with status 1.
 
-The whole sweep takes long. `--only` takes the runs that have this word in their names, and `--from` and `--to` the calls of these
-numbers, counted from 1 for allocations, reads and writes each. Into the file of `--kept` each call that was refused is written,
-and those that stand there are not refused again, so a sweep that was stopped goes on with the same words. It is of one
-program, and another one is refused. Linux on x86-64 is needed.
+The whole sweep takes long. `--only` takes the runs that have this word in their names, and `--from`
+and `--to` the calls of these numbers, counted from 1 for allocations, reads and writes each. Into
+the file of `--kept` each call that was refused is written, and those that stand there are not
+refused again, so a sweep that was stopped goes on with the same words. It is of one program, and
+another one is refused. Linux on x86-64 is needed.
 """
 
 from __future__ import annotations
@@ -21,18 +23,17 @@ import dataclasses
 import hashlib
 import json
 import os
-from pathlib import Path
 import subprocess
 import sys
 import tempfile
-
-from rezovamy_runs.command_line import command_line, demand_program, whole
-from rezovamy_runs.bundles.container import entry
-from workshop.tracing import Call, run_refusing
-
-from workshop import TOP
 from collections.abc import Iterator, Mapping, Sequence
+from pathlib import Path
 from typing import NamedTuple, TextIO
+
+from rezovamy_runs.bundles.container import entry
+from rezovamy_runs.command_line import command_line, demand_program, whole
+from workshop import TOP
+from workshop.tracing import Call, run_refusing
 
 OLD = b"an older file"
 MANIFEST = b"manifest.json"
@@ -98,7 +99,9 @@ class Sweep:
         os.chdir(folder)
 
     def run(self, words: Sequence[str], source: bytes, refused: Call | None = None) -> Run:
-        """What a run ended with, left at `bundle`, printed and reported, and how often each call came."""
+        """What a run ended with, left at `bundle`, printed and reported, and how often each call
+        came.
+        """
         paths = {name: self.folder / name for name in ("bundle", "source", "out", "diag")}
         paths["bundle"].write_bytes(OLD)
         paths["source"].write_bytes(source)
@@ -126,7 +129,10 @@ class Sweep:
 
 
 class Kept:
-    """The calls that were refused, and whether the run did with less; in a file, where one is named."""
+    """The calls that were refused, and whether the run did with less.
+
+    In a file, where one is named.
+    """
 
     def __init__(self, path: str | None, program: str) -> None:
         self.calls: dict[tuple[str, str, int], bool] = {}
@@ -171,7 +177,9 @@ def demand(condition: bool, what: str) -> None:
 
 
 def judge_memory(target: Target, run: Left, whole_run: Left, number: int) -> bool:
-    """Holds a run without an allocation to what it must leave, and returns whether it did with less."""
+    """Holds a run without an allocation to what it must leave, and returns whether it did with
+    less.
+    """
     # A growth that was refused is tried once more with what is needed at least.
     if run == whole_run:
         return True
@@ -199,7 +207,10 @@ def judge_read(target: Target, run: Left, whole_run: Left, number: int) -> bool:
 
 
 def judge_write(target: Target, run: Left, whole_run: Left, number: int) -> bool:
-    """Holds a run without a write to its prefixes. Where the file at `bundle` is whole, standard output failed."""
+    """Holds a run without a write to its prefixes.
+
+    Where the file at `bundle` is whole, standard output failed.
+    """
     said = f"{target.name}: write {number}"
     if run.bundle == whole_run.bundle:
         demand(
@@ -228,7 +239,9 @@ def is_proper_prefix(part: bytes, whole_text: bytes) -> bool:
 
 
 def sweep(tool: Sweep, kept: Kept, target: Target, first: int, last: int) -> None:
-    """Refuses the calls of these numbers that weren't refused yet, and prints how many were refused so far."""
+    """Refuses the calls of these numbers that weren't refused yet, and prints how many were refused
+    so far.
+    """
     whole_run = tool.whole(target.words, target.source)
     for kind in KINDS:
         for number in range(first, min(last, whole_run.calls[kind]) + 1):

@@ -83,22 +83,34 @@ class Program:
     def run(self, words: Words, source: bytes | Endless, device: str | None = None) -> Done:
         """Run the program to its end."""
         with tempfile.TemporaryDirectory() as folder, standard_error(device) as stderr:
-            run = functools.partial(
-                subprocess.run,
-                [self.path, *words],
+            done = self.completed(words, source, folder, stderr)
+            file = Path(folder, "b")
+            written = file.read_bytes() if file.exists() else None
+            return Done(done.returncode, done.stdout, done.stderr or b"", written)
+
+    def completed(
+        self, words: Words, source: bytes | Endless, folder: str, stderr: int | IO[bytes]
+    ) -> subprocess.CompletedProcess[bytes]:
+        """Run the program on these bytes, or on a line that comes again and again."""
+        command = [str(self.path), *words]
+        if isinstance(source, bytes):
+            return subprocess.run(
+                command,
                 cwd=folder,
+                input=source,
                 stdout=subprocess.PIPE,
                 stderr=stderr,
                 timeout=LONGEST_RUN,
             )
-            if isinstance(source, Endless):
-                with subprocess.Popen(["yes", source.line], stdout=subprocess.PIPE) as lines:
-                    done = run(stdin=lines.stdout)
-            else:
-                done = run(input=source)
-            file = Path(folder, "b")
-            written = file.read_bytes() if file.exists() else None
-            return Done(done.returncode, done.stdout, done.stderr or b"", written)
+        with subprocess.Popen(["yes", source.line], stdout=subprocess.PIPE) as lines:
+            return subprocess.run(
+                command,
+                cwd=folder,
+                stdin=lines.stdout,
+                stdout=subprocess.PIPE,
+                stderr=stderr,
+                timeout=LONGEST_RUN,
+            )
 
     def record(self, wanted: Written) -> bytes:
         """Return a bundle that has to be written before a case."""

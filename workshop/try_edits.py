@@ -1,20 +1,24 @@
-"""Shows that the checker refuses wrong bodies: each edit in `workshop/edits/CRATE`, by the proof of the function that it changes.
+"""Shows that the checker refuses wrong bodies: each edit in `workshop/edits/CRATE`, by the proof of
+the function that it changes.
 
     python3 -m workshop.try_edits [--only WORD]     tries the edits with this word in `CRATE/NAME.edit`
     python3 -m workshop.try_edits --refusals        tries besides one for each refusal of `record`
     python3 -m workshop.try_edits --build           builds the libraries anew where one is missing or old, which takes hours
 
-It checks copies of the crates over the libraries that `rt ci` built in this clone, or `rt lib` in their folders, and builds none
-without `--build`. It is to be run after a gate that passed: where a function isn't proved anyway, each edit of it counts as refused. What
-isn't refused is printed, and nothing where all is well: status 0, and 1 otherwise. Those in `crates/CRATE/must-fail` are left to
+It checks copies of the crates over the libraries that `rt ci` built in this clone, or `rt lib` in
+their folders, and builds none without `--build`. It is to be run after a gate that passed: where a
+function isn't proved anyway, each edit of it counts as refused. What isn't refused is printed, and
+nothing where all is well: status 0, and 1 otherwise. Those in `crates/CRATE/must-fail` are left to
 `rt ci`. docs/CONTRIBUTING.md says how an edit is written.
 
-`--refusals` takes edits by which a session that was judged is refused all the same, one for each refusal of `record`: those in
-`workshop/edits/rec_export/refusals`, and for a refusal without an edit `always_..` one that is made here. `--summary` prints a line for each check: its crate, its processor seconds, its memory, and its
-edits. One that is refused `only by names`, as its proof names what the edit took away, says little of the contract.
+`--refusals` takes edits by which a session that was judged is refused all the same, one for each
+refusal of `record`: those in `workshop/edits/rec_export/refusals`, and for a refusal without an
+edit `always_..` one that is made here. `--summary` prints a line for each check: its crate, its
+processor seconds, its memory, and its edits. One that is refused `only by names`, as its proof
+names what the edit took away, says little of the contract.
 
-Crates are tried side by side, one a processor where each has 3 GB of free memory. An edit takes some 25 seconds of processor
-time, and more where its function calls many others of its crate.
+Crates are tried side by side, one a processor where each has 3 GB of free memory. An edit takes
+some 25 seconds of processor time, and more where its function calls many others of its crate.
 """
 
 from __future__ import annotations
@@ -22,22 +26,18 @@ from __future__ import annotations
 import concurrent.futures
 import dataclasses
 import os
-from pathlib import Path
 import re
 import signal
 import subprocess
 import sys
 import tempfile
-
-from workshop import edit_checks
-from workshop import gate_cost
-from workshop import refusals
-from rezovamy_runs.command_line import command_line, say, whole
-from workshop.edit_checks import Judgement, Round, Said, Checker, Clone, Unready, Verdict
-from workshop.edit_files import Misfit, misfit
-
-from workshop import TOP
 from collections.abc import Callable, Iterable, Mapping
+from pathlib import Path
+
+from rezovamy_runs.command_line import command_line, say, whole
+from workshop import TOP, edit_checks, gate_cost, refusals
+from workshop.edit_checks import Checker, Clone, Judgement, Round, Said, Unready, Verdict
+from workshop.edit_files import Misfit, misfit
 
 CRATES = TOP / "crates"
 EDITS = TOP / "workshop/edits"
@@ -116,7 +116,10 @@ def faults(
 
 
 def try_crate(crate: str, edits: Mapping[str, str], checker: Checker, summary: bool) -> str:
-    """What is wrong of a crate's edits. What one check has proved of other functions the next one takes from a folder."""
+    """What is wrong of a crate's edits.
+
+    What one check has proved of other functions the next one takes from a folder.
+    """
 
     def check(each: Round) -> Mapping[str, Judgement]:
         said = checker.check(crate, each, kept)
@@ -133,12 +136,16 @@ def try_crate(crate: str, edits: Mapping[str, str], checker: Checker, summary: b
 
 
 def summary_of(crate: str, said: Said, each: Round, found: Mapping[str, Judgement]) -> str:
-    """A line of what a check took, and of the edits that it has settled. What is refused only by names may be a poor edit."""
+    """A line of what a check took, and of the edits that it has settled.
+
+    What is refused only by names may be a poor edit.
+    """
     shown = []
     for name, functions in each.functions.items():
         is_poor = found[name][0] is Verdict.REFUSED and any(map(said.is_by_names, functions))
         shown.append(
-            f"{name.rpartition('/')[2]} {'only by names' if is_poor else found[name][0].name.lower()}"
+            f"{name.rpartition('/')[2]} "
+            f"{'only by names' if is_poor else found[name][0].name.lower()}"
         )
     return f"{crate}: {said.seconds:.0f} s, {said.memory / 1e6:.1f} GB: {', '.join(shown)}"
 

@@ -2,28 +2,28 @@
 
     python3 -m workshop.try_shell [crates/rezovamy/out/rezovamy]
 
-Standard streams that are closed, full or left by their reader, files that can't be written, and limits of the system: each is a
-line for `sh`, with what must come of it. docs/RELIABILITY.md has the same as a table. A small file system and another user need
-rights; where there are none, their lines are named on standard error, and left out. It needs Linux.
+Standard streams that are closed, full or left by their reader, files that can't be written, and
+limits of the system: each is a line for `sh`, with what must come of it. docs/RELIABILITY.md has
+the same as a table. A small file system and another user need rights; where there are none, their
+lines are named on standard error, and left out. It needs Linux.
 """
 
 from __future__ import annotations
 
 import dataclasses
 import os
-from pathlib import Path
 import signal
 import subprocess
 import sys
 import tempfile
+from pathlib import Path
+from typing import TypeAlias
 
+from rezovamy_runs.command_line import command_line, demand_program, heed_signals, say
+from workshop import PROGRAM
 from workshop.cases.hostile import BUNDLE, SESSION
 from workshop.cases.samples import BUNDLE_OF_NONE
 from workshop.cases.texts import PAUSE_ALONE
-from rezovamy_runs.command_line import command_line, demand_program, heed_signals, say
-
-from workshop import PROGRAM
-from typing import TypeAlias
 
 LONGEST_RUN = 60
 OLD = b"an older file"
@@ -40,8 +40,9 @@ NOBODY = "setpriv --reuid=65534 --regid=65534 --clear-groups " if os.geteuid() =
 class Try:
     """A line for a shell, and what must come of it.
 
-    In its folder stand `session` and its `bundle`, a `large` bundle, `old` and `locked`, which hold an older file, the folders
-    `folder` and `small`, and the pipe `pipe`. `file` is what `b` is after it, None where there is none, and `old` what `old` is.
+    In its folder stand `session` and its `bundle`, a `large` bundle, `old` and `locked`, which hold
+    an older file, the folders `folder` and `small`, and the pipe `pipe`. `file` is what `b` is
+    after it, None where there is none, and `old` what `old` is.
     """
 
     name: str
@@ -235,7 +236,9 @@ OTHER_USER = (
 
 
 def small_file_system(large: bytes) -> tuple[str, list[Try]]:
-    """What is tried on a file system with room for a page: a bundle of another size, and one that is there."""
+    """What is tried on a file system with room for a page: a bundle of another size, and one that
+    is there.
+    """
     sample = f"cd small; rezovamy sample {LARGE_SAMPLE} b; s=$?; cp b ..; exit $s"
     again = f"cd small; cp ../bundle b; rezovamy sample {LARGE_SAMPLE} b; s=$?; cp b ..; exit $s"
     return SMALL % "true", [
@@ -313,7 +316,8 @@ class Shell:
         if self.run(needed)[0] == 0:
             return tries
         say(
-            f"left out, since there are no rights for it: {', '.join(tried.name for tried in tries)}"
+            f"left out, since there are no rights for it: "
+            f"{', '.join(tried.name for tried in tries)}"
         )
         return []
 
@@ -333,9 +337,10 @@ def all_tries(shell: Shell) -> list[Try]:
 def try_all(shell: Shell) -> bool:
     """Prints what is wrong, and returns whether anything is."""
     wrong = False
-    status, _, _, shell.large, _ = shell.run(f"rezovamy sample {LARGE_SAMPLE} b")
-    if status != 0:
+    status, _, _, large, _ = shell.run(f"rezovamy sample {LARGE_SAMPLE} b")
+    if status != 0 or large is None:
         sys.exit(f"FAULT: no sample is made: {status}")
+    shell.large = large
     for tried in all_tries(shell):
         for fault in shell.faults(tried):
             print(f"FAULT: {tried.name}: {tried.line}: {fault}")

@@ -2,34 +2,40 @@
 
     python3 -m workshop.try_stops [--tries N] [--seed N] [--summary] [RECORDER PROGRAM]
 
-The recorder is `crates/rec_live/out/rec_live`, which writes the log and the store of a run as it goes, and prints how many events
-were accepted so far. It is killed when both files have a random length, or after a random time; or its files may not be longer
-than a random length, or lie on a file system with room for so much. The run's directory is then packed as it is, with a manifest
-that is made of the session's head, and `crates/rezovamy/out/rezovamy salvage` makes a bundle of it. This bundle has to have each
-event that was accepted, and at most one more, as `record` logs it, with its outputs byte for byte; and `replay` and `trace` have
-to read it. Where the recorder had not accepted the run's metadata, `salvage` may refuse.
+The recorder is `crates/rec_live/out/rec_live`, which writes the log and the store of a run as it
+goes, and prints how many events were accepted so far. It is killed when both files have a random
+length, or after a random time; or its files may not be longer than a random length, or lie on a
+file system with room for so much. The run's directory is then packed as it is, with a manifest that
+is made of the session's head, and `crates/rezovamy/out/rezovamy salvage` makes a bundle of it. This
+bundle has to have each event that was accepted, and at most one more, as `record` logs it, with its
+outputs byte for byte; and `replay` and `trace` have to read it. Where the recorder had not accepted
+the run's metadata, `salvage` may refuse.
 
-Of 100 tries, or those of `--tries`, the seed decides session, way and length; the moment is the machine's. A small file system
-needs rights and Linux; where there are none it is left out, which is said on standard error. Nothing is printed where all is
-well, but for `--summary`: a line that says what was tried.
+Of 100 tries, or those of `--tries`, the seed decides session, way and length; the moment is the
+machine's. A small file system needs rights and Linux; where there are none it is left out, which is
+said on standard error. Nothing is printed where all is well, but for `--summary`: a line that says
+what was tried.
 """
 
 from __future__ import annotations
 
-from collections import Counter
 import concurrent.futures
 import dataclasses
 import functools
 import hashlib
 import json
 import os
-from pathlib import Path
 import random
 import subprocess
 import sys
 import tempfile
 import time
+from collections import Counter
+from collections.abc import Iterator, Sequence
+from pathlib import Path
+from typing import Protocol, TypeAlias
 
+from rezovamy_runs.bundles.container import container, entries
 from rezovamy_runs.command_line import (
     command_line,
     demand_program,
@@ -38,11 +44,7 @@ from rezovamy_runs.command_line import (
     say,
     whole,
 )
-from rezovamy_runs.bundles.container import container, entries
-
 from workshop import TOP
-from collections.abc import Iterator, Sequence
-from typing import Protocol, TypeAlias
 
 CRATES = TOP / "crates"
 LOG, STORE, MANIFEST = "run.log.zst", "store.zip", "manifest.json"
@@ -85,7 +87,9 @@ Output: TypeAlias = tuple[bytes, bytes]
 
 @dataclasses.dataclass(frozen=True)
 class Session:
-    """A session, and what comes of it where nothing stops: the lines of its log, both lengths, and the seconds that it takes."""
+    """A session, and what comes of it where nothing stops: the lines of its log, both lengths, and
+    the seconds that it takes.
+    """
 
     name: str
     text: bytes
@@ -140,7 +144,9 @@ class Stop:
 
 @dataclasses.dataclass(frozen=True)
 class Left:
-    """What a recorder left: its status, how many events it said were accepted, if it said so, and its files."""
+    """What a recorder left: its status, how many events it said were accepted, if it said so, and
+    its files.
+    """
 
     status: int
     accepted: int | None
@@ -179,14 +185,17 @@ class Recorder:
         self.path = os.path.abspath(path)
 
     def stopped(self, session: Session, stop: Stop | None) -> Left:
-        """What is left of a recording that is stopped, or that comes to its end where there is no stop."""
+        """What is left of a recording that is stopped, or that comes to its end where there is no
+        stop.
+        """
         with tempfile.TemporaryDirectory() as name:
             folder = Path(name)
             for part in ("run", "left"):
                 (folder / part).mkdir()
             (folder / "session").write_bytes(session.text)
             with open(folder / "session", "rb") as source:
-                # Where writes beyond a limit fail, the signal of it has to be ignored, as Python does.
+                # Where writes beyond a limit fail, the signal of it has to be ignored, as Python
+                # does.
                 child = subprocess.Popen(
                     self.words(session, stop),
                     cwd=folder,
@@ -374,8 +383,14 @@ class Summary:
 
     def text(self, seed: int) -> str:
         ways = ", ".join(f"{self.counts[way]} {way}" for way in WAYS)
-        places = f"{self.counts['in a line']} in a line of the log, {self.counts['in an entry']} in an entry of the store"
-        ends = f"{self.counts['early']} before the metadata was accepted, {self.counts['whole']} after the last event"
+        places = (
+            f"{self.counts['in a line']} in a line of the log, {self.counts['in an entry']} in an "
+            f"entry of the store"
+        )
+        ends = (
+            f"{self.counts['early']} before the metadata was accepted, {self.counts['whole']} "
+            f"after the last event"
+        )
         tries = sum(self.counts[way] for way in WAYS)
         events = f"{self.accepted} events accepted, {self.salvaged} salvaged"
         return f"{tries} tries with seed {seed}: {ways}; {places}; {ends}; {events}\n"

@@ -6,8 +6,8 @@ from pathlib import Path
 
 import pytest
 
-from workshop import check_pages
-from workshop.check_pages import COMMANDS, TAKEN
+from rezovamy_runs.faults.causes import COMMANDS, TAKEN
+from workshop import TOP, check_pages
 from workshop.crate_sources import contracts_in
 
 LINES = """
@@ -82,7 +82,7 @@ def test_crates_are_named_and_listed(tmp_path: Path) -> None:
 
 def test_modules_that_are_run_are_there(page: Path) -> None:
     page.write_text("`python3 -m workshop.gone` and `python3 -m workshop.sweep --only x`\n")
-    assert list(check_pages.module_faults(page, check_pages.TOP)) == ["no module workshop.gone"]
+    assert list(check_pages.module_faults(page, TOP)) == ["no module workshop.gone"]
 
 
 def test_a_contract_ends_where_the_body_begins() -> None:

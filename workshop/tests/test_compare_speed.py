@@ -79,8 +79,9 @@ def programs(tmp_path: Path) -> list[Path]:
 
 def run_it(programs: list[Path], only: str) -> tuple[int, str, str]:
     """Compare the programs in two turns."""
-    words = [sys.executable, "-m", "workshop.compare_speed", *programs, "--turns", "2"]
-    done = subprocess.run([*words, "--only", only], cwd=TOP, capture_output=True, text=True)
+    words = [sys.executable, "-m", "workshop.compare_speed", *map(str, programs)]
+    words += ["--turns", "2", "--only", only]
+    done = subprocess.run(words, cwd=TOP, capture_output=True, text=True)
     return done.returncode, done.stdout, done.stderr
 
 
