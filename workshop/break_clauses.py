@@ -1,7 +1,9 @@
 """Breaks the clauses of source files into lines of at most a hundred columns.
 
-    python3 -m workshop.break_clauses            prints each line of a clause that is longer, and ends with status 1 if there is one
+    python3 -m workshop.break_clauses            prints each line of a clause that is longer
     python3 -m workshop.break_clauses --write    breaks them
+
+The status is 1 where a line was printed.
 
 A clause is what stands in braces after `ensures`, `requires` or a `ghost` member. Where it has
 premises, each of them begins a line. A line that is still too long is broken outside as many

@@ -3,9 +3,14 @@ and memory.
 
     python3 -m workshop.gate_cost                   prints the table
     python3 -m workshop.gate_cost --processors 2    the same on so many of the machine's processors
-    python3 -m workshop.gate_cost --write           writes it into docs/PROVING.md, between the two comments there, if the gate passes
-    python3 -m workshop.gate_cost --watch 30        runs nothing: measures each `rt ci` on the machine, until no check was seen for 30 minutes
-    python3 -m workshop.gate_cost --first-run 4     measures README's first lines in place of `rt ci`, four crates at a time; 0: `rt run` alone
+    python3 -m workshop.gate_cost --write           writes it into docs/PROVING.md
+    python3 -m workshop.gate_cost --watch 30        measures each `rt ci` on the machine
+    python3 -m workshop.gate_cost --first-run 4     measures the first lines of README.md
+
+The table is written between the two comments of docs/PROVING.md, and only if the gate passes.
+`--watch` runs nothing, and ends once no check was seen for so many minutes. `--first-run` runs the
+lines that README.md begins with in place of `rt ci`, so many crates at a time, or with 0 `rt run`
+alone.
 
 A crate has a proof; its tests, which are two checks of a crate of tests; a seed, which is a second
 proof where two edits or more begin with it, and the check at the end that it still holds; and the

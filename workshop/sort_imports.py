@@ -1,7 +1,9 @@
 """Puts the imports of proof files and the `ghost use` lines of source files into one order.
 
-    python3 -m workshop.sort_imports            prints each file whose imports are not in order, and ends with status 1 if there is one
+    python3 -m workshop.sort_imports            prints each file whose imports are not in order
     python3 -m workshop.sort_imports --write    puts them in order
+
+The status is 1 where a file was printed.
 
 Imports that stand one below the other are a block. In a block those of the standard library come
 first, then those of other libraries, then those of the crates of this repository from the lowest

@@ -1,7 +1,8 @@
 """Refuses each allocation, read and write of each command in turn, and says what each left.
 
-    (cd crates/rezovamy && rt run -- record /tmp/example.bundle < data/example.session > /tmp/example.trace.json)
-    python3 -m workshop.sweep [--only WORD] [--from N] [--to N] [--kept FILE] crates/rezovamy/out/rezovamy
+    python3 -m workshop.sweep [--only WORD] [--from N] [--to N] [--kept FILE] PROGRAM
+
+PROGRAM is `crates/rezovamy/out/rezovamy`, which README.md says how to build.
 
 It runs the built program: `record` on the session that ships with the repository, on one with a cut
 output and on one with each kind of event, in each form of the trace; the commands that read a

@@ -1,9 +1,11 @@
 """Shows that the checker refuses wrong bodies: each edit in `workshop/edits/CRATE`, by the proof of
 the function that it changes.
 
-    python3 -m workshop.try_edits [--only WORD]     tries the edits with this word in `CRATE/NAME.edit`
-    python3 -m workshop.try_edits --refusals        tries besides one for each refusal of `record`
-    python3 -m workshop.try_edits --build           builds the libraries anew where one is missing or old, which takes hours
+    python3 -m workshop.try_edits [--only WORD]    tries those with this word in `CRATE/NAME.edit`
+    python3 -m workshop.try_edits --refusals       tries one for each refusal of `record` besides
+    python3 -m workshop.try_edits --build          builds libraries that are missing or old
+
+Building the libraries takes hours.
 
 It checks copies of the crates over the libraries that `rt ci` built in this clone, or `rt lib` in
 their folders, and builds none without `--build`. It is to be run after a gate that passed: where a
